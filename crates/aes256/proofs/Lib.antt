@@ -8,3 +8,4 @@ pub mod Keys
 pub mod Transpose
 pub mod MaskBytes
 pub mod MaskLaws
+pub mod Gf256

@@ -1,3 +1,4 @@
 pub mod Cipher
+pub mod Gf256
 pub mod Mask
 pub mod Planes

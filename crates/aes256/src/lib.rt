@@ -14,3 +14,4 @@ mod substitution;
 mod transposition;
 
 pub use cipher::{Key, block};
+pub use gf256::{inv, mul, mul_into, pow};

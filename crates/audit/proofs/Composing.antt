@@ -2,17 +2,17 @@
 use Rattle.std.proofs.Common.{◌≡◌, ◌≢◌, ℕ, ◌≤◌, ◌++◌, List, Result, Ok, Err, Option, Some, None, IsTrue, OnOk, is_some, true, refl, sym, ap, ◌∙◌, subst, arith}
 use Rattle.std.proofs.lemmas.Option.{same_Some}
 use Rattle.std.specs.FinMap.{get}
-use Rattle.cd_base.specs.declared.ids.Fp.{Fp}
-use Rattle.cd_base.specs.declared.place.Place.{Place}
-use Rattle.cd_edges.specs.declared.area.Area.TheVariants.{Shares}
-use Rattle.cd_edges.specs.Disk.{Cloud, Image, reads}
-use Rattle.cd_edges.specs.Shelf.{IsCall, HasFailed, KeepsCounts, Stays}
-use Rattle.cd_base.specs.declared.shape.Shape.{Shape}
-use Rattle.user_dedup.specs.declared.command.Command.{Command}
-use Rattle.cloud_areas.specs.Standing.{Chain}
-use Rattle.certificate.specs.Lines.{certificate_text}
-use Rattle.cloud_memory.specs.declared.cloud.CloudMemory.{CloudMemory}
-use Rattle.share_index.specs.Placed.{AreAllPlaced}
+use Rattle.cloud_server.specs.CdBase.ids.Fp.{Fp}
+use Rattle.cloud_server.specs.CdBase.place.Place.{Place}
+use Rattle.cloud_server.specs.CdEdges.area.Area.TheVariants.{Shares}
+use Rattle.cloud_server.specs.CdEdges.Disk.{Cloud, Image, reads}
+use Rattle.cloud_server.specs.CdEdges.Shelf.{IsCall, HasFailed, KeepsCounts, Stays}
+use Rattle.cloud_server.specs.CdBase.shape.Shape.{Shape}
+use Rattle.cloud_server.specs.UserDedup.command.Command.{Command}
+use Rattle.cloud_disk.specs.CloudAreas.Standing.{Chain}
+use Rattle.own_certificate.specs.Certificate.Lines.{certificate_text}
+use Rattle.blob_audit.specs.CloudMemory.cloud.CloudMemory.{CloudMemory}
+use Rattle.blob_audit.specs.ShareIndex.Placed.{AreAllPlaced}
 use Rattle.open_store.specs.declared.store.OpenStore.{OpenStore}
 use Rattle.open_store.specs.Store.{Serves}
 use Rattle.blob_audit.specs.declared.errors.ReadErr.{ReadErr}
@@ -20,11 +20,11 @@ use Rattle.blob_audit.specs.declared.errors.ReadErr.TheVariants as reading
 use Rattle.blob_audit.specs.Reading.{AreStored, AreGood, IsUnlike, StoredIs, GoodIs, OnReadFault}
 use Rattle.blob_audit.specs.Reading as unlike
 use Rattle.audit.specs.declared.errors.AuditErr.TheVariants as audits
-use Rattle.audit_base.specs.declared.errors.CheckErr.{CheckErr}
-use Rattle.audit_base.specs.declared.errors.CheckErr.TheVariants as checks
-use Rattle.audit_base.specs.Judged.{JudgedIs}
-use Rattle.audit_base.specs.Whole.{Tables, tables_of, ArePlaced, IsOwned, IsStored, IsRottenNow, WholeNow}
-use Rattle.audit_base.specs.Whole as rotten
+use Rattle.blob_audit.specs.AuditBase.errors.CheckErr.{CheckErr}
+use Rattle.blob_audit.specs.AuditBase.errors.CheckErr.TheVariants as checks
+use Rattle.blob_audit.specs.AuditBase.Judged.{JudgedIs}
+use Rattle.blob_audit.specs.AuditBase.Whole.{Tables, tables_of, ArePlaced, IsOwned, IsStored, IsRottenNow, WholeNow}
+use Rattle.blob_audit.specs.AuditBase.Whole as rotten
 use Rattle.audit.specs.Audits.{Appends, AuditIs, AuditPasses, OnAuditFault, IfRotten, CheckPasses, OnCheckFault}
 use Rattle.audit.specs.Inner.{own_in, number_in, audit_error, check_error, IsAudited, IsChecked}
 use Rattle.audit.proofs.Serving.{whole}

@@ -3,40 +3,40 @@ use Rattle.std.proofs.Common.{◌≡◌, ℕ, List, [], length, map, take, drop,
 use Rattle.std.specs.Prelude.{All, IsSome, option_map, unwrap_or}
 use Rattle.std.specs.List.{Contains}
 use Rattle.std.specs.FinMap.{get}
-use Rattle.cd_base.specs.declared.ids.Fp.{Fp}
-use Rattle.cd_base.specs.declared.ids.Tag.{Tag}
-use Rattle.cd_base.specs.declared.ids.UserId.{UserId}
-use Rattle.cd_base.specs.declared.ids.Version.{Version}
-use Rattle.cd_base.specs.declared.shape.Shape.{Shape}
-use Rattle.cd_edges.specs.declared.area.Area.TheVariants.{Shares, Recipes}
-use Rattle.cd_edges.specs.Disk.{Cloud, reads}
-use Rattle.file_index.specs.declared.key.Entry.{Entry}
-use Rattle.file_index.specs.Files.{key_of}
-use Rattle.recipe.specs.declared.recipe.Recipe.{Recipe}
-use Rattle.recipe.specs.Spelling.{IsRecipe}
-use Rattle.recipe.proofs.Written.{again}
-use Rattle.user_dedup.specs.declared.file_list.FileEntry.{FileEntry}
-use Rattle.user_dedup.specs.Cloud.{fingerprint, user_view, strings_in, held_bytes}
-use Rattle.user_dedup.specs.Owning.{fps_in}
-use Rattle.user_dedup.specs.Pages.{entry_at}
-use Rattle.user_dedup.specs.Requests.{fps_of, fps_read}
-use Rattle.user_dedup.proofs.Entries.{found_entry}
-use Rattle.user_dedup.proofs.Sound.{entries_owned}
-use Rattle.user_dedup.specs.declared.command.Command.{Command}
-use Rattle.user_dedup.proofs.CompactSound.{files_fit}
-use Rattle.user_dedup.proofs.Views.{held_is, owned_is_held}
-use Rattle.cloud_areas.specs.Standing.{Chain}
+use Rattle.cloud_server.specs.CdBase.ids.Fp.{Fp}
+use Rattle.cloud_server.specs.CdBase.ids.Tag.{Tag}
+use Rattle.cloud_server.specs.CdBase.ids.UserId.{UserId}
+use Rattle.cloud_server.specs.CdBase.ids.Version.{Version}
+use Rattle.cloud_server.specs.CdBase.shape.Shape.{Shape}
+use Rattle.cloud_server.specs.CdEdges.area.Area.TheVariants.{Shares, Recipes}
+use Rattle.cloud_server.specs.CdEdges.Disk.{Cloud, reads}
+use Rattle.blob_audit.specs.FileIndex.key.Entry.{Entry}
+use Rattle.blob_audit.specs.FileIndex.Files.{key_of}
+use Rattle.cloud_server.specs.Recipe.recipe.Recipe.{Recipe}
+use Rattle.cloud_server.specs.Recipe.Spelling.{IsRecipe}
+use Rattle.cloud_server.proofs.Recipe.Written.{again}
+use Rattle.cloud_server.specs.UserDedup.file_list.FileEntry.{FileEntry}
+use Rattle.cloud_server.specs.UserDedup.Cloud.{fingerprint, user_view, strings_in, held_bytes}
+use Rattle.cloud_server.specs.UserDedup.Owning.{fps_in}
+use Rattle.cloud_server.specs.UserDedup.Pages.{entry_at}
+use Rattle.cloud_server.specs.UserDedup.Requests.{fps_of, fps_read}
+use Rattle.cloud_server.proofs.UserDedup.EntryLists.{found_entry}
+use Rattle.cloud_server.proofs.UserDedup.Sound.{entries_owned}
+use Rattle.cloud_server.specs.UserDedup.command.Command.{Command}
+use Rattle.cloud_server.proofs.UserDedup.CompactSound.{files_fit}
+use Rattle.cloud_server.proofs.UserDedup.Views.{held_is, owned_is_held}
+use Rattle.cloud_disk.specs.CloudAreas.Standing.{Chain}
 use Rattle.cloud_disk.specs.Disk.{Disk}
-use Rattle.cloud_memory.specs.declared.cloud.CloudMemory.{CloudMemory}
-use Rattle.cloud_memory.specs.Memory.{summary, summary_of}
-use Rattle.checkpoints.specs.Known.{IsKnown}
-use Rattle.checkpoints.proofs.Apartness.{in_map}
-use Rattle.journal_start.specs.declared.start.Header.{Header}
+use Rattle.blob_audit.specs.CloudMemory.cloud.CloudMemory.{CloudMemory}
+use Rattle.blob_audit.specs.CloudMemory.Memory.{summary, summary_of}
+use Rattle.open_store.specs.Checkpoints.Known.{IsKnown}
+use Rattle.open_store.proofs.Checkpoints.Apartness.{in_map}
+use Rattle.cloud_disk.specs.JournalStart.start.Header.{Header}
 use Rattle.open_store.specs.declared.store.OpenStore.{OpenStore}
 use Rattle.open_store.specs.Store.{Serves}
-use Rattle.audit_base.specs.Served.{ServedTables, Views, IsEntryOf, NamesOwn}
-use Rattle.audit_base.specs.Whole.{WholeNow, tables_of}
-use Rattle.audit_base.proofs.Wholeness.{by_serving}
+use Rattle.blob_audit.specs.AuditBase.Served.{ServedTables, Views, IsEntryOf, NamesOwn}
+use Rattle.blob_audit.specs.AuditBase.Whole.{WholeNow, tables_of}
+use Rattle.blob_audit.proofs.AuditBase.Wholeness.{by_serving}
 use Rattle.audit.specs.Serving.{views_of}
 
 mapped : {A B : Type 0} (f : A → B) (o : Option A) (y : B) → option_map f o ≡ Some y → (x : A) × (o ≡ Some x) × (f x ≡ y)

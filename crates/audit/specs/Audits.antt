@@ -1,13 +1,13 @@
 -- What an audit and a check answer.
 use Rattle.std.specs.Prelude.{◌≡◌, ℕ, ◌++◌, List, Result, Ok, Err}
-use Rattle.cd_base.specs.declared.ids.Fp.{Fp}
-use Rattle.cd_edges.specs.Disk.{Image}
-use Rattle.certificate.specs.Lines.{Certificate, certificate_text}
+use Rattle.cloud_server.specs.CdBase.ids.Fp.{Fp}
+use Rattle.cloud_server.specs.CdEdges.Disk.{Image}
+use Rattle.own_certificate.specs.Certificate.Lines.{Certificate, certificate_text}
 use Rattle.cloud_server.specs.declared.server.Server.{Server}
-use Rattle.audit_base.specs.declared.errors.CheckErr.{CheckErr}
-use Rattle.audit_base.specs.declared.errors.CheckErr.TheVariants as checks
-use Rattle.audit_base.specs.Own.{own}
-use Rattle.audit_base.specs.Whole.{Tables, tables_of}
+use Rattle.blob_audit.specs.AuditBase.errors.CheckErr.{CheckErr}
+use Rattle.blob_audit.specs.AuditBase.errors.CheckErr.TheVariants as checks
+use Rattle.blob_audit.specs.AuditBase.Own.{own}
+use Rattle.blob_audit.specs.AuditBase.Whole.{Tables, tables_of}
 use Rattle.blob_audit.specs.Reading.{AreStored, IsUnlike}
 use Rattle.audit.specs.declared.errors.AuditErr.{AuditErr}
 use Rattle.audit.specs.declared.errors.AuditErr.TheVariants as audits

@@ -1,19 +1,19 @@
 -- What an audit and a check of a store do. No public clause cites this module.
 use Rattle.std.specs.Prelude.{◌≡◌, ℕ, List, Result, Ok, Err, IsTrue, OnOk}
-use Rattle.cd_edges.specs.Disk.{Cloud, reads}
-use Rattle.cd_edges.specs.Shelf.{IsCall, HasFailed, KeepsCounts, Stays}
-use Rattle.user_dedup.specs.declared.command.Command.{Command}
-use Rattle.cloud_areas.specs.Standing.{Chain}
-use Rattle.certificate.specs.Lines.{Certificate, certificate_text}
+use Rattle.cloud_server.specs.CdEdges.Disk.{Cloud, reads}
+use Rattle.cloud_server.specs.CdEdges.Shelf.{IsCall, HasFailed, KeepsCounts, Stays}
+use Rattle.cloud_server.specs.UserDedup.command.Command.{Command}
+use Rattle.cloud_disk.specs.CloudAreas.Standing.{Chain}
+use Rattle.own_certificate.specs.Certificate.Lines.{Certificate, certificate_text}
 use Rattle.open_store.specs.declared.store.OpenStore.{OpenStore}
 use Rattle.open_store.specs.Store.{Serves}
 use Rattle.blob_audit.specs.declared.errors.ReadErr.{ReadErr}
 use Rattle.blob_audit.specs.declared.errors.ReadErr.TheVariants as reading
-use Rattle.audit_base.specs.declared.errors.CheckErr.{CheckErr}
-use Rattle.audit_base.specs.declared.errors.CheckErr.TheVariants as checks
-use Rattle.audit_base.specs.Judged.{JudgedIs}
-use Rattle.audit_base.specs.Own.{own}
-use Rattle.audit_base.specs.Whole.{tables_of, IsRottenNow, WholeNow}
+use Rattle.blob_audit.specs.AuditBase.errors.CheckErr.{CheckErr}
+use Rattle.blob_audit.specs.AuditBase.errors.CheckErr.TheVariants as checks
+use Rattle.blob_audit.specs.AuditBase.Judged.{JudgedIs}
+use Rattle.blob_audit.specs.AuditBase.Own.{own}
+use Rattle.blob_audit.specs.AuditBase.Whole.{tables_of, IsRottenNow, WholeNow}
 use Rattle.audit.specs.declared.errors.AuditErr.{AuditErr}
 use Rattle.audit.specs.declared.errors.AuditErr.TheVariants as audits
 use Rattle.audit.specs.Audits.{Appends, AuditIs, AuditPasses, OnAuditFault, IfRotten, IfUnread, CheckPasses, OnCheckFault}

@@ -1,3 +1,5 @@
+pub mod AuditBase
 pub mod Audits
-pub mod Serving
+pub mod Certificate
 pub mod Inner
+pub mod Serving

@@ -1,12 +1,12 @@
 -- What each user has of a list of commands, as a law of audits speaks of it.
 use Rattle.std.specs.Prelude.{ℕ, List, option_map}
-use Rattle.cd_base.specs.declared.shape.Shape.{Shape}
-use Rattle.user_dedup.specs.declared.command.Command.{Command}
-use Rattle.user_dedup.specs.declared.file_list.FileEntry.{FileEntry}
-use Rattle.user_dedup.specs.Cloud.{user_view, held_bytes}
-use Rattle.user_dedup.specs.Pages.{entry_at}
-use Rattle.cloud_memory.specs.Memory.{uses_of}
-use Rattle.audit_base.specs.Served.{Views}
+use Rattle.cloud_server.specs.CdBase.shape.Shape.{Shape}
+use Rattle.cloud_server.specs.UserDedup.command.Command.{Command}
+use Rattle.cloud_server.specs.UserDedup.file_list.FileEntry.{FileEntry}
+use Rattle.cloud_server.specs.UserDedup.Cloud.{user_view, held_bytes}
+use Rattle.cloud_server.specs.UserDedup.Pages.{entry_at}
+use Rattle.blob_audit.specs.CloudMemory.Memory.{uses_of}
+use Rattle.blob_audit.specs.AuditBase.Served.{Views}
 
 abbrev pub views_of : Shape → List Command → Views
 views_of shape list = record {

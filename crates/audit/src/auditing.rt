@@ -1,10 +1,10 @@
 //! An audit.
 
 ghost use Rattle.std.specs.Prelude.{◌≡◌, List, IsTrue};
-ghost use Rattle.cd_edges.specs.Disk.{reads};
-ghost use Rattle.cd_edges.specs.Shelf.{IsCall, HasFailed, KeepsCounts, Stays};
-ghost use Rattle.user_dedup.specs.declared.command.Command.{Command};
-ghost use Rattle.cloud_areas.specs.Standing.{Chain};
+ghost use Rattle.cloud_server.specs.CdEdges.Disk.{reads};
+ghost use Rattle.cloud_server.specs.CdEdges.Shelf.{IsCall, HasFailed, KeepsCounts, Stays};
+ghost use Rattle.cloud_server.specs.UserDedup.command.Command.{Command};
+ghost use Rattle.cloud_disk.specs.CloudAreas.Standing.{Chain};
 ghost use Rattle.open_store.specs.Store.{IsOpen, Serves};
 ghost use Rattle.cloud_server.specs.Serving.{number_of};
 ghost use Rattle.audit.specs.Inner.{audit_error, IsAudited};
@@ -12,9 +12,7 @@ ghost use Rattle.audit.specs.Audits.{own_of, remembered, Appends, AuditIs, Audit
 
 use crate::AuditErr;
 use blob_audit::{ReadErr, read_stored};
-use cd_base::{Bytes, NoMemory};
-use cd_edges::Shelf;
-use cloud_server::Server;
+use cloud_server::{Bytes, NoMemory, Server, Shelf};
 use open_store::OpenStore;
 use own_certificate::write_own;
 use std::alloc::Global;

@@ -1,22 +1,20 @@
 //! A check of a certificate.
 
 ghost use Rattle.std.specs.Prelude.{◌≡◌, List, IsTrue, OnOk};
-ghost use Rattle.cd_edges.specs.Disk.{reads};
-ghost use Rattle.cd_edges.specs.Shelf.{IsCall, HasFailed, KeepsCounts, Stays};
-ghost use Rattle.user_dedup.specs.declared.command.Command.{Command};
-ghost use Rattle.cloud_areas.specs.Standing.{Chain};
+ghost use Rattle.cloud_server.specs.CdEdges.Disk.{reads};
+ghost use Rattle.cloud_server.specs.CdEdges.Shelf.{IsCall, HasFailed, KeepsCounts, Stays};
+ghost use Rattle.cloud_server.specs.UserDedup.command.Command.{Command};
+ghost use Rattle.cloud_disk.specs.CloudAreas.Standing.{Chain};
 ghost use Rattle.open_store.specs.Store.{IsOpen, IsSettled, Serves};
 ghost use Rattle.cloud_server.specs.Serving.{number_of};
-ghost use Rattle.certificate.specs.Lines.{certificate_text};
-ghost use Rattle.audit_base.specs.Judged.{JudgedIs};
-ghost use Rattle.audit_base.specs.Whole.{IsRottenNow, WholeNow};
+ghost use Rattle.own_certificate.specs.Certificate.Lines.{certificate_text};
+ghost use Rattle.blob_audit.specs.AuditBase.Judged.{JudgedIs};
+ghost use Rattle.blob_audit.specs.AuditBase.Whole.{IsRottenNow, WholeNow};
 ghost use Rattle.audit.specs.Inner.{check_error, IsChecked};
 ghost use Rattle.audit.specs.Audits.{own_of, remembered, IfRotten, IfUnread, CheckPasses, OnCheckFault};
 
-use audit_base::CheckErr;
-use blob_audit::{ReadErr, read_good};
-use cd_edges::Shelf;
-use cloud_server::Server;
+use blob_audit::{CheckErr, ReadErr, read_good};
+use cloud_server::{Server, Shelf};
 use open_store::OpenStore;
 use own_certificate::judge;
 use std::alloc::Global;

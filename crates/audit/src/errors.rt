@@ -1,6 +1,6 @@
 //! Why a certificate isn't written.
 
-use cd_base::Fp;
+use cloud_server::Fp;
 
 /// Why a certificate isn't written. Nothing was appended.
 #[derive(Clone, Copy, Debug, PartialEq, Eq)]

@@ -1,13 +1,13 @@
 //! The law of clouds that are served, for the proofs of callers. The call does nothing.
 
 ghost use Rattle.std.specs.Prelude.{List};
-ghost use Rattle.cd_edges.specs.Disk.{Cloud, reads};
-ghost use Rattle.user_dedup.specs.declared.command.Command.{Command};
-ghost use Rattle.cloud_areas.specs.Standing.{Chain};
+ghost use Rattle.cloud_server.specs.CdEdges.Disk.{Cloud, reads};
+ghost use Rattle.cloud_server.specs.UserDedup.command.Command.{Command};
+ghost use Rattle.cloud_disk.specs.CloudAreas.Standing.{Chain};
 ghost use Rattle.open_store.specs.declared.store.OpenStore.{OpenStore};
 ghost use Rattle.open_store.specs.Store.{Serves};
-ghost use Rattle.audit_base.specs.Served.{ServedTables};
-ghost use Rattle.audit_base.specs.Whole.{WholeNow, tables_of};
+ghost use Rattle.blob_audit.specs.AuditBase.Served.{ServedTables};
+ghost use Rattle.blob_audit.specs.AuditBase.Whole.{WholeNow, tables_of};
 ghost use Rattle.audit.specs.Serving.{views_of};
 
 /// Whatever list an open store serves: its cloud is whole now.

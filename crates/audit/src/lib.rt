@@ -6,8 +6,8 @@ mod checking;
 mod errors;
 mod laws;
 
-pub use audit_base::CheckErr;
 pub use auditing::audit;
+pub use blob_audit::CheckErr;
 pub use checking::check;
 pub use errors::AuditErr;
 pub use laws::law_of_served_clouds;

@@ -10,11 +10,11 @@ use Rattle.std.specs.FinMap.{FinMap, get, entries, get-entries, find}
 use Rattle.std.proofs.lemmas.Bool.{cases_Bool}
 use Rattle.std.proofs.lemmas.Option.{same_Some}
 use Rattle.std.proofs.lemmas.List.Sums.{sum_by-cons}
-use Rattle.user_dedup.proofs.Owned.{contains_here, contains_later}
-use Rattle.share_index.specs.declared.key.Owner.{Owner}
-use Rattle.cd_base.specs.Order.{fp_cmp}
-use Rattle.share_index.specs.Order.{owner_cmp, owner_exact}
-use Rattle.share_index.specs.Shares.{owners_of}
+use Rattle.cloud_memory.proofs.UserDedup.Owned.{contains_here, contains_later}
+use Rattle.cloud_memory.specs.ShareIndex.key.Owner.{Owner}
+use Rattle.cloud_memory.specs.CdBase.Order.{fp_cmp}
+use Rattle.cloud_memory.specs.ShareIndex.Order.{owner_cmp, owner_exact}
+use Rattle.cloud_memory.specs.ShareIndex.Shares.{owners_of}
 
 fp_total : IsTotalOrder fp_cmp
 fp_total = search (comparing, rules)

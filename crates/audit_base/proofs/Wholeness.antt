@@ -5,22 +5,22 @@ use Rattle.std.specs.List.{Contains}
 use Rattle.std.specs.FinMap.{get, entries, get-retain_keys}
 use Rattle.std.proofs.lemmas.Bool.{lt-ltb, cases_Bool}
 use Rattle.std.proofs.lemmas.List.Elements.{All-contains}
-use Rattle.cd_base.specs.declared.ids.Fp.{Fp}
-use Rattle.cd_base.specs.declared.ids.UserId.{UserId}
-use Rattle.cd_base.specs.declared.shape.Shape.{Shape}
+use Rattle.cloud_memory.specs.CdBase.ids.Fp.{Fp}
+use Rattle.cloud_memory.specs.CdBase.ids.UserId.{UserId}
+use Rattle.cloud_memory.specs.CdBase.shape.Shape.{Shape}
 use Rattle.cd_edges.specs.declared.area.Area.TheVariants.{Shares, Recipes}
 use Rattle.cd_edges.specs.Disk.{Image}
-use Rattle.file_index.specs.declared.key.Entry.{Entry}
-use Rattle.file_index.specs.declared.key.FileKey.{FileKey}
-use Rattle.file_index.specs.Files.{key_of}
-use Rattle.file_index.specs.Order.{key_cmp, key_exact}
-use Rattle.recipe.specs.Spelling.{IsRecipe}
-use Rattle.cd_base.specs.declared.place.Place.{Place}
-use Rattle.cd_base.specs.Order.{fp_cmp, fp_exact}
-use Rattle.share_index.specs.Order.{owner_of}
-use Rattle.user_dedup.proofs.Owned.{among_contains, contains_among}
-use Rattle.user_dedup.specs.Cloud.{fingerprint}
-use Rattle.user_dedup.specs.Owning.{is_among, fps_in}
+use Rattle.cloud_memory.specs.FileIndex.key.Entry.{Entry}
+use Rattle.cloud_memory.specs.FileIndex.key.FileKey.{FileKey}
+use Rattle.cloud_memory.specs.FileIndex.Files.{key_of}
+use Rattle.cloud_memory.specs.FileIndex.Order.{key_cmp, key_exact}
+use Rattle.cloud_memory.specs.Recipe.Spelling.{IsRecipe}
+use Rattle.cloud_memory.specs.CdBase.place.Place.{Place}
+use Rattle.cloud_memory.specs.CdBase.Order.{fp_cmp, fp_exact}
+use Rattle.cloud_memory.specs.ShareIndex.Order.{owner_of}
+use Rattle.cloud_memory.proofs.UserDedup.Owned.{among_contains, contains_among}
+use Rattle.cloud_memory.specs.UserDedup.Cloud.{fingerprint}
+use Rattle.cloud_memory.specs.UserDedup.Owning.{is_among, fps_in}
 use Rattle.audit_base.specs.Own.{is_live, live, live_shares}
 use Rattle.audit_base.specs.Served.{ServedTables, Views}
 use Rattle.audit_base.specs.Whole.{Tables, Owns, IsOwned, ArePlaced, stored_at, IsStored, IsGood, WholeNow}

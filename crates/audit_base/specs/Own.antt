@@ -1,13 +1,13 @@
 -- A server's own certificate: what it would write now, as one function of its memory.
 use Rattle.std.specs.Prelude.{◌≡◌, ℕ, ◌+◌, ◌-◌, ◌≤◌, nat_lt, Bool, List, length, map, take, slice_get, Option}
 use Rattle.std.specs.FinMap.{FinMap, entries, retain_keys}
-use Rattle.cd_base.specs.declared.ids.CloudNo.{CloudNo}
-use Rattle.cd_base.specs.declared.shape.Shape.{Shape}
-use Rattle.file_index.specs.declared.key.Entry.{Entry}
-use Rattle.file_index.specs.declared.key.FileKey.{FileKey}
-use Rattle.cd_base.specs.declared.place.Place.{Place}
-use Rattle.cd_base.specs.Order.{fp_cmp}
-use Rattle.share_index.specs.Shares.{owners_of}
+use Rattle.cloud_memory.specs.CdBase.ids.CloudNo.{CloudNo}
+use Rattle.cloud_memory.specs.CdBase.shape.Shape.{Shape}
+use Rattle.cloud_memory.specs.FileIndex.key.Entry.{Entry}
+use Rattle.cloud_memory.specs.FileIndex.key.FileKey.{FileKey}
+use Rattle.cloud_memory.specs.CdBase.place.Place.{Place}
+use Rattle.cloud_memory.specs.CdBase.Order.{fp_cmp}
+use Rattle.cloud_memory.specs.ShareIndex.Shares.{owners_of}
 use Rattle.certificate.specs.declared.line.ShareLine.{ShareLine}
 use Rattle.certificate.specs.declared.line.FileLine.{FileLine}
 use Rattle.certificate.specs.declared.line.CertificateLine.{CertificateLine}

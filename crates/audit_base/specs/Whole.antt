@@ -2,24 +2,24 @@
 use Rattle.std.specs.Prelude.{◌≡◌, ℕ, List, length, take, drop, Some}
 use Rattle.std.specs.List.{Contains}
 use Rattle.std.specs.FinMap.{FinMap, get}
-use Rattle.cd_base.specs.declared.ids.Fp.{Fp}
-use Rattle.cd_base.specs.declared.ids.Tag.{Tag}
-use Rattle.cd_base.specs.declared.ids.UserId.{UserId}
-use Rattle.cd_base.specs.declared.ids.Version.{Version}
-use Rattle.cd_base.specs.declared.shape.Shape.{Shape}
+use Rattle.cloud_memory.specs.CdBase.ids.Fp.{Fp}
+use Rattle.cloud_memory.specs.CdBase.ids.Tag.{Tag}
+use Rattle.cloud_memory.specs.CdBase.ids.UserId.{UserId}
+use Rattle.cloud_memory.specs.CdBase.ids.Version.{Version}
+use Rattle.cloud_memory.specs.CdBase.shape.Shape.{Shape}
 use Rattle.cd_edges.specs.declared.area.Area.TheVariants.{Shares, Recipes}
 use Rattle.cd_edges.specs.Disk.{Image}
-use Rattle.file_index.specs.declared.key.Entry.{Entry}
-use Rattle.file_index.specs.Files.{key_of}
-use Rattle.file_index.specs.Order.{key_cmp}
-use Rattle.recipe.specs.declared.recipe.Recipe.{Recipe}
-use Rattle.recipe.specs.Spelling.{IsRecipe}
-use Rattle.cd_base.specs.declared.place.Place.{Place}
-use Rattle.cd_base.specs.Order.{fp_cmp}
-use Rattle.share_index.specs.Order.{owner_cmp, owner_of}
+use Rattle.cloud_memory.specs.FileIndex.key.Entry.{Entry}
+use Rattle.cloud_memory.specs.FileIndex.Files.{key_of}
+use Rattle.cloud_memory.specs.FileIndex.Order.{key_cmp}
+use Rattle.cloud_memory.specs.Recipe.recipe.Recipe.{Recipe}
+use Rattle.cloud_memory.specs.Recipe.Spelling.{IsRecipe}
+use Rattle.cloud_memory.specs.CdBase.place.Place.{Place}
+use Rattle.cloud_memory.specs.CdBase.Order.{fp_cmp}
+use Rattle.cloud_memory.specs.ShareIndex.Order.{owner_cmp, owner_of}
 use Rattle.cloud_memory.specs.declared.cloud.CloudMemory.{CloudMemory}
-use Rattle.user_dedup.specs.Cloud.{fingerprint}
-use Rattle.user_dedup.specs.Owning.{fps_in}
+use Rattle.cloud_memory.specs.UserDedup.Cloud.{fingerprint}
+use Rattle.cloud_memory.specs.UserDedup.Owning.{fps_in}
 
 -- the three maps of a server's memory: where each string lies, who owns it, and where each entry's recipe lies
 pub record Tables : Type 0 where

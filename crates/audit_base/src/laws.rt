@@ -3,12 +3,12 @@
 ghost use Rattle.std.specs.Prelude.{ℕ, List};
 ghost use Rattle.std.specs.List.{Contains};
 ghost use Rattle.std.specs.FinMap.{entries};
-ghost use Rattle.cd_base.specs.declared.shape.Shape.{Shape};
+ghost use Rattle.cloud_memory.specs.CdBase.shape.Shape.{Shape};
 ghost use Rattle.cd_edges.specs.declared.area.Area.TheVariants.{Shares};
 ghost use Rattle.cd_edges.specs.Disk.{Image};
-ghost use Rattle.file_index.specs.declared.key.Entry.{Entry};
-ghost use Rattle.file_index.specs.declared.key.FileKey.{FileKey};
-ghost use Rattle.cd_base.specs.declared.place.Place.{Place};
+ghost use Rattle.cloud_memory.specs.FileIndex.key.Entry.{Entry};
+ghost use Rattle.cloud_memory.specs.FileIndex.key.FileKey.{FileKey};
+ghost use Rattle.cloud_memory.specs.CdBase.place.Place.{Place};
 ghost use Rattle.audit_base.specs.Own.{live_shares};
 ghost use Rattle.audit_base.specs.Served.{ServedTables, Views};
 ghost use Rattle.audit_base.specs.Whole.{Tables, ArePlaced, IsStored, IsGood, WholeNow};

@@ -3,14 +3,14 @@ use Rattle.std.proofs.Common.{◌≡◌, ◌⊎◌, inl, inr, ℕ, Result, Ok, E
 use Rattle.audit.specs.Audits.{AuditPasses, OnAuditFault}
 use Rattle.audit.specs.declared.errors.AuditErr.{AuditErr}
 use Rattle.audit.specs.declared.errors.AuditErr.TheVariants as audits
-use Rattle.backup_command.specs.Writing.{Output}
+use Rattle.cloud_opening.specs.BackupCommand.Writing.{Output}
 use Rattle.cloud_opening.specs.Opened.{CloudCall, CloudFails, IsUnfailing}
-use Rattle.cloud_opening.specs.Unhindered.{IsUnhindered}
+use Rattle.cloud_opening.specs.Unhindered.{IsOpeningUnhindered}
 use Rattle.cloud_opening.proofs.Completing.{not_risen, opens, status_of}
-use Rattle.audit_command.specs.Audited.{IsAudited, Unmade, Unopened, Audited}
+use Rattle.audit_command.specs.Audited.{IsCloudAudited, Unmade, Unopened, Audited}
 use Rattle.audit_command.specs.Said.{audit_status}
 
-module _ (call : CloudCall) (out : Output) (well : IsUnhindered call out) where
+module _ (call : CloudCall) (out : Output) (well : IsOpeningUnhindered call out) where
   due_of : (result : Result ℕ AuditErr) → AuditPasses result → OnAuditFault result (CloudFails call) (IsUnfailing call)
       → (audit_status result ≡ 0) ⊎ (audit_status result ≡ 6)
   due_of (Ok count) passes counts = inl (λ i. 0)
@@ -18,7 +18,7 @@ module _ (call : CloudCall) (out : Output) (well : IsUnhindered call out) where
   due_of (Err (audits.Rotten named found)) passes counts = absurd passes
   due_of (Err audits.NoMemory) passes counts = inr (λ i. 6)
 
-  pub completes : (status : ℕ) → IsAudited status call out → (status ≡ 0) ⊎ (status ≡ 6)
+  pub completes : (status : ℕ) → IsCloudAudited status call out → (status ≡ 0) ⊎ (status ≡ 6)
   completes status (Unmade same silent untouched) = inr same
   completes status (Unopened error unopened writes) = absurd (opens call out well error unopened)
   completes status (Audited rooms memory result opened of writes) = status_of call out well _ (audit_status result) status

@@ -3,9 +3,9 @@ use Rattle.std.proofs.Common.{◌≡◌, ℕ, zero, suc, ◌+◌, ◌-◌, ◌<�
 use Rattle.std.specs.Prelude.{slice_get}
 use Rattle.std.specs.Io.KnownBytes.{Consumes}
 use Rattle.std.proofs.lemmas.Option.{same_Some}
-use Rattle.backup_command.specs.Reading.{input_of}
-use Rattle.transcript.specs.Reading.{line_len}
-use Rattle.audit_command.specs.Source.{IsTooLong, behind_lines, certificate_limit, mark_behind}
+use Rattle.cloud_opening.specs.BackupCommand.Reading.{input_of}
+use Rattle.cloud_opening.specs.Transcript.Reading.{line_len}
+use Rattle.audit_command.specs.Source.{IsCertificateTooLong, behind_lines, certificate_limit, mark_behind}
 
 -- the mark behind two texts, one after the other
 pub mark_append : (mark : ℕ × ℕ) (xs ys : List ℕ) → mark_behind mark (xs ++ ys) ≡ mark_behind (mark_behind mark xs) ys
@@ -68,7 +68,7 @@ pub too_many : (before middle after : Option (List ℕ)) (text piece : List ℕ)
     → certificate_limit - length text < count → count ≤ length piece
     → mark ≡ mark_behind (1, 0) (text ++ take (certificate_limit - length text) piece)
     → slice_get piece (certificate_limit - length text) ≡ Some byte → now ≡ faults
-    → IsTooLong (input_of before faults now) mark.0 mark.1 byte
+    → IsCertificateTooLong (input_of before faults now) mark.0 mark.1 byte
 too_many None middle after text piece count mark byte faults now one two few over within marked found still = record {
   byte_is = λ left is. absurd (let e : None ≡ Some left = is in cc);
   mark_is = λ left is. absurd (let e : None ≡ Some left = is in cc);

@@ -4,43 +4,43 @@ use Rattle.std.specs.Prelude.{OnOk}
 use Rattle.audit.specs.Audits.{Appends, IfRotten, OnAuditFault, OnCheckFault}
 use Rattle.audit.specs.declared.errors.AuditErr.{AuditErr}
 use Rattle.audit.specs.declared.errors.AuditErr.TheVariants as audits
-use Rattle.audit_base.specs.Judged.{JudgedIs}
-use Rattle.audit_base.specs.Own.{own}
-use Rattle.audit_base.specs.Whole.{IsRottenNow, WholeNow, tables_of}
-use Rattle.audit_base.specs.declared.errors.CheckErr.{CheckErr}
-use Rattle.audit_base.specs.declared.errors.CheckErr.TheVariants as checks
-use Rattle.backup_command.specs.Reading.{Input}
-use Rattle.backup_command.specs.Writing.{Output, Writes}
-use Rattle.cd_base.specs.declared.ids.CloudNo.{CloudNo}
-use Rattle.cd_base.specs.declared.shape.Shape.{Shape}
-use Rattle.cd_edges.specs.Disk.{Cloud, reads}
-use Rattle.cd_edges.specs.Shelf.{HasFailed, KeepsCounts, Stays}
-use Rattle.certificate.specs.Lines.{Certificate, certificate_text}
+use Rattle.audit.specs.AuditBase.Judged.{JudgedIs}
+use Rattle.audit.specs.AuditBase.Own.{own}
+use Rattle.audit.specs.AuditBase.Whole.{IsRottenNow, WholeNow, tables_of}
+use Rattle.audit.specs.AuditBase.errors.CheckErr.{CheckErr}
+use Rattle.audit.specs.AuditBase.errors.CheckErr.TheVariants as checks
+use Rattle.cloud_opening.specs.BackupCommand.Reading.{Input}
+use Rattle.cloud_opening.specs.BackupCommand.Writing.{Output, HasWrittenOrCause}
+use Rattle.grammar.specs.CdBase.ids.CloudNo.{CloudNo}
+use Rattle.grammar.specs.CdBase.shape.Shape.{Shape}
+use Rattle.cloud_opening.specs.CdEdges.Disk.{Cloud, reads}
+use Rattle.cloud_opening.specs.CdEdges.Shelf.{HasFailed, KeepsCounts, Stays}
+use Rattle.audit.specs.Certificate.Lines.{Certificate, certificate_text}
 use Rattle.cloud_opening.specs.CloudMemory.Rooms.{memory_of}
 use Rattle.cloud_opening.specs.CloudServer.Names.{header_of}
 use Rattle.cloud_opening.specs.CloudServer.Serving.{number_of}
 use Rattle.cloud_opening.specs.CloudServer.server.Server.{Server}
-use Rattle.journal_start.specs.declared.rooms.Rooms.{Rooms}
-use Rattle.journal_start.specs.declared.start.Header.{Header}
-use Rattle.audit_command.specs.Audited.{IsAudited, Unmade, Unopened, Audited, IsAuditOf}
+use Rattle.cloud_opening.specs.JournalStart.rooms.UserRooms.{UserRooms}
+use Rattle.cloud_opening.specs.JournalStart.start.Header.{Header}
+use Rattle.audit_command.specs.Audited.{IsCloudAudited, Unmade, Unopened, Audited, IsAuditOf}
 use Rattle.audit_command.specs.Checked as ends_of
-use Rattle.audit_command.specs.Checked.{IsChecked, Checked, ChecksBy, IsCheckOf, Judged, ReadLacked, ReadFailed, ReadTooMuch}
+use Rattle.audit_command.specs.Checked.{IsCertificateChecked, Checked, ChecksBy, IsCheckOf, Judged, ReadLacked, ReadFailed, ReadTooMuch}
 use Rattle.cloud_opening.specs.Opened.{CloudCall, IsUnchanged, IsUnfailing, cloud_call}
 use Rattle.audit_command.specs.Said.{audit_status, audit_text, check_status, check_text}
 use Rattle.audit_command.specs.Steps.{AuditedBy, AnswersFor, CheckedBy, Unread, Answered}
 use Rattle.cloud_opening.specs.declared.opening.Unopened.{Unopened as OpeningErr}
 use Rattle.cloud_opening.specs.declared.opening.Unopened.TheVariants as unopened
-use Rattle.audit_command.specs.declared.reading.ReadErr.TheVariants as readings
+use Rattle.audit_command.specs.declared.reading.CertificateReadErr.TheVariants as readings
 use Rattle.cloud_opening.proofs.Standing.{failed_since, kept_since, opened_still, stands_still, untouched_stays}
 use Rattle.cloud_opening.specs.Opens.{OpenedBy, OpensCloud}
 use Rattle.cloud_opening.specs.Said.{SaysUnopened}
 
 -- what an audit appended to no text is the certificate
 pub audit_said : (cloud : CloudNo) (certificate : Certificate) (result : Result ℕ AuditErr) (before text : List ℕ) (out : Output) (status : ℕ)
-    → before ≡ [] → Appends certificate result before text → Writes (audit_text cloud text result) (audit_status result) out status
-    → Writes (audit_text cloud (certificate_text certificate) result) (audit_status result) out status
+    → before ≡ [] → Appends certificate result before text → HasWrittenOrCause (audit_text cloud text result) (audit_status result) out status
+    → HasWrittenOrCause (audit_text cloud (certificate_text certificate) result) (audit_status result) out status
 audit_said cloud certificate (Ok count) before text out status empty appends writes =
-    subst (λ (t : List ℕ). Writes t 0 out status)
+    subst (λ (t : List ℕ). HasWrittenOrCause t 0 out status)
     (appends.1 ∙ ap (λ (b : List ℕ). b ++ certificate_text certificate) empty) writes
 audit_said cloud certificate (Err audits.Fault) before text out status empty appends writes = writes
 audit_said cloud certificate (Err (audits.Rotten named found)) before text out status empty appends writes = writes
@@ -65,7 +65,7 @@ check_counts old mid new before middle now still (Err (checks.Rotten named found
 check_counts old mid new before middle now still (Err checks.Fault) counts = failed_since old mid new before middle now still counts
 check_counts old mid new before middle now still (Err checks.NoMemory) counts = kept_since old mid new before middle now still counts
 
-module _ (shape : Shape) (cloud : CloudNo) (rooms : Rooms) (server : Server) (old mid new : Cloud) (before middle now : ℕ) (out : Output)
+module _ (shape : Shape) (cloud : CloudNo) (rooms : UserRooms) (server : Server) (old mid new : Cloud) (before middle now : ℕ) (out : Output)
     (status : ℕ) (told : mid.told ≡ old.told) (first : OpenedBy rooms server (cloud_call shape cloud old mid before middle)) where
   abbrev whole : CloudCall
   whole = cloud_call shape cloud old new before now
@@ -84,11 +84,11 @@ module _ (shape : Shape) (cloud : CloudNo) (rooms : Rooms) (server : Server) (ol
     counts = audit_counts old mid new before middle now first.still by.result by.counts;
   }
 
-  pub audited : AuditedBy server then_call out status → IsAudited status whole out
+  pub audited : AuditedBy server then_call out status → IsCloudAudited status whole out
   audited by = Audited rooms (memory_of server.store.memory) by.result
       (opened_still shape cloud old mid new before middle now rooms (memory_of server.store.memory) by.stays first.opened)
       (audit_of by)
-      (subst (λ (h : Header). Writes (audit_text h.cloud (certificate_text (own h.shape h.cloud (tables_of server.store.memory))) by.result)
+      (subst (λ (h : Header). HasWrittenOrCause (audit_text h.cloud (certificate_text (own h.shape h.cloud (tables_of server.store.memory))) by.result)
       (audit_status by.result) out status) first.header_is by.written)
 
   -- ---- a check
@@ -113,11 +113,11 @@ module _ (shape : Shape) (cloud : CloudNo) (rooms : Rooms) (server : Server) (ol
       (record { cloud = ap (λ (k : Cloud). k.faults) u.cloud_is; total = u.total })
 
   opened_then : Stays mid new → (input : Input) (unread : Type 0) → ChecksBy (memory_of server.store.memory) status whole input out
-      → IsChecked status whole unread input out
+      → IsCertificateChecked status whole unread input out
   opened_then stays input unread checks = Checked rooms (memory_of server.store.memory)
       (opened_still shape cloud old mid new before middle now rooms (memory_of server.store.memory) stays first.opened) checks
 
-  pub checked : (input : Input) (unread : Type 0) → CheckedBy server then_call input out status → IsChecked status whole unread input out
+  pub checked : (input : Input) (unread : Type 0) → CheckedBy server then_call input out status → IsCertificateChecked status whole unread input out
   checked input unread (Unread readings.Failed reads says u) =
       opened_then (untouched_stays then_call u) input unread (ReadFailed says.0 reads says.1 (quiet_since u))
   checked input unread (Unread readings.NoMemory reads says u) =
@@ -126,30 +126,30 @@ module _ (shape : Shape) (cloud : CloudNo) (rooms : Rooms) (server : Server) (ol
       opened_then (untouched_stays then_call u) input unread (ReadTooMuch line at byte reads says (quiet_since u))
   checked input unread (Answered text read by) = opened_then by.answers.stays input unread
       (Judged text by.result read (check_of text by.result by.answers)
-      (subst (λ (h : Header). Writes (check_text h.cloud text by.result) (check_status by.result) out status) first.header_is by.written))
+      (subst (λ (h : Header). HasWrittenOrCause (check_text h.cloud text by.result) (check_status by.result) out status) first.header_is by.written))
 
 -- ---- a cloud that isn't opened
 
 pub unopened_audit : (call : CloudCall) (why : OpeningErr) (out : Output) (status : ℕ) → OpensCloud call (Err why)
-    → SaysUnopened call.cloud why out status → IsAudited status call out
+    → SaysUnopened call.cloud why out status → IsCloudAudited status call out
 unopened_audit call unopened.NoMemory out status opens says = Unmade says.0 says.1 opens
 unopened_audit call (unopened.Refused error) out status opens says = Unopened error opens says
 
 pub unopened_check : (call : CloudCall) (why : OpeningErr) (unread : Type 0) (input : Input) (out : Output) (status : ℕ) → unread
-    → OpensCloud call (Err why) → SaysUnopened call.cloud why out status → IsChecked status call unread input out
+    → OpensCloud call (Err why) → SaysUnopened call.cloud why out status → IsCertificateChecked status call unread input out
 unopened_check call unopened.NoMemory unread input out status still opens says = ends_of.Unmade still says.0 says.1 opens
 unopened_check call (unopened.Refused error) unread input out status still opens says = ends_of.Unopened error still opens says
 
 -- ---- the same by the number of the cloud that the server has
 
-pub audited_at : (rooms : Rooms) (server : Server) (shape : Shape) (cloud : CloudNo) (old new : ℕ → Cloud) (before now : ℕ) (out : Output)
+pub audited_at : (rooms : UserRooms) (server : Server) (shape : Shape) (cloud : CloudNo) (old new : ℕ → Cloud) (before now : ℕ) (out : Output)
     (status : ℕ) → server.store.header ≡ header_of shape rooms cloud.0
     → AuditedBy server (cloud_call server.store.header.shape server.store.header.cloud (old (number_of server)) (new (number_of server)) before now) out status
     → AuditedBy server (cloud_call server.store.header.shape server.store.header.cloud (old cloud.0) (new cloud.0) before now) out status
 audited_at rooms server shape cloud old new before now out status is by = subst (λ (h : Header). AuditedBy server
     (cloud_call server.store.header.shape server.store.header.cloud (old h.cloud.0) (new h.cloud.0) before now) out status) is by
 
-pub checked_at : (rooms : Rooms) (server : Server) (shape : Shape) (cloud : CloudNo) (old new : ℕ → Cloud) (before now : ℕ) (input : Input)
+pub checked_at : (rooms : UserRooms) (server : Server) (shape : Shape) (cloud : CloudNo) (old new : ℕ → Cloud) (before now : ℕ) (input : Input)
     (out : Output) (status : ℕ) → server.store.header ≡ header_of shape rooms cloud.0
     → CheckedBy server (cloud_call server.store.header.shape server.store.header.cloud (old (number_of server)) (new (number_of server)) before now) input out status
     → CheckedBy server (cloud_call server.store.header.shape server.store.header.cloud (old cloud.0) (new cloud.0) before now) input out status

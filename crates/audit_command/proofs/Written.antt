@@ -2,7 +2,7 @@
 use Rattle.std.proofs.Common.{◌≡◌, ℕ, List, Err, refl}
 use Rattle.audit.specs.declared.errors.AuditErr.{AuditErr}
 use Rattle.audit.specs.declared.errors.AuditErr.TheVariants as audits
-use Rattle.cd_base.specs.declared.ids.CloudNo.{CloudNo}
+use Rattle.grammar.specs.CdBase.ids.CloudNo.{CloudNo}
 use Rattle.audit_command.specs.Said.{audit_text}
 
 -- what is due behind no certificate is due whatever the text was

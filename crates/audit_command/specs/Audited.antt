@@ -2,13 +2,13 @@
 use Rattle.std.specs.Prelude.{◌≡◌, ℕ, IsTrue, List, Result}
 use Rattle.audit.specs.Audits.{AuditIs, AuditPasses, OnAuditFault}
 use Rattle.audit.specs.declared.errors.AuditErr.{AuditErr}
-use Rattle.backup_command.specs.Writing.{IsSilent, Output, Writes}
-use Rattle.cd_edges.specs.Disk.{reads}
-use Rattle.certificate.specs.Lines.{certificate_text}
+use Rattle.cloud_opening.specs.BackupCommand.Writing.{IsSilent, Output, HasWrittenOrCause}
+use Rattle.cloud_opening.specs.CdEdges.Disk.{reads}
+use Rattle.audit.specs.Certificate.Lines.{certificate_text}
 use Rattle.cloud_opening.specs.CloudMemory.Memory.{Memory}
-use Rattle.half_journal.specs.declared.errors.OpenErr.{OpenErr}
-use Rattle.journal_start.specs.declared.rooms.Rooms.{Rooms}
-use Rattle.user_dedup.specs.declared.command.Command.{Command}
+use Rattle.cloud_opening.specs.HalfJournal.errors.OpenErr.{OpenErr}
+use Rattle.cloud_opening.specs.JournalStart.rooms.UserRooms.{UserRooms}
+use Rattle.cloud_opening.specs.UserDedup.command.Command.{Command}
 use Rattle.cloud_opening.specs.Opened.{CloudCall, CloudFails, IsOpenedIn, IsUnfailing, IsNotOpened, IsUnchanged, StandsWithin}
 use Rattle.audit_command.specs.Said.{audit_status, audit_text}
 use Rattle.audit_command.specs.Tables.{certificate_in, tables_in}
@@ -18,17 +18,17 @@ use Rattle.cloud_opening.specs.Said.{opening_status, opening_text}
 -- and Rotten that one doesn't. Where the cloud stands for a list, Rotten never comes.
 pub record IsAuditOf (memory : Memory) (call : CloudCall) (result : Result ℕ AuditErr) : Type 0 where
   pub areas : IsTrue call.old.told → AuditIs (reads call.new.now) (tables_in memory) result
-  pub passes : (own : Rooms) (list : List Command) → StandsWithin call own list → AuditPasses result
+  pub passes : (own : UserRooms) (list : List Command) → StandsWithin call own list → AuditPasses result
   pub counts : OnAuditFault result (CloudFails call) (IsUnfailing call)
 
 -- The whole promise, by the way it ended. Memory ran out before the cloud was opened; or it wasn't opened; or it was audited, and what
 -- is written is the certificate by its records, or why there is none.
-pub data IsAudited (status : ℕ) (call : CloudCall) (out : Output) : Type 0 where
-  Unmade : status ≡ 6 → IsSilent out → IsUnchanged call → IsAudited status call out
+pub data IsCloudAudited (status : ℕ) (call : CloudCall) (out : Output) : Type 0 where
+  Unmade : status ≡ 6 → IsSilent out → IsUnchanged call → IsCloudAudited status call out
   Unopened : (error : OpenErr) → IsNotOpened call error
-      → Writes (opening_text call.cloud error) (opening_status error) out status
-      → IsAudited status call out
-  Audited : (rooms : Rooms) (memory : Memory) (result : Result ℕ AuditErr) → IsOpenedIn rooms memory call
+      → HasWrittenOrCause (opening_text call.cloud error) (opening_status error) out status
+      → IsCloudAudited status call out
+  Audited : (rooms : UserRooms) (memory : Memory) (result : Result ℕ AuditErr) → IsOpenedIn rooms memory call
       → IsAuditOf memory call result
-      → Writes (audit_text call.cloud (certificate_text (certificate_in call memory)) result) (audit_status result) out status
-      → IsAudited status call out
+      → HasWrittenOrCause (audit_text call.cloud (certificate_text (certificate_in call memory)) result) (audit_status result) out status
+      → IsCloudAudited status call out

@@ -1,23 +1,23 @@
 -- What the check of a cloud in a place promises.
 use Rattle.std.specs.Prelude.{◌≡◌, ℕ, IsTrue, List, Some, Result, OnOk}
 use Rattle.audit.specs.Audits.{CheckPasses, IfRotten, OnCheckFault}
-use Rattle.audit_base.specs.Judged.{JudgedIs}
-use Rattle.audit_base.specs.Whole.{IsRottenNow, WholeNow}
-use Rattle.audit_base.specs.declared.errors.CheckErr.{CheckErr}
-use Rattle.backup_command.specs.Reading.{Input}
-use Rattle.backup_command.specs.Writing.{IsSilent, Output, Writes}
-use Rattle.cd_edges.specs.Causes.{Rose}
-use Rattle.cd_edges.specs.Disk.{reads}
-use Rattle.certificate.specs.Lines.{certificate_text}
+use Rattle.audit.specs.AuditBase.Judged.{JudgedIs}
+use Rattle.audit.specs.AuditBase.Whole.{IsRottenNow, WholeNow}
+use Rattle.audit.specs.AuditBase.errors.CheckErr.{CheckErr}
+use Rattle.cloud_opening.specs.BackupCommand.Reading.{Input}
+use Rattle.cloud_opening.specs.BackupCommand.Writing.{IsSilent, Output, HasWrittenOrCause}
+use Rattle.cloud_opening.specs.CdEdges.Causes.{Rose}
+use Rattle.cloud_opening.specs.CdEdges.Disk.{reads}
+use Rattle.audit.specs.Certificate.Lines.{certificate_text}
 use Rattle.cloud_opening.specs.CloudMemory.Memory.{Memory}
-use Rattle.half_journal.specs.declared.errors.OpenErr.{OpenErr}
-use Rattle.journal_start.specs.declared.rooms.Rooms.{Rooms}
-use Rattle.transcript.specs.declared.ending.Ending.TheVariants as endings
-use Rattle.transcript.specs.Endings.{ending_text}
-use Rattle.user_dedup.specs.declared.command.Command.{Command}
+use Rattle.cloud_opening.specs.HalfJournal.errors.OpenErr.{OpenErr}
+use Rattle.cloud_opening.specs.JournalStart.rooms.UserRooms.{UserRooms}
+use Rattle.cloud_opening.specs.Transcript.ending.Ending.TheVariants as endings
+use Rattle.cloud_opening.specs.Transcript.Endings.{ending_text}
+use Rattle.cloud_opening.specs.UserDedup.command.Command.{Command}
 use Rattle.cloud_opening.specs.Opened.{CloudCall, CloudFails, IsOpenedIn, IsUnfailing, IsNotOpened, IsUnchanged, StandsWithin}
 use Rattle.audit_command.specs.Said.{check_status, check_text}
-use Rattle.audit_command.specs.Source.{IsRead, IsTooLong}
+use Rattle.audit_command.specs.Source.{IsCertificateRead, IsCertificateTooLong}
 use Rattle.audit_command.specs.Tables.{certificate_in, tables_in}
 use Rattle.cloud_opening.specs.Said.{opening_status, opening_text}
 
@@ -28,7 +28,7 @@ pub record IsCheckOf (memory : Memory) (call : CloudCall) (text : List ℕ) (res
   pub judged : JudgedIs (certificate_in call memory) text result
   pub whole : IsTrue call.old.told → OnOk result (WholeNow call.shape (reads call.new.now) (tables_in memory))
   pub rotten : IsTrue call.old.told → IfRotten result (IsRottenNow call.shape (reads call.new.now) (tables_in memory))
-  pub passes : (own : Rooms) (list : List Command) → StandsWithin call own list
+  pub passes : (own : UserRooms) (list : List Command) → StandsWithin call own list
       → text ≡ certificate_text (certificate_in call memory) → CheckPasses result
   pub counts : OnCheckFault result (CloudFails call) (IsUnfailing call)
 
@@ -37,19 +37,21 @@ pub data ChecksBy (memory : Memory) (status : ℕ) (call : CloudCall) (input : I
   ReadLacked : status ≡ 6 → IsSilent out → IsUnfailing call → ChecksBy memory status call input out
   ReadFailed : status ≡ 3 → Rose input.faults_before input.faults_after → IsSilent out → IsUnfailing call
       → ChecksBy memory status call input out
-  ReadTooMuch : (line at byte : ℕ) → IsTooLong input line at byte
-      → Writes (ending_text (endings.Script line at (Some byte))) 2 out status
+  ReadTooMuch : (line at byte : ℕ) → IsCertificateTooLong input line at byte
+      → HasWrittenOrCause (ending_text (endings.Script line at (Some byte))) 2 out status
       → IsUnfailing call → ChecksBy memory status call input out
-  Judged : (text : List ℕ) (result : Result ℕ CheckErr) → IsRead input text → IsCheckOf memory call text result
-      → Writes (check_text call.cloud text result) (check_status result) out status
+  Judged : (text : List ℕ) (result : Result ℕ CheckErr) → IsCertificateRead input text
+      → IsCheckOf memory call text result
+      → HasWrittenOrCause (check_text call.cloud text result) (check_status result) out status
       → ChecksBy memory status call input out
 
 -- The whole promise, by the way it ended. Memory ran out before the cloud was opened, or it wasn't opened: the source is unread. Or it was
 -- opened, and what the source has was checked.
-pub data IsChecked (status : ℕ) (call : CloudCall) (unread : Type 0) (input : Input) (out : Output) : Type 0 where
-  Unmade : unread → status ≡ 6 → IsSilent out → IsUnchanged call → IsChecked status call unread input out
+pub data IsCertificateChecked (status : ℕ) (call : CloudCall) (unread : Type 0) (input : Input)
+    (out : Output) : Type 0 where
+  Unmade : unread → status ≡ 6 → IsSilent out → IsUnchanged call → IsCertificateChecked status call unread input out
   Unopened : (error : OpenErr) → unread → IsNotOpened call error
-      → Writes (opening_text call.cloud error) (opening_status error) out status
-      → IsChecked status call unread input out
-  Checked : (rooms : Rooms) (memory : Memory) → IsOpenedIn rooms memory call → ChecksBy memory status call input out
-      → IsChecked status call unread input out
+      → HasWrittenOrCause (opening_text call.cloud error) (opening_status error) out status
+      → IsCertificateChecked status call unread input out
+  Checked : (rooms : UserRooms) (memory : Memory) → IsOpenedIn rooms memory call → ChecksBy memory status call input out
+      → IsCertificateChecked status call unread input out

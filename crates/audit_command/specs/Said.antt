@@ -2,15 +2,15 @@
 use Rattle.std.specs.Prelude.{ℕ, List, [], ◌∷◌, Result, Ok, Err, codes, decimal}
 use Rattle.audit.specs.declared.errors.AuditErr.{AuditErr}
 use Rattle.audit.specs.declared.errors.AuditErr.TheVariants as audits
-use Rattle.audit_base.specs.declared.errors.CheckErr.{CheckErr}
-use Rattle.audit_base.specs.declared.errors.CheckErr.TheVariants as checks
-use Rattle.cd_base.specs.declared.ids.CloudNo.{CloudNo}
-use Rattle.cd_base.specs.declared.ids.Fp.{Fp}
-use Rattle.transcript.specs.declared.ending.Ending.TheVariants as endings
-use Rattle.transcript.specs.declared.line.Line.TheVariants as lines
-use Rattle.transcript.specs.declared.refusal.Refusal.TheVariants as refusals
-use Rattle.transcript.specs.Endings.{ending_text}
-use Rattle.transcript.specs.Transcript.{ended, line_text}
+use Rattle.audit.specs.AuditBase.errors.CheckErr.{CheckErr}
+use Rattle.audit.specs.AuditBase.errors.CheckErr.TheVariants as checks
+use Rattle.grammar.specs.CdBase.ids.CloudNo.{CloudNo}
+use Rattle.grammar.specs.CdBase.ids.Fp.{Fp}
+use Rattle.cloud_opening.specs.Transcript.ending.Ending.TheVariants as endings
+use Rattle.cloud_opening.specs.Transcript.line.Line.TheVariants as lines
+use Rattle.cloud_opening.specs.Transcript.refusal.Refusal.TheVariants as refusals
+use Rattle.cloud_opening.specs.Transcript.Endings.{ending_text}
+use Rattle.cloud_opening.specs.Transcript.Transcript.{ended, line_text}
 use Rattle.audit_command.specs.Source.{byte_in}
 
 -- ---- lines

@@ -1,10 +1,10 @@
 -- A certificate that is read from a source, and the places in it.
 use Rattle.std.specs.Prelude.{◌≡◌, ℕ, zero, suc, ◌+◌, ◌-◌, ◌==◌, ◌≤◌, List, [], ◌∷◌, length, take, drop, Option, Some, Result, Ok, Err, slice_get, if◌then◌else◌}
-use Rattle.cd_edges.specs.Causes.{Rose}
-use Rattle.transcript.specs.Reading.{line_len}
-use Rattle.backup_command.specs.Reading.{Input}
-use Rattle.audit_command.specs.declared.reading.ReadErr.{ReadErr}
-use Rattle.audit_command.specs.declared.reading.ReadErr.TheVariants as errors
+use Rattle.cloud_opening.specs.CdEdges.Causes.{Rose}
+use Rattle.cloud_opening.specs.Transcript.Reading.{line_len}
+use Rattle.cloud_opening.specs.BackupCommand.Reading.{Input}
+use Rattle.audit_command.specs.declared.reading.CertificateReadErr.{CertificateReadErr}
+use Rattle.audit_command.specs.declared.reading.CertificateReadErr.TheVariants as errors
 
 -- how many bytes a certificate may have
 abbrev pub certificate_limit : ℕ
@@ -33,20 +33,20 @@ byte_in text line at = slice_get (first_line (behind_lines (line - 1) text)) at
 -- ---- the source
 
 -- The text is all that the source has, and not above the limit.
-pub record IsRead (input : Input) (text : List ℕ) : Type 0 where
+pub record IsCertificateRead (input : Input) (text : List ℕ) : Type 0 where
   pub few : length text ≤ certificate_limit
   pub all : (left : List ℕ) → input.left ≡ Some left → text ≡ left
   pub still : input.faults_after ≡ input.faults_before
 
 -- The source has more than a certificate may have: the first byte too many, and its line and place.
-pub record IsTooLong (input : Input) (line at byte : ℕ) : Type 0 where
+pub record IsCertificateTooLong (input : Input) (line at byte : ℕ) : Type 0 where
   pub byte_is : (left : List ℕ) → input.left ≡ Some left → slice_get left certificate_limit ≡ Some byte
   pub mark_is : (left : List ℕ) → input.left ≡ Some left → mark_behind (1, 0) (take certificate_limit left) ≡ (line, at)
   pub still : input.faults_after ≡ input.faults_before
 
 -- What reading the source to its end came to.
-abbrev pub Reads : Input → Result (List ℕ) ReadErr → Type 0
-Reads input (Ok text) = IsRead input text
-Reads input (Err (errors.TooLong line at byte)) = IsTooLong input line at byte
+abbrev pub Reads : Input → Result (List ℕ) CertificateReadErr → Type 0
+Reads input (Ok text) = IsCertificateRead input text
+Reads input (Err (errors.TooLong line at byte)) = IsCertificateTooLong input line at byte
 Reads input (Err errors.Failed) = Rose input.faults_before input.faults_after
 Reads input (Err errors.NoMemory) = input.faults_after ≡ input.faults_before

@@ -2,31 +2,31 @@
 use Rattle.std.specs.Prelude.{◌≡◌, ℕ, IsTrue, List, Some, Result, Err, OnOk}
 use Rattle.audit.specs.Audits.{AuditIs, AuditPasses, CheckPasses, IfRotten, OnAuditFault, OnCheckFault, own_of, remembered}
 use Rattle.audit.specs.declared.errors.AuditErr.{AuditErr}
-use Rattle.audit_base.specs.Judged.{JudgedIs}
-use Rattle.audit_base.specs.Whole.{IsRottenNow, WholeNow}
-use Rattle.audit_base.specs.declared.errors.CheckErr.{CheckErr}
-use Rattle.backup_command.specs.Reading.{Input}
-use Rattle.backup_command.specs.Writing.{IsSilent, Output, Writes}
-use Rattle.cd_edges.specs.Disk.{reads}
-use Rattle.cd_edges.specs.Shelf.{Stays}
-use Rattle.certificate.specs.Lines.{certificate_text}
-use Rattle.cloud_areas.specs.Standing.{Chain}
+use Rattle.audit.specs.AuditBase.Judged.{JudgedIs}
+use Rattle.audit.specs.AuditBase.Whole.{IsRottenNow, WholeNow}
+use Rattle.audit.specs.AuditBase.errors.CheckErr.{CheckErr}
+use Rattle.cloud_opening.specs.BackupCommand.Reading.{Input}
+use Rattle.cloud_opening.specs.BackupCommand.Writing.{IsSilent, Output, HasWrittenOrCause}
+use Rattle.cloud_opening.specs.CdEdges.Disk.{reads}
+use Rattle.cloud_opening.specs.CdEdges.Shelf.{Stays}
+use Rattle.audit.specs.Certificate.Lines.{certificate_text}
+use Rattle.cloud_opening.specs.CloudAreas.Standing.{Chain}
 use Rattle.cloud_opening.specs.OpenStore.Store.{Serves}
 use Rattle.cloud_opening.specs.CloudServer.server.Server.{Server}
-use Rattle.transcript.specs.declared.ending.Ending.TheVariants as endings
-use Rattle.transcript.specs.Endings.{ending_text}
-use Rattle.user_dedup.specs.declared.command.Command.{Command}
-use Rattle.audit_command.specs.declared.reading.ReadErr.{ReadErr}
-use Rattle.audit_command.specs.declared.reading.ReadErr.TheVariants as readings
+use Rattle.cloud_opening.specs.Transcript.ending.Ending.TheVariants as endings
+use Rattle.cloud_opening.specs.Transcript.Endings.{ending_text}
+use Rattle.cloud_opening.specs.UserDedup.command.Command.{Command}
+use Rattle.audit_command.specs.declared.reading.CertificateReadErr.{CertificateReadErr}
+use Rattle.audit_command.specs.declared.reading.CertificateReadErr.TheVariants as readings
 use Rattle.cloud_opening.specs.Opened.{CloudCall, CloudFails, IsUnfailing, IsUnchanged}
 use Rattle.audit_command.specs.Said.{audit_status, audit_text, check_status, check_text}
-use Rattle.audit_command.specs.Source.{IsRead, Reads}
+use Rattle.audit_command.specs.Source.{IsCertificateRead, Reads}
 
 -- what is said of a source that isn't read to its end
-abbrev pub SaysUnread : ReadErr → Output → ℕ → Type 0
+abbrev pub SaysUnread : CertificateReadErr → Output → ℕ → Type 0
 SaysUnread readings.Failed out status = (status ≡ 3) × IsSilent out
 SaysUnread readings.NoMemory out status = (status ≡ 6) × IsSilent out
-SaysUnread (readings.TooLong line at byte) out status = Writes (ending_text (endings.Script line at (Some byte))) 2 out status
+SaysUnread (readings.TooLong line at byte) out status = HasWrittenOrCause (ending_text (endings.Script line at (Some byte))) 2 out status
 
 -- An open server audited its cloud, which stays.
 pub record AuditedBy (server : Server) (call : CloudCall) (out : Output) (status : ℕ) : Type 0 where
@@ -35,7 +35,8 @@ pub record AuditedBy (server : Server) (call : CloudCall) (out : Output) (status
   pub passes : (list : List Command) (c : Chain) → Serves list c server.store call.old → AuditPasses result
   pub counts : OnAuditFault result (CloudFails call) (IsUnfailing call)
   pub stays : Stays call.old call.new
-  pub written : Writes (audit_text call.cloud (certificate_text (own_of server)) result) (audit_status result) out
+  pub written : HasWrittenOrCause (audit_text call.cloud (certificate_text (own_of server)) result)
+      (audit_status result) out
       status
 
 -- What an open server answers for a text.
@@ -54,11 +55,11 @@ pub record AnswersFor (server : Server) (call : CloudCall) (text : List ℕ) (re
 pub record AnswersBy (server : Server) (call : CloudCall) (text : List ℕ) (out : Output) (status : ℕ) : Type 0 where
   pub result : Result ℕ CheckErr
   pub answers : AnswersFor server call text result
-  pub written : Writes (check_text call.cloud text result) (check_status result) out status
+  pub written : HasWrittenOrCause (check_text call.cloud text result) (check_status result) out status
 
 -- An open server checked what a source has.
 pub data CheckedBy (server : Server) (call : CloudCall) (input : Input) (out : Output) (status : ℕ) : Type 0 where
-  Unread : (why : ReadErr) → Reads input (Err why) → SaysUnread why out status → IsUnchanged call
+  Unread : (why : CertificateReadErr) → Reads input (Err why) → SaysUnread why out status → IsUnchanged call
       → CheckedBy server call input out status
-  Answered : (text : List ℕ) → IsRead input text → AnswersBy server call text out status
+  Answered : (text : List ℕ) → IsCertificateRead input text → AnswersBy server call text out status
       → CheckedBy server call input out status

@@ -1,7 +1,7 @@
 -- What an opened cloud vouches for, by the memory.
-use Rattle.audit_base.specs.Own.{own}
-use Rattle.audit_base.specs.Whole.{Tables}
-use Rattle.certificate.specs.Lines.{Certificate}
+use Rattle.audit.specs.AuditBase.Own.{own}
+use Rattle.audit.specs.AuditBase.Whole.{Tables}
+use Rattle.audit.specs.Certificate.Lines.{Certificate}
 use Rattle.cloud_opening.specs.CloudMemory.Memory.{Memory}
 use Rattle.cloud_opening.specs.Opened.{CloudCall}
 

@@ -1,20 +1,19 @@
 //! The audit of a cloud.
 
 ghost use Rattle.std.specs.Prelude.{◌≡◌, ◌⊎◌, ◌<◌};
-ghost use Rattle.cd_edges.specs.Shelf.{IsCall};
-ghost use Rattle.backup_command.specs.Writing.{output_of};
+ghost use Rattle.cloud_opening.specs.CdEdges.Shelf.{IsCall};
+ghost use Rattle.cloud_opening.specs.BackupCommand.Writing.{output_of};
 ghost use Rattle.cloud_opening.specs.OpenStore.Store.{IsOpen};
 ghost use Rattle.cloud_opening.specs.CloudServer.Serving.{number_of};
-ghost use Rattle.audit_command.specs.Audited.{IsAudited};
+ghost use Rattle.audit_command.specs.Audited.{IsCloudAudited};
 ghost use Rattle.cloud_opening.specs.Opened.{cloud_call};
-ghost use Rattle.cloud_opening.specs.Unhindered.{IsUnhindered};
+ghost use Rattle.cloud_opening.specs.Unhindered.{IsOpeningUnhindered};
 ghost use Rattle.audit_command.specs.Steps.{AuditedBy};
 
 use crate::lines::write_audited;
 use audit::audit;
-use cd_base::{Bytes, CloudNo, Shape};
-use cd_edges::{Shelf, Sink};
-use cloud_opening::{Server, open_cloud, write_unopened};
+use cloud_opening::{Server, Shelf, Sink, open_cloud, write_unopened};
+use grammar::{Bytes, CloudNo, Shape};
 use std::alloc::Global;
 
 // Audits the cloud of an open server.
@@ -62,12 +61,12 @@ pub fn audit_cloud<K: Sink, V: Shelf>(
     shelf: &mut V,
 ) -> u8
     requires cloud { cloud.0 < shape.n }
-    ensures audited { IsAudited result (cloud_call shape cloud (V.cloud_at shelf.old cloud.0)
+    ensures audited { IsCloudAudited result (cloud_call shape cloud (V.cloud_at shelf.old cloud.0)
         (V.cloud_at shelf.new cloud.0) (V.faults shelf.old) (V.faults shelf.new))
         (output_of (K.written sink.old) (K.written sink.new) (K.faults sink.old) (K.faults sink.new)) }
     ensures call { IsCall (V.cloud_at shelf.old) (V.cloud_at shelf.new) cloud.0
         (V.faults shelf.old) (V.faults shelf.new) }
-    ensures complete { IsUnhindered (cloud_call shape cloud (V.cloud_at shelf.old cloud.0)
+    ensures complete { IsOpeningUnhindered (cloud_call shape cloud (V.cloud_at shelf.old cloud.0)
         (V.cloud_at shelf.new cloud.0) (V.faults shelf.old) (V.faults shelf.new))
         (output_of (K.written sink.old) (K.written sink.new) (K.faults sink.old) (K.faults sink.new))
         → (result ≡ 0) ⊎ (result ≡ 6) }

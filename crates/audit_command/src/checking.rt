@@ -1,21 +1,20 @@
 //! The check of a certificate.
 
 ghost use Rattle.std.specs.Prelude.{◌≡◌, ◌<◌};
-ghost use Rattle.cd_edges.specs.Shelf.{IsCall};
-ghost use Rattle.backup_command.specs.Reading.{input_of};
-ghost use Rattle.backup_command.specs.Writing.{output_of};
+ghost use Rattle.cloud_opening.specs.CdEdges.Shelf.{IsCall};
+ghost use Rattle.cloud_opening.specs.BackupCommand.Reading.{input_of};
+ghost use Rattle.cloud_opening.specs.BackupCommand.Writing.{output_of};
 ghost use Rattle.cloud_opening.specs.OpenStore.Store.{IsOpen};
 ghost use Rattle.cloud_opening.specs.CloudServer.Serving.{number_of};
-ghost use Rattle.audit_command.specs.Checked.{IsChecked};
+ghost use Rattle.audit_command.specs.Checked.{IsCertificateChecked};
 ghost use Rattle.cloud_opening.specs.Opened.{cloud_call};
 ghost use Rattle.audit_command.specs.Steps.{AnswersBy, CheckedBy};
 
 use crate::lines::{write_checked, write_unread};
 use crate::reading::read_text;
 use audit::check;
-use cd_base::{CloudNo, Shape};
-use cd_edges::{Shelf, Sink, Source};
-use cloud_opening::{Server, open_cloud, write_unopened};
+use cloud_opening::{Server, Shelf, Sink, Source, open_cloud, write_unopened};
+use grammar::{CloudNo, Shape};
 use std::alloc::Global;
 
 // Checks a text by an open server.
@@ -91,7 +90,7 @@ pub fn check_cloud<S: Source, K: Sink, V: Shelf>(
     shelf: &mut V,
 ) -> u8
     requires cloud { cloud.0 < shape.n }
-    ensures checked { IsChecked result (cloud_call shape cloud (V.cloud_at shelf.old cloud.0)
+    ensures checked { IsCertificateChecked result (cloud_call shape cloud (V.cloud_at shelf.old cloud.0)
         (V.cloud_at shelf.new cloud.0) (V.faults shelf.old) (V.faults shelf.new)) (source.new ≡ source.old)
         (input_of (S.left source.old) (S.faults source.old) (S.faults source.new))
         (output_of (K.written sink.old) (K.written sink.new) (K.faults sink.old) (K.faults sink.new)) }

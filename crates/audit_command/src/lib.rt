@@ -10,4 +10,4 @@ mod reading;
 
 pub use auditing::audit_cloud;
 pub use checking::check_cloud;
-pub use reading::ReadErr;
+pub use reading::CertificateReadErr;

@@ -1,33 +1,33 @@
 //! What is written, with the status.
 
 ghost use Rattle.std.specs.Prelude.{◌≡◌, ◌++◌, [], Err, OnOk};
-ghost use Rattle.backup_command.specs.Writing.{Writes, output_of};
+ghost use Rattle.cloud_opening.specs.BackupCommand.Writing.{HasWrittenOrCause, output_of};
 ghost use Rattle.audit_command.specs.Said.{audit_status, audit_text, check_status, check_text, differs_text};
 ghost use Rattle.audit_command.specs.Said.{other_text, rotten_text, whole_text};
 ghost use Rattle.audit_command.specs.Steps.{SaysUnread};
 
 use crate::marks::byte_at;
-use crate::reading::ReadErr;
+use crate::reading::CertificateReadErr;
 use audit::{AuditErr, CheckErr};
-use cd_base::{Bytes, CloudNo, Fp, NoMemory};
-use cd_edges::Sink;
-use cloud_opening::{write_last, write_text};
+use cloud_opening::Word::Number;
+use cloud_opening::{
+    Ending, Line, Refusal, Sink, put_first, write_ending, write_last, write_line, write_text,
+};
+use grammar::{Bytes, CloudNo, Fp, NoMemory};
 use std::alloc::Global;
-use transcript::Word::Number;
-use transcript::{Ending, Line, Refusal, put_first, write_ending, write_line};
 
 /// Writes why no certificate was read, and answers the status.
-pub fn write_unread<K: Sink>(alloc: Global, sink: &mut K, why: ReadErr) -> u8
+pub fn write_unread<K: Sink>(alloc: Global, sink: &mut K, why: CertificateReadErr) -> u8
     ensures { SaysUnread why
         (output_of (K.written sink.old) (K.written sink.new) (K.faults sink.old) (K.faults sink.new)) result }
 {
     match why {
-        ReadErr::Failed => 3,
-        ReadErr::TooLong { line, at, byte } => {
+        CertificateReadErr::Failed => 3,
+        CertificateReadErr::TooLong { line, at, byte } => {
             let found = Some(byte);
             write_last(alloc, sink, &Ending::Script { line, at, found }, 2)
         }
-        ReadErr::NoMemory => 6,
+        CertificateReadErr::NoMemory => 6,
     }
 }
 
@@ -109,7 +109,7 @@ pub fn write_audited<K: Sink>(
     text: &[u8],
     came: Result<u32, AuditErr>,
 ) -> u8
-    ensures { Writes (audit_text cloud text.now came) (audit_status came)
+    ensures { HasWrittenOrCause (audit_text cloud text.now came) (audit_status came)
         (output_of (K.written sink.old) (K.written sink.new) (K.faults sink.old) (K.faults sink.new)) result }
 {
     match came {
@@ -172,7 +172,7 @@ pub fn write_checked<K: Sink>(
     text: &[u8],
     came: Result<u32, CheckErr>,
 ) -> u8
-    ensures { Writes (check_text cloud text.now came) (check_status came)
+    ensures { HasWrittenOrCause (check_text cloud text.now came) (check_status came)
         (output_of (K.written sink.old) (K.written sink.new) (K.faults sink.old) (K.faults sink.new)) result }
 {
     let mut line = Bytes::new(alloc);

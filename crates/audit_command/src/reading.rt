@@ -1,17 +1,17 @@
 //! A certificate from a source.
 
 ghost use Rattle.std.specs.Prelude.{◌≡◌, ◌≤◌, ◌+◌, ◌++◌, length};
-ghost use Rattle.backup_command.specs.Reading.{input_of};
+ghost use Rattle.cloud_opening.specs.BackupCommand.Reading.{input_of};
 ghost use Rattle.audit_command.specs.Source.{Reads, certificate_limit, mark_behind};
 
 use crate::marks::mark_after;
-use cd_base::{Bytes, NoMemory};
-use cd_edges::{Failed, Source};
+use cloud_opening::{Failed, Source};
+use grammar::{Bytes, NoMemory};
 use std::alloc::Global;
 
 /// Why no certificate was read.
 #[derive(Clone, Copy, Debug, PartialEq, Eq)]
-pub enum ReadErr {
+pub enum CertificateReadErr {
     /// The source failed.
     Failed,
     /// There are more bytes than a certificate may have: the first byte too many, with its line, from 1, and its place in it.
@@ -36,7 +36,7 @@ fn mark_of(text: &[u8], more: &[u8]) -> (u64, u64)
 }
 
 /// Reads a source to its end. `TooLong` comes exactly where it has more bytes than a certificate may have; it isn't read on then.
-pub fn read_text<S: Source>(alloc: Global, source: &mut S) -> Result<Bytes, ReadErr>
+pub fn read_text<S: Source>(alloc: Global, source: &mut S) -> Result<Bytes, CertificateReadErr>
     ensures reads { Reads (input_of (S.left source.old) (S.faults source.old) (S.faults source.new)) result }
 {
     let mut text = Bytes::new(alloc);
@@ -44,7 +44,7 @@ pub fn read_text<S: Source>(alloc: Global, source: &mut S) -> Result<Bytes, Read
     'pieces: loop {
         let count = match source.read(&mut piece) {
             Ok(count) => count,
-            Err(Failed) => return Err(ReadErr::Failed),
+            Err(Failed) => return Err(CertificateReadErr::Failed),
         };
         if count == 0 {
             return Ok(text);
@@ -53,11 +53,11 @@ pub fn read_text<S: Source>(alloc: Global, source: &mut S) -> Result<Bytes, Read
         if room < count {
             let (line, at) = mark_of(text.as_slice(), &piece[..room]);
             let byte = piece[room];
-            return Err(ReadErr::TooLong { line, at, byte });
+            return Err(CertificateReadErr::TooLong { line, at, byte });
         }
         match text.extend(&piece[..count]) {
             Ok(()) => {}
-            Err(NoMemory) => return Err(ReadErr::NoMemory),
+            Err(NoMemory) => return Err(CertificateReadErr::NoMemory),
         }
     }
 }

@@ -2,29 +2,29 @@
 use Rattle.std.proofs.Common.{◌≡◌, ℕ, Bool, List, [], length, Ok, Err, IsTrue, sym, ◌∙◌, ap, subst}
 use Rattle.std.specs.List.{Contains}
 use Rattle.std.specs.Prelude.{Result}
-use Rattle.cd_base.specs.declared.ids.UserId.{UserId}
-use Rattle.cd_base.specs.declared.ids.Version.{Version}
-use Rattle.cd_base.specs.declared.shape.Shape.{Shape}
-use Rattle.cd_edges.specs.Causes.{Rose}
-use Rattle.cd_edges.specs.Ports.{Telling}
-use Rattle.ports_link.specs.declared.judging.Asked.TheVariants.{Backup}
+use Rattle.transcript.specs.CdBase.ids.UserId.{UserId}
+use Rattle.transcript.specs.CdBase.ids.Version.{Version}
+use Rattle.transcript.specs.CdBase.shape.Shape.{Shape}
+use Rattle.transcript.specs.CdEdges.Causes.{Rose}
+use Rattle.transcript.specs.CdEdges.Ports.{Telling}
+use Rattle.ports_link.specs.declared.judging.AskedClouds.TheVariants.{Backup}
 use Rattle.ports_link.specs.declared.greeting.Greeted.{Greeted}
 use Rattle.ports_link.specs.Dialled.{AreDialled}
 use Rattle.ports_link.specs.Hellos.{HaveTalks}
 use Rattle.ports_link.specs.Meeting.{MeetsAll}
 use Rattle.ports_link.proofs.Chains.{are_dialled}
-use Rattle.ports_link.proofs.Clouds.{through}
+use Rattle.ports_link.proofs.CloudLists.{through}
 use Rattle.ports_link.proofs.Opening.{next_apart}
-use Rattle.backup_command.specs.declared.carrying.CarryErr.{CarryErr}
-use Rattle.backup_command.specs.declared.carrying.CarryErr.TheVariants as errors
+use Rattle.backup_command.specs.declared.carrying.BackupErr.{BackupErr}
+use Rattle.backup_command.specs.declared.carrying.BackupErr.TheVariants as errors
 use Rattle.backup_command.specs.Lanes.{numbered}
-use Rattle.upload_job.specs.Lanes.{LaneView, lanes_begun}
-use Rattle.backup_command.specs.BackedUp.{Call, Met, version_of}
+use Rattle.lane_steps.specs.UploadJob.Lanes.{LaneView, lanes_begun}
+use Rattle.backup_command.specs.BackedUp.{BackupCall, Met, version_of}
 use Rattle.backup_command.specs.Steps.{AreGreetedOn, BringsFile, Carries, IsCarryLost, IsNumbered}
 use Rattle.backup_command.proofs.Ordering.{numbered_by, long_numbered}
 
 -- the lanes of the version that a call is about
-pub at_call : (call : Call) (user : UserId) (path : List ℕ) (version : Version) (file : List ℕ) (shape : Shape)
+pub at_call : (call : BackupCall) (user : UserId) (path : List ℕ) (version : Version) (file : List ℕ) (shape : Shape)
     → call.user ≡ user → call.path ≡ path → call.version ≡ version → (P : List LaneView → Type 0)
     → P (lanes_begun shape (record { user = user; path = path; number = version; file = file }))
     → P (lanes_begun shape (version_of call file))
@@ -36,8 +36,8 @@ at_call call user path version file shape u p v P has =
     (subst (λ (x : Version). P (lanes_begun shape
     (record { user = user; path = path; number = x; file = file }))) (sym v) has))
 
-pub carried : (call : Call) (file : List ℕ) (dialled : List ℕ) (shape : Shape) (behind : Telling)
-    (result : Result Bool CarryErr) (text : List ℕ) → Met call dialled shape behind
+pub carried : (call : BackupCall) (file : List ℕ) (dialled : List ℕ) (shape : Shape) (behind : Telling)
+    (result : Result Bool BackupErr) (text : List ℕ) → Met call dialled shape behind
     → BringsFile call file shape behind dialled result text
     → (IsCarryLost result → Rose call.faults_before call.faults_after)
     → (IsTrue behind.told → (port : ℕ) → ¬ (Contains dialled port) → call.after.port port ≡ behind.port port)
@@ -87,7 +87,7 @@ module _ (count : ℕ) (old behind : Telling) (greeted : Greeted)
     talks = λ t. talks (subst IsTrue told t);
   }
 
-pub have_met : (call : Call) (behind : Telling) (greeted : Greeted)
+pub have_met : (call : BackupCall) (behind : Telling) (greeted : Greeted)
     (meets : MeetsAll Backup call.addresses call.before behind (Ok greeted)) → behind.told ≡ call.before.told
     → Met call meets.0 greeted.shape behind
 have_met call behind greeted meets told = record {

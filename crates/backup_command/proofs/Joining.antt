@@ -6,11 +6,11 @@ use Rattle.std.specs.Prelude.{Result, All}
 use Rattle.std.specs.List.{Contains}
 use Rattle.std.proofs.lemmas.List.Elements.{All-nil, All-cons, All-head, All-tail}
 use Rattle.std.proofs.lemmas.List.Concat.{flat_map-append}
-use Rattle.user_dedup.proofs.Owned.{contains_here, contains_later}
-use Rattle.cd_base.specs.declared.ids.CloudNo.{CloudNo}
-use Rattle.cd_edges.specs.Ports.{Telling, Port}
-use Rattle.user_dedup.specs.Link.{Talk, SaysNothingElse}
-use Rattle.upload_job.specs.Lanes.{LaneView}
+use Rattle.ports_link.proofs.UserDedup.Owned.{contains_here, contains_later}
+use Rattle.transcript.specs.CdBase.ids.CloudNo.{CloudNo}
+use Rattle.transcript.specs.CdEdges.Ports.{Telling, Port}
+use Rattle.ports_link.specs.UserDedup.Link.{Talk, SaysNothingElse}
+use Rattle.lane_steps.specs.UploadJob.Lanes.{LaneView}
 use Rattle.lane_steps.specs.Runs.{lane_at}
 use Rattle.lane_steps.specs.declared.error.StepErr.{StepErr}
 use Rattle.lane_steps.specs.declared.error.StepErr.TheVariants as errors
@@ -20,14 +20,14 @@ use Rattle.ports_link.specs.declared.link.PortsLink.{PortsLink}
 use Rattle.ports_link.specs.Tells.{HasAsked, HasComing}
 use Rattle.ports_link.specs.Dialled.{AreApart}
 use Rattle.ports_link.specs.Hellos.{clouds_of}
-use Rattle.upload_job.specs.declared.news.LaneNews.{LaneNews}
-use Rattle.upload_job.specs.Lane.{LaneState}
+use Rattle.lane_steps.specs.UploadJob.news.LaneNews.{LaneNews}
+use Rattle.lane_steps.specs.UploadJob.Lane.{LaneState}
 use Rattle.backup_command.specs.declared.halt.Halt.{Halt}
 use Rattle.backup_command.specs.declared.halt.Halt.TheVariants as halts
 use Rattle.backup_command.specs.Texts.{text_of, step_line, lane_lines}
 use Rattle.backup_command.specs.Said.{SaidOn, SaysNothing, greeted}
 use Rattle.backup_command.specs.Lanes.{LaneCame, LanesGo, AllEnded, OneEnded, OneLost, NoMemory, Tells}
-use Rattle.backup_command.specs.Steps.{Leaves, Talked, IsReady, AreReady, LaneGoes, LanesWent, Wrote, ports_of}
+use Rattle.backup_command.specs.Steps.{KeepsOtherPorts, Talked, IsCloudReady, AreReady, LaneGoes, LanesWent, Wrote, ports_of}
 use Rattle.backup_command.proofs.Walking.{said_from}
 
 -- ---- a port that stays
@@ -82,42 +82,42 @@ came_on behind mid new port lane (Err errors.NoMemory) news state same came = ab
 module _ {P : Type 0} (tells : P → Telling) (behind : Telling) where
   -- the others stay ready while one is asked
   pub rest_ready : (old mid : PortsLink P) (line : CloudNo × ℕ) (rest : List (CloudNo × ℕ))
-      → AreReady behind tells old (line ∷ rest) → Leaves tells line.0.0 old mid
+      → AreReady behind tells old (line ∷ rest) → KeepsOtherPorts tells line.0.0 old mid
       → SaysNothingElse (Talked tells) line.0.0 old mid → AreReady behind tells mid rest
   rest_ready old mid line rest ready leaves talks = record {
     told = leaves.told ∙ ready.told;
     clouds = ready.clouds.1;
     ports = λ told. (ready.ports told).1;
-    each = kept rest ready.clouds.0 (All-tail (IsReady behind tells old) line rest ready.each);
+    each = kept rest ready.clouds.0 (All-tail (IsCloudReady behind tells old) line rest ready.each);
   }
     where
-      one : (other : CloudNo × ℕ) → other.0.0 ≢ line.0.0 → IsReady behind tells old other
-          → IsReady behind tells mid other
+      one : (other : CloudNo × ℕ) → other.0.0 ≢ line.0.0 → IsCloudReady behind tells old other
+          → IsCloudReady behind tells mid other
       one other apart is = record {
         port = leaves.lines other.0.0 ∙ is.port;
         talk = λ told. let t = is.talk told in (t.0, t.1, talks other.0.0 (greeted t.0) apart t.2);
       }
 
       kept : (others : List (CloudNo × ℕ)) → All (λ cloud. cloud ≢ line.0.0) (clouds_of others)
-          → All (IsReady behind tells old) others → All (IsReady behind tells mid) others
-      kept [] apart is = All-nil (IsReady behind tells mid)
-      kept (other ∷ others) apart is = All-cons (IsReady behind tells mid) other others
+          → All (IsCloudReady behind tells old) others → All (IsCloudReady behind tells mid) others
+      kept [] apart is = All-nil (IsCloudReady behind tells mid)
+      kept (other ∷ others) apart is = All-cons (IsCloudReady behind tells mid) other others
           (one other (All-head (λ cloud. cloud ≢ line.0.0) other.0.0 (clouds_of others) apart)
-          (All-head (IsReady behind tells old) other others is))
+          (All-head (IsCloudReady behind tells old) other others is))
           (kept others (All-tail (λ cloud. cloud ≢ line.0.0) other.0.0 (clouds_of others) apart)
-          (All-tail (IsReady behind tells old) other others is))
+          (All-tail (IsCloudReady behind tells old) other others is))
 
   -- nothing was asked of the clouds behind one in which the ports failed
   pub rest_silent : (old new : PortsLink P) (line : CloudNo × ℕ) (rest : List (CloudNo × ℕ))
-      → AreReady behind tells old (line ∷ rest) → Leaves tells line.0.0 old new
+      → AreReady behind tells old (line ∷ rest) → KeepsOtherPorts tells line.0.0 old new
       → All (λ (other : CloudNo × ℕ). Tells behind (tells new.ports.now) other.1 SaysNothing) rest
   rest_silent old new line rest ready leaves = kept rest (λ told. (ready.ports told).0)
-      (All-tail (IsReady behind tells old) line rest ready.each)
+      (All-tail (IsCloudReady behind tells old) line rest ready.each)
     where
-      first : IsReady behind tells old line
-      first = All-head (IsReady behind tells old) line rest ready.each
+      first : IsCloudReady behind tells old line
+      first = All-head (IsCloudReady behind tells old) line rest ready.each
 
-      one : (other : CloudNo × ℕ) → (IsTrue behind.told → other.1 ≢ line.1) → IsReady behind tells old other
+      one : (other : CloudNo × ℕ) → (IsTrue behind.told → other.1 ≢ line.1) → IsCloudReady behind tells old other
           → Tells behind (tells new.ports.now) other.1 SaysNothing
       one other apart is told =
           let t = is.talk told in
@@ -126,15 +126,15 @@ module _ {P : Type 0} (tells : P → Telling) (behind : Telling) where
           (said_from tells (λ p. 0) behind other old t.0 (greeted t.0) SaysNothing is.port t.1 refl t.2)
 
       kept : (others : List (CloudNo × ℕ)) → (IsTrue behind.told → All (λ port. port ≢ line.1) (ports_of others))
-          → All (IsReady behind tells old) others
+          → All (IsCloudReady behind tells old) others
           → All (λ (other : CloudNo × ℕ). Tells behind (tells new.ports.now) other.1 SaysNothing) others
       kept [] apart is = All-nil _
       kept (other ∷ others) apart is =
           All-cons (λ (other : CloudNo × ℕ). Tells behind (tells new.ports.now) other.1 SaysNothing) other others
           (one other (λ told. All-head (λ port. port ≢ line.1) other.1 (ports_of others) (apart told))
-          (All-head (IsReady behind tells old) other others is))
+          (All-head (IsCloudReady behind tells old) other others is))
           (kept others (λ told. All-tail (λ port. port ≢ line.1) other.1 (ports_of others) (apart told))
-          (All-tail (IsReady behind tells old) other others is))
+          (All-tail (IsCloudReady behind tells old) other others is))
 
 -- ---- one lane more
 
@@ -174,7 +174,7 @@ went_more behind mid new line rest views between after result before text now sa
 -- a lane in which it stopped
 pub went_stopped : {P : Type 0} (tells : P → Telling) (behind : Telling) (old new : PortsLink P) (line : CloudNo × ℕ)
     (rest : List (CloudNo × ℕ)) (views after : List LaneView) (halt : Halt) (before text : List ℕ)
-    → AreReady behind tells old (line ∷ rest) → Leaves tells line.0.0 old new
+    → AreReady behind tells old (line ∷ rest) → KeepsOtherPorts tells line.0.0 old new
     → LaneGoes behind (tells new.ports.now) line views (Err halt) after before text
     → LanesWent behind (tells new.ports.now) (line ∷ rest) views (Err halt) after before text
 went_stopped tells behind old new line rest views after halts.Lost before text ready leaves one = record {

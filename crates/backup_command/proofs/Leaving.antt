@@ -1,19 +1,19 @@
 -- What asks of one cloud leave of a link over ports.
 use Rattle.std.proofs.Common.{◌≡◌, ℕ, ◌≤◌, List, [], ◌∷◌, Some, refl, sym, ap, ◌∙◌, subst, arith, IsTrue}
-use Rattle.cd_edges.specs.Ports.{Telling}
-use Rattle.messages.specs.declared.request.Request.{Request}
-use Rattle.messages.specs.declared.reply.Reply.{Reply}
-use Rattle.messages.specs.Requests.{request_bytes}
-use Rattle.user_dedup.specs.Link.{Exchange, SaysNothingElse}
-use Rattle.lane_steps.specs.Runs.{Turn, Progress, progress_after, LaneRun, LaneAlong}
+use Rattle.transcript.specs.CdEdges.Ports.{Telling}
+use Rattle.ports_link.specs.Messages.request.Request.{Request}
+use Rattle.ports_link.specs.Messages.reply.Reply.{Reply}
+use Rattle.ports_link.specs.Messages.Requests.{request_bytes}
+use Rattle.ports_link.specs.UserDedup.Link.{Exchange, SaysNothingElse}
+use Rattle.lane_steps.specs.Runs.{LaneTurn, Progress, progress_after, LaneRun, LaneAlong}
 use Rattle.lane_steps.specs.Steps.{Heard, Passed}
 use Rattle.ports_link.specs.declared.link.PortsLink.{PortsLink}
 use Rattle.ports_link.specs.Lines.{line_of}
 use Rattle.ports_link.specs.Tells.{PassesOver, telling}
-use Rattle.backup_command.specs.Steps.{Leaves, Talked}
+use Rattle.backup_command.specs.Steps.{KeepsOtherPorts, Talked}
 
 module _ {P : Type 0} (tells : P → Telling) (faults : P → ℕ) (cloud : ℕ) where
-  pub leaves_none : (link : PortsLink P) → Leaves tells cloud link link
+  pub leaves_none : (link : PortsLink P) → KeepsOtherPorts tells cloud link link
   leaves_none link = record {
     same_reference = refl;
     told = refl;
@@ -21,8 +21,8 @@ module _ {P : Type 0} (tells : P → Telling) (faults : P → ℕ) (cloud : ℕ)
     others = λ told port there other apart. refl;
   }
 
-  pub leaves_on : (one two three : PortsLink P) → Leaves tells cloud one two → Leaves tells cloud two three
-      → Leaves tells cloud one three
+  pub leaves_on : (one two three : PortsLink P) → KeepsOtherPorts tells cloud one two → KeepsOtherPorts tells cloud two three
+      → KeepsOtherPorts tells cloud one three
   leaves_on one two three a b = record {
     same_reference = b.same_reference ∙ a.same_reference;
     told = b.told ∙ a.told;
@@ -34,7 +34,7 @@ module _ {P : Type 0} (tells : P → Telling) (faults : P → ℕ) (cloud : ℕ)
 
   -- one ask
   pub leaves_ask : (old new : PortsLink P) (e : Exchange) → e.cloud ≡ cloud → PassesOver tells faults old e new
-      → Leaves tells cloud old new
+      → KeepsOtherPorts tells cloud old new
   leaves_ask old new e here passes = record {
     same_reference = passes.same_reference;
     told = passes.told;
@@ -49,7 +49,7 @@ module _ {P : Type 0} (tells : P → Telling) (faults : P → ℕ) (cloud : ℕ)
 
   -- a link that went on
   pub record On (old new : PortsLink P) : Type 0 where
-    pub leaves : Leaves tells cloud old new
+    pub leaves : KeepsOtherPorts tells cloud old new
     pub later : faults old.ports.now ≤ faults new.ports.now
     pub talks : SaysNothingElse (Talked tells) cloud old new
 
@@ -76,7 +76,7 @@ module _ {P : Type 0} (tells : P → Telling) (faults : P → ℕ) (cloud : ℕ)
     talks = passed.says_else;
   }
 
-  pub on_run : (p last : Progress) (old new : PortsLink P) (turns : List (Turn (PortsLink P)))
+  pub on_run : (p last : Progress) (old new : PortsLink P) (turns : List (LaneTurn (PortsLink P)))
       → LaneRun Goes p old turns last new → On old new
   on_run p last old new [] run = subst (λ (x : PortsLink P). On old x) (sym run.2) (on_none old)
   on_run p last old new (t ∷ turns) run =
@@ -84,7 +84,7 @@ module _ {P : Type 0} (tells : P → Telling) (faults : P → ℕ) (cloud : ℕ)
       on_more old mid new (on_passed old mid t.request run.3.1.bytes run.3.1.passed)
       (on_run (progress_after p t.reply) last mid new turns run.3.2)
 
-  pub on_along : (p last : Progress) (old new : PortsLink P) (turns : List (Turn (PortsLink P)))
+  pub on_along : (p last : Progress) (old new : PortsLink P) (turns : List (LaneTurn (PortsLink P)))
       → LaneAlong Goes p old turns last new → On old new
   on_along p last old new [] along = subst (λ (x : PortsLink P). On old x) (sym along.1) (on_none old)
   on_along p last old new (t ∷ turns) along =

@@ -5,4 +5,8 @@ pub mod Reaching
 pub mod Joining
 pub mod Ordering
 pub mod Finishing
-pub mod Ending
+pub mod EndingTexts
+pub mod LaneSteps
+pub mod UserDedup
+pub mod Transcript
+pub mod CdEdges

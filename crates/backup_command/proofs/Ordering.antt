@@ -6,21 +6,21 @@ use Rattle.std.specs.Prelude.{All}
 use Rattle.std.specs.List.{Contains}
 use Rattle.std.proofs.lemmas.List.{get_or-set_same, get_or-set_other, length-replicate, length_push}
 use Rattle.std.proofs.lemmas.List.Elements.{All-nil, All-cons, All-head, All-tail}
-use Rattle.user_dedup.proofs.Owned.{contains_here, contains_later}
-use Rattle.cd_base.specs.declared.ids.CloudNo.{CloudNo}
-use Rattle.cd_edges.specs.Ports.{Telling}
-use Rattle.ports_link.specs.declared.lines.Line.{Line}
+use Rattle.ports_link.proofs.UserDedup.Owned.{contains_here, contains_later}
+use Rattle.transcript.specs.CdBase.ids.CloudNo.{CloudNo}
+use Rattle.transcript.specs.CdEdges.Ports.{Telling}
+use Rattle.ports_link.specs.declared.lines.CloudLine.{CloudLine}
 use Rattle.ports_link.specs.declared.link.PortsLink.{PortsLink}
 use Rattle.ports_link.specs.Lines.{no_line, line_of, with_ports, lines_for, has_port}
 use Rattle.ports_link.specs.Tells.{BringsReplies, HasComing, HasTalk}
-use Rattle.ports_link.specs.declared.judging.Asked.TheVariants.{Backup}
+use Rattle.ports_link.specs.declared.judging.AskedClouds.TheVariants.{Backup}
 use Rattle.ports_link.specs.declared.judging.Greeting.{Greeting}
 use Rattle.ports_link.specs.Dialled.{AreApart}
 use Rattle.ports_link.specs.Greetings.{AreAsAsked}
 use Rattle.ports_link.specs.Hellos.{HaveTalks, clouds_of, lines_by}
 use Rattle.backup_command.specs.Said.{greeted}
 use Rattle.backup_command.specs.Lanes.{numbered}
-use Rattle.backup_command.specs.Steps.{AreGreetedOn, AreReady, IsReady, ports_of}
+use Rattle.backup_command.specs.Steps.{AreGreetedOn, AreReady, IsCloudReady, ports_of}
 
 -- ---- numbers in order
 
@@ -71,10 +71,10 @@ few_dialled dialled other n same long few =
 
 -- ---- a link over their lines
 
-abbrev pub line_on : ℕ → Line
+abbrev pub line_on : ℕ → CloudLine
 line_on port = record { port = Some port; ended = false }
 
-kept_line : (base : List Line) (lines : List (CloudNo × ℕ)) (cloud : ℕ)
+kept_line : (base : List CloudLine) (lines : List (CloudNo × ℕ)) (cloud : ℕ)
     → All (λ other. other ≢ cloud) (clouds_of lines) → line_of (with_ports base lines) cloud ≡ line_of base cloud
 kept_line base [] cloud apart = refl
 kept_line base (line ∷ lines) cloud apart =
@@ -83,7 +83,7 @@ kept_line base (line ∷ lines) cloud apart =
     ∙ get_or-set_other base line.0.0 cloud (line_on line.1) no_line
     (λ e. All-head (λ other. other ≢ cloud) line.0.0 (clouds_of lines) apart (sym e))
 
-reached_by : (base : List Line) (lines : List (CloudNo × ℕ)) → length base ≡ 256
+reached_by : (base : List CloudLine) (lines : List (CloudNo × ℕ)) → length base ≡ 256
     → All (λ (line : CloudNo × ℕ). line.0.0 < 256) lines → AreApart (clouds_of lines)
     → All (λ (line : CloudNo × ℕ). line_of (with_ports base lines) line.0.0 ≡ line_on line.1) lines
 reached_by base [] long few apart = All-nil _
@@ -95,7 +95,7 @@ reached_by base (line ∷ lines) long few apart =
     (reached_by next lines (length-set base line.0.0 (line_on line.1) ∙ long)
     (All-tail (λ (l : CloudNo × ℕ). l.0.0 < 256) line lines few) apart.1)
   where
-    next : List Line
+    next : List CloudLine
     next = set base line.0.0 (line_on line.1)
 
 pub lines_reach : (dialled : List ℕ) → length dialled ≤ 256
@@ -105,7 +105,7 @@ lines_reach dialled few = reached_by (replicate 256 no_line) (numbered 0 dialled
     (numbered_below 0 256 dialled (omega (arith, few))) (numbered_apart 0 dialled)
 
 -- each of these clouds has a port
-pub have_ports : (lines : List Line) (part : List (CloudNo × ℕ))
+pub have_ports : (lines : List CloudLine) (part : List (CloudNo × ℕ))
     → All (λ (line : CloudNo × ℕ). line_of lines line.0.0 ≡ line_on line.1) part
     → All (λ (line : CloudNo × ℕ). IsTrue (has_port lines line.0.0)) part
 have_ports lines [] reach = All-nil _
@@ -133,19 +133,19 @@ module _ {P : Type 0} (tells : P → Telling) (link : PortsLink P) (behind : Tel
 
   one_ready : (line : CloudNo × ℕ) → tells link.ports.now ≡ behind → link.lines.items.items ≡ lines_for all
       → line_of (lines_for all) line.0.0 ≡ line_on line.1 → (IsTrue behind.told → HaveTalks behind all)
-      → Contains (clouds_of all) line.0.0 → IsReady behind tells link line
+      → Contains (clouds_of all) line.0.0 → IsCloudReady behind tells link line
   one_ready line here lines reach talks has = record {
-    port = ap (λ (l : List Line). (line_of l line.0.0).port) lines ∙ ap (λ (l : Line). l.port) reach;
+    port = ap (λ (l : List CloudLine). (line_of l line.0.0).port) lines ∙ ap (λ (l : CloudLine). l.port) reach;
     talk = λ told.
         let t = talks told line.0.0 has in
         let same : t.1.port ≡ line.1 = some_same t.1.port line.1 (sym t.1.reached
-        ∙ ap (λ (l : Line). l.port) reach) in (
+        ∙ ap (λ (l : CloudLine). l.port) reach) in (
           t.0,
           subst (λ (n : ℕ). BringsReplies (behind.port n).to_come t.0) same
               (open_coming (line_of (lines_for all) line.0.0).ended (behind.port t.1.port).to_come t.0
-              (ap (λ (l : Line). l.ended) reach) t.1.coming),
+              (ap (λ (l : CloudLine). l.ended) reach) t.1.coming),
           subst (λ (x : Telling). HasTalk x link.lines.items.items line.0.0 (greeted t.0)) (sym here)
-              (subst (λ (l : List Line). HasTalk behind l line.0.0 (greeted t.0)) (sym lines) t.1),
+              (subst (λ (l : List CloudLine). HasTalk behind l line.0.0 (greeted t.0)) (sym lines) t.1),
         );
   }
 
@@ -153,11 +153,11 @@ module _ {P : Type 0} (tells : P → Telling) (link : PortsLink P) (behind : Tel
       → All (λ (line : CloudNo × ℕ). line_of (lines_for all) line.0.0 ≡ line_on line.1) part
       → (IsTrue behind.told → HaveTalks behind all)
       → ((cloud : ℕ) → Contains (clouds_of part) cloud → Contains (clouds_of all) cloud)
-      → All (IsReady behind tells link) part
+      → All (IsCloudReady behind tells link) part
   each_ready [] here lines reach talks within = All-nil _
   each_ready (line ∷ part) here lines reach talks within =
       let Is : CloudNo × ℕ → Type 0 = λ l. line_of (lines_for all) l.0.0 ≡ line_on l.1 in
-      All-cons (IsReady behind tells link) line part
+      All-cons (IsCloudReady behind tells link) line part
       (one_ready line here lines (All-head Is line part reach) talks
       (within line.0.0 (contains_here line.0.0 (clouds_of part))))
       (each_ready part here lines (All-tail Is line part reach) talks

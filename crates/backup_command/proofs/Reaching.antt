@@ -2,11 +2,11 @@
 use Rattle.std.proofs.Common.{◌≡◌, ℕ, zero, suc, List, [], ◌∷◌, length, ap, ◌∙◌}
 use Rattle.std.specs.Prelude.{Result}
 use Rattle.std.proofs.lemmas.List.FromFn.{length-map-range_with_len}
-use Rattle.cd_base.specs.declared.shape.Shape.{Shape}
-use Rattle.upload_job.specs.declared.news.LaneNews.{LaneNews}
-use Rattle.upload_job.specs.declared.news.LaneErr.{LaneErr}
-use Rattle.upload_job.specs.Upload.{work_of}
-use Rattle.upload_job.specs.Lanes.{LaneView, AnswersAt, begun}
+use Rattle.transcript.specs.CdBase.shape.Shape.{Shape}
+use Rattle.lane_steps.specs.UploadJob.news.LaneNews.{LaneNews}
+use Rattle.lane_steps.specs.UploadJob.news.LaneErr.{LaneErr}
+use Rattle.lane_steps.specs.UploadJob.Upload.{work_of}
+use Rattle.lane_steps.specs.UploadJob.Lanes.{LaneView, AnswersAt, begun}
 use Rattle.lane_steps.specs.Reached.{IsReached, Begun, Answered}
 
 answered_len : (old : List LaneView) (i : ℕ) (content : List ℕ) (result : Result LaneNews LaneErr)

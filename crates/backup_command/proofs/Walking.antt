@@ -3,18 +3,18 @@ use Rattle.std.proofs.Common.{◌≡◌, ℕ, ◌<◌, ◌≤◌, false, List, [
 use Rattle.std.proofs.Common.{subst}
 use Rattle.std.proofs.Common.{arith, IsTrue, Ok, Err, inl, inr}
 use Rattle.std.specs.Prelude.{Result, OnOk}
-use Rattle.cd_base.specs.declared.ids.CloudNo.{CloudNo}
-use Rattle.cd_edges.specs.Causes.{Rose}
-use Rattle.cd_edges.specs.Ports.{Telling}
-use Rattle.messages.specs.declared.request.Request.{Request}
-use Rattle.messages.specs.declared.reply.Reply.{Reply}
-use Rattle.messages.specs.Requests.{request_bytes}
-use Rattle.user_dedup.specs.Link.{Talk, SaysNothingElse, said}
-use Rattle.upload_job.specs.declared.news.LaneNews.{LaneNews}
-use Rattle.upload_job.specs.Lane.{Refused}
-use Rattle.upload_job.specs.Upload.{Work}
-use Rattle.upload_job.specs.Lanes.{LaneView, with_state, Says}
-use Rattle.lane_steps.specs.Runs.{Turn, Progress, starting, moved, request_of, progress_after, LaneRun, LaneAlong}
+use Rattle.transcript.specs.CdBase.ids.CloudNo.{CloudNo}
+use Rattle.transcript.specs.CdEdges.Causes.{Rose}
+use Rattle.transcript.specs.CdEdges.Ports.{Telling}
+use Rattle.ports_link.specs.Messages.request.Request.{Request}
+use Rattle.ports_link.specs.Messages.reply.Reply.{Reply}
+use Rattle.ports_link.specs.Messages.Requests.{request_bytes}
+use Rattle.ports_link.specs.UserDedup.Link.{Talk, SaysNothingElse, said}
+use Rattle.lane_steps.specs.UploadJob.news.LaneNews.{LaneNews}
+use Rattle.lane_steps.specs.UploadJob.Lane.{Refused}
+use Rattle.lane_steps.specs.UploadJob.Upload.{Work}
+use Rattle.lane_steps.specs.UploadJob.Lanes.{LaneView, with_state, IsReplyToLane}
+use Rattle.lane_steps.specs.Runs.{LaneTurn, Progress, starting, moved, request_of, progress_after, LaneRun, LaneAlong}
 use Rattle.lane_steps.specs.Runs.{Tell, lane_at}
 use Rattle.lane_steps.specs.declared.error.StepErr.{StepErr}
 use Rattle.lane_steps.specs.declared.error.StepErr.TheVariants as errors
@@ -27,36 +27,36 @@ use Rattle.ports_link.specs.Tells.{HasAsked, HasComing, BringsReplies, telling}
 use Rattle.backup_command.specs.declared.halt.Halt.{Halt}
 use Rattle.backup_command.specs.declared.halt.Halt.TheVariants as halts
 use Rattle.backup_command.specs.Said.{SaidOn, SaysBehind, greeted}
-use Rattle.backup_command.specs.Lanes.{Any, Asked, LaneEnds, LaneStrange, LaneLost, Tells, TellsUpTo}
-use Rattle.backup_command.specs.Steps.{Leaves, Talked, IsReady, Puts, LaneGoes, IfLost}
+use Rattle.backup_command.specs.Lanes.{Any, Asked, HasLaneEnded, LaneStrange, LaneLost, Tells, TellsUpTo}
+use Rattle.backup_command.specs.Steps.{KeepsOtherPorts, Talked, IsCloudReady, Puts, LaneGoes, IfLost}
 use Rattle.backup_command.proofs.Leaving.{Goes, on_run, on_along, on_passed, on_more, leaves_on, leaves_ask}
 use Rattle.backup_command.proofs.Leaving.{leaves_none}
 
 -- ---- turns without the states between them
 
-abbrev pub forget : {S : Type 0} → List (Turn S) → List Asked
+abbrev pub forget : {S : Type 0} → List (LaneTurn S) → List Asked
 forget [] = []
 forget (t ∷ turns) = record { before = tt; request = t.request; reply = t.reply } ∷ forget turns
 
 pub forget_run : {S : Type 0} (Does : S → Request → Reply → S → Type 0) (p last : Progress) (old new : S)
-    (turns : List (Turn S)) → LaneRun Does p old turns last new → LaneRun Any p tt (forget turns) last tt
+    (turns : List (LaneTurn S)) → LaneRun Does p old turns last new → LaneRun Any p tt (forget turns) last tt
 forget_run Does p last old new [] run = (run.0, run.1, refl)
 forget_run Does p last old new (t ∷ turns) run =
     (run.0, refl, run.2, (tt, tt, forget_run Does (progress_after p t.reply) last run.3.0 new turns run.3.2))
 
 pub forget_along : {S : Type 0} (Does : S → Request → Reply → S → Type 0) (p last : Progress) (old new : S)
-    (turns : List (Turn S)) → LaneAlong Does p old turns last new → LaneAlong Any p tt (forget turns) last tt
+    (turns : List (LaneTurn S)) → LaneAlong Does p old turns last new → LaneAlong Any p tt (forget turns) last tt
 forget_along Does p last old new [] along = (along.0, refl)
 forget_along Does p last old new (t ∷ turns) along =
     (along.0, refl, along.2, (tt, tt, forget_along Does (progress_after p t.reply) last along.3.0 new turns along.3.2))
 
-pub forget_tell : {S : Type 0} (lane : LaneView) (turns : List (Turn S)) (news : List LaneNews) → Tell lane turns news
+pub forget_tell : {S : Type 0} (lane : LaneView) (turns : List (LaneTurn S)) (news : List LaneNews) → Tell lane turns news
     → Tell lane (forget turns) news
 forget_tell lane [] news tell = tell
 forget_tell lane (t ∷ turns) news tell =
     (tell.0, tell.1, tell.2, forget_tell (moved lane t.reply) turns tell.1 tell.3, tell.4)
 
-pub forget_talks : {S : Type 0} (turns : List (Turn S)) (before after : Talk) → TalksBy turns before after
+pub forget_talks : {S : Type 0} (turns : List (LaneTurn S)) (before after : Talk) → TalksBy turns before after
     → TalksBy (forget turns) before after
 forget_talks [] before after talks = talks
 forget_talks (t ∷ turns) before after talks =
@@ -64,7 +64,7 @@ forget_talks (t ∷ turns) before after talks =
 
 -- a lane keeps what it has to bring
 pub work_kept : {S : Type 0} (Does : S → Request → Reply → S → Type 0) (p last : Progress) (old new : S)
-    (turns : List (Turn S)) → LaneAlong Does p old turns last new → last.lane.work ≡ p.lane.work
+    (turns : List (LaneTurn S)) → LaneAlong Does p old turns last new → last.lane.work ≡ p.lane.work
 work_kept Does p last old new [] along = ap (λ (x : Progress). x.lane.work) along.0
 work_kept Does p last old new (t ∷ turns) along =
     work_kept Does (progress_after p t.reply) last along.3.0 new turns along.3.2
@@ -96,11 +96,11 @@ module _ {P : Type 0} (tells : P → Telling) (faults : P → ℕ) (behind : Tel
       }
 
   -- the lane's end
-  ended : (views : List LaneView) (old new : PortsLink P) (turns : List (Turn (PortsLink P))) (last : Progress)
-      (news : List LaneNews) → IsReady behind tells old line
+  ended : (views : List LaneView) (old new : PortsLink P) (turns : List (LaneTurn (PortsLink P))) (last : Progress)
+      (news : List LaneNews) → IsCloudReady behind tells old line
       → LaneRun (Goes tells faults line.0.0) (starting (lane_at views line.0.0)) old turns last new
       → Tell (lane_at views line.0.0) turns news
-      → LaneEnds (Tells behind (tells new.ports.now) line.1) (lane_at views line.0.0) news last.lane.state
+      → HasLaneEnded (Tells behind (tells new.ports.now) line.1) (lane_at views line.0.0) news last.lane.state
   ended views old new turns last news ready run tell = record {
     turns = forget turns;
     last = last;
@@ -130,9 +130,9 @@ module _ {P : Type 0} (tells : P → Telling) (faults : P → ℕ) (behind : Tel
   here_lane views at lt work = lane_with views line.0.0 at.lane.state lt
       ∙ ap (λ (w : Work). let lane : LaneView = record { work = w; state = at.lane.state } in lane) (sym work)
 
-  strange : (views : List LaneView) (old mid new : PortsLink P) (turns : List (Turn (PortsLink P))) (at : Progress)
+  strange : (views : List LaneView) (old mid new : PortsLink P) (turns : List (LaneTurn (PortsLink P))) (at : Progress)
       (news : List LaneNews) (kind : ℕ) (after : List LaneView) (o : Option Request) → line.0.0 < length views
-      → IsReady behind tells old line
+      → IsCloudReady behind tells old line
       → LaneAlong (Goes tells faults line.0.0) (starting (lane_at views line.0.0)) old turns at mid
       → Tell (lane_at views line.0.0) turns news → at.stopped ≡ false → request_of at.lane ≡ o
       → Step views mid at o (errors.Strange kind) new after
@@ -154,7 +154,7 @@ module _ {P : Type 0} (tells : P → Telling) (faults : P → ℕ) (behind : Tel
           request = request;
           asks = asks;
           content = s.bytes;
-          none = subst (λ (l : LaneView). (reply : Reply) → ¬ (Says l s.bytes reply))
+          none = subst (λ (l : LaneView). (reply : Reply) → ¬ (IsReplyToLane l s.bytes reply))
               (here_lane views at lt (work_kept (Goes tells faults line.0.0) (starting lane) at old mid turns along))
               s.none;
           first = s.first;
@@ -171,9 +171,9 @@ module _ {P : Type 0} (tells : P → Telling) (faults : P → ℕ) (behind : Tel
         step.1 ∙ with_twice views line.0.0 at.lane.state Refused,
       )
 
-  lost : (views : List LaneView) (old mid new : PortsLink P) (turns : List (Turn (PortsLink P))) (at : Progress)
+  lost : (views : List LaneView) (old mid new : PortsLink P) (turns : List (LaneTurn (PortsLink P))) (at : Progress)
       (news : List LaneNews) (after : List LaneView) (o : Option Request) → (tells old.ports.now).told ≡ behind.told
-      → IsReady behind tells old line
+      → IsCloudReady behind tells old line
       → LaneAlong (Goes tells faults line.0.0) (starting (lane_at views line.0.0)) old turns at mid
       → Tell (lane_at views line.0.0) turns news → at.stopped ≡ false → request_of at.lane ≡ o
       → Step views mid at o errors.Lost new after
@@ -210,7 +210,7 @@ module _ {P : Type 0} (tells : P → Telling) (faults : P → ℕ) (behind : Tel
       (news : List LaneNews) (result : Result (Unit {0}) Halt) (before text : List ℕ) → line.0.0 < length views
       → Finishes (telling tells faults) (Talked tells) line.0.0 old views [] came new after news
       → Puts line.0.0 came news result before text → (tells old.ports.now).told ≡ behind.told
-      → IsReady behind tells old line
+      → IsCloudReady behind tells old line
       → LaneGoes behind (tells new.ports.now) line views result after before text
   goes views after old new (Ok u) news (Ok v) before text lt f puts same ready = (
     Ok u,
@@ -243,24 +243,24 @@ module _ {P : Type 0} (tells : P → Telling) (faults : P → ℕ) (behind : Tel
 
 module _ {P : Type 0} (tells : P → Telling) (faults : P → ℕ) (cloud : ℕ) where
   step_leaves : (views after : List LaneView) (mid new : PortsLink P) (o : Option Request) (e : StepErr)
-      → LaneSteps (telling tells faults) (Talked tells) cloud mid views o (Err e) new after → Leaves tells cloud mid new
+      → LaneSteps (telling tells faults) (Talked tells) cloud mid views o (Err e) new after → KeepsOtherPorts tells cloud mid new
   step_leaves views after mid new None errors.Lost step = absurd step
   step_leaves views after mid new None (errors.Strange kind) step = absurd step
   step_leaves views after mid new None errors.NoMemory step =
-      subst (λ (x : PortsLink P). Leaves tells cloud mid x) (sym step.0) (leaves_none tells faults cloud mid)
+      subst (λ (x : PortsLink P). KeepsOtherPorts tells cloud mid x) (sym step.0) (leaves_none tells faults cloud mid)
   step_leaves views after mid new (Some request) errors.Lost step =
       leaves_ask tells faults cloud mid new _ refl step.0.passes
   step_leaves views after mid new (Some request) (errors.Strange kind) step =
       leaves_ask tells faults cloud mid new _ refl step.0.passed.passes
   step_leaves views after mid new (Some request) errors.NoMemory step = elim step.0 [
-    | inl same ↦ subst (λ (x : PortsLink P). Leaves tells cloud mid x) (sym same) (leaves_none tells faults cloud mid)
+    | inl same ↦ subst (λ (x : PortsLink P). KeepsOtherPorts tells cloud mid x) (sym same) (leaves_none tells faults cloud mid)
     | inr untaken ↦ leaves_ask tells faults cloud mid new _ refl untaken.passed.passes
   ]
 
   pub leaves_all : (views after : List LaneView) (old new : PortsLink P) (came : Result (Unit {0}) StepErr)
       (before news : List LaneNews)
       → Finishes (telling tells faults) (Talked tells) cloud old views before came new after news
-      → Leaves tells cloud old new
+      → KeepsOtherPorts tells cloud old new
   leaves_all views after old new (Ok u) before news f =
       (on_run tells faults cloud (starting (lane_at views cloud)) f.1 old new f.0 f.3).leaves
   leaves_all views after old new (Err e) before news f =

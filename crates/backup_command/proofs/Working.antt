@@ -1,12 +1,12 @@
 -- What a lane has to bring stays, whatever comes of it.
 use Rattle.std.proofs.Common.{◌≡◌, ℕ, zero, suc, List, [], ◌∷◌, map, Option, Some, None, refl, ap, ◌∙◌, Ok, Err}
 use Rattle.std.specs.Prelude.{Result}
-use Rattle.cd_edges.specs.Ports.{Telling}
-use Rattle.messages.specs.declared.request.Request.{Request}
-use Rattle.upload_job.specs.declared.news.LaneNews.{LaneNews}
-use Rattle.upload_job.specs.Lane.{LaneState, Refused}
-use Rattle.upload_job.specs.Upload.{Work}
-use Rattle.upload_job.specs.Lanes.{LaneView, with_state}
+use Rattle.transcript.specs.CdEdges.Ports.{Telling}
+use Rattle.ports_link.specs.Messages.request.Request.{Request}
+use Rattle.lane_steps.specs.UploadJob.news.LaneNews.{LaneNews}
+use Rattle.lane_steps.specs.UploadJob.Lane.{LaneState, Refused}
+use Rattle.lane_steps.specs.UploadJob.Upload.{Work}
+use Rattle.lane_steps.specs.UploadJob.Lanes.{LaneView, with_state}
 use Rattle.lane_steps.specs.Runs.{request_of}
 use Rattle.lane_steps.specs.declared.error.StepErr.{StepErr}
 use Rattle.lane_steps.specs.declared.error.StepErr.TheVariants as errors

@@ -1,14 +1,14 @@
 -- The lanes of a job over ports, one after another.
 use Rattle.std.specs.Prelude.{◌≡◌, ℕ, ◌+◌, false, IsTrue, List, [], ◌∷◌, ◌++◌, map, All, Some, Result, Ok, Err}
-use Rattle.cd_base.specs.declared.ids.CloudNo.{CloudNo}
-use Rattle.cd_edges.specs.Ports.{Telling, OthersStay}
-use Rattle.messages.specs.declared.request.Request.{Request}
-use Rattle.messages.specs.declared.reply.Reply.{Reply}
-use Rattle.user_dedup.specs.Link.{Talk}
-use Rattle.upload_job.specs.declared.news.LaneNews.{LaneNews}
-use Rattle.upload_job.specs.Lane.{LaneState, Refused}
-use Rattle.upload_job.specs.Lanes.{LaneView, with_state, first_byte, Says}
-use Rattle.lane_steps.specs.Runs.{Turn, Progress, starting, request_of, LaneRun, LaneAlong, Tell, lane_at}
+use Rattle.transcript.specs.CdBase.ids.CloudNo.{CloudNo}
+use Rattle.transcript.specs.CdEdges.Ports.{Telling, OthersStay}
+use Rattle.ports_link.specs.Messages.request.Request.{Request}
+use Rattle.ports_link.specs.Messages.reply.Reply.{Reply}
+use Rattle.ports_link.specs.UserDedup.Link.{Talk}
+use Rattle.lane_steps.specs.UploadJob.news.LaneNews.{LaneNews}
+use Rattle.lane_steps.specs.UploadJob.Lane.{LaneState, Refused}
+use Rattle.lane_steps.specs.UploadJob.Lanes.{LaneView, with_state, first_byte, IsReplyToLane}
+use Rattle.lane_steps.specs.Runs.{LaneTurn, Progress, starting, request_of, LaneRun, LaneAlong, Tell, lane_at}
 use Rattle.lane_steps.specs.declared.error.StepErr.{StepErr}
 use Rattle.lane_steps.specs.declared.error.StepErr.TheVariants as errors
 use Rattle.lane_steps.specs.Steps.{TalksBy}
@@ -26,11 +26,11 @@ Any before request reply after = Unit {0}
 
 -- a turn without a word on what was before it
 abbrev pub Asked : Type 0
-Asked = Turn (Unit {0})
+Asked = LaneTurn (Unit {0})
 
 -- The lane went on by these turns to its end: until it has no request, or a reply stopped it. These are the news, and
 -- it stands so. Just these requests were sent, in order, and the replies taken that were to come.
-pub record LaneEnds (Spoken : (Talk → Talk → Type 0) → Type 0) (lane : LaneView) (news : List LaneNews)
+pub record HasLaneEnded (Spoken : (Talk → Talk → Type 0) → Type 0) (lane : LaneView) (news : List LaneNews)
     (state : LaneState) : Type 0 where
   pub turns : List Asked
   pub last : Progress
@@ -51,7 +51,7 @@ pub record LaneStrange (Spoken : (Talk → Talk → Type 0) → Type 0) (lane : 
   pub request : Request
   pub asks : request_of at.lane ≡ Some request
   pub content : List ℕ
-  pub none : (reply : Reply) → ¬ (Says at.lane content reply)
+  pub none : (reply : Reply) → ¬ (IsReplyToLane at.lane content reply)
   pub first : kind ≡ first_byte content
   pub state_is : state ≡ Refused
   pub spoken : Spoken (SaysBehind turns request content)
@@ -71,7 +71,7 @@ pub record LaneLost (Unheard : (Talk → Talk → Type 0) → Type 0) (lane : La
 -- a lane that came to its end so
 abbrev pub LaneCame : ((Talk → Talk → Type 0) → Type 0) → LaneView → Result (Unit {0}) StepErr → List LaneNews
     → LaneState → Type 0
-LaneCame Spoken lane (Ok u) news state = LaneEnds Spoken lane news state
+LaneCame Spoken lane (Ok u) news state = HasLaneEnded Spoken lane news state
 LaneCame Spoken lane (Err (errors.Strange kind)) news state = LaneStrange Spoken lane news kind state
 LaneCame Spoken lane (Err errors.Lost) news state = ⊥
 LaneCame Spoken lane (Err errors.NoMemory) news state = ⊥

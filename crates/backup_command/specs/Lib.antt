@@ -1,7 +1,12 @@
-pub mod Texts
-pub mod Said
-pub mod Lanes
-pub mod Reading
-pub mod Writing
 pub mod BackedUp
+pub mod CdBase
+pub mod CdEdges
+pub mod LaneSteps
+pub mod Lanes
+pub mod PortsLink
+pub mod Reading
+pub mod Said
 pub mod Steps
+pub mod Texts
+pub mod Transcript
+pub mod Writing

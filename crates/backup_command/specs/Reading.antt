@@ -1,9 +1,9 @@
 -- A file that is read from a source.
 use Rattle.std.specs.Prelude.{◌≡◌, ℕ, ◌≤◌, List, length, Option, Some, Result, Ok, Err, slice_get}
-use Rattle.cd_edges.specs.Causes.{Rose}
-use Rattle.recipe.specs.Spelling.{file_limit}
-use Rattle.backup_command.specs.declared.reading.ReadErr.{ReadErr}
-use Rattle.backup_command.specs.declared.reading.ReadErr.TheVariants as errors
+use Rattle.transcript.specs.CdEdges.Causes.{Rose}
+use Rattle.lane_steps.specs.Recipe.Spelling.{file_limit}
+use Rattle.backup_command.specs.declared.reading.FileReadErr.{FileReadErr}
+use Rattle.backup_command.specs.declared.reading.FileReadErr.TheVariants as errors
 
 -- the source: the bytes that it has, where it tells them, and how often it had failed and has failed
 pub record Input : Type 0 where
@@ -15,7 +15,7 @@ abbrev pub input_of : Option (List ℕ) → ℕ → ℕ → Input
 input_of left before after = record { left = left; faults_before = before; faults_after = after }
 
 -- The file is all that the source has, and not above the limit.
-pub record IsRead (input : Input) (file : List ℕ) : Type 0 where
+pub record IsFileRead (input : Input) (file : List ℕ) : Type 0 where
   pub few : length file ≤ file_limit
   pub all : (left : List ℕ) → input.left ≡ Some left → file ≡ left
   pub still : input.faults_after ≡ input.faults_before
@@ -26,8 +26,8 @@ pub record IsTooLong (input : Input) (byte : ℕ) : Type 0 where
   pub still : input.faults_after ≡ input.faults_before
 
 -- What reading the source to its end came to.
-abbrev pub Reads : Input → Result (List ℕ) ReadErr → Type 0
-Reads input (Ok file) = IsRead input file
+abbrev pub Reads : Input → Result (List ℕ) FileReadErr → Type 0
+Reads input (Ok file) = IsFileRead input file
 Reads input (Err (errors.TooLong byte)) = IsTooLong input byte
 Reads input (Err errors.Failed) = Rose input.faults_before input.faults_after
 Reads input (Err errors.NoMemory) = input.faults_after ≡ input.faults_before

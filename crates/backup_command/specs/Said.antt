@@ -1,10 +1,10 @@
 -- What was said with a cloud on its port, behind its Hello.
 use Rattle.std.specs.Prelude.{◌≡◌, ℕ, Bool, List, [], ◌∷◌}
-use Rattle.cd_edges.specs.Ports.{Telling}
-use Rattle.messages.specs.declared.request.Request.{Request}
-use Rattle.messages.specs.Requests.{request_bytes}
-use Rattle.user_dedup.specs.Link.{Talk, first_reply, said}
-use Rattle.lane_steps.specs.Runs.{Turn}
+use Rattle.transcript.specs.CdEdges.Ports.{Telling}
+use Rattle.ports_link.specs.Messages.request.Request.{Request}
+use Rattle.ports_link.specs.Messages.Requests.{request_bytes}
+use Rattle.ports_link.specs.UserDedup.Link.{Talk, first_reply, said}
+use Rattle.lane_steps.specs.Runs.{LaneTurn}
 use Rattle.lane_steps.specs.Steps.{TalksBy}
 use Rattle.ports_link.specs.Tells.{HasAsked, BringsReplies, HasComing}
 use Rattle.ports_link.specs.Hellos.{hello}
@@ -30,7 +30,7 @@ abbrev pub SaysNothing : Talk → Talk → Type 0
 SaysNothing before after = after ≡ before
 
 -- These turns, and then one more request, to which this came, or an empty content where no frame was to come.
-abbrev pub SaysBehind : {S : Type 0} → List (Turn S) → Request → List ℕ → Talk → Talk → Type 0
+abbrev pub SaysBehind : {S : Type 0} → List (LaneTurn S) → Request → List ℕ → Talk → Talk → Type 0
 SaysBehind turns request content before after =
     (mid : Talk) × TalksBy turns before mid × (content ≡ first_reply mid.coming)
     × (after ≡ said mid (request_bytes request))

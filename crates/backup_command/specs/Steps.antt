@@ -1,14 +1,14 @@
 -- The parts of a backup.
 use Rattle.std.specs.Prelude.{◌≡◌, ℕ, Bool, IsTrue, ◌↔◌, List, ◌∷◌, ◌++◌, length, map, All, Some, Result, Ok, Err}
 use Rattle.std.specs.List.{Contains}
-use Rattle.cd_base.specs.declared.ids.CloudNo.{CloudNo}
-use Rattle.cd_base.specs.declared.shape.Shape.{Shape}
-use Rattle.cd_edges.specs.Causes.{Rose}
-use Rattle.cd_edges.specs.Ports.{Telling, OthersStay}
-use Rattle.user_dedup.specs.Link.{Talk}
-use Rattle.upload_job.specs.declared.news.LaneNews.{LaneNews}
-use Rattle.upload_job.specs.Lane.{LaneState}
-use Rattle.upload_job.specs.Lanes.{LaneView, with_state, lanes_begun}
+use Rattle.transcript.specs.CdBase.ids.CloudNo.{CloudNo}
+use Rattle.transcript.specs.CdBase.shape.Shape.{Shape}
+use Rattle.transcript.specs.CdEdges.Causes.{Rose}
+use Rattle.transcript.specs.CdEdges.Ports.{Telling, OthersStay}
+use Rattle.ports_link.specs.UserDedup.Link.{Talk}
+use Rattle.lane_steps.specs.UploadJob.news.LaneNews.{LaneNews}
+use Rattle.lane_steps.specs.UploadJob.Lane.{LaneState}
+use Rattle.lane_steps.specs.UploadJob.Lanes.{LaneView, with_state, lanes_begun}
 use Rattle.lane_steps.specs.Runs.{lane_at}
 use Rattle.lane_steps.specs.declared.error.StepErr.{StepErr}
 use Rattle.lane_steps.specs.declared.error.StepErr.TheVariants as errors
@@ -17,7 +17,7 @@ use Rattle.transcript.specs.declared.line.Line.TheVariants as lines
 use Rattle.ports_link.specs.declared.link.PortsLink.{PortsLink}
 use Rattle.ports_link.specs.Lines.{line_of}
 use Rattle.ports_link.specs.Tells.{BringsReplies, HasTalk}
-use Rattle.ports_link.specs.declared.judging.Asked.TheVariants as asked
+use Rattle.ports_link.specs.declared.judging.AskedClouds.TheVariants as asked
 use Rattle.ports_link.specs.declared.greeting.Greeted.{Greeted}
 use Rattle.ports_link.specs.declared.meeting.MeetErr.TheVariants as unmet
 use Rattle.ports_link.specs.declared.refused.Refused.{Refused}
@@ -26,12 +26,12 @@ use Rattle.ports_link.specs.Hellos.{HaveTalks, clouds_of}
 use Rattle.ports_link.specs.Meeting.{MeetsAll}
 use Rattle.backup_command.specs.declared.halt.Halt.{Halt}
 use Rattle.backup_command.specs.declared.halt.Halt.TheVariants as halts
-use Rattle.backup_command.specs.declared.carrying.CarryErr.{CarryErr}
-use Rattle.backup_command.specs.declared.carrying.CarryErr.TheVariants as carry_errors
+use Rattle.backup_command.specs.declared.carrying.BackupErr.{BackupErr}
+use Rattle.backup_command.specs.declared.carrying.BackupErr.TheVariants as carry_errors
 use Rattle.backup_command.specs.Texts.{text_of, step_line, lane_lines, due_lines}
 use Rattle.backup_command.specs.Said.{greeted}
 use Rattle.backup_command.specs.Lanes.{LaneCame, LaneLost, LanesGo, Tells, TellsUpTo, numbered}
-use Rattle.backup_command.specs.BackedUp.{Call, version_of, Met, AreDone}
+use Rattle.backup_command.specs.BackedUp.{BackupCall, version_of, Met, AreDone}
 
 -- ---- a lane's lines
 
@@ -47,7 +47,7 @@ Puts cloud came news result before now = ⊥
 -- ---- a link over ports
 
 -- What asks of one cloud leave: the ports, the port of each cloud, and what is told of other ports.
-pub record Leaves {P : Type 0} (tells : P → Telling) (cloud : ℕ) (old new : PortsLink P) : Type 0 where
+pub record KeepsOtherPorts {P : Type 0} (tells : P → Telling) (cloud : ℕ) (old new : PortsLink P) : Type 0 where
   pub same_reference : new.ports.ghost_name ≡ old.ports.ghost_name
   pub told : (tells new.ports.now).told ≡ (tells old.ports.now).told
   pub lines : (other : ℕ) → (line_of new.lines.items.items other).port ≡ (line_of old.lines.items.items other).port
@@ -59,7 +59,7 @@ abbrev pub Talked : {P : Type 0} → (P → Telling) → PortsLink P → ℕ →
 Talked {P} tells link = HasTalk (tells link.ports.now) link.lines.items.items
 
 -- With this cloud nothing was said behind its Hello.
-pub record IsReady {P : Type 0} (behind : Telling) (tells : P → Telling) (link : PortsLink P) (line : CloudNo × ℕ)
+pub record IsCloudReady {P : Type 0} (behind : Telling) (tells : P → Telling) (link : PortsLink P) (line : CloudNo × ℕ)
     : Type 0 where
   pub port : (line_of link.lines.items.items line.0.0).port ≡ Some line.1
   pub talk : IsTrue behind.told → (coming : List (List ℕ)) × BringsReplies (behind.port line.1).to_come coming
@@ -74,7 +74,7 @@ pub record AreReady {P : Type 0} (behind : Telling) (tells : P → Telling) (lin
   pub told : (tells link.ports.now).told ≡ behind.told
   pub clouds : AreApart (clouds_of lines)
   pub ports : IsTrue behind.told → AreApart (ports_of lines)
-  pub each : All (IsReady behind tells link) lines
+  pub each : All (IsCloudReady behind tells link) lines
 
 -- ---- lanes over the link
 
@@ -122,7 +122,7 @@ IsNumbered it = (dialled : List ℕ) × (it.lines.items ≡ numbered 0 dialled) 
 -- ---- all of it, in front of the writing
 
 -- Each lane came to its end, with these lines. No port but the clouds' changed behind the Hellos.
-pub record CameThrough (call : Call) (file : List ℕ) (result : Result (Unit {0}) Halt) (steps : List Line)
+pub record CameThrough (call : BackupCall) (file : List ℕ) (result : Result (Unit {0}) Halt) (steps : List Line)
     (after : List LaneView) : Type 0 where
   pub dialled : List ℕ
   pub shape : Shape
@@ -133,14 +133,14 @@ pub record CameThrough (call : Call) (file : List ℕ) (result : Result (Unit {0
   pub others : IsTrue behind.told → (port : ℕ) → ¬ (Contains dialled port) → call.after.port port ≡ behind.port port
 
 -- the ports failed in a lane, and the text has the lines so far
-pub record StoppedShort (call : Call) (file text : List ℕ) : Type 0 where
+pub record StoppedShort (call : BackupCall) (file text : List ℕ) : Type 0 where
   pub steps : List Line
   pub after : List LaneView
   pub came : CameThrough call file (Err halts.Lost) steps after
   pub text_is : text ≡ text_of (lines.Job 1 ∷ steps)
 
 -- What became of a file at clouds that were greeted, with the text that is due.
-abbrev pub BringsFile : Call → List ℕ → Shape → Telling → List ℕ → Result Bool CarryErr → List ℕ → Type 0
+abbrev pub BringsFile : BackupCall → List ℕ → Shape → Telling → List ℕ → Result Bool BackupErr → List ℕ → Type 0
 BringsFile call file shape behind dialled (Ok stored) text =
     (steps : List Line) × (after : List LaneView)
     × LanesGo behind call.after (numbered 0 dialled) (lanes_begun shape (version_of call file)) (Ok tt) steps after
@@ -156,24 +156,24 @@ BringsFile call file shape behind dialled (Err carry_errors.Unheard) text = ⊥
 BringsFile call file shape behind dialled (Err (carry_errors.Refused why)) text = ⊥
 
 -- the ports failed in a lane
-abbrev pub IsCarryLost : Result Bool CarryErr → Type 0
+abbrev pub IsCarryLost : Result Bool BackupErr → Type 0
 IsCarryLost (Err carry_errors.Lost) = Unit {0}
 IsCarryLost result = ⊥
 
 -- an address couldn't be dialled
-abbrev pub DialStopped : Call → Type 0
+abbrev pub DialStopped : BackupCall → Type 0
 DialStopped call = MeetsAll asked.Backup call.addresses call.before call.after (Err unmet.Undialled)
 
 -- the ports failed in a Hello
-abbrev pub HelloStopped : Call → Type 0
+abbrev pub HelloStopped : BackupCall → Type 0
 HelloStopped call = MeetsAll asked.Backup call.addresses call.before call.after (Err unmet.Lost)
 
 -- a reply to Hello was refused
-abbrev pub HelloRefused : Call → Refused → Type 0
+abbrev pub HelloRefused : BackupCall → Refused → Type 0
 HelloRefused call why = MeetsAll asked.Backup call.addresses call.before call.after (Err (unmet.Refused why))
 
 -- What became of a file that was read, with the text that is due.
-abbrev pub Carries : Call → List ℕ → Result Bool CarryErr → List ℕ → Type 0
+abbrev pub Carries : BackupCall → List ℕ → Result Bool BackupErr → List ℕ → Type 0
 Carries call file (Ok stored) text =
     (steps : List Line) × (after : List LaneView) × CameThrough call file (Ok tt) steps after
     × (IsTrue stored ↔ AreDone after) × (text ≡ text_of (due_lines steps stored))

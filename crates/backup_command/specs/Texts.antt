@@ -1,9 +1,9 @@
 -- The lines of a backup. Its one job is the first.
 use Rattle.std.specs.Prelude.{ℕ, Bool, true, false, List, [], ◌∷◌, ◌++◌, map, Result, Err, if◌then◌else◌}
 use Rattle.std.specs.List.{flat_map}
-use Rattle.cd_base.specs.declared.ids.CloudNo.{CloudNo}
-use Rattle.upload_job.specs.declared.news.LaneNews.{LaneNews}
-use Rattle.upload_job.specs.declared.news.LaneNews.TheVariants as told
+use Rattle.transcript.specs.CdBase.ids.CloudNo.{CloudNo}
+use Rattle.lane_steps.specs.UploadJob.news.LaneNews.{LaneNews}
+use Rattle.lane_steps.specs.UploadJob.news.LaneNews.TheVariants as told
 use Rattle.lane_steps.specs.declared.error.StepErr.{StepErr}
 use Rattle.lane_steps.specs.declared.error.StepErr.TheVariants as errors
 use Rattle.transcript.specs.declared.line.Line.{Line}

@@ -1,7 +1,7 @@
 -- What is written, with the status.
 use Rattle.std.specs.Prelude.{◌≡◌, ℕ, List, ◌++◌, Option}
 use Rattle.std.specs.Io.KnownBytes.{Appends}
-use Rattle.cd_edges.specs.Causes.{Rose}
+use Rattle.transcript.specs.CdEdges.Causes.{Rose}
 
 -- the sink: its bytes where it tells them, and how often it had failed and has failed
 pub record Output : Type 0 where
@@ -21,10 +21,10 @@ pub record IsSilent (out : Output) : Type 0 where
 
 -- The text was written, and the status is this one; or the sink failed, and a front of it was written, with 4; or
 -- memory ran out for the text, and nothing was written, with 6.
-pub data Writes (text : List ℕ) (due : ℕ) (out : Output) (status : ℕ) : Type 0 where
+pub data HasWrittenOrCause (text : List ℕ) (due : ℕ) (out : Output) (status : ℕ) : Type 0 where
   InFull : status ≡ due → Appends out.written_before out.written_after text → out.faults_after ≡ out.faults_before
-      → Writes text due out status
+      → HasWrittenOrCause text due out status
   InPart : (front rest : List ℕ) → status ≡ 4 → text ≡ front ++ rest
       → Appends out.written_before out.written_after front → Rose out.faults_before out.faults_after
-      → Writes text due out status
-  NotAtAll : status ≡ 6 → IsSilent out → Writes text due out status
+      → HasWrittenOrCause text due out status
+  NotAtAll : status ≡ 6 → IsSilent out → HasWrittenOrCause text due out status

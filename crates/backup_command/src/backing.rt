@@ -1,17 +1,16 @@
 //! The command.
 
 ghost use Rattle.std.specs.Prelude.{◌≡◌, ◌≤◌, ◌⊎◌, length, IsTrue, if◌then◌else◌};
-ghost use Rattle.cd_base.specs.Limits.{IsPath};
+ghost use Rattle.transcript.specs.CdBase.Limits.{IsPath};
 ghost use Rattle.backup_command.specs.BackedUp.{IsBackedUp, OnlyDialled};
 ghost use Rattle.backup_command.specs.Reading.{input_of};
 ghost use Rattle.backup_command.specs.Writing.{output_of};
 
-use crate::carrying::{CarryErr, carry};
-use crate::reading::{ReadErr, read_file};
+use crate::carrying::{BackupErr, carry};
+use crate::reading::{FileReadErr, read_file};
 use crate::writing::{write_hello, write_text, write_too_long};
-use cd_base::{Bytes, UserId, Version};
-use cd_edges::{Ports, Sink, Source};
 use std::alloc::Global;
+use transcript::{Bytes, Ports, Sink, Source, UserId, Version};
 
 // The status of a job whose lanes came to their ends.
 fn status_of(stored: bool) -> u8
@@ -79,19 +78,19 @@ pub fn backup<S: Source, K: Sink, P: Ports>(
 {
     let file = match read_file(alloc, source) {
         Ok(file) => file,
-        Err(ReadErr::Failed) => return 3,
-        Err(ReadErr::TooLong { byte }) => return write_too_long(alloc, sink, byte),
-        Err(ReadErr::NoMemory) => return 6,
+        Err(FileReadErr::Failed) => return 3,
+        Err(FileReadErr::TooLong { byte }) => return write_too_long(alloc, sink, byte),
+        Err(FileReadErr::NoMemory) => return 6,
     };
     let mut text = Bytes::new(alloc);
     match carry(
         alloc, user, path, version, addresses, file, ports, &mut text,
     ) {
         Ok(stored) => write_text(sink, text.as_slice(), status_of(stored)),
-        Err(CarryErr::Refused(why)) => write_hello(alloc, sink, &why),
-        Err(CarryErr::Lost) => write_text(sink, text.as_slice(), 9),
-        Err(CarryErr::Undialled) => 9,
-        Err(CarryErr::Unheard) => 9,
-        Err(CarryErr::NoMemory) => 6,
+        Err(BackupErr::Refused(why)) => write_hello(alloc, sink, &why),
+        Err(BackupErr::Lost) => write_text(sink, text.as_slice(), 9),
+        Err(BackupErr::Undialled) => 9,
+        Err(BackupErr::Unheard) => 9,
+        Err(BackupErr::NoMemory) => 6,
     }
 }

@@ -2,29 +2,26 @@
 
 ghost use Rattle.std.specs.Prelude.{◌≡◌, ◌≤◌, ℕ, List, [], length, IfOk, IsTrue};
 ghost use Rattle.std.specs.List.{Contains};
-ghost use Rattle.cd_base.specs.Limits.{IsPath};
-ghost use Rattle.cd_edges.specs.Causes.{Rose};
-ghost use Rattle.recipe.specs.Spelling.{file_limit};
-ghost use Rattle.upload_job.specs.Lanes.{lanes_begun};
+ghost use Rattle.transcript.specs.CdBase.Limits.{IsPath};
+ghost use Rattle.transcript.specs.CdEdges.Causes.{Rose};
+ghost use Rattle.lane_steps.specs.Recipe.Spelling.{file_limit};
+ghost use Rattle.lane_steps.specs.UploadJob.Lanes.{lanes_begun};
 ghost use Rattle.lane_steps.specs.Reached.{IsReached};
-ghost use Rattle.backup_command.specs.BackedUp.{Call, OnlyDialled};
+ghost use Rattle.backup_command.specs.BackedUp.{BackupCall, OnlyDialled};
 ghost use Rattle.backup_command.specs.Steps.{AreGreetedOn, BringsFile, Carries, IfLost, IsCarryLost, IsNumbered};
 ghost use Rattle.backup_command.specs.Steps.{LanesWent};
 
 use crate::halt::Halt;
 use crate::lanes::bring_lanes;
 use crate::news::{put_end, put_line};
-use cd_base::{Bytes, NoMemory, Shape, UserId, Version};
-use cd_edges::Ports;
-use frames::ReplyBuf;
-use ports_link::{Asked, Greeted, MeetErr, PortsLink, Refused, lines_of, meet_all};
+use lane_steps::Job;
+use ports_link::{AskedClouds, Greeted, MeetErr, PortsLink, Refused, ReplyBuf, lines_of, meet_all};
 use std::alloc::Global;
-use transcript::Line;
-use upload_job::Job;
+use transcript::{Bytes, Line, NoMemory, Ports, Shape, UserId, Version};
 
 /// Why a file wasn't carried to the clouds.
 #[derive(Clone, Copy, Debug, PartialEq, Eq)]
-pub enum CarryErr {
+pub enum BackupErr {
     /// An address couldn't be dialled.
     Undialled,
     /// The ports failed in a Hello.
@@ -113,12 +110,12 @@ fn carry_greeted<P: Ports>(
     ports: &mut P,
     reply: &mut ReplyBuf,
     text: &mut Bytes,
-) -> Result<bool, CarryErr>
+) -> Result<bool, BackupErr>
     requires path { IsPath path.now }
     requires few { length file ≤ file_limit }
     requires empty { text.old ≡ [] }
     requires numbered { IsNumbered greeted.now }
-    ensures carries { (call : Call) (dialled : List ℕ) → call.user ≡ user → call.path ≡ path.now
+    ensures carries { (call : BackupCall) (dialled : List ℕ) → call.user ≡ user → call.path ≡ path.now
         → call.version ≡ version → call.after ≡ P.tells ports.new
         → AreGreetedOn (P.tells ports.old) dialled greeted.now.lines.items
         → BringsFile call file greeted.now.shape (P.tells ports.old) dialled result text.new }
@@ -131,21 +128,21 @@ fn carry_greeted<P: Ports>(
 {
     let mut job = match job_of(alloc, greeted.shape, user, path, version, file) {
         Ok(job) => job,
-        Err(NoMemory) => return Err(CarryErr::NoMemory),
+        Err(NoMemory) => return Err(BackupErr::NoMemory),
     };
     match put_line(Line::Job { job: 1 }, text) {
         Ok(()) => {}
-        Err(NoMemory) => return Err(CarryErr::NoMemory),
+        Err(NoMemory) => return Err(BackupErr::NoMemory),
     }
     match bring_all(alloc, greeted, &mut job, ports, reply, text) {
         Ok(()) => {}
-        Err(Halt::Lost) => return Err(CarryErr::Lost),
-        Err(Halt::NoMemory) => return Err(CarryErr::NoMemory),
+        Err(Halt::Lost) => return Err(BackupErr::Lost),
+        Err(Halt::NoMemory) => return Err(BackupErr::NoMemory),
     }
     let stored = job.stored();
     match put_end(stored, text) {
         Ok(()) => Ok(stored),
-        Err(NoMemory) => Err(CarryErr::NoMemory),
+        Err(NoMemory) => Err(BackupErr::NoMemory),
     }
 }
 
@@ -161,7 +158,7 @@ pub fn carry<P: Ports>(
     file: Bytes,
     ports: &mut P,
     text: &mut Bytes,
-) -> Result<bool, CarryErr>
+) -> Result<bool, BackupErr>
     requires path { IsPath path.now }
     requires few { length file ≤ file_limit }
     requires some { 1 ≤ length addresses.now }
@@ -183,14 +180,14 @@ pub fn carry<P: Ports>(
 {
     let mut reply = match ReplyBuf::make(alloc) {
         Ok(reply) => reply,
-        Err(NoMemory) => return Err(CarryErr::NoMemory),
+        Err(NoMemory) => return Err(BackupErr::NoMemory),
     };
-    let greeted = match meet_all(alloc, ports, Asked::Backup, addresses, &mut reply) {
+    let greeted = match meet_all(alloc, ports, AskedClouds::Backup, addresses, &mut reply) {
         Ok(greeted) => greeted,
-        Err(MeetErr::Undialled) => return Err(CarryErr::Undialled),
-        Err(MeetErr::Refused(why)) => return Err(CarryErr::Refused(why)),
-        Err(MeetErr::Lost) => return Err(CarryErr::Unheard),
-        Err(MeetErr::NoMemory) => return Err(CarryErr::NoMemory),
+        Err(MeetErr::Undialled) => return Err(BackupErr::Undialled),
+        Err(MeetErr::Refused(why)) => return Err(BackupErr::Refused(why)),
+        Err(MeetErr::Lost) => return Err(BackupErr::Unheard),
+        Err(MeetErr::NoMemory) => return Err(BackupErr::NoMemory),
     };
     carry_greeted(
         alloc, user, path, version, &greeted, file, ports, &mut reply, text,

@@ -2,21 +2,19 @@
 
 ghost use Rattle.std.specs.Prelude.{◌≡◌, ◌<◌, ◌≤◌, ◌∷◌, [], ℕ, All, map, IsTrue, OnOk, MatchOption};
 ghost use Rattle.std.specs.List.{Contains};
-ghost use Rattle.cd_edges.specs.Causes.{Rose};
-ghost use Rattle.cd_edges.specs.Ports.{Telling};
+ghost use Rattle.transcript.specs.CdEdges.Causes.{Rose};
+ghost use Rattle.transcript.specs.CdEdges.Ports.{Telling};
 ghost use Rattle.ports_link.specs.Tells.{telling};
-ghost use Rattle.user_dedup.specs.Link.{SaysNothingElse};
+ghost use Rattle.ports_link.specs.UserDedup.Link.{SaysNothingElse};
 ghost use Rattle.lane_steps.specs.Reached.{IsReached};
-ghost use Rattle.backup_command.specs.Steps.{AreReady, IfLost, IsReady, LaneGoes, LanesWent, Leaves, Talked, ports_of};
+ghost use Rattle.backup_command.specs.Steps.{AreReady, IfLost, IsCloudReady, LaneGoes, LanesWent, KeepsOtherPorts};
+ghost use Rattle.backup_command.specs.Steps.{Talked, ports_of};
 
 use crate::halt::Halt;
 use crate::news::put_lane;
-use cd_base::{Bytes, CloudNo};
-use cd_edges::Ports;
-use frames::ReplyBuf;
-use lane_steps::finish_lane;
-use ports_link::PortsLink;
-use upload_job::{Job, LaneNews};
+use lane_steps::{Job, LaneNews, finish_lane};
+use ports_link::{PortsLink, ReplyBuf};
+use transcript::{Bytes, CloudNo, Ports};
 
 /// The first cloud with its port, and the others, or None where there is none.
 pub fn next_line(lines: &[(CloudNo, u32)]) -> Option<((CloudNo, u32), &[(CloudNo, u32)])>
@@ -43,9 +41,9 @@ pub fn bring_one<P: Ports>(
     requires reaches { IsTrue ((telling P.tells P.faults).reaches link.old lane.0) }
     requires reached { IsReached link.old.shape job.old }
     ensures goes { (behind : Telling) (port : ℕ) → (P.tells link.old.ports.now).told ≡ behind.told
-        → IsReady behind P.tells link.old (lane, port)
+        → IsCloudReady behind P.tells link.old (lane, port)
         → LaneGoes behind (P.tells link.new.ports.now) (lane, port) job.old result job.new text.old text.new }
-    ensures leaves { Leaves P.tells lane.0 link.old link.new }
+    ensures leaves { KeepsOtherPorts P.tells lane.0 link.old link.new }
     ensures talks { OnOk result (SaysNothingElse (Talked P.tells) lane.0 link.old link.new) }
     ensures reaches { (telling P.tells P.faults).reaches link.new ≡ (telling P.tells P.faults).reaches link.old }
     ensures reached { IsReached link.old.shape job.new }

@@ -11,7 +11,15 @@ mod writing;
 
 pub use backing::backup;
 pub use halt::Halt;
+pub use lane_steps::law_of_resumed_lanes;
 pub use lanes::{bring_one, next_line};
 pub use news::{put_lane, put_line};
-pub use reading::{ReadErr, read_file};
+pub use ports_link::{
+    AskedClouds, Greeted, MeetErr, PortsLink, Refused, ReplyBuf, lines_of, meet_all,
+};
+pub use reading::{FileReadErr, read_file};
+pub use transcript::{
+    Area, Bytes, CloudNo, Ending, Failed, Line, NoMemory, Ports, Refusal, Shape, Shelf, Sink,
+    Source, Word, put_first, write_ending, write_line,
+};
 pub use writing::{write_hello, write_text, write_too_long};

@@ -8,10 +8,8 @@ ghost use Rattle.backup_command.specs.Steps.{Puts};
 ghost use Rattle.backup_command.specs.Texts.{as_told, step_line, text_of, end_lines};
 
 use crate::halt::Halt;
-use cd_base::{Bytes, CloudNo, NoMemory};
-use lane_steps::StepErr;
-use transcript::{Line, News, write_line};
-use upload_job::LaneNews;
+use lane_steps::{LaneNews, StepErr};
+use transcript::{Bytes, CloudNo, Line, News, NoMemory, write_line};
 
 // What a reply told, as a line says it.
 fn as_news(told: LaneNews) -> News

@@ -1,16 +1,15 @@
 //! A file from a source.
 
 ghost use Rattle.std.specs.Prelude.{◌≤◌, length, IfOk};
-ghost use Rattle.recipe.specs.Spelling.{file_limit};
+ghost use Rattle.lane_steps.specs.Recipe.Spelling.{file_limit};
 ghost use Rattle.backup_command.specs.Reading.{Reads, input_of};
 
-use cd_base::{Bytes, FILE_LIMIT, NoMemory};
-use cd_edges::{Failed, Source};
 use std::alloc::Global;
+use transcript::{Bytes, FILE_LIMIT, Failed, NoMemory, Source};
 
 /// Why no file was read.
 #[derive(Clone, Copy, Debug, PartialEq, Eq)]
-pub enum ReadErr {
+pub enum FileReadErr {
     /// The source failed.
     Failed,
     /// There are more bytes than a file may have; the first byte too many.
@@ -23,7 +22,7 @@ pub enum ReadErr {
 const PIECE: usize = 65_536;
 
 /// Reads a source to its end. `TooLong` comes exactly where it has more bytes than a file may have.
-pub fn read_file<S: Source>(alloc: Global, source: &mut S) -> Result<Bytes, ReadErr>
+pub fn read_file<S: Source>(alloc: Global, source: &mut S) -> Result<Bytes, FileReadErr>
     ensures reads { Reads (input_of (S.left source.old) (S.faults source.old) (S.faults source.new)) result }
 {
     let mut file = Bytes::new(alloc);
@@ -31,18 +30,18 @@ pub fn read_file<S: Source>(alloc: Global, source: &mut S) -> Result<Bytes, Read
     'pieces: loop {
         let count = match source.read(&mut piece) {
             Ok(count) => count,
-            Err(Failed) => return Err(ReadErr::Failed),
+            Err(Failed) => return Err(FileReadErr::Failed),
         };
         if count == 0 {
             return Ok(file);
         }
         let room = FILE_LIMIT - file.len();
         if room < count {
-            return Err(ReadErr::TooLong { byte: piece[room] });
+            return Err(FileReadErr::TooLong { byte: piece[room] });
         }
         match file.extend(&piece[..count]) {
             Ok(()) => {}
-            Err(NoMemory) => return Err(ReadErr::NoMemory),
+            Err(NoMemory) => return Err(FileReadErr::NoMemory),
         }
     }
 }

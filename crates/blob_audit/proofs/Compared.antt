@@ -4,22 +4,22 @@ use Rattle.std.specs.Prelude.{IsSome, IsTrue, IfSome, ◌↔◌}
 use Rattle.std.specs.List.{Contains}
 use Rattle.std.specs.FinMap.{get}
 use Rattle.std.proofs.lemmas.List.Elements.{All-contains, All-nil, All-cons}
-use Rattle.cd_base.specs.declared.ids.Fp.{Fp}
-use Rattle.cd_base.specs.declared.ids.UserId.{UserId}
-use Rattle.cd_base.specs.declared.shape.Shape.{Shape}
-use Rattle.cloud_memory.specs.Sharing.{AreOwned}
-use Rattle.file_index.specs.declared.key.Entry.{Entry}
-use Rattle.recipe.specs.Spelling.{IsRecipe}
-use Rattle.recipe.specs.declared.recipe.Recipe.{Recipe}
-use Rattle.recipe.proofs.Written.{longest, one}
-use Rattle.share_index.specs.Order.{owner_of}
-use Rattle.user_dedup.proofs.Owned.{contains_here, contains_later}
-use Rattle.user_dedup.specs.Cloud.{fingerprint}
-use Rattle.user_dedup.specs.Owning.{fps_in}
+use Rattle.audit_base.specs.CdBase.ids.Fp.{Fp}
+use Rattle.audit_base.specs.CdBase.ids.UserId.{UserId}
+use Rattle.audit_base.specs.CdBase.shape.Shape.{Shape}
+use Rattle.audit_base.specs.CloudMemory.Sharing.{AreOwned}
+use Rattle.audit_base.specs.FileIndex.key.Entry.{Entry}
+use Rattle.audit_base.specs.Recipe.Spelling.{IsRecipe}
+use Rattle.audit_base.specs.Recipe.recipe.Recipe.{Recipe}
+use Rattle.audit_base.proofs.Recipe.Written.{longest, one}
+use Rattle.audit_base.specs.ShareIndex.Order.{owner_of}
+use Rattle.audit_base.proofs.UserDedup.Owned.{contains_here, contains_later}
+use Rattle.audit_base.specs.UserDedup.Cloud.{fingerprint}
+use Rattle.audit_base.specs.UserDedup.Owning.{fps_in}
 use Rattle.audit_base.specs.Whole.{Tables, Owns}
 use Rattle.blob_audit.specs.declared.errors.ReadErr.{ReadErr}
 use Rattle.blob_audit.specs.declared.errors.ReadErr.TheVariants.{Fault, Rotten, NoMemory}
-use Rattle.blob_audit.specs.Steps.{has_fault, IsWhole, IsOwnRecipe, IsFine, IsRefused, JudgedAs, BlobAs}
+use Rattle.blob_audit.specs.Steps.{has_fault, IsWhole, IsOwnRecipe, IsFine, IsBlobRefused, JudgedAs, BlobAs}
 
 -- no answer about bytes is a device's fault
 pub judged_calm : (fine : Type 0) (fp real : Fp) (r : Result (Unit {0}) ReadErr) → JudgedAs fine fp real r → has_fault r ≡ false
@@ -41,7 +41,7 @@ refused_more fine more fp real (Rotten named found) only j = record { is_named =
 refused_more fine more fp real NoMemory only j = absurd j
 
 -- a blob that is stored, and isn't fine beside
-pub refused_whole : (bytes : List ℕ) (len : ℕ) (fp : Fp) (fine : Type 0) → IsWhole bytes len fp → (fine → ⊥) → IsRefused fine fp (fingerprint bytes) fp fp
+pub refused_whole : (bytes : List ℕ) (len : ℕ) (fp : Fp) (fine : Type 0) → IsWhole bytes len fp → (fine → ⊥) → IsBlobRefused fine fp (fingerprint bytes) fp fp
 refused_whole bytes len fp fine whole lacks = record { is_named = refl; is_found = sym whole.hash; lacks = lacks }
 
 -- ---- recipes
@@ -55,7 +55,7 @@ pub too_long : (shape : Shape) (t : Tables) (user : UserId) (bytes : List ℕ) (
 too_long shape t user bytes len is more own = let short = recipe_short shape bytes own.recipe own.is_recipe in omega (arith, is, more, short)
 
 -- so an entry that is too long is refused
-pub long_refused : (shape : Option Shape) (s : Shape) → shape ≡ Some s → (t : Tables) (user : UserId) (e : Entry) (bytes : List ℕ) → 4194304 < e.len → IsWhole bytes e.len e.fp → IsRefused (IsFine shape t user e bytes) e.fp (fingerprint bytes) e.fp e.fp
+pub long_refused : (shape : Option Shape) (s : Shape) → shape ≡ Some s → (t : Tables) (user : UserId) (e : Entry) (bytes : List ℕ) → 4194304 < e.len → IsWhole bytes e.len e.fp → IsBlobRefused (IsFine shape t user e bytes) e.fp (fingerprint bytes) e.fp e.fp
 long_refused shape s is t user e bytes more whole =
     refused_whole bytes e.len e.fp (IsFine shape t user e bytes) whole
     (λ fine. too_long s t user bytes e.len whole.full more (subst (λ (o : Option Shape). IfSome o (λ q. IsOwnRecipe q t user bytes)) is fine.good))

@@ -5,3 +5,4 @@ pub mod Listed
 pub mod Ordered
 pub mod Owners
 pub mod Windowed
+pub mod AuditBase

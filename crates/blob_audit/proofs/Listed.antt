@@ -1,21 +1,21 @@
 -- What is answered of all slots, as what is answered of all that a memory lists.
 use Rattle.std.proofs.Common.{◌≡◌, ◌⊎◌, inl, inr, ℕ, ◌+◌, List, Option, Some, None, Result, Ok, Err, refl, sym, subst, arith, below_more}
 use Rattle.std.specs.FinMap.{get}
-use Rattle.cd_base.specs.declared.ids.Fp.{Fp}
-use Rattle.cd_base.specs.declared.ids.UserId.{UserId}
-use Rattle.cd_base.specs.declared.place.Place.{Place}
-use Rattle.cd_base.specs.declared.shape.Shape.{Shape}
-use Rattle.cd_edges.specs.declared.area.Area.TheVariants.{Shares, Recipes}
-use Rattle.cd_edges.specs.Disk.{Cloud, Image}
-use Rattle.cd_edges.specs.Shelf.{HasFailed, KeepsCounts}
-use Rattle.cloud_memory.specs.declared.cloud.CloudMemory.{CloudMemory}
-use Rattle.cloud_memory.specs.Live.{live_at, IsEachLive}
-use Rattle.file_index.specs.declared.key.Entry.{Entry}
-use Rattle.file_index.specs.declared.key.FileKey.{FileKey}
-use Rattle.file_index.specs.Files.{key_of}
+use Rattle.audit_base.specs.CdBase.ids.Fp.{Fp}
+use Rattle.audit_base.specs.CdBase.ids.UserId.{UserId}
+use Rattle.audit_base.specs.CdBase.place.Place.{Place}
+use Rattle.audit_base.specs.CdBase.shape.Shape.{Shape}
+use Rattle.audit_base.specs.CdEdges.area.Area.TheVariants.{Shares, Recipes}
+use Rattle.audit_base.specs.CdEdges.Disk.{Cloud, Image}
+use Rattle.audit_base.specs.CdEdges.Shelf.{HasFailed, KeepsCounts}
+use Rattle.audit_base.specs.CloudMemory.cloud.CloudMemory.{CloudMemory}
+use Rattle.audit_base.specs.CloudMemory.Live.{live_at, IsEachLive}
+use Rattle.audit_base.specs.FileIndex.key.Entry.{Entry}
+use Rattle.audit_base.specs.FileIndex.key.FileKey.{FileKey}
+use Rattle.audit_base.specs.FileIndex.Files.{key_of}
 use Rattle.pool_map.specs.Slots.{slot_of, IsListed}
-use Rattle.share_index.specs.Order.{owner_of}
-use Rattle.user_dedup.specs.Cloud.{fingerprint}
+use Rattle.audit_base.specs.ShareIndex.Order.{owner_of}
+use Rattle.audit_base.specs.UserDedup.Cloud.{fingerprint}
 use Rattle.audit_base.specs.Whole.{Tables, IsOwned, IsStored, IsGood, stored_at, tables_of}
 use Rattle.audit_base.specs.Whole as rotten
 use Rattle.audit_base.proofs.Found.{owner_counted}

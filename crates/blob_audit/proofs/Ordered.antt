@@ -3,11 +3,11 @@ use Rattle.std.proofs.Common.{◌≡◌, ℕ, ◌+◌, ◌<◌, List, [], ◌∷
 use Rattle.std.specs.List.Sorted.{IsPermutation}
 use Rattle.std.proofs.lemmas.List.Elements.{Contains-append_left, Contains-push}
 use Rattle.std.proofs.lemmas.List.Sorted.{Contains-permutation}
-use Rattle.cd_edges.specs.declared.area.Area.{Area}
-use Rattle.cd_edges.specs.Disk.{Image}
+use Rattle.audit_base.specs.CdEdges.area.Area.{Area}
+use Rattle.audit_base.specs.CdEdges.Disk.{Image}
 use Rattle.blob_audit.specs.declared.errors.ReadErr.{ReadErr}
 use Rattle.blob_audit.specs.declared.held.Held.{Held}
-use Rattle.blob_audit.specs.Holding.{IsHeld, Along, IsIn, HasAll, slot_at}
+use Rattle.blob_audit.specs.Holding.{IsHeldInWindow, Along, IsIn, HasAll, slot_at}
 use Rattle.blob_audit.specs.Steps.{AllAs}
 use Rattle.blob_audit.proofs.Listed.{one_more}
 
@@ -40,8 +40,8 @@ all_read Q slots order has all slot less =
 
 -- one more, with the window along
 pub one_along : (area : Area) (Q : ℕ → Image → Result (Unit {0}) ReadErr → Type 0) (index : ℕ) (held new : Held) (window after : List ℕ) (image : Image)
-    → AllAs index (λ i. Q i image) (Ok tt) × IsHeld (image area) held window → Along area (Q index) held window new after image (Ok tt)
-    → AllAs (index + 1) (λ i. Q i image) (Ok tt) × IsHeld (image area) new after
+    → AllAs index (λ i. Q i image) (Ok tt) × IsHeldInWindow (image area) held window → Along area (Q index) held window new after image (Ok tt)
+    → AllAs (index + 1) (λ i. Q i image) (Ok tt) × IsHeldInWindow (image area) new after
 one_along area Q index held new window after image before here =
     let now = here before.1 in
     (one_more (λ i. Q i image) index before.0 now.0, now.1)

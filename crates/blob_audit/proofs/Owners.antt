@@ -8,12 +8,12 @@ use Rattle.std.specs.List.{count_by}
 use Rattle.std.specs.FinMap.{get, entries, get-entries, find}
 use Rattle.std.proofs.lemmas.Bool.{cases_Bool}
 use Rattle.std.proofs.lemmas.List.Sums.{sum_by-cons}
-use Rattle.cd_base.specs.declared.ids.Fp.{Fp}
-use Rattle.cd_base.specs.Order.{fp_cmp, fp_exact}
-use Rattle.share_index.specs.declared.key.Owner.{Owner}
-use Rattle.share_index.specs.Order.{owner_cmp, owner_of}
-use Rattle.share_index.specs.Shares.{owners_of}
-use Rattle.share_index.proofs.Owning.{owner_total}
+use Rattle.audit_base.specs.CdBase.ids.Fp.{Fp}
+use Rattle.audit_base.specs.CdBase.Order.{fp_cmp, fp_exact}
+use Rattle.audit_base.specs.ShareIndex.key.Owner.{Owner}
+use Rattle.audit_base.specs.ShareIndex.Order.{owner_cmp, owner_of}
+use Rattle.audit_base.specs.ShareIndex.Shares.{owners_of}
+use Rattle.audit_base.proofs.ShareIndex.Owning.{owner_total}
 use Rattle.audit_base.specs.Whole.{Tables, IsOwned}
 
 is_equal : (o : Ordering) → is_eq o ≡ true → o ≡ Equal

@@ -1,10 +1,10 @@
 -- A blob in a window.
 use Rattle.std.proofs.Common.{◌≡◌, ℕ, ◌+◌, ◌-◌, ◌≤◌, min, List, length, take, drop, sym, ap, ◌∙◌, arith, Result, Ok, Err, OnOk}
 use Rattle.std.proofs.lemmas.List.{take-take, drop-take, drop-drop, take_min, drop_min}
-use Rattle.cd_base.specs.declared.place.Place.{Place}
+use Rattle.audit_base.specs.CdBase.place.Place.{Place}
 use Rattle.audit_base.specs.Whole.{stored_at}
 use Rattle.blob_audit.specs.declared.held.Held.{Held}
-use Rattle.blob_audit.specs.Holding.{IsHeld, Covers}
+use Rattle.blob_audit.specs.Holding.{IsHeldInWindow, Covers}
 
 part_is : (area : List ℕ) (at asked from len whole : ℕ) → whole ≡ at + from → from + len ≤ asked → take len (drop from (take asked (drop at area))) ≡ take len (drop whole area)
 part_is area at asked from len whole sum less =
@@ -17,7 +17,7 @@ part_is area at asked from len whole sum less =
     ∙ ap (take len) (drop-drop from at area)
     ∙ ap (λ (n : ℕ). take len (drop n area)) (sym sum)
 
-pub blob_in : (area : List ℕ) (held : Held) (place : Place) (window front rest bytes : List ℕ) (skip count : ℕ) → Covers held place → IsHeld area held window
+pub blob_in : (area : List ℕ) (held : Held) (place : Place) (window front rest bytes : List ℕ) (skip count : ℕ) → Covers held place → IsHeldInWindow area held window
     → front ≡ take held.count window → skip ≡ min (place.at - held.at) (length front) → rest ≡ drop skip front → count ≡ min place.len (length rest) → bytes ≡ take count rest
     → bytes ≡ stored_at area place.at place.len
 blob_in area held place window front rest bytes skip count covers is front_is skip_is rest_is count_is bytes_is =

@@ -1,20 +1,20 @@
 -- What a window has of an area.
 use Rattle.std.specs.Prelude.{◌≡◌, ◌+◌, ◌≤◌, ℕ, List, take, ◌<◌, slice_index_or, Option, Result, OnOk}
 use Rattle.std.specs.List.{Contains}
-use Rattle.cd_base.specs.declared.place.Place.{Place}
-use Rattle.cd_base.specs.declared.ids.UserId.{UserId}
-use Rattle.cd_base.specs.declared.shape.Shape.{Shape}
-use Rattle.file_index.specs.declared.key.Entry.{Entry}
-use Rattle.cd_edges.specs.declared.area.Area.{Area}
-use Rattle.cd_edges.specs.declared.area.Area.TheVariants.{Shares, Recipes}
-use Rattle.cd_edges.specs.Disk.{Image}
+use Rattle.audit_base.specs.CdBase.place.Place.{Place}
+use Rattle.audit_base.specs.CdBase.ids.UserId.{UserId}
+use Rattle.audit_base.specs.CdBase.shape.Shape.{Shape}
+use Rattle.audit_base.specs.FileIndex.key.Entry.{Entry}
+use Rattle.audit_base.specs.CdEdges.area.Area.{Area}
+use Rattle.audit_base.specs.CdEdges.area.Area.TheVariants.{Shares, Recipes}
+use Rattle.audit_base.specs.CdEdges.Disk.{Image}
 use Rattle.audit_base.specs.Whole.{Tables, stored_at}
 use Rattle.blob_audit.specs.declared.errors.ReadErr.{ReadErr}
 use Rattle.blob_audit.specs.declared.held.Held.{Held}
 use Rattle.blob_audit.specs.Steps.{PlacedRead, EntryRead}
 
 -- as much as there is of what was asked for is in front of the window
-pub record IsHeld (area : List ℕ) (held : Held) (window : List ℕ) : Type 0 where
+pub record IsHeldInWindow (area : List ℕ) (held : Held) (window : List ℕ) : Type 0 where
   pub bytes : take held.count window ≡ stored_at area held.at held.asked
 
 -- A place lies in what was asked for.
@@ -24,15 +24,15 @@ pub record Covers (held : Held) (place : Place) : Type 0 where
 
 -- What is told of a share that was compared with a window, which then has what it had or more.
 abbrev pub ShareAlong : List ℕ → Place → Held → List ℕ → Held → List ℕ → Image → Result (Unit {0}) ReadErr → Type 0
-ShareAlong fp place old before new after image r = IsHeld (image Shares) old before → PlacedRead fp place image r × OnOk r (IsHeld (image Shares) new after)
+ShareAlong fp place old before new after image r = IsHeldInWindow (image Shares) old before → PlacedRead fp place image r × OnOk r (IsHeldInWindow (image Shares) new after)
 
 -- the same of an entry's recipe
 abbrev pub EntryAlong : Option Shape → Tables → UserId → Entry → Held → List ℕ → Held → List ℕ → Image → Result (Unit {0}) ReadErr → Type 0
-EntryAlong shape t user e old before new after image r = IsHeld (image Recipes) old before → EntryRead shape t user e image r × OnOk r (IsHeld (image Recipes) new after)
+EntryAlong shape t user e old before new after image r = IsHeldInWindow (image Recipes) old before → EntryRead shape t user e image r × OnOk r (IsHeldInWindow (image Recipes) new after)
 
 -- what is told of a reading that a window goes along
 abbrev pub Along : Area → (Image → Result (Unit {0}) ReadErr → Type 0) → Held → List ℕ → Held → List ℕ → Image → Result (Unit {0}) ReadErr → Type 0
-Along area P old before new after image r = IsHeld (image area) old before → P image r × OnOk r (IsHeld (image area) new after)
+Along area P old before new after image r = IsHeldInWindow (image area) old before → P image r × OnOk r (IsHeldInWindow (image area) new after)
 
 -- ---- the order of reading
 

@@ -1,17 +1,17 @@
 -- What a reading of all listed blobs answers.
 use Rattle.std.specs.Prelude.{◌≡◌, Result, Ok, Err, Some}
 use Rattle.std.specs.FinMap.{get}
-use Rattle.cd_base.specs.declared.ids.Fp.{Fp}
-use Rattle.cd_base.specs.declared.ids.Tag.{Tag}
-use Rattle.cd_base.specs.declared.ids.UserId.{UserId}
-use Rattle.cd_base.specs.declared.ids.Version.{Version}
-use Rattle.cd_base.specs.declared.place.Place.{Place}
-use Rattle.cd_base.specs.declared.shape.Shape.{Shape}
-use Rattle.cd_edges.specs.declared.area.Area.TheVariants.{Shares, Recipes}
-use Rattle.cd_edges.specs.Disk.{Image}
-use Rattle.file_index.specs.declared.key.Entry.{Entry}
-use Rattle.file_index.specs.Files.{key_of}
-use Rattle.user_dedup.specs.Cloud.{fingerprint}
+use Rattle.audit_base.specs.CdBase.ids.Fp.{Fp}
+use Rattle.audit_base.specs.CdBase.ids.Tag.{Tag}
+use Rattle.audit_base.specs.CdBase.ids.UserId.{UserId}
+use Rattle.audit_base.specs.CdBase.ids.Version.{Version}
+use Rattle.audit_base.specs.CdBase.place.Place.{Place}
+use Rattle.audit_base.specs.CdBase.shape.Shape.{Shape}
+use Rattle.audit_base.specs.CdEdges.area.Area.TheVariants.{Shares, Recipes}
+use Rattle.audit_base.specs.CdEdges.Disk.{Image}
+use Rattle.audit_base.specs.FileIndex.key.Entry.{Entry}
+use Rattle.audit_base.specs.FileIndex.Files.{key_of}
+use Rattle.audit_base.specs.UserDedup.Cloud.{fingerprint}
 use Rattle.audit_base.specs.Whole.{Tables, IsOwned, IsGood, IsRottenNow, IsStored, stored_at}
 use Rattle.blob_audit.specs.declared.errors.ReadErr.{ReadErr}
 use Rattle.blob_audit.specs.declared.errors.ReadErr.TheVariants.{Fault, Rotten, NoMemory}

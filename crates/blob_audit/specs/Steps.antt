@@ -3,23 +3,23 @@ use Rattle.std.specs.Prelude.{◌≡◌, ◌⊎◌, ℕ, ◌<◌, Bool, true, fa
 use Rattle.std.specs.List.{Contains}
 use Rattle.sha2.specs.Hashers.{Holds256}
 use Rattle.sha2.specs.declared.Sha256.{Sha256}
-use Rattle.cd_base.specs.declared.ids.Fp.{Fp}
-use Rattle.cd_base.specs.declared.ids.UserId.{UserId}
-use Rattle.cd_base.specs.declared.place.Place.{Place}
-use Rattle.cd_base.specs.declared.shape.Shape.{Shape}
-use Rattle.cd_edges.specs.declared.area.Area.{Area}
-use Rattle.cd_edges.specs.declared.area.Area.TheVariants.{Shares, Recipes}
-use Rattle.cd_edges.specs.Disk.{Cloud, Image, reads}
-use Rattle.cd_edges.specs.Shelf.{IsCall, HasFailed, KeepsCounts, Stays}
-use Rattle.file_index.specs.declared.key.Entry.{Entry}
-use Rattle.file_index.specs.declared.key.FileKey.{FileKey}
+use Rattle.audit_base.specs.CdBase.ids.Fp.{Fp}
+use Rattle.audit_base.specs.CdBase.ids.UserId.{UserId}
+use Rattle.audit_base.specs.CdBase.place.Place.{Place}
+use Rattle.audit_base.specs.CdBase.shape.Shape.{Shape}
+use Rattle.audit_base.specs.CdEdges.area.Area.{Area}
+use Rattle.audit_base.specs.CdEdges.area.Area.TheVariants.{Shares, Recipes}
+use Rattle.audit_base.specs.CdEdges.Disk.{Cloud, Image, reads}
+use Rattle.audit_base.specs.CdEdges.Shelf.{IsCall, HasFailed, KeepsCounts, Stays}
+use Rattle.audit_base.specs.FileIndex.key.Entry.{Entry}
+use Rattle.audit_base.specs.FileIndex.key.FileKey.{FileKey}
 use Rattle.pool_map.specs.Slots.{slot_of}
-use Rattle.recipe.specs.declared.recipe.Recipe.{Recipe}
-use Rattle.recipe.specs.Spelling.{IsRecipe}
-use Rattle.user_dedup.specs.Cloud.{fingerprint}
-use Rattle.user_dedup.specs.Owning.{fps_in}
-use Rattle.cloud_memory.specs.declared.cloud.CloudMemory.{CloudMemory}
-use Rattle.cloud_memory.specs.Live.{live_at}
+use Rattle.audit_base.specs.Recipe.recipe.Recipe.{Recipe}
+use Rattle.audit_base.specs.Recipe.Spelling.{IsRecipe}
+use Rattle.audit_base.specs.UserDedup.Cloud.{fingerprint}
+use Rattle.audit_base.specs.UserDedup.Owning.{fps_in}
+use Rattle.audit_base.specs.CloudMemory.cloud.CloudMemory.{CloudMemory}
+use Rattle.audit_base.specs.CloudMemory.Live.{live_at}
 use Rattle.audit_base.specs.Whole.{Tables, Owns, stored_at, tables_of}
 use Rattle.blob_audit.specs.declared.errors.ReadErr.{ReadErr}
 use Rattle.blob_audit.specs.declared.errors.ReadErr.TheVariants.{Fault, Rotten, NoMemory}
@@ -54,7 +54,7 @@ Counted true old new before now = HasFailed old new before now
 Counted false old new before now = KeepsCounts old new before now
 
 -- What a call that only reads answers of what the cloud reads, where that is told, and what it leaves.
-pub record IsRead {A : Type 0} (P : Image → Result A ReadErr → Type 0) (old new : ℕ → Cloud) (number before now : ℕ) (result : Result A ReadErr) : Type 0 where
+pub record IsOnlyRead {A : Type 0} (P : Image → Result A ReadErr → Type 0) (old new : ℕ → Cloud) (number before now : ℕ) (result : Result A ReadErr) : Type 0 where
   pub told : IsTrue (old number).told → P (reads (old number).now) result
   pub stays : Stays (old number) (new number)
   pub call : IsCall old new number before now
@@ -63,7 +63,7 @@ pub record IsRead {A : Type 0} (P : Image → Result A ReadErr → Type 0) (old 
 -- ---- bytes
 
 -- These bytes, so many of them, are in front of a buffer.
-pub record IsFront (bytes : List ℕ) (count : ℕ) (out : List ℕ) : Type 0 where
+pub record IsFrontOfBuffer (bytes : List ℕ) (count : ℕ) (out : List ℕ) : Type 0 where
   pub len : count ≡ length bytes
   pub front : take count out ≡ bytes
 
@@ -73,12 +73,12 @@ pub record IsTaken (bytes : List ℕ) (count : ℕ) (old new : Sha256) : Type 0 
   pub holds : (message : List ℕ) → Holds256 old message → Holds256 new (message ++ bytes)
 
 -- how many bytes these are, and what they hash to
-pub record IsFound (bytes : List ℕ) (found : Found) : Type 0 where
+pub record AreFoundBytes (bytes : List ℕ) (found : Found) : Type 0 where
   pub len : found.len ≡ length bytes
   pub fp : found.fp ≡ fingerprint bytes
 
 -- So many bytes are as many as the place has.
-pub record IsSame (area : List ℕ) (place : Place) (len : ℕ) : Type 0 where
+pub record IsWholeLength (area : List ℕ) (place : Place) (len : ℕ) : Type 0 where
   pub bytes : stored_at area place.at len ≡ stored_at area place.at place.len
 
 -- ---- blobs
@@ -100,7 +100,7 @@ pub record IsFine (shape : Option Shape) (t : Tables) (user : UserId) (e : Entry
   pub good : IfSome shape (λ s. IsOwnRecipe s t user bytes)
 
 -- A blob that isn't fine is named, with the hash of the bytes that are there.
-pub record IsRefused (fine : Type 0) (fp real named found : Fp) : Type 0 where
+pub record IsBlobRefused (fine : Type 0) (fp real named found : Fp) : Type 0 where
   pub is_named : named ≡ fp
   pub is_found : found ≡ real
   pub lacks : ¬ fine
@@ -109,21 +109,21 @@ pub record IsRefused (fine : Type 0) (fp real named found : Fp) : Type 0 where
 abbrev pub JudgedAs : Type 0 → Fp → Fp → Result (Unit {0}) ReadErr → Type 0
 JudgedAs fine fp real (Ok u) = fine
 JudgedAs fine fp real (Err Fault) = ⊥
-JudgedAs fine fp real (Err (Rotten named found)) = IsRefused fine fp real named found
+JudgedAs fine fp real (Err (Rotten named found)) = IsBlobRefused fine fp real named found
 JudgedAs fine fp real (Err NoMemory) = ⊥
 
 -- the same, where a device may fail
 abbrev pub BlobAs : Type 0 → Fp → Fp → Result (Unit {0}) ReadErr → Type 0
 BlobAs fine fp real (Ok u) = fine
 BlobAs fine fp real (Err Fault) = Unit {0}
-BlobAs fine fp real (Err (Rotten named found)) = IsRefused fine fp real named found
+BlobAs fine fp real (Err (Rotten named found)) = IsBlobRefused fine fp real named found
 BlobAs fine fp real (Err NoMemory) = Unit {0}
 
 -- ---- slots
 
 -- what is told of a blob that was hashed
 abbrev pub FoundRead : Area → Place → Image → Result Found ReadErr → Type 0
-FoundRead area place image r = IfOk r (λ found. IsFound (stored_at (image area) place.at place.len) found)
+FoundRead area place image r = IfOk r (λ found. AreFoundBytes (stored_at (image area) place.at place.len) found)
 
 -- what is told of a share that was read
 abbrev pub PlacedRead : List ℕ → Place → Image → Result (Unit {0}) ReadErr → Type 0

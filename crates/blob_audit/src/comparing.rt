@@ -3,16 +3,13 @@
 ghost use Rattle.std.specs.Prelude.{◌≡◌, ◌≤◌, false, length};
 ghost use Rattle.audit_base.specs.Whole.{tables_of};
 ghost use Rattle.blob_audit.specs.Holding.{ShareAlong, EntryAlong};
-ghost use Rattle.blob_audit.specs.Steps.{lacks_memory, IsRead};
+ghost use Rattle.blob_audit.specs.Steps.{lacks_memory, IsOnlyRead};
 
 use crate::ReadErr;
 use crate::held::{Held, bytes_in, hold};
 use crate::judging::{judge, judge_bytes, judge_entry, judge_long};
 use crate::pieces::{WINDOW, hash_long};
-use cd_base::{CloudNo, Fp, Place, Shape, UserId};
-use cd_edges::{Area, Shelf};
-use cloud_memory::CloudMemory;
-use file_index::Entry;
+use audit_base::{Area, CloudMemory, CloudNo, Entry, Fp, Place, Shape, Shelf, UserId};
 
 /// Compares the share at a place, which is read where the window hasn't got it.
 pub(crate) fn compare_share<V: Shelf>(
@@ -25,7 +22,7 @@ pub(crate) fn compare_share<V: Shelf>(
 ) -> Result<(), ReadErr>
     requires window { length window.old ≡ 4194304 }
     requires count { held.old.count ≤ 4194304 }
-    ensures read { IsRead (ShareAlong fp.0 place held.old window.old held.new window.new)
+    ensures read { IsOnlyRead (ShareAlong fp.0 place held.old window.old held.new window.new)
         (V.cloud_at shelf.old) (V.cloud_at shelf.new) cloud.0 (V.faults shelf.old) (V.faults shelf.new) result }
     ensures memory { lacks_memory result ≡ false }
     ensures count { held.new.count ≤ 4194304 }
@@ -61,7 +58,8 @@ pub(crate) fn compare_entry<V: Shelf>(
 ) -> Result<(), ReadErr>
     requires window { length window.old ≡ 4194304 }
     requires count { held.old.count ≤ 4194304 }
-    ensures read { IsRead (EntryAlong shape (tables_of memory.now) user entry held.old window.old held.new window.new)
+    ensures read { IsOnlyRead (EntryAlong shape
+        (tables_of memory.now) user entry held.old window.old held.new window.new)
         (V.cloud_at shelf.old) (V.cloud_at shelf.new) cloud.0 (V.faults shelf.old) (V.faults shelf.new) result }
     ensures memory { lacks_memory result ≡ false }
     ensures count { held.new.count ≤ 4194304 }

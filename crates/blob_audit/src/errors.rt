@@ -1,6 +1,6 @@
 //! Why not all blobs were read and found as they were stored.
 
-use cd_base::Fp;
+use audit_base::Fp;
 
 /// Why not all blobs were read and found as they were stored.
 #[derive(Clone, Copy, Debug, PartialEq, Eq)]

@@ -2,13 +2,12 @@
 
 ghost use Rattle.std.specs.Prelude.{◌≡◌, ◌↔◌, ◌+◌, ◌≤◌, List, ℕ, length, IfOk, IfErr, IsTrue};
 ghost use Rattle.audit_base.specs.Whole.{stored_at};
-ghost use Rattle.blob_audit.specs.Holding.{IsHeld, Covers};
-ghost use Rattle.blob_audit.specs.Steps.{IsFault, IsRead};
+ghost use Rattle.blob_audit.specs.Holding.{IsHeldInWindow, Covers};
+ghost use Rattle.blob_audit.specs.Steps.{IsFault, IsOnlyRead};
 
 use crate::ReadErr;
 use crate::pieces::{WINDOW, read_piece};
-use cd_base::{CloudNo, Place};
-use cd_edges::{Area, Shelf};
+use audit_base::{Area, CloudNo, Place, Shelf};
 
 /// What a window has in front: what was asked for, and how many bytes of it are there.
 #[derive(Clone, Copy, Debug)]
@@ -53,8 +52,8 @@ pub(crate) fn hold<V: Shelf>(
     requires window { length window.old ≡ 4194304 }
     requires small { place.len ≤ 4194304 }
     requires count { held.old.count ≤ 4194304 }
-    ensures read { IsRead (λ image r. IsHeld (image area) held.old window.old
-        → IfOk r (λ u. IsHeld (image area) held.new window.new))
+    ensures read { IsOnlyRead (λ image r. IsHeldInWindow (image area) held.old window.old
+        → IfOk r (λ u. IsHeldInWindow (image area) held.new window.new))
         (V.cloud_at shelf.old) (V.cloud_at shelf.new) cloud.0 (V.faults shelf.old) (V.faults shelf.new) result }
     ensures fault { IfErr result IsFault }
     ensures covers { IfOk result (λ u. Covers held.new place) }
@@ -82,7 +81,7 @@ pub(crate) fn hold<V: Shelf>(
 pub(crate) fn bytes_in<'a>(held: &Held, place: &Place, window: &'a [u8]) -> &'a [u8]
     requires window { held.now.count ≤ length window.now }
     requires covers { Covers held.now place.now }
-    ensures bytes { (area : List ℕ) → IsHeld area held.now window.now
+    ensures bytes { (area : List ℕ) → IsHeldInWindow area held.now window.now
         → result.now ≡ stored_at area place.now.at place.now.len }
     ensures len { length result.now ≤ place.now.len }
 {

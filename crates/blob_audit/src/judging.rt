@@ -1,17 +1,15 @@
 //! Bytes that are there, compared with what was stored.
 
 ghost use Rattle.std.specs.Prelude.{◌≡◌, ◌↔◌, ◌<◌, ◌^◌, List, ℕ, false, length, IsTrue};
-ghost use Rattle.cd_base.specs.declared.ids.UserId.{UserId as User};
-ghost use Rattle.user_dedup.specs.Cloud.{fingerprint};
+ghost use Rattle.audit_base.specs.CdBase.ids.UserId.{UserId as User};
+ghost use Rattle.audit_base.specs.UserDedup.Cloud.{fingerprint};
 ghost use Rattle.audit_base.specs.Whole.{Tables, tables_of};
-ghost use Rattle.blob_audit.specs.Steps.{has_fault, lacks_memory, IsFound, IsWhole, IsFine, IsOwnRecipe, JudgedAs};
+ghost use Rattle.blob_audit.specs.Steps.{has_fault, lacks_memory, AreFoundBytes, IsWhole, IsFine, IsOwnRecipe};
+ghost use Rattle.blob_audit.specs.Steps.{JudgedAs};
 
 use crate::ReadErr;
 use crate::pieces::Found;
-use cd_base::{Fp, Shape, UserId, sha256};
-use cloud_memory::CloudMemory;
-use file_index::Entry;
-use recipe::RecipeView;
+use audit_base::{CloudMemory, Entry, Fp, RecipeView, Shape, UserId, sha256};
 
 // Whether there are so many bytes, which hash to this.
 fn is_whole(named: &Fp, len: u32, found: &Found) -> bool
@@ -22,7 +20,7 @@ fn is_whole(named: &Fp, len: u32, found: &Found) -> bool
 
 /// Compares what lies at a blob's place with its fingerprint and length.
 pub(crate) fn judge(named: Fp, len: u32, found: &Found) -> Result<(), ReadErr>
-    ensures judged { (bytes : List ℕ) → IsFound bytes found.now
+    ensures judged { (bytes : List ℕ) → AreFoundBytes bytes found.now
         → JudgedAs (IsWhole bytes len named) named (fingerprint bytes) result }
     ensures calm { has_fault result ≡ false }
     ensures memory { lacks_memory result ≡ false }
@@ -94,7 +92,7 @@ pub(crate) fn judge_entry(
 /// Compares what lies at the place of an entry that is too long for a recipe.
 pub(crate) fn judge_long(shape: Option<Shape>, entry: Entry, found: &Found) -> Result<(), ReadErr>
     requires { 4194304 < entry.len }
-    ensures judged { (t : Tables) (user : User) (bytes : List ℕ) → IsFound bytes found.now
+    ensures judged { (t : Tables) (user : User) (bytes : List ℕ) → AreFoundBytes bytes found.now
         → JudgedAs (IsFine shape t user entry bytes) entry.fp (fingerprint bytes) result }
     ensures calm { has_fault result ≡ false }
     ensures memory { lacks_memory result ≡ false }

@@ -10,5 +10,6 @@ mod pieces;
 mod reading;
 mod slots;
 
+pub use audit_base::CheckErr;
 pub use errors::ReadErr;
 pub use reading::{read_good, read_stored};

@@ -2,11 +2,10 @@
 
 ghost use Rattle.std.specs.Prelude.{◌≡◌, ℕ, length, IfOk};
 ghost use Rattle.pool_map.specs.Slots.{IsListed};
-ghost use Rattle.cloud_memory.specs.Live.{IsEachLive};
+ghost use Rattle.audit_base.specs.CloudMemory.Live.{IsEachLive};
 ghost use Rattle.blob_audit.specs.Holding.{HasAll};
 
-use cd_base::NoMemory;
-use cloud_memory::CloudMemory;
+use audit_base::{CloudMemory, NoMemory};
 use std::alloc::Global;
 
 // How many slots there are for shares. Nothing lives behind them.

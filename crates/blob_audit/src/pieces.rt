@@ -2,11 +2,11 @@
 
 ghost use Rattle.std.specs.Prelude.{◌≡◌, ◌+◌, ◌≤◌, ◌<◌, ◌^◌, length, IfOk, IfErr};
 ghost use Rattle.audit_base.specs.Whole.{stored_at};
-ghost use Rattle.blob_audit.specs.Steps.{IsFault, IsRead, IsFront, IsTaken, IsFound, IsSame, FoundRead};
+ghost use Rattle.blob_audit.specs.Steps.{IsFault, IsOnlyRead, IsFrontOfBuffer, IsTaken, AreFoundBytes, IsWholeLength};
+ghost use Rattle.blob_audit.specs.Steps.{FoundRead};
 
 use crate::ReadErr;
-use cd_base::{CloudNo, Fp, Place};
-use cd_edges::{Area, Failed, Shelf};
+use audit_base::{Area, CloudNo, Failed, Fp, Place, Shelf};
 use sha2::{Digest, Sha256};
 
 /// The bytes of a window: those of a container.
@@ -27,8 +27,8 @@ pub(crate) fn read_piece<V: Shelf>(
     at: u64,
     piece: &mut [u8],
 ) -> Result<usize, ReadErr>
-    ensures read { IsRead (λ image r. IfOk r (λ count.
-        IsFront (stored_at (image area) at (length piece.old)) count piece.new))
+    ensures read { IsOnlyRead (λ image r. IfOk r (λ count.
+        IsFrontOfBuffer (stored_at (image area) at (length piece.old)) count piece.new))
         (V.cloud_at shelf.old) (V.cloud_at shelf.new) cloud.0 (V.faults shelf.old) (V.faults shelf.new) result }
     ensures fault { IfErr result IsFault }
     ensures bound { IfOk result (λ count. count ≤ length piece.new) }
@@ -48,7 +48,7 @@ fn hash_piece<V: Shelf>(
     piece: &mut [u8],
     hasher: &mut Sha256,
 ) -> Result<usize, ReadErr>
-    ensures read { IsRead (λ image r. IfOk r (λ count.
+    ensures read { IsOnlyRead (λ image r. IfOk r (λ count.
         IsTaken (stored_at (image area) at (length piece.old)) count hasher.old hasher.new))
         (V.cloud_at shelf.old) (V.cloud_at shelf.new) cloud.0 (V.faults shelf.old) (V.faults shelf.new) result }
     ensures fault { IfErr result IsFault }
@@ -67,7 +67,7 @@ fn hash_piece<V: Shelf>(
 // How many bytes are to be read at a place so that their places are numbers: as many as it says, or as many as there
 // are.
 fn len_at<V: Shelf>(shelf: &mut V, cloud: CloudNo, area: Area, place: Place) -> Result<u32, ReadErr>
-    ensures read { IsRead (λ image r. IfOk r (λ len. IsSame (image area) place len))
+    ensures read { IsOnlyRead (λ image r. IfOk r (λ len. IsWholeLength (image area) place len))
         (V.cloud_at shelf.old) (V.cloud_at shelf.new) cloud.0 (V.faults shelf.old) (V.faults shelf.new) result }
     ensures fault { IfErr result IsFault }
     ensures within { IfOk result (λ len. place.at + len < 2 ^ 64) }
@@ -94,7 +94,7 @@ fn hash_pieces<V: Shelf>(
     requires window { length window.old ≡ 4194304 }
     requires small { len < 2 ^ 32 }
     requires within { at + len < 2 ^ 64 }
-    ensures read { IsRead (FoundRead area (record { at = at; len = len }))
+    ensures read { IsOnlyRead (FoundRead area (record { at = at; len = len }))
         (V.cloud_at shelf.old) (V.cloud_at shelf.new) cloud.0 (V.faults shelf.old) (V.faults shelf.new) result }
     ensures fault { IfErr result IsFault }
 {
@@ -123,7 +123,7 @@ pub(crate) fn hash_long<V: Shelf>(
     window: &mut [u8],
 ) -> Result<Found, ReadErr>
     requires window { length window.old ≡ 4194304 }
-    ensures read { IsRead (FoundRead area place)
+    ensures read { IsOnlyRead (FoundRead area place)
         (V.cloud_at shelf.old) (V.cloud_at shelf.new) cloud.0 (V.faults shelf.old) (V.faults shelf.new) result }
     ensures fault { IfErr result IsFault }
 {

@@ -1,21 +1,19 @@
 //! Reading all blobs.
 
 ghost use Rattle.std.specs.Prelude.{◌≡◌, false, length, Err, IsTrue, IfOk};
-ghost use Rattle.cd_edges.specs.Disk.{reads};
-ghost use Rattle.cd_edges.specs.Shelf.{IsCall, HasFailed, KeepsCounts, Stays};
+ghost use Rattle.audit_base.specs.CdEdges.Disk.{reads};
+ghost use Rattle.audit_base.specs.CdEdges.Shelf.{IsCall, HasFailed, KeepsCounts, Stays};
 ghost use Rattle.audit_base.specs.Whole.{tables_of};
 ghost use Rattle.blob_audit.specs.declared.errors.ReadErr.TheVariants as answers;
 ghost use Rattle.blob_audit.specs.Holding.{HasAll};
 ghost use Rattle.blob_audit.specs.Reading.{StoredIs, GoodIs, OnReadFault};
-ghost use Rattle.blob_audit.specs.Steps.{lacks_memory, IsRead, BothRead};
+ghost use Rattle.blob_audit.specs.Steps.{lacks_memory, IsOnlyRead, BothRead};
 
 use crate::ReadErr;
 use crate::order::both_in_order;
 use crate::pieces::WINDOW;
 use crate::slots::{read_files, read_shares};
-use cd_base::{CloudNo, NoMemory, Shape};
-use cd_edges::Shelf;
-use cloud_memory::CloudMemory;
+use audit_base::{CloudMemory, CloudNo, NoMemory, Shape, Shelf};
 use std::alloc::Global;
 
 // Reads all shares, and then all recipes.
@@ -31,7 +29,7 @@ fn read_both<V: Shelf>(
     requires shares { HasAll (length memory.now.shares.place_slots) shares.now }
     requires files { HasAll (length memory.now.files.slots) files.now }
     requires window { length window.old ≡ 4194304 }
-    ensures read { IsRead (BothRead shape memory.now)
+    ensures read { IsOnlyRead (BothRead shape memory.now)
         (V.cloud_at shelf.old) (V.cloud_at shelf.new) cloud.0 (V.faults shelf.old) (V.faults shelf.new) result }
     ensures memory { lacks_memory result ≡ false }
 {

@@ -1,19 +1,17 @@
 //! The blobs in the slots of a memory's tables, one after another.
 
 ghost use Rattle.std.specs.Prelude.{◌≡◌, ◌≤◌, false, length};
-ghost use Rattle.cd_edges.specs.declared.area.Area.TheVariants.{Shares, Recipes};
+ghost use Rattle.audit_base.specs.CdEdges.area.Area.TheVariants.{Shares, Recipes};
 ghost use Rattle.pool_map.specs.Slots.{slot_of};
-ghost use Rattle.cloud_memory.specs.Live.{live_at};
+ghost use Rattle.audit_base.specs.CloudMemory.Live.{live_at};
 ghost use Rattle.audit_base.specs.Whole.{tables_of};
 ghost use Rattle.blob_audit.specs.Holding.{Along, HasAll};
-ghost use Rattle.blob_audit.specs.Steps.{lacks_memory, IsRead, ShareRead, FileRead, SharesRead, FilesRead};
+ghost use Rattle.blob_audit.specs.Steps.{lacks_memory, IsOnlyRead, ShareRead, FileRead, SharesRead, FilesRead};
 
 use crate::ReadErr;
 use crate::comparing::{compare_entry, compare_share};
 use crate::held::Held;
-use cd_base::{CloudNo, Shape};
-use cd_edges::Shelf;
-use cloud_memory::CloudMemory;
+use audit_base::{CloudMemory, CloudNo, Shape, Shelf};
 
 // Compares the share that may stand in a slot.
 fn read_share<V: Shelf>(
@@ -26,7 +24,7 @@ fn read_share<V: Shelf>(
 ) -> Result<(), ReadErr>
     requires window { length window.old ≡ 4194304 }
     requires count { held.old.count ≤ 4194304 }
-    ensures read { IsRead (Along Shares (ShareRead (live_at memory.now.shares slot))
+    ensures read { IsOnlyRead (Along Shares (ShareRead (live_at memory.now.shares slot))
         held.old window.old held.new window.new)
         (V.cloud_at shelf.old) (V.cloud_at shelf.new) cloud.0 (V.faults shelf.old) (V.faults shelf.new) result }
     ensures memory { lacks_memory result ≡ false }
@@ -50,7 +48,7 @@ fn read_file<V: Shelf>(
 ) -> Result<(), ReadErr>
     requires window { length window.old ≡ 4194304 }
     requires count { held.old.count ≤ 4194304 }
-    ensures read { IsRead (Along Recipes
+    ensures read { IsOnlyRead (Along Recipes
         (FileRead shape (tables_of memory.now) (slot_of memory.now.files.slots slot))
         held.old window.old held.new window.new)
         (V.cloud_at shelf.old) (V.cloud_at shelf.new) cloud.0 (V.faults shelf.old) (V.faults shelf.new) result }
@@ -75,7 +73,7 @@ pub(crate) fn read_shares<V: Shelf>(
 ) -> Result<(), ReadErr>
     requires all { HasAll (length memory.now.shares.place_slots) order.now }
     requires window { length window.old ≡ 4194304 }
-    ensures read { IsRead (SharesRead memory.now)
+    ensures read { IsOnlyRead (SharesRead memory.now)
         (V.cloud_at shelf.old) (V.cloud_at shelf.new) cloud.0 (V.faults shelf.old) (V.faults shelf.new) result }
     ensures memory { lacks_memory result ≡ false }
 {
@@ -106,7 +104,7 @@ pub(crate) fn read_files<V: Shelf>(
 ) -> Result<(), ReadErr>
     requires all { HasAll (length memory.now.files.slots) order.now }
     requires window { length window.old ≡ 4194304 }
-    ensures read { IsRead (FilesRead shape memory.now)
+    ensures read { IsOnlyRead (FilesRead shape memory.now)
         (V.cloud_at shelf.old) (V.cloud_at shelf.new) cloud.0 (V.faults shelf.old) (V.faults shelf.new) result }
     ensures memory { lacks_memory result ≡ false }
 {

@@ -1,21 +1,21 @@
 -- A copy that begins, and one that is forgotten.
 use Rattle.std.proofs.Common.{◌≡◌, ◌≤◌, ℕ, List, [], Some, sym, ap, ◌∙◌, subst}
 use Rattle.std.proofs.lemmas.List.Elements.{All-nil}
-use Rattle.cd_edges.specs.declared.area.Area.TheVariants.{Shares, Recipes}
-use Rattle.cd_edges.specs.Disk.{Cloud}
-use Rattle.container_log.specs.Caches.{Kept, container_of}
-use Rattle.container_log.specs.Laying.{IsAt}
-use Rattle.container_log.specs.States as logs
-use Rattle.half_journal.specs.States as journals
-use Rattle.user_dedup.specs.declared.command.Command.{Command}
-use Rattle.user_dedup.proofs.Owned.{contains_nothing}
-use Rattle.cloud_areas.specs.Placing.{region_start, greatest_end, shares_in, recipes_in, places_of}
-use Rattle.cloud_areas.specs.Standing.{Chain, region_in}
-use Rattle.cloud_disk.specs.Disk.{Disk, IsRead, AreEnds, IsOn, ended_at}
+use Rattle.fresh_checkpoints.specs.CdEdges.area.Area.TheVariants.{Shares, Recipes}
+use Rattle.fresh_checkpoints.specs.CdEdges.Disk.{Cloud}
+use Rattle.record_laws.specs.ContainerLog.Caches.{Kept, container_of}
+use Rattle.record_laws.specs.ContainerLog.Laying.{IsAt}
+use Rattle.record_laws.specs.ContainerLog.States as logs
+use Rattle.open_store.specs.HalfJournal.States as journals
+use Rattle.compact_lists.specs.UserDedup.command.Command.{Command}
+use Rattle.compact_lists.proofs.UserDedup.Owned.{contains_nothing}
+use Rattle.fresh_checkpoints.specs.CloudAreas.Placing.{region_start, greatest_end, shares_in, recipes_in, places_of}
+use Rattle.fresh_checkpoints.specs.CloudAreas.Standing.{Chain, region_in}
+use Rattle.fresh_checkpoints.specs.CloudDisk.Disk.{Disk, IsRead, AreEnds, IsOn, ended_at}
 use Rattle.open_store.specs.declared.store.OpenStore.{OpenStore}
 use Rattle.open_store.specs.Store.{Serves}
 use Rattle.blob_copy.specs.declared.copying.Copying.{Copying}
-use Rattle.blob_copy.specs.Copying.{copies_start, IsLaid, IsCopying}
+use Rattle.blob_copy.specs.Copying.{copies_start, IsCopyLaid, IsCopying}
 
 abbrev pub none_copied : Copying
 none_copied = record { place_slot = 0; file_slot = 0 }
@@ -26,7 +26,7 @@ with_disk store disk = record store { disk = disk }
 module _ (store : OpenStore) (n : ℕ) (start : n ≡ copies_start store) (disk : Disk)
     (shares : disk.shares ≡ ended_at n store.disk.shares) (recipes : disk.recipes ≡ ended_at n store.disk.recipes)
     (shares_none : logs.HasStaged disk.shares []) (recipes_none : logs.HasStaged disk.recipes []) where
-  pub begun_laid : IsLaid (with_disk store disk) none_copied
+  pub begun_laid : IsCopyLaid (with_disk store disk) none_copied
   begun_laid = record {
     shares_end = ap (λ (l : logs.State). l.end) shares ∙ start;
     recipes_end = ap (λ (l : logs.State). l.end) recipes ∙ start;
@@ -38,7 +38,7 @@ module _ (store : OpenStore) (n : ℕ) (start : n ≡ copies_start store) (disk 
       → IsCopying list c (with_disk store disk) none_copied cloud
   begun_copying list c cloud journal s = record {
     knows = record {
-      read = subst (λ (j : journals.State). IsRead store.header list c j cloud) (sym journal) s.known.on.read;
+      read = subst (λ (j : journals.JournalState). IsRead store.header list c j cloud) (sym journal) s.known.on.read;
       remembers = s.known.remembers;
       placed = s.known.placed;
       stand = s.known.stand;

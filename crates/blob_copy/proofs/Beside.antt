@@ -2,26 +2,26 @@
 use Rattle.std.proofs.Common.{◌≡◌, ℕ, ◌+◌, ◌-◌, ◌<◌, ◌≤◌, ◌⊎◌, List, length, drop, get_or, sym, ◌∙◌, ap, subst, arith, inl, inr, length-take, length-drop, get_or-take, get_or-drop}
 use Rattle.std.proofs.lemmas.List.{ext_get_or}
 use Rattle.std.specs.Prelude.{All, slice_index_or}
-use Rattle.cd_edges.specs.declared.area.Area.{Area}
-use Rattle.cd_edges.specs.declared.area.Area.TheVariants.{Journal, Shares, Recipes}
-use Rattle.cd_edges.specs.Disk.{MayLeave, Cloud, Store, Image, LeavesOnly, IsAtArea, overwritten, reads}
-use Rattle.cd_edges.specs.Shelf.{stable, wrote}
-use Rattle.cd_edges.proofs.Moments.{weaker}
-use Rattle.cd_edges.proofs.Overwritten.{length-overwritten, overwritten_before, overwritten_after}
-use Rattle.container_log.specs.Laying.{Placed, IsAt}
-use Rattle.container_log.specs.States.{State, IsTorn, in_area, area_flushed}
-use Rattle.half_journal.specs.States as journals
-use Rattle.journal_halves.specs.Halves.{half_limit}
-use Rattle.journal_start.specs.declared.start.Header.{Header}
-use Rattle.user_dedup.specs.declared.command.Command.{Command}
-use Rattle.cloud_areas.specs.Chains.{laid_shares}
-use Rattle.cloud_areas.specs.Placing.{shares_in}
-use Rattle.cloud_areas.specs.Standing.{Chain, IsChain, StandsFor}
-use Rattle.cloud_disk.specs.Disk.{IsRead}
-use Rattle.cloud_disk.specs.Held.{AreBelow, LieIn}
-use Rattle.cloud_disk.proofs.Both.{as_read}
-use Rattle.cloud_disk.proofs.Standing.{stands, holds_in}
-use Rattle.checkpoints.specs.Settling.{KeepsList}
+use Rattle.fresh_checkpoints.specs.CdEdges.area.Area.{Area}
+use Rattle.fresh_checkpoints.specs.CdEdges.area.Area.TheVariants.{Journal, Shares, Recipes}
+use Rattle.fresh_checkpoints.specs.CdEdges.Disk.{MayLeave, Cloud, Store, Image, LeavesOnly, IsAtArea, overwritten, reads}
+use Rattle.fresh_checkpoints.specs.CdEdges.Shelf.{stable, wrote}
+use Rattle.fresh_checkpoints.proofs.CdEdges.Moments.{weaker}
+use Rattle.fresh_checkpoints.proofs.CdEdges.Overwritten.{length-overwritten, overwritten_before, overwritten_after}
+use Rattle.record_laws.specs.ContainerLog.Laying.{Placed, IsAt}
+use Rattle.record_laws.specs.ContainerLog.States.{State, IsTorn, in_area, area_flushed}
+use Rattle.open_store.specs.HalfJournal.States as journals
+use Rattle.fresh_checkpoints.specs.JournalHalves.Halves.{half_limit}
+use Rattle.compact_lists.specs.JournalStart.start.Header.{Header}
+use Rattle.compact_lists.specs.UserDedup.command.Command.{Command}
+use Rattle.fresh_checkpoints.specs.CloudAreas.Chains.{laid_shares}
+use Rattle.fresh_checkpoints.specs.CloudAreas.Placing.{shares_in}
+use Rattle.fresh_checkpoints.specs.CloudAreas.Standing.{Chain, IsChain, StandsFor}
+use Rattle.fresh_checkpoints.specs.CloudDisk.Disk.{IsRead}
+use Rattle.fresh_checkpoints.specs.CloudDisk.Held.{AreBelow, LieIn}
+use Rattle.fresh_checkpoints.proofs.CloudDiskLaws.Both.{as_read}
+use Rattle.fresh_checkpoints.proofs.CloudDiskLaws.Standing.{stands, holds_in}
+use Rattle.fresh_checkpoints.specs.Checkpoints.Settling.{KeepsList}
 use Rattle.blob_copy.specs.Apart.{IsApart}
 
 -- A blob that lies in these bytes lies in each that have the same ones at its place.
@@ -69,7 +69,7 @@ flush_written log old new b apart at is =
 
 -- ---- a list whose blobs lie apart from what is written
 
-module _ (header : Header) (list : List Command) (c : Chain) (journal : journals.State) (old new : Cloud) (r : IsRead header list c journal old) (log : State) where
+module _ (header : Header) (list : List Command) (c : Chain) (journal : journals.JournalState) (old new : Cloud) (r : IsRead header list c journal old) (log : State) where
   journal_in : (image : Image) → MayLeave (old.now Journal) (image Journal) → IsChain header (half_limit header.rooms) (image Journal) c
   journal_in image left =
       subst (λ (bytes : List ℕ). IsChain header (half_limit header.rooms) bytes c) (sym (as_read (old.now Journal) (image Journal) (r.on_disk Journal) left)) r.is_chain

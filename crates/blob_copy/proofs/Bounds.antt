@@ -6,24 +6,24 @@ use Rattle.std.specs.FinMap.{get}
 use Rattle.std.proofs.lemmas.Bool.{lt-ltb}
 use Rattle.std.proofs.lemmas.List.{take-append-drop}
 use Rattle.std.proofs.lemmas.List.Elements.{All-head, All-tail}
-use Rattle.cd_base.specs.declared.ids.Fp.{Fp}
-use Rattle.cd_base.specs.declared.place.Place.{Place}
-use Rattle.container_log.specs.Places.{end_after, end_of_laid}
-use Rattle.container_log.proofs.Least.{place_cases}
-use Rattle.file_index.specs.declared.key.Entry.{Entry}
-use Rattle.file_index.specs.declared.key.FileKey.{FileKey}
-use Rattle.pool_map.specs.Slots.{IsListed}
-use Rattle.share_index.specs.Shares.{owners_of}
-use Rattle.cloud_areas.specs.Placing.{region_start}
-use Rattle.cloud_areas.proofs.Lists.{contained, from_map}
-use Rattle.cloud_memory.specs.Live as slots
-use Rattle.cloud_memory.specs.Live.{IsEachLive}
-use Rattle.checkpoints.specs.Picking.{onto, picked}
-use Rattle.checkpoints.proofs.Picks.{picked-append, Passed, finds}
-use Rattle.checkpoints.proofs.Sought.{from_picked}
-use Rattle.compact_memories.specs.Kept.{live_at, live_places, live_entries}
-use Rattle.compact_memories.specs.Moved.{lens_of, entry_lens}
-use Rattle.compact_memories.proofs.Live.{live_gives}
+use Rattle.compact_lists.specs.CdBase.ids.Fp.{Fp}
+use Rattle.compact_lists.specs.CdBase.place.Place.{Place}
+use Rattle.record_laws.specs.ContainerLog.Places.{end_after, end_of_laid}
+use Rattle.record_laws.proofs.ContainerLog.Least.{place_cases}
+use Rattle.record_laws.specs.FileIndex.key.Entry.{Entry}
+use Rattle.record_laws.specs.FileIndex.key.FileKey.{FileKey}
+use Rattle.record_laws.specs.PoolMap.Slots.{IsListed}
+use Rattle.record_laws.specs.ShareIndex.Shares.{owners_of}
+use Rattle.fresh_checkpoints.specs.CloudAreas.Placing.{region_start}
+use Rattle.fresh_checkpoints.proofs.CloudAreas.Lists.{contained, from_map}
+use Rattle.fresh_checkpoints.specs.CloudMemory.Live as slots
+use Rattle.fresh_checkpoints.specs.CloudMemory.Live.{IsEachLive}
+use Rattle.fresh_checkpoints.specs.Checkpoints.Picking.{onto, picked}
+use Rattle.fresh_checkpoints.proofs.Checkpoints.Picks.{picked-append, Passed, finds}
+use Rattle.fresh_checkpoints.proofs.Checkpoints.Sought.{from_picked}
+use Rattle.fresh_checkpoints.specs.CompactMemories.Kept.{live_at, live_places, live_entries}
+use Rattle.fresh_checkpoints.specs.CompactMemories.Moved.{lens_of, entry_lens}
+use Rattle.fresh_checkpoints.proofs.CompactMemories.Live.{live_gives}
 use Rattle.open_store.specs.declared.store.OpenStore.{OpenStore}
 use Rattle.open_store.specs.Store.{IsOpen, IsSettled}
 use Rattle.blob_copy.specs.Copies.{Blob, share_blob, entry_blob}

@@ -1,26 +1,26 @@
 -- A container of copies more, in an area of blobs.
 use Rattle.std.proofs.Common.{◌≡◌, ◌⊎◌, ℕ, ◌+◌, ◌≤◌, Bool, IsTrue, List, [], ◌∷◌, length, map, drop, Option, refl, sym, ap, ◌∙◌, subst, arith, inl, inr}
 use Rattle.std.specs.Prelude.{All, slice_index_or}
-use Rattle.cd_edges.specs.declared.area.Area.{Area}
-use Rattle.cd_edges.specs.declared.area.Area.TheVariants.{Journal, Shares, Recipes}
-use Rattle.cd_edges.specs.Disk.{Cloud, Store, reads}
-use Rattle.cd_edges.specs.Shelf.{stable}
-use Rattle.container_log.specs.Laying.{Placed, IsAt, lengths, laid}
-use Rattle.container_log.specs.Places.{end_of_laid}
-use Rattle.container_log.specs.States.{State, in_area}
-use Rattle.container_log.proofs.Laid.{end_laid}
-use Rattle.half_journal.specs.States as journals
-use Rattle.journal_halves.specs.Halves.{half_limit}
-use Rattle.journal_start.specs.declared.start.Header.{Header}
-use Rattle.user_dedup.specs.declared.command.Command.{Command}
-use Rattle.cloud_areas.specs.Chains.{laid_shares}
-use Rattle.cloud_areas.specs.Placing.{shares_in}
-use Rattle.cloud_areas.specs.Standing.{Chain, where_of, IsChain}
-use Rattle.cloud_disk.specs.Disk.{IsRead}
-use Rattle.cloud_disk.specs.Held.{LieIn}
-use Rattle.cloud_disk.proofs.Standing.{holds_in}
-use Rattle.checkpoints.specs.Picking.{picked}
-use Rattle.compact_memories.proofs.Relaying.{laid_grows}
+use Rattle.fresh_checkpoints.specs.CdEdges.area.Area.{Area}
+use Rattle.fresh_checkpoints.specs.CdEdges.area.Area.TheVariants.{Journal, Shares, Recipes}
+use Rattle.fresh_checkpoints.specs.CdEdges.Disk.{Cloud, Store, reads}
+use Rattle.fresh_checkpoints.specs.CdEdges.Shelf.{stable}
+use Rattle.record_laws.specs.ContainerLog.Laying.{Placed, IsAt, lengths, laid}
+use Rattle.record_laws.specs.ContainerLog.Places.{end_of_laid}
+use Rattle.record_laws.specs.ContainerLog.States.{State, in_area}
+use Rattle.record_laws.proofs.ContainerLog.Laid.{end_laid}
+use Rattle.open_store.specs.HalfJournal.States as journals
+use Rattle.fresh_checkpoints.specs.JournalHalves.Halves.{half_limit}
+use Rattle.compact_lists.specs.JournalStart.start.Header.{Header}
+use Rattle.compact_lists.specs.UserDedup.command.Command.{Command}
+use Rattle.fresh_checkpoints.specs.CloudAreas.Chains.{laid_shares}
+use Rattle.fresh_checkpoints.specs.CloudAreas.Placing.{shares_in}
+use Rattle.fresh_checkpoints.specs.CloudAreas.Standing.{Chain, where_of, IsChain}
+use Rattle.fresh_checkpoints.specs.CloudDisk.Disk.{IsRead}
+use Rattle.fresh_checkpoints.specs.CloudDisk.Held.{LieIn}
+use Rattle.fresh_checkpoints.proofs.CloudDiskLaws.Standing.{holds_in}
+use Rattle.fresh_checkpoints.specs.Checkpoints.Picking.{picked}
+use Rattle.fresh_checkpoints.proofs.CompactMemories.Relaying.{laid_grows}
 use Rattle.blob_copy.specs.Apart.{IsApart}
 use Rattle.blob_copy.specs.Copies.{Blob, IsRight, copies_at}
 use Rattle.blob_copy.specs.Runs.{AreRead, CopiesTo, blob_lens, all_end}
@@ -69,14 +69,14 @@ module _ {E X : Type 0} (f : Option E → Option X) (blob : X → Blob) (slots :
 
 -- ---- the journal was read to its end, and its chain holds the list
 
-pub reads_on : (header : Header) (list : List Command) (c : Chain) (journal : journals.State) (old new : Cloud) → IsRead header list c journal old → IsTrue new.told → new.now Journal ≡ old.now Journal
+pub reads_on : (header : Header) (list : List Command) (c : Chain) (journal : journals.JournalState) (old new : Cloud) → IsRead header list c journal old → IsTrue new.told → new.now Journal ≡ old.now Journal
     → ((area : Area) → new.now area ≡ stable (new.now area).read) → LieIn (laid_shares list (shares_in c.records)) (new.now Shares).read → LieIn c.recipes (new.now Recipes).read → IsRead header list c journal new
 reads_on header list c journal old new r told journal_is on_disk shares recipes = record {
   told = told;
   sound = r.sound;
   on_disk = on_disk;
   limit = r.limit;
-  ended = subst (λ (s : Store). journals.IsEnded journal s (where_of c)) (sym journal_is) r.ended;
+  ended = subst (λ (s : Store). journals.IsJournalEnded journal s (where_of c)) (sym journal_is) r.ended;
   is_chain = subst (λ (s : Store). IsChain header (half_limit header.rooms) s.read c) (sym journal_is) r.is_chain;
   holds = holds_in header (reads old.now) (reads new.now) list c r.holds shares recipes;
 }

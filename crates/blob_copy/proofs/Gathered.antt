@@ -2,14 +2,14 @@
 use Rattle.std.proofs.Common.{◌≡◌, ℕ, ◌+◌, ◌-◌, ◌<◌, ◌≤◌, Bool, List, [], ◌∷◌, ◌++◌, length, map, take, drop, Option, Some, None, refl, sym, ap, ◌∙◌, subst, append_assoc, append-nil, arith, length-append}
 use Rattle.std.specs.Prelude.{replicate, slice_index_or}
 use Rattle.std.proofs.lemmas.List.{take_more, drop_more, take_all, map-append, length-replicate}
-use Rattle.container_log.specs.Places.{container_len, place_of, end_after, end_of_laid}
-use Rattle.container_log.specs.States.{State, HasStaged, need_of, staged_end, with_blob, in_area}
-use Rattle.container_log.proofs.Least.{place_behind}
-use Rattle.container_log.proofs.Staged.{staged_more}
-use Rattle.cd_edges.specs.Disk.{Areas, Cloud}
-use Rattle.checkpoints.specs.Picking.{onto, picked}
-use Rattle.checkpoints.proofs.Picks.{picked-append}
-use Rattle.compact_memories.proofs.Relaying.{laid_grows}
+use Rattle.record_laws.specs.ContainerLog.Places.{container_len, place_of, end_after, end_of_laid}
+use Rattle.record_laws.specs.ContainerLog.States.{State, HasStaged, need_of, staged_end, with_blob, in_area}
+use Rattle.record_laws.proofs.ContainerLog.Least.{place_behind}
+use Rattle.record_laws.proofs.ContainerLog.Staged.{staged_more}
+use Rattle.fresh_checkpoints.specs.CdEdges.Disk.{Areas, Cloud}
+use Rattle.fresh_checkpoints.specs.Checkpoints.Picking.{onto, picked}
+use Rattle.fresh_checkpoints.proofs.Checkpoints.Picks.{picked-append}
+use Rattle.fresh_checkpoints.proofs.CompactMemories.Relaying.{laid_grows}
 use Rattle.blob_copy.specs.Copies.{Blob}
 use Rattle.blob_copy.specs.Runs.{IsReadAs, AreRead, blob_lens, StagesMore, StagesTo, StagesSome, all_end}
 

@@ -2,13 +2,13 @@
 use Rattle.std.proofs.Common.{◌≡◌, ℕ, ◌+◌, ◌<◌, ◌≤◌, Bool, true, false, IsTrue, List, [], ◌∷◌, length, map, Option, Some, None, refl, sym, ap, ◌∙◌, subst, arith}
 use Rattle.std.specs.Prelude.{slice_index_or, Result, Ok, Err}
 use Rattle.std.specs.List.{Contains}
-use Rattle.cd_base.specs.declared.ids.Fp.{Fp}
-use Rattle.cd_edges.specs.Disk.{Cloud}
-use Rattle.cd_edges.specs.Shelf.{KeepsCounts}
-use Rattle.cd_edges.proofs.Calls.{called_twice}
-use Rattle.container_log.specs.States.{State, staged_end, in_area}
-use Rattle.checkpoints.specs.Picking.{onto, picked}
-use Rattle.checkpoints.proofs.Sought.{in_picked}
+use Rattle.compact_lists.specs.CdBase.ids.Fp.{Fp}
+use Rattle.fresh_checkpoints.specs.CdEdges.Disk.{Cloud}
+use Rattle.fresh_checkpoints.specs.CdEdges.Shelf.{KeepsCounts}
+use Rattle.fresh_checkpoints.proofs.CdEdges.Calls.{called_twice}
+use Rattle.record_laws.specs.ContainerLog.States.{State, staged_end, in_area}
+use Rattle.fresh_checkpoints.specs.Checkpoints.Picking.{onto, picked}
+use Rattle.fresh_checkpoints.proofs.Checkpoints.Sought.{in_picked}
 use Rattle.blob_copy.specs.Answers.{MatchCopy, EitherWay, IsRotten}
 use Rattle.blob_copy.specs.Copies.{Blob, found_in}
 use Rattle.blob_copy.specs.Runs.{StagesMore, StagesTo, OnlyReads, all_end}

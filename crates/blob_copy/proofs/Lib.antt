@@ -15,3 +15,4 @@ pub mod Rows
 pub mod Serving
 pub mod Settled
 pub mod Switched
+pub mod StoreOpening

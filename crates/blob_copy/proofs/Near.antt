@@ -2,21 +2,21 @@
 use Rattle.std.proofs.Common.{◌≡◌, ℕ, suc, ◌+◌, ◌*◌, ◌^◌, ◌<◌, ◌≤◌, List, [], ◌∷◌, length, Option, Some, None, arith, suc-mul}
 use Rattle.std.specs.List.{Contains, sum_by}
 use Rattle.std.proofs.lemmas.List.Sums.{sum_by-cons}
-use Rattle.cd_base.specs.declared.ids.Fp.{Fp}
-use Rattle.cd_base.specs.declared.place.Place.{Place}
-use Rattle.container_log.specs.Places.{container_len, end_of_laid}
-use Rattle.file_index.specs.declared.key.Entry.{Entry}
-use Rattle.file_index.specs.declared.key.FileKey.{FileKey}
-use Rattle.user_dedup.proofs.Owned.{contains_here, contains_later}
-use Rattle.cloud_areas.specs.Placing.{region_start}
-use Rattle.cloud_memory.specs.declared.cloud.CloudMemory.{CloudMemory}
-use Rattle.cloud_memory.specs.Fitting.{FitsRecords}
-use Rattle.cloud_memory.specs.Rooms.{memory_of}
-use Rattle.checkpoints.specs.Known.{AreListed}
-use Rattle.checkpoints.specs.Picking.{onto, picked}
-use Rattle.compact_memories.specs.Kept.{live_at, live_places, live_entries}
-use Rattle.compact_memories.specs.Moved.{lens_of, entry_lens}
-use Rattle.compact_memories.proofs.Copies.{bound}
+use Rattle.compact_lists.specs.CdBase.ids.Fp.{Fp}
+use Rattle.compact_lists.specs.CdBase.place.Place.{Place}
+use Rattle.record_laws.specs.ContainerLog.Places.{container_len, end_of_laid}
+use Rattle.record_laws.specs.FileIndex.key.Entry.{Entry}
+use Rattle.record_laws.specs.FileIndex.key.FileKey.{FileKey}
+use Rattle.compact_lists.proofs.UserDedup.Owned.{contains_here, contains_later}
+use Rattle.fresh_checkpoints.specs.CloudAreas.Placing.{region_start}
+use Rattle.fresh_checkpoints.specs.CloudMemory.cloud.CloudMemory.{CloudMemory}
+use Rattle.fresh_checkpoints.specs.CloudMemory.Fitting.{FitsRecords}
+use Rattle.fresh_checkpoints.specs.CloudMemory.Rooms.{memory_of}
+use Rattle.fresh_checkpoints.specs.Checkpoints.Known.{AreListed}
+use Rattle.fresh_checkpoints.specs.Checkpoints.Picking.{onto, picked}
+use Rattle.fresh_checkpoints.specs.CompactMemories.Kept.{live_at, live_places, live_entries}
+use Rattle.fresh_checkpoints.specs.CompactMemories.Moved.{lens_of, entry_lens}
+use Rattle.fresh_checkpoints.proofs.CompactMemories.Copies.{bound}
 use Rattle.blob_copy.proofs.Switched.{shares_small, entries_small, entries_bound}
 
 one_more : {X : Type 0} (o : Option X) (xs : List X) (n : ℕ) → length xs ≤ n → length (onto o xs) ≤ suc n

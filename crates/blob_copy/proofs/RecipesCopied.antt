@@ -5,44 +5,44 @@ use Rattle.std.specs.List.{Contains}
 use Rattle.std.specs.FinMap.{get}
 use Rattle.std.proofs.lemmas.List.{map-append}
 use Rattle.std.proofs.lemmas.List.Elements.{All-nil, All-contains, Contains-append_left, Contains-append_right, Contains-append_cases}
-use Rattle.cd_base.specs.declared.ids.Tag.{Tag}
-use Rattle.cd_base.specs.declared.ids.UserId.{UserId}
-use Rattle.cd_base.specs.declared.ids.Version.{Version}
-use Rattle.cd_base.specs.declared.place.Place.{Place}
-use Rattle.cd_edges.specs.declared.area.Area.{Area}
-use Rattle.cd_edges.specs.declared.area.Area.TheVariants.{Journal, Shares, Recipes}
-use Rattle.cd_edges.specs.Disk.{Cloud, Store, reads}
-use Rattle.cd_edges.specs.Shelf.{stable, Stays}
-use Rattle.cd_edges.proofs.Moments.{told_on}
-use Rattle.container_log.specs.Laying.{Placed, IsAt, laid}
-use Rattle.container_log.specs.Places.{end_of_laid}
-use Rattle.container_log.specs.States as logs
-use Rattle.file_index.specs.declared.key.Entry.{Entry}
-use Rattle.file_index.specs.declared.key.FileKey.{FileKey}
-use Rattle.file_index.specs.Files.{key_of}
-use Rattle.half_journal.specs.States as journals
-use Rattle.pool_map.specs.Slots.{IsListed}
-use Rattle.user_dedup.specs.declared.command.Command.{Command}
-use Rattle.user_dedup.specs.declared.file_list.FileEntry.{FileEntry}
-use Rattle.user_dedup.specs.Cloud.{user_view, held_bytes}
-use Rattle.user_dedup.specs.Pages.{entry_at}
-use Rattle.user_dedup.proofs.Filtered.{in_flat}
-use Rattle.user_dedup.proofs.Owned.{contains_here}
-use Rattle.cloud_areas.specs.Chains.{laid_shares}
-use Rattle.cloud_areas.specs.Placing.{shares_in, recipes_in, recipes_placed}
-use Rattle.cloud_areas.specs.Standing.{Chain}
-use Rattle.cloud_areas.proofs.Lists.{from_map}
-use Rattle.cloud_disk.specs.Disk.{Disk, IsRead, SameRooms}
-use Rattle.cloud_disk.specs.Held.{LieIn}
-use Rattle.cloud_disk.proofs.Ends.{recipes_said, place_at}
-use Rattle.compact_memories.specs.Kept.{live_entries}
-use Rattle.compact_memories.specs.Moved.{new_places, new_entries, entry_lens, other_region}
+use Rattle.compact_lists.specs.CdBase.ids.Tag.{Tag}
+use Rattle.compact_lists.specs.CdBase.ids.UserId.{UserId}
+use Rattle.compact_lists.specs.CdBase.ids.Version.{Version}
+use Rattle.compact_lists.specs.CdBase.place.Place.{Place}
+use Rattle.fresh_checkpoints.specs.CdEdges.area.Area.{Area}
+use Rattle.fresh_checkpoints.specs.CdEdges.area.Area.TheVariants.{Journal, Shares, Recipes}
+use Rattle.fresh_checkpoints.specs.CdEdges.Disk.{Cloud, Store, reads}
+use Rattle.fresh_checkpoints.specs.CdEdges.Shelf.{stable, Stays}
+use Rattle.fresh_checkpoints.proofs.CdEdges.Moments.{told_on}
+use Rattle.record_laws.specs.ContainerLog.Laying.{Placed, IsAt, laid}
+use Rattle.record_laws.specs.ContainerLog.Places.{end_of_laid}
+use Rattle.record_laws.specs.ContainerLog.States as logs
+use Rattle.record_laws.specs.FileIndex.key.Entry.{Entry}
+use Rattle.record_laws.specs.FileIndex.key.FileKey.{FileKey}
+use Rattle.record_laws.specs.FileIndex.Files.{key_of}
+use Rattle.open_store.specs.HalfJournal.States as journals
+use Rattle.record_laws.specs.PoolMap.Slots.{IsListed}
+use Rattle.compact_lists.specs.UserDedup.command.Command.{Command}
+use Rattle.compact_lists.specs.UserDedup.file_list.FileEntry.{FileEntry}
+use Rattle.compact_lists.specs.UserDedup.Cloud.{user_view, held_bytes}
+use Rattle.compact_lists.specs.UserDedup.Pages.{entry_at}
+use Rattle.compact_lists.proofs.UserDedup.Filtered.{in_flat}
+use Rattle.compact_lists.proofs.UserDedup.Owned.{contains_here}
+use Rattle.fresh_checkpoints.specs.CloudAreas.Chains.{laid_shares}
+use Rattle.fresh_checkpoints.specs.CloudAreas.Placing.{shares_in, recipes_in, recipes_placed}
+use Rattle.fresh_checkpoints.specs.CloudAreas.Standing.{Chain}
+use Rattle.fresh_checkpoints.proofs.CloudAreas.Lists.{from_map}
+use Rattle.fresh_checkpoints.specs.CloudDisk.Disk.{Disk, IsRead, SameRooms}
+use Rattle.fresh_checkpoints.specs.CloudDisk.Held.{LieIn}
+use Rattle.fresh_checkpoints.proofs.CloudDiskLaws.Ends.{recipes_said, place_at}
+use Rattle.fresh_checkpoints.specs.CompactMemories.Kept.{live_entries}
+use Rattle.fresh_checkpoints.specs.CompactMemories.Moved.{new_places, new_entries, entry_lens, other_region}
 use Rattle.open_store.specs.declared.store.OpenStore.{OpenStore}
 use Rattle.open_store.specs.Store.{IsOpen, IsSettled}
 use Rattle.blob_copy.specs.Answers.{MatchCopy}
 use Rattle.blob_copy.specs.Apart.{IsApart}
 use Rattle.blob_copy.specs.Copies.{HasCopied, KeepsBeside, entry_blob, found_in, copies_end, copies_at, IsRight}
-use Rattle.blob_copy.specs.Copying.{IsLaid, IsCopying, Knows, EntriesLie, copies_start, shares_so_far, entries_so_far}
+use Rattle.blob_copy.specs.Copying.{IsCopyLaid, IsCopying, Knows, EntriesLie, copies_start, shares_so_far, entries_so_far}
 use Rattle.blob_copy.specs.Runs.{CopiesTo, MayTear, HasRotten, all_end, blob_lens, behind_error}
 use Rattle.blob_copy.specs.Steps.{IsStep}
 use Rattle.blob_copy.specs.declared.copying.CopyErr.{CopyErr}
@@ -54,7 +54,7 @@ use Rattle.blob_copy.proofs.Gathered.{laid_append}
 use Rattle.blob_copy.proofs.Rightly.{recipe_long, recipe_found, recipe_sound, entries_append, was_moved}
 use Rattle.blob_copy.proofs.Stopped.{on_disk, settled_by, chain_recipes_apart, recipes_list, recipes_images, fault, rotten_stops}
 
-module _ (store : OpenStore) (settled : IsSettled store) (open_now : IsOpen store) (each : IsListed store.memory.files.files store.memory.files.slots) (from : Copying) (laid_now : IsLaid store from) where
+module _ (store : OpenStore) (settled : IsSettled store) (open_now : IsOpen store) (each : IsListed store.memory.files.files store.memory.files.slots) (from : Copying) (laid_now : IsCopyLaid store from) where
   abbrev All_end : ℕ
   All_end = all_end (λ (e : Option (FileKey × Entry)). e) entry_blob store.memory.files.slots from.file_slot store.disk.recipes.end
 
@@ -114,7 +114,7 @@ module _ (store : OpenStore) (settled : IsSettled store) (open_now : IsOpen stor
       area_is : disk.recipes.area ≡ store.disk.recipes.area
       area_is = ap (λ (l : logs.State). l.area) k.same
 
-      laid_next : IsLaid (on_disk store disk) next
+      laid_next : IsCopyLaid (on_disk store disk) next
       laid_next = record {
         shares_end = ap (λ (d : Disk). d.shares.end) disk_is ∙ laid_now.shares_end;
         recipes_end =
@@ -211,7 +211,7 @@ module _ (store : OpenStore) (settled : IsSettled store) (open_now : IsOpen stor
 
         knows : Knows list c (on_disk store disk) new
         knows = record {
-          read = subst (λ (j : journals.State). IsRead store.header list c j new) (sym (ap (λ (d : Disk). d.journal) disk_is))
+          read = subst (λ (j : journals.JournalState). IsRead store.header list c j new) (sym (ap (λ (d : Disk). d.journal) disk_is))
               (reads_on store.header list c store.disk.journal old new is.knows.read (told_on old new told_is told) (others told Journal (λ e. cc)) on_disk_still
               (subst (λ (s : Store). LieIn (laid_shares list (shares_in c.records)) s.read) (sym (others told Shares (λ e. cc))) is.knows.read.holds.shares) chain_lie);
           remembers = is.knows.remembers;

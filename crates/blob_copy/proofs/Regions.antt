@@ -2,19 +2,19 @@
 use Rattle.std.proofs.Common.{◌≡◌, ◌⊎◌, ℕ, ◌+◌, ◌≤◌, List, [], ◌∷◌, length, map, subst, arith, inl, inr}
 use Rattle.std.specs.Prelude.{All}
 use Rattle.std.proofs.lemmas.List.Elements.{All-nil, All-cons, All-head, All-tail}
-use Rattle.cd_base.specs.declared.ids.Fp.{Fp}
-use Rattle.cd_base.specs.declared.place.Place.{Place}
-use Rattle.cd_edges.specs.Disk.{Cloud}
-use Rattle.container_log.specs.Laying.{Placed}
-use Rattle.half_journal.specs.States as journals
-use Rattle.journal_start.specs.declared.start.Header.{Header}
-use Rattle.user_dedup.specs.Cloud.{held_bytes}
-use Rattle.user_dedup.specs.declared.command.Command.{Command}
-use Rattle.cloud_areas.specs.Chains.{LiesIn, laid_shares}
-use Rattle.cloud_areas.specs.Placing.{region_start, greatest_end, shares_in, recipes_in, places_of}
-use Rattle.cloud_areas.specs.Standing.{Chain, region_in}
-use Rattle.cloud_disk.specs.Disk.{IsRead}
-use Rattle.cloud_disk.proofs.Ends.{shares_below, recipes_below, recipes_said, place_at}
+use Rattle.compact_lists.specs.CdBase.ids.Fp.{Fp}
+use Rattle.compact_lists.specs.CdBase.place.Place.{Place}
+use Rattle.fresh_checkpoints.specs.CdEdges.Disk.{Cloud}
+use Rattle.record_laws.specs.ContainerLog.Laying.{Placed}
+use Rattle.open_store.specs.HalfJournal.States as journals
+use Rattle.compact_lists.specs.JournalStart.start.Header.{Header}
+use Rattle.compact_lists.specs.UserDedup.Cloud.{held_bytes}
+use Rattle.compact_lists.specs.UserDedup.command.Command.{Command}
+use Rattle.fresh_checkpoints.specs.CloudAreas.Chains.{LiesIn, laid_shares}
+use Rattle.fresh_checkpoints.specs.CloudAreas.Placing.{region_start, greatest_end, shares_in, recipes_in, places_of}
+use Rattle.fresh_checkpoints.specs.CloudAreas.Standing.{Chain, region_in}
+use Rattle.fresh_checkpoints.specs.CloudDisk.Disk.{IsRead}
+use Rattle.fresh_checkpoints.proofs.CloudDiskLaws.Ends.{shares_below, recipes_below, recipes_said, place_at}
 use Rattle.blob_copy.specs.Apart.{IsApart}
 use Rattle.blob_copy.proofs.Beside.{below_apart, behind_apart}
 
@@ -30,7 +30,7 @@ recipes_begin region (b ∷ bs) all =
     All-cons (λ (d : Placed). region_start region ≤ d.place) b bs
     (All-head (LiesIn region) (place_at b) (map place_at bs) all).0 (recipes_begin region bs (All-tail (LiesIn region) (place_at b) (map place_at bs) all))
 
-module _ (header : Header) (list : List Command) (c : Chain) (journal : journals.State) (cloud : Cloud) (r : IsRead header list c journal cloud) (end : ℕ) (bytes : List ℕ) where
+module _ (header : Header) (list : List Command) (c : Chain) (journal : journals.JournalState) (cloud : Cloud) (r : IsRead header list c journal cloud) (end : ℕ) (bytes : List ℕ) where
   pub shares_apart : (greatest_end (region_start (region_in c)) (places_of (shares_in c.records)) ≤ end) ⊎ (end + length bytes ≤ region_start (region_in c))
       → All (IsApart end bytes) (laid_shares list (shares_in c.records))
   shares_apart (inl front) =

@@ -4,27 +4,27 @@ use Rattle.std.specs.Prelude.{All, is_some, option_map, unwrap_or}
 use Rattle.std.specs.List.{Contains}
 use Rattle.std.specs.FinMap.{get}
 use Rattle.std.proofs.lemmas.List.Elements.{All-nil, All-cons}
-use Rattle.cd_base.specs.declared.ids.Fp.{Fp}
-use Rattle.cd_base.specs.declared.place.Place.{Place}
-use Rattle.cd_edges.specs.declared.area.Area.TheVariants.{Shares, Recipes}
-use Rattle.cd_edges.specs.Disk.{Cloud}
-use Rattle.container_log.specs.Laying.{Placed, placed}
-use Rattle.container_log.specs.Places.{place_of, end_after, end_of_laid}
-use Rattle.file_index.specs.declared.key.Entry.{Entry}
-use Rattle.file_index.specs.declared.key.FileKey.{FileKey}
-use Rattle.user_dedup.specs.declared.command.Command.{Command}
-use Rattle.user_dedup.specs.declared.file_list.FileEntry.{FileEntry}
-use Rattle.user_dedup.specs.Cloud.{user_view, strings_in, held_bytes}
-use Rattle.user_dedup.specs.Pages.{entry_at}
-use Rattle.user_dedup.specs.Strings.{fingerprint}
-use Rattle.user_dedup.proofs.Owned.{contains_here, contains_later, contains_nothing, contains_cases}
-use Rattle.user_dedup.proofs.Views.{sent_is_held}
-use Rattle.cloud_areas.specs.Chains.{laid_shares}
-use Rattle.cloud_areas.specs.Standing.{Chain}
-use Rattle.cloud_areas.proofs.Lists.{from_map}
-use Rattle.cloud_memory.specs.Memory.{summary, summary_of}
-use Rattle.compact_memories.specs.Moved.{new_places, lens_of, new_entries, entry_lens}
-use Rattle.compact_memories.proofs.Relaying.{laid_grows}
+use Rattle.compact_lists.specs.CdBase.ids.Fp.{Fp}
+use Rattle.compact_lists.specs.CdBase.place.Place.{Place}
+use Rattle.fresh_checkpoints.specs.CdEdges.area.Area.TheVariants.{Shares, Recipes}
+use Rattle.fresh_checkpoints.specs.CdEdges.Disk.{Cloud}
+use Rattle.record_laws.specs.ContainerLog.Laying.{Placed, placed}
+use Rattle.record_laws.specs.ContainerLog.Places.{place_of, end_after, end_of_laid}
+use Rattle.record_laws.specs.FileIndex.key.Entry.{Entry}
+use Rattle.record_laws.specs.FileIndex.key.FileKey.{FileKey}
+use Rattle.compact_lists.specs.UserDedup.command.Command.{Command}
+use Rattle.compact_lists.specs.UserDedup.file_list.FileEntry.{FileEntry}
+use Rattle.compact_lists.specs.UserDedup.Cloud.{user_view, strings_in, held_bytes}
+use Rattle.compact_lists.specs.UserDedup.Pages.{entry_at}
+use Rattle.compact_lists.specs.UserDedup.Strings.{fingerprint}
+use Rattle.compact_lists.proofs.UserDedup.Owned.{contains_here, contains_later, contains_nothing, contains_cases}
+use Rattle.compact_lists.proofs.UserDedup.Views.{sent_is_held}
+use Rattle.fresh_checkpoints.specs.CloudAreas.Chains.{laid_shares}
+use Rattle.fresh_checkpoints.specs.CloudAreas.Standing.{Chain}
+use Rattle.fresh_checkpoints.proofs.CloudAreas.Lists.{from_map}
+use Rattle.fresh_checkpoints.specs.CloudMemory.Memory.{summary, summary_of}
+use Rattle.fresh_checkpoints.specs.CompactMemories.Moved.{new_places, lens_of, new_entries, entry_lens}
+use Rattle.fresh_checkpoints.proofs.CompactMemories.Relaying.{laid_grows}
 use Rattle.open_store.specs.declared.store.OpenStore.{OpenStore}
 use Rattle.blob_copy.specs.Answers.{IsRotten}
 use Rattle.blob_copy.specs.Copies.{Blob, share_blob, entry_blob, found_in, IsRight, copies_at}

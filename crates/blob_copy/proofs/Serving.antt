@@ -1,48 +1,48 @@
 -- A store that was switched to its copies serves the compact list, and has room.
 use Rattle.std.proofs.Common.{◌≡◌, ◌≢◌, ℕ, ◌≤◌, List, [], length, Result, Ok, Err, refl, sym, ap, ◌∙◌, subst, arith, append-nil}
 use Rattle.std.specs.Prelude.{OnOk}
-use Rattle.cd_base.specs.declared.ids.UserId.{UserId}
-use Rattle.cd_base.specs.declared.place.Place.{Place}
-use Rattle.cd_edges.specs.declared.area.Area.{Area}
-use Rattle.cd_edges.specs.declared.area.Area.TheVariants.{Journal, Shares, Recipes}
-use Rattle.cd_edges.specs.Disk.{Cloud, Store, Image, reads}
-use Rattle.cd_edges.proofs.Moments.{started}
-use Rattle.container_log.specs.Places.{end_of_laid}
-use Rattle.container_log.specs.States as logs
-use Rattle.half_journal.specs.States as journals
-use Rattle.journal_halves.specs.Halves.{half_limit}
-use Rattle.journal_start.specs.declared.start.Header.{Header}
-use Rattle.user_dedup.specs.declared.command.Command.{Command}
-use Rattle.user_dedup.specs.Compact.{compact}
-use Rattle.user_dedup.specs.Spending.{Spent, UsesWithin, limits_of}
-use Rattle.cloud_areas.specs.Chains.{laid_shares}
-use Rattle.cloud_areas.specs.Placing.{region_start, greatest_end, places_of, shares_in, recipes_in}
-use Rattle.cloud_areas.specs.Standing.{Chain, IsChain, StandsFor}
-use Rattle.cloud_disk.specs.Disk.{Disk, IsRead, IsBehind}
-use Rattle.cloud_disk.specs.Held.{LieIn}
-use Rattle.cloud_disk.proofs.Both.{as_read}
-use Rattle.cloud_disk.proofs.Holding.{agrees_as}
-use Rattle.cloud_disk.proofs.Standing.{stands, holds_in}
-use Rattle.cloud_memory.specs.declared.cloud.CloudMemory.{CloudMemory}
-use Rattle.cloud_memory.specs.Fitting.{FitsRecords}
-use Rattle.cloud_memory.specs.Memory.{Remembers, Stand}
-use Rattle.cloud_memory.specs.Rooms.{memory_of}
-use Rattle.checkpoints.specs.Known.{AreListed, checkpoint_in}
-use Rattle.checkpoints.specs.Records.{records_of}
-use Rattle.checkpoints.specs.Settling.{KeepsList}
-use Rattle.compact_memories.specs.Moved.{other_region, lens_of, entry_lens, IsMoved}
+use Rattle.compact_lists.specs.CdBase.ids.UserId.{UserId}
+use Rattle.compact_lists.specs.CdBase.place.Place.{Place}
+use Rattle.fresh_checkpoints.specs.CdEdges.area.Area.{Area}
+use Rattle.fresh_checkpoints.specs.CdEdges.area.Area.TheVariants.{Journal, Shares, Recipes}
+use Rattle.fresh_checkpoints.specs.CdEdges.Disk.{Cloud, Store, Image, reads}
+use Rattle.fresh_checkpoints.proofs.CdEdges.Moments.{started}
+use Rattle.record_laws.specs.ContainerLog.Places.{end_of_laid}
+use Rattle.record_laws.specs.ContainerLog.States as logs
+use Rattle.open_store.specs.HalfJournal.States as journals
+use Rattle.fresh_checkpoints.specs.JournalHalves.Halves.{half_limit}
+use Rattle.compact_lists.specs.JournalStart.start.Header.{Header}
+use Rattle.compact_lists.specs.UserDedup.command.Command.{Command}
+use Rattle.compact_lists.specs.UserDedup.Compact.{compact}
+use Rattle.compact_lists.specs.UserDedup.Spending.{SpentByUser, UsesWithin, limits_of}
+use Rattle.fresh_checkpoints.specs.CloudAreas.Chains.{laid_shares}
+use Rattle.fresh_checkpoints.specs.CloudAreas.Placing.{region_start, greatest_end, places_of, shares_in, recipes_in}
+use Rattle.fresh_checkpoints.specs.CloudAreas.Standing.{Chain, IsChain, StandsFor}
+use Rattle.fresh_checkpoints.specs.CloudDisk.Disk.{Disk, IsRead, IsBehind}
+use Rattle.fresh_checkpoints.specs.CloudDisk.Held.{LieIn}
+use Rattle.fresh_checkpoints.proofs.CloudDiskLaws.Both.{as_read}
+use Rattle.fresh_checkpoints.proofs.CloudDiskLaws.Holding.{agrees_as}
+use Rattle.fresh_checkpoints.proofs.CloudDiskLaws.Standing.{stands, holds_in}
+use Rattle.fresh_checkpoints.specs.CloudMemory.cloud.CloudMemory.{CloudMemory}
+use Rattle.fresh_checkpoints.specs.CloudMemory.Fitting.{FitsRecords}
+use Rattle.fresh_checkpoints.specs.CloudMemory.Memory.{Remembers, Stand}
+use Rattle.fresh_checkpoints.specs.CloudMemory.Rooms.{memory_of}
+use Rattle.fresh_checkpoints.specs.Checkpoints.Known.{AreListed, checkpoint_in}
+use Rattle.fresh_checkpoints.specs.Checkpoints.Records.{records_of}
+use Rattle.fresh_checkpoints.specs.Checkpoints.Settling.{KeepsList}
+use Rattle.fresh_checkpoints.specs.CompactMemories.Moved.{other_region, lens_of, entry_lens, IsMoved}
 use Rattle.fresh_checkpoints.specs.Fresh.{IsNextMemory}
 use Rattle.fresh_checkpoints.proofs.Fresh.{placed}
 use Rattle.record_laws.proofs.Sums.{shares_in_rows, recipes_in_rows}
-use Rattle.store_opening.specs.Roomy.{IsRoomy}
+use Rattle.open_store.specs.StoreOpening.Roomy.{IsRoomy}
 use Rattle.open_store.specs.declared.store.OpenStore.{OpenStore}
 use Rattle.open_store.specs.Store.{ServesBy, ServesSome}
 use Rattle.blob_copy.specs.declared.copying.Copying.{Copying}
-use Rattle.blob_copy.specs.Copying.{copies_start, IsLaid, AreAllCopied, IsCopying}
+use Rattle.blob_copy.specs.Copying.{copies_start, IsCopyLaid, AreAllCopied, IsCopying}
 use Rattle.blob_copy.proofs.Switched as switched
 
 -- while nothing is done each image stands for the list
-pub as_it_was : (header : Header) (list : List Command) (c : Chain) (journal : journals.State) (cloud : Cloud) → IsRead header list c journal cloud → KeepsList header list cloud cloud
+pub as_it_was : (header : Header) (list : List Command) (c : Chain) (journal : journals.JournalState) (cloud : Cloud) → IsRead header list c journal cloud → KeepsList header list cloud cloud
 as_it_was header list c journal cloud r =
     started cloud (λ (image : Image). StandsFor image header list) (λ image left.
     stands image header list c r.sound
@@ -52,7 +52,7 @@ as_it_was header list c journal cloud r =
     (subst (LieIn c.recipes) (sym (as_read (cloud.now Recipes) (image Recipes) (r.on_disk Recipes) (left Recipes))) r.holds.recipes)))
 
 -- both logs end where the moved memory says
-module _ (store : OpenStore) (copying : Copying) (laid : IsLaid store copying) (all : AreAllCopied store copying)
+module _ (store : OpenStore) (copying : Copying) (laid : IsCopyLaid store copying) (all : AreAllCopied store copying)
     (new : CloudMemory) (moved : IsMoved (other_region store.region) store.memory (memory_of new)) where
   pub shares_meet : store.disk.shares.end ≡ new.shares_end
   shares_meet = laid.shares_end ∙ ap (λ xs. end_of_laid (copies_start store) (lens_of xs)) all.places ∙ sym moved.shares_end
@@ -83,9 +83,9 @@ module _ (list : List Command) (c : Chain) (store : OpenStore) (copying : Copyin
       let ends = switched.ends_kept list c store copying cloud is all fit l new moved k in
       record {
         spent = record {
-          owners = λ user. subst (λ (s : Spent). s.owners ≤ (limits_of store.header.rooms user).owners) (sym (remembers.spent user)) (uses user).owners;
-          shares = λ user. subst (λ (s : Spent). s.shares ≤ (limits_of store.header.rooms user).shares) (sym (remembers.spent user)) (uses user).shares;
-          recipes = λ user. subst (λ (s : Spent). s.recipes ≤ (limits_of store.header.rooms user).recipes) (sym (remembers.spent user)) (uses user).recipes;
+          owners = λ user. subst (λ (s : SpentByUser). s.owners ≤ (limits_of store.header.rooms user).owners) (sym (remembers.spent user)) (uses user).owners;
+          shares = λ user. subst (λ (s : SpentByUser). s.shares ≤ (limits_of store.header.rooms user).shares) (sym (remembers.spent user)) (uses user).shares;
+          recipes = λ user. subst (λ (s : SpentByUser). s.recipes ≤ (limits_of store.header.rooms user).recipes) (sym (remembers.spent user)) (uses user).recipes;
         };
         ends = record {
           shares = (

@@ -1,20 +1,20 @@
 -- A store behind a switch, or one whose journal was shut by it.
 use Rattle.std.proofs.Common.{◌≡◌, ℕ, ◌≤◌, Result, Ok, Err, refl, sym, ap, ◌∙◌, subst}
 use Rattle.std.specs.Prelude.{OnOk}
-use Rattle.half_journal.specs.declared.journal.Stage.{Stage}
-use Rattle.half_journal.specs.declared.journal.Stage.TheVariants.{AtEnd, Shut}
-use Rattle.journal_start.specs.Ranges.{IsHeader}
-use Rattle.journal_start.specs.declared.start.Header.{Header}
-use Rattle.cloud_disk.specs.Disk.{Disk}
-use Rattle.cloud_memory.specs.declared.cloud.CloudMemory.{CloudMemory}
-use Rattle.cloud_memory.specs.Fitting.{FitsRecords}
-use Rattle.cloud_memory.specs.Rooms.{memory_of, HasRooms}
-use Rattle.checkpoints.specs.Known.{IfLong, IfFailed, stage_behind}
-use Rattle.checkpoints.specs.declared.whole.Unsettled.{Unsettled}
-use Rattle.checkpoints.specs.declared.whole.Unsettled.TheVariants.{Long, Failed}
-use Rattle.container_log.specs.States as logs
-use Rattle.store_opening.specs.Roomy.{IsRoomy}
-use Rattle.store_opening.specs.Spared.{IsFor}
+use Rattle.open_store.specs.HalfJournal.journal.Stage.{Stage}
+use Rattle.open_store.specs.HalfJournal.journal.Stage.TheVariants.{AtEnd, Shut}
+use Rattle.compact_lists.specs.JournalStart.Ranges.{IsHeader}
+use Rattle.compact_lists.specs.JournalStart.start.Header.{Header}
+use Rattle.fresh_checkpoints.specs.CloudDisk.Disk.{Disk}
+use Rattle.fresh_checkpoints.specs.CloudMemory.cloud.CloudMemory.{CloudMemory}
+use Rattle.fresh_checkpoints.specs.CloudMemory.Fitting.{FitsRecords}
+use Rattle.fresh_checkpoints.specs.CloudMemory.Rooms.{memory_of, HasRooms}
+use Rattle.fresh_checkpoints.specs.Checkpoints.Known.{IfLong, IfFailed, stage_behind}
+use Rattle.fresh_checkpoints.specs.Checkpoints.whole.Unsettled.{Unsettled}
+use Rattle.fresh_checkpoints.specs.Checkpoints.whole.Unsettled.TheVariants.{Long, Failed}
+use Rattle.record_laws.specs.ContainerLog.States as logs
+use Rattle.open_store.specs.StoreOpening.Roomy.{IsRoomy}
+use Rattle.open_store.specs.StoreOpening.Spared.{IsFor}
 use Rattle.open_store.specs.declared.store.OpenStore.{OpenStore}
 use Rattle.open_store.specs.Store.{IsSettled}
 use Rattle.blob_copy.specs.declared.copying.CopyErr.{CopyErr}

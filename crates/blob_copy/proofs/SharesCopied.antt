@@ -5,34 +5,34 @@ use Rattle.std.specs.List.{Contains}
 use Rattle.std.specs.FinMap.{get}
 use Rattle.std.proofs.lemmas.List.{map-append}
 use Rattle.std.proofs.lemmas.List.Elements.{All-nil, All-append, All-contains, Contains-append_left, Contains-append_right}
-use Rattle.cd_base.specs.declared.ids.Fp.{Fp}
-use Rattle.cd_base.specs.declared.place.Place.{Place}
-use Rattle.cd_edges.specs.declared.area.Area.{Area}
-use Rattle.cd_edges.specs.declared.area.Area.TheVariants.{Journal, Shares, Recipes}
-use Rattle.cd_edges.specs.Disk.{Cloud, Store, reads}
-use Rattle.cd_edges.specs.Shelf.{stable, Stays}
-use Rattle.cd_edges.proofs.Moments.{told_on}
-use Rattle.container_log.specs.Laying.{Placed, IsAt, laid}
-use Rattle.container_log.specs.Places.{end_of_laid}
-use Rattle.container_log.specs.States as logs
-use Rattle.half_journal.specs.States as journals
-use Rattle.user_dedup.specs.Cloud.{held_bytes}
-use Rattle.user_dedup.specs.declared.command.Command.{Command}
-use Rattle.cloud_areas.specs.Chains.{laid_shares}
-use Rattle.cloud_areas.specs.Placing.{shares_in}
-use Rattle.cloud_areas.specs.Standing.{Chain}
-use Rattle.cloud_areas.proofs.Lists.{in_map}
-use Rattle.cloud_disk.specs.Disk.{Disk, IsRead, SameRooms}
-use Rattle.cloud_disk.specs.Held.{LieIn}
-use Rattle.cloud_memory.specs.Live.{IsEachLive}
-use Rattle.compact_memories.specs.Kept.{live_at, live_places}
-use Rattle.compact_memories.specs.Moved.{new_places, lens_of, new_entries, other_region}
+use Rattle.compact_lists.specs.CdBase.ids.Fp.{Fp}
+use Rattle.compact_lists.specs.CdBase.place.Place.{Place}
+use Rattle.fresh_checkpoints.specs.CdEdges.area.Area.{Area}
+use Rattle.fresh_checkpoints.specs.CdEdges.area.Area.TheVariants.{Journal, Shares, Recipes}
+use Rattle.fresh_checkpoints.specs.CdEdges.Disk.{Cloud, Store, reads}
+use Rattle.fresh_checkpoints.specs.CdEdges.Shelf.{stable, Stays}
+use Rattle.fresh_checkpoints.proofs.CdEdges.Moments.{told_on}
+use Rattle.record_laws.specs.ContainerLog.Laying.{Placed, IsAt, laid}
+use Rattle.record_laws.specs.ContainerLog.Places.{end_of_laid}
+use Rattle.record_laws.specs.ContainerLog.States as logs
+use Rattle.open_store.specs.HalfJournal.States as journals
+use Rattle.compact_lists.specs.UserDedup.Cloud.{held_bytes}
+use Rattle.compact_lists.specs.UserDedup.command.Command.{Command}
+use Rattle.fresh_checkpoints.specs.CloudAreas.Chains.{laid_shares}
+use Rattle.fresh_checkpoints.specs.CloudAreas.Placing.{shares_in}
+use Rattle.fresh_checkpoints.specs.CloudAreas.Standing.{Chain}
+use Rattle.fresh_checkpoints.proofs.CloudAreas.Lists.{in_map}
+use Rattle.fresh_checkpoints.specs.CloudDisk.Disk.{Disk, IsRead, SameRooms}
+use Rattle.fresh_checkpoints.specs.CloudDisk.Held.{LieIn}
+use Rattle.fresh_checkpoints.specs.CloudMemory.Live.{IsEachLive}
+use Rattle.fresh_checkpoints.specs.CompactMemories.Kept.{live_at, live_places}
+use Rattle.fresh_checkpoints.specs.CompactMemories.Moved.{new_places, lens_of, new_entries, other_region}
 use Rattle.open_store.specs.declared.store.OpenStore.{OpenStore}
 use Rattle.open_store.specs.Store.{IsOpen, IsSettled}
 use Rattle.blob_copy.specs.Answers.{MatchCopy}
 use Rattle.blob_copy.specs.Apart.{IsApart}
 use Rattle.blob_copy.specs.Copies.{HasCopied, KeepsBeside, share_blob, copies_end, copies_at, IsRight}
-use Rattle.blob_copy.specs.Copying.{IsLaid, IsCopying, Knows, EntriesLie, copies_start, shares_so_far, entries_so_far}
+use Rattle.blob_copy.specs.Copying.{IsCopyLaid, IsCopying, Knows, EntriesLie, copies_start, shares_so_far, entries_so_far}
 use Rattle.blob_copy.specs.Runs.{CopiesTo, MayTear, HasRotten, all_end, blob_lens, behind_error}
 use Rattle.blob_copy.specs.Steps.{IsStep}
 use Rattle.blob_copy.specs.declared.copying.CopyErr.{CopyErr}
@@ -44,7 +44,7 @@ use Rattle.blob_copy.proofs.Gathered.{laid_append}
 use Rattle.blob_copy.proofs.Rightly.{share_copies, shares_below, share_sound, new_append}
 use Rattle.blob_copy.proofs.Stopped.{on_disk, settled_by, chain_shares_apart, shares_list, shares_images, fault, rotten_stops}
 
-module _ (store : OpenStore) (settled : IsSettled store) (open_now : IsOpen store) (each : IsEachLive store.memory.shares) (from : Copying) (laid_now : IsLaid store from) where
+module _ (store : OpenStore) (settled : IsSettled store) (open_now : IsOpen store) (each : IsEachLive store.memory.shares) (from : Copying) (laid_now : IsCopyLaid store from) where
   abbrev All_end : ℕ
   All_end = all_end (live_at store.memory.shares.owners) share_blob store.memory.shares.place_slots from.place_slot store.disk.shares.end
 
@@ -104,7 +104,7 @@ module _ (store : OpenStore) (settled : IsSettled store) (open_now : IsOpen stor
       area_is : disk.shares.area ≡ store.disk.shares.area
       area_is = ap (λ (l : logs.State). l.area) k.same
 
-      laid_next : IsLaid (on_disk store disk) next
+      laid_next : IsCopyLaid (on_disk store disk) next
       laid_next = record {
         shares_end =
             k.end_is
@@ -182,7 +182,7 @@ module _ (store : OpenStore) (settled : IsSettled store) (open_now : IsOpen stor
 
         knows : Knows list c (on_disk store disk) new
         knows = record {
-          read = subst (λ (j : journals.State). IsRead store.header list c j new) (sym (ap (λ (d : Disk). d.journal) disk_is))
+          read = subst (λ (j : journals.JournalState). IsRead store.header list c j new) (sym (ap (λ (d : Disk). d.journal) disk_is))
               (reads_on store.header list c store.disk.journal old new is.knows.read (told_on old new told_is told) (others told Journal (λ e. cc)) on_disk_still chain_lie
               (subst (λ (s : Store). LieIn c.recipes s.read) (sym (others told Recipes (λ e. cc))) is.knows.read.holds.recipes));
           remembers = is.knows.remembers;

@@ -1,34 +1,34 @@
 -- What a step that writes in an area of blobs keeps, and one that stops.
 use Rattle.std.proofs.Common.{◌≡◌, ◌≢◌, ◌⊎◌, ℕ, zero, suc, ◌+◌, ◌<◌, ◌≤◌, Bool, true, false, IsTrue, List, length, refl, sym, ap, ◌∙◌, subst, arith, inl, inr}
 use Rattle.std.specs.Prelude.{All, Result, Ok, Err}
-use Rattle.cd_base.specs.declared.ids.Fp.{Fp}
-use Rattle.cd_edges.specs.declared.area.Area.{Area}
-use Rattle.cd_edges.specs.declared.area.Area.TheVariants.{Journal, Shares, Recipes}
-use Rattle.cd_edges.specs.Disk.{Areas, Store, Image, Cloud, LeavesOnly, MayLeave, IsAtArea, reads}
-use Rattle.cd_edges.specs.Shelf.{Stays, wrote}
-use Rattle.cd_edges.proofs.Moments.{weaker, started}
-use Rattle.container_log.specs.Laying.{IsAt}
-use Rattle.container_log.specs.States.{IsTorn}
-use Rattle.half_journal.specs.declared.journal.Stage.TheVariants.{Shut}
-use Rattle.user_dedup.specs.declared.command.Command.{Command}
-use Rattle.cloud_areas.specs.Chains.{laid_shares}
-use Rattle.cloud_areas.specs.Placing.{region_start, greatest_end, shares_in, recipes_in, places_of}
-use Rattle.cloud_areas.specs.Standing.{Chain, region_in, StandsFor}
-use Rattle.cloud_disk.specs.Disk.{Disk, SameRooms}
-use Rattle.cloud_disk.proofs.Standing.{one_image, stands_read}
-use Rattle.checkpoints.specs.Settling.{KeepsList}
-use Rattle.cloud_memory.specs.Memory.{Memory}
-use Rattle.cloud_memory.specs.Rooms.{memory_of}
-use Rattle.compact_memories.specs.Moved.{lens_of, entry_lens}
-use Rattle.compact_memories.proofs.Relaying.{laid_grows}
-use Rattle.store_opening.specs.Roomy.{IsRoomy}
-use Rattle.store_opening.proofs.Spends.{ends_far}
+use Rattle.compact_lists.specs.CdBase.ids.Fp.{Fp}
+use Rattle.fresh_checkpoints.specs.CdEdges.area.Area.{Area}
+use Rattle.fresh_checkpoints.specs.CdEdges.area.Area.TheVariants.{Journal, Shares, Recipes}
+use Rattle.fresh_checkpoints.specs.CdEdges.Disk.{Areas, Store, Image, Cloud, LeavesOnly, MayLeave, IsAtArea, reads}
+use Rattle.fresh_checkpoints.specs.CdEdges.Shelf.{Stays, wrote}
+use Rattle.fresh_checkpoints.proofs.CdEdges.Moments.{weaker, started}
+use Rattle.record_laws.specs.ContainerLog.Laying.{IsAt}
+use Rattle.record_laws.specs.ContainerLog.States.{IsTorn}
+use Rattle.open_store.specs.HalfJournal.journal.Stage.TheVariants.{Shut}
+use Rattle.compact_lists.specs.UserDedup.command.Command.{Command}
+use Rattle.fresh_checkpoints.specs.CloudAreas.Chains.{laid_shares}
+use Rattle.fresh_checkpoints.specs.CloudAreas.Placing.{region_start, greatest_end, shares_in, recipes_in, places_of}
+use Rattle.fresh_checkpoints.specs.CloudAreas.Standing.{Chain, region_in, StandsFor}
+use Rattle.fresh_checkpoints.specs.CloudDisk.Disk.{Disk, SameRooms}
+use Rattle.fresh_checkpoints.proofs.CloudDiskLaws.Standing.{one_image, stands_read}
+use Rattle.fresh_checkpoints.specs.Checkpoints.Settling.{KeepsList}
+use Rattle.fresh_checkpoints.specs.CloudMemory.Memory.{Memory}
+use Rattle.fresh_checkpoints.specs.CloudMemory.Rooms.{memory_of}
+use Rattle.fresh_checkpoints.specs.CompactMemories.Moved.{lens_of, entry_lens}
+use Rattle.fresh_checkpoints.proofs.CompactMemories.Relaying.{laid_grows}
+use Rattle.open_store.specs.StoreOpening.Roomy.{IsRoomy}
+use Rattle.open_store.proofs.StoreOpening.Spends.{ends_far}
 use Rattle.open_store.specs.declared.store.OpenStore.{OpenStore}
 use Rattle.open_store.specs.Store.{IsOpen, IsSettled}
 use Rattle.blob_copy.specs.Answers.{SomeRotten, MatchStep}
 use Rattle.blob_copy.specs.Apart.{IsApart}
 use Rattle.blob_copy.specs.Copies.{KeepsOutside, IsBeside, copies_end}
-use Rattle.blob_copy.specs.Copying.{IsLaid, IsCopying, copies_start, shares_so_far, entries_so_far}
+use Rattle.blob_copy.specs.Copying.{IsCopyLaid, IsCopying, copies_start, shares_so_far, entries_so_far}
 use Rattle.blob_copy.specs.Runs.{MayTear}
 use Rattle.blob_copy.specs.Steps.{IsStep}
 use Rattle.blob_copy.specs.declared.copying.CopyErr.{CopyErr}
@@ -73,7 +73,7 @@ module _ (store : OpenStore) (settled : IsSettled store) (open_now : IsOpen stor
       by_number zero is small = inl is
       by_number (suc n) is small = inr (let m : n ≡ 0 = omega (arith, small) in omega (arith, is, m))
 
-  module _ (from : Copying) (laid : IsLaid store from) (old new : Cloud) where
+  module _ (from : Copying) (laid : IsCopyLaid store from) (old new : Cloud) where
     shares_start : copies_start store ≤ store.disk.shares.end
     shares_start = let is = laid.shares_end in let grows = laid_grows (copies_start store) (lens_of (shares_so_far store from)) in omega (arith, is, grows)
 
@@ -205,7 +205,7 @@ module _ (store : OpenStore) (settled : IsSettled store) (open_now : IsOpen stor
       stays = stays;
       further = refl;
       slots = (omega arith, omega arith);
-      laid = subst (λ (d : Disk). IsLaid (on_disk store d) from) (sym same) laid;
+      laid = subst (λ (d : Disk). IsCopyLaid (on_disk store d) from) (sym same) laid;
       rotten = rotten;
       same = refl;
       settled = subst (λ (d : Disk). IsSettled (on_disk store d)) (sym same) settled;

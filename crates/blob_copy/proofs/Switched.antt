@@ -5,51 +5,51 @@ use Rattle.std.specs.FinMap.{get}
 use Rattle.std.specs.List.{Contains, sum_by}
 use Rattle.std.proofs.lemmas.List.Elements.{All-contains}
 use Rattle.std.proofs.lemmas.List.Sums.{sum_by-cons}
-use Rattle.cd_base.specs.declared.ids.Fp.{Fp}
-use Rattle.cd_base.specs.declared.ids.Tag.{Tag}
-use Rattle.cd_base.specs.declared.ids.UserId.{UserId}
-use Rattle.cd_base.specs.declared.ids.Version.{Version}
-use Rattle.cd_base.specs.declared.place.Place.{Place}
-use Rattle.cd_edges.specs.declared.area.Area.TheVariants.{Shares, Recipes}
-use Rattle.cd_edges.specs.Disk.{Cloud}
-use Rattle.container_log.specs.Laying.{Placed, IsAt}
-use Rattle.container_log.specs.Places.{container_len, end_after, end_of_laid}
-use Rattle.container_log.proofs.Least.{place_cases, place_behind}
-use Rattle.file_index.specs.declared.key.Entry.{Entry}
-use Rattle.file_index.specs.declared.key.FileKey.{FileKey}
-use Rattle.file_index.specs.Files.{key_of}
-use Rattle.user_dedup.specs.declared.command.Command.{Command}
-use Rattle.user_dedup.specs.declared.file_list.FileEntry.{FileEntry}
-use Rattle.user_dedup.specs.Cloud.{counted, user_view, held_bytes}
-use Rattle.user_dedup.specs.Compact.{compact}
-use Rattle.user_dedup.specs.Pages.{entry_at}
-use Rattle.user_dedup.specs.Spending.{spent_by_all, IsWithin}
-use Rattle.user_dedup.proofs.Owned.{contains_nothing, contains_cases}
-use Rattle.user_dedup.proofs.CompactSound.{compact_sound}
-use Rattle.user_dedup.proofs.Compacting.{same_entries, same_held}
-use Rattle.cloud_areas.specs.Chains.{laid_shares, least_shares, least_recipes}
-use Rattle.cloud_areas.specs.Placing.{region_start, end_of, greatest_end, places_of, shares_in, recipes_in}
-use Rattle.cloud_areas.specs.Standing.{Chain}
-use Rattle.cloud_areas.proofs.Ends.{end_bound}
-use Rattle.cloud_areas.proofs.Summing.{place_of_commit}
-use Rattle.cloud_memory.specs.declared.cloud.CloudMemory.{CloudMemory}
-use Rattle.cloud_memory.specs.Fitting.{FitsRecords}
-use Rattle.cloud_memory.specs.Memory.{Memory, Remembers, Stand, HasEnds}
-use Rattle.cloud_memory.specs.Rooms.{memory_of}
-use Rattle.checkpoints.specs.Known.{AreListed}
-use Rattle.checkpoints.specs.Records.{records_of}
-use Rattle.checkpoints.proofs.Apartness.{in_map, from_map}
-use Rattle.checkpoints.proofs.Given.{shares_given, commit_given, recipe_given}
-use Rattle.checkpoints.proofs.Sought.{from_picked}
-use Rattle.compact_lists.proofs.Rooms as rooms
-use Rattle.compact_memories.specs.Kept.{live_at, live_places, live_entries}
-use Rattle.compact_memories.specs.Moved.{other_region, new_places, lens_of, new_entries, entry_lens, IsMoved, entry_place, PlacesLie}
-use Rattle.compact_memories.proofs.Copies.{bound, ends}
-use Rattle.compact_memories.proofs.Keeping as keeping
-use Rattle.compact_memories.proofs.Live.{live_gives, live_from}
-use Rattle.compact_memories.proofs.Lying.{places_lie}
-use Rattle.compact_memories.proofs.Moving.{moved_like}
-use Rattle.compact_memories.proofs.Sums.{shares_few, recipes_few}
+use Rattle.compact_lists.specs.CdBase.ids.Fp.{Fp}
+use Rattle.compact_lists.specs.CdBase.ids.Tag.{Tag}
+use Rattle.compact_lists.specs.CdBase.ids.UserId.{UserId}
+use Rattle.compact_lists.specs.CdBase.ids.Version.{Version}
+use Rattle.compact_lists.specs.CdBase.place.Place.{Place}
+use Rattle.fresh_checkpoints.specs.CdEdges.area.Area.TheVariants.{Shares, Recipes}
+use Rattle.fresh_checkpoints.specs.CdEdges.Disk.{Cloud}
+use Rattle.record_laws.specs.ContainerLog.Laying.{Placed, IsAt}
+use Rattle.record_laws.specs.ContainerLog.Places.{container_len, end_after, end_of_laid}
+use Rattle.record_laws.proofs.ContainerLog.Least.{place_cases, place_behind}
+use Rattle.record_laws.specs.FileIndex.key.Entry.{Entry}
+use Rattle.record_laws.specs.FileIndex.key.FileKey.{FileKey}
+use Rattle.record_laws.specs.FileIndex.Files.{key_of}
+use Rattle.compact_lists.specs.UserDedup.command.Command.{Command}
+use Rattle.compact_lists.specs.UserDedup.file_list.FileEntry.{FileEntry}
+use Rattle.compact_lists.specs.UserDedup.Cloud.{counted, user_view, held_bytes}
+use Rattle.compact_lists.specs.UserDedup.Compact.{compact}
+use Rattle.compact_lists.specs.UserDedup.Pages.{entry_at}
+use Rattle.compact_lists.specs.UserDedup.Spending.{spent_by_all, IsWithin}
+use Rattle.compact_lists.proofs.UserDedup.Owned.{contains_nothing, contains_cases}
+use Rattle.compact_lists.proofs.UserDedup.CompactSound.{compact_sound}
+use Rattle.compact_lists.proofs.UserDedup.Compacting.{same_entries, same_held}
+use Rattle.fresh_checkpoints.specs.CloudAreas.Chains.{laid_shares, least_shares, least_recipes}
+use Rattle.fresh_checkpoints.specs.CloudAreas.Placing.{region_start, end_of, greatest_end, places_of, shares_in, recipes_in}
+use Rattle.fresh_checkpoints.specs.CloudAreas.Standing.{Chain}
+use Rattle.fresh_checkpoints.proofs.CloudAreas.Ends.{end_bound}
+use Rattle.fresh_checkpoints.proofs.CloudAreas.Summing.{place_of_commit}
+use Rattle.fresh_checkpoints.specs.CloudMemory.cloud.CloudMemory.{CloudMemory}
+use Rattle.fresh_checkpoints.specs.CloudMemory.Fitting.{FitsRecords}
+use Rattle.fresh_checkpoints.specs.CloudMemory.Memory.{Memory, Remembers, Stand, HasEnds}
+use Rattle.fresh_checkpoints.specs.CloudMemory.Rooms.{memory_of}
+use Rattle.fresh_checkpoints.specs.Checkpoints.Known.{AreListed}
+use Rattle.fresh_checkpoints.specs.Checkpoints.Records.{records_of}
+use Rattle.fresh_checkpoints.proofs.Checkpoints.Apartness.{in_map, from_map}
+use Rattle.fresh_checkpoints.proofs.Checkpoints.Given.{shares_given, commit_given, recipe_given}
+use Rattle.fresh_checkpoints.proofs.Checkpoints.Sought.{from_picked}
+use Rattle.compact_lists.proofs.RoomLaws as rooms
+use Rattle.fresh_checkpoints.specs.CompactMemories.Kept.{live_at, live_places, live_entries}
+use Rattle.fresh_checkpoints.specs.CompactMemories.Moved.{other_region, new_places, lens_of, new_entries, entry_lens, IsMoved, entry_place, PlacesLie}
+use Rattle.fresh_checkpoints.proofs.CompactMemories.Copies.{bound, ends}
+use Rattle.fresh_checkpoints.proofs.CompactMemories.Keeping as keeping
+use Rattle.fresh_checkpoints.proofs.CompactMemories.Live.{live_gives, live_from}
+use Rattle.fresh_checkpoints.proofs.CompactMemories.Lying.{places_lie}
+use Rattle.fresh_checkpoints.proofs.CompactMemories.Moving.{moved_like}
+use Rattle.fresh_checkpoints.proofs.CompactMemories.Sums.{shares_few, recipes_few}
 use Rattle.fresh_checkpoints.specs.Fresh.{IsNextMemory}
 use Rattle.open_store.specs.declared.store.OpenStore.{OpenStore}
 use Rattle.blob_copy.specs.declared.copying.Copying.{Copying}

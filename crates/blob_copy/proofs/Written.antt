@@ -1,16 +1,16 @@
 -- What was staged is written, or forgotten.
 use Rattle.std.proofs.Common.{◌≡◌, ◌≢◌, ◌⊎◌, ℕ, ◌+◌, ◌≤◌, Bool, IsTrue, List, [], ◌∷◌, ◌++◌, length, map, drop, Option, refl, sym, ap, ◌∙◌, subst, arith, inl, inr}
 use Rattle.std.specs.Prelude.{All}
-use Rattle.cd_edges.specs.declared.area.Area.{Area}
-use Rattle.cd_edges.specs.Disk.{Areas, Store, Image, Cloud, LeavesOnly, MayLeave, IsAtArea}
-use Rattle.cd_edges.specs.Shelf.{Stays, stable, wrote}
-use Rattle.cd_edges.proofs.Moments.{stayed}
-use Rattle.container_log.specs.Caches.{Kept, AreOf}
-use Rattle.container_log.specs.Laying.{Placed, IsAt, laid, placed}
-use Rattle.container_log.specs.Places.{end_of_laid}
-use Rattle.container_log.specs.States.{State, HasStaged, Agrees, OnAgreeing, IsTorn, staged_end, in_area, area_flushed}
-use Rattle.checkpoints.specs.Picking.{picked}
-use Rattle.compact_memories.proofs.Relaying.{laid_grows}
+use Rattle.fresh_checkpoints.specs.CdEdges.area.Area.{Area}
+use Rattle.fresh_checkpoints.specs.CdEdges.Disk.{Areas, Store, Image, Cloud, LeavesOnly, MayLeave, IsAtArea}
+use Rattle.fresh_checkpoints.specs.CdEdges.Shelf.{Stays, stable, wrote}
+use Rattle.fresh_checkpoints.proofs.CdEdges.Moments.{stayed}
+use Rattle.record_laws.specs.ContainerLog.Caches.{Kept, AreOf}
+use Rattle.record_laws.specs.ContainerLog.Laying.{Placed, IsAt, laid, placed}
+use Rattle.record_laws.specs.ContainerLog.Places.{end_of_laid}
+use Rattle.record_laws.specs.ContainerLog.States.{State, HasStaged, Agrees, OnAgreeing, IsTorn, staged_end, in_area, area_flushed}
+use Rattle.fresh_checkpoints.specs.Checkpoints.Picking.{picked}
+use Rattle.fresh_checkpoints.proofs.CompactMemories.Relaying.{laid_grows}
 use Rattle.blob_copy.specs.Apart.{IsApart}
 use Rattle.blob_copy.specs.Copies.{Blob}
 use Rattle.blob_copy.specs.Runs.{StagesSome, CopiesTo, MayTear, blob_lens, all_end}

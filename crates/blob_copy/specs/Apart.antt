@@ -1,6 +1,6 @@
 -- Blobs that a write leaves alone.
 use Rattle.std.specs.Prelude.{◌⊎◌, ℕ, ◌+◌, ◌≤◌, List, length}
-use Rattle.container_log.specs.Laying.{Placed}
+use Rattle.record_laws.specs.ContainerLog.Laying.{Placed}
 
 -- the blob lies in front of the bytes that are written at the end, or behind them
 abbrev pub IsApart : ℕ → List ℕ → Placed → Type 0

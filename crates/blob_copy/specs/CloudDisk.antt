@@ -1,2 +1,2 @@
 -- What cloud_disk says, for callers.
-pub use Rattle.cloud_disk.specs.Disk
+pub use Rattle.fresh_checkpoints.specs.CloudDisk.Disk

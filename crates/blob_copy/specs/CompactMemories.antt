@@ -1,3 +1,3 @@
 -- What compact_memories says, for callers.
-pub use Rattle.compact_memories.specs.Kept
-pub use Rattle.compact_memories.specs.Moved
+pub use Rattle.fresh_checkpoints.specs.CompactMemories.Kept
+pub use Rattle.fresh_checkpoints.specs.CompactMemories.Moved

@@ -1,14 +1,14 @@
 -- Blobs that are alive: what an area has of them, and their copies.
 use Rattle.std.specs.Prelude.{◌≡◌, ◌⊎◌, ℕ, ◌+◌, ◌<◌, ◌≤◌, List, [], ◌∷◌, ◌++◌, length, map, All, slice_index}
-use Rattle.cd_base.specs.declared.ids.Fp.{Fp}
-use Rattle.cd_base.specs.declared.place.Place.{Place}
-use Rattle.cd_edges.specs.declared.area.Area.TheVariants.{Journal, Shares, Recipes}
-use Rattle.cd_edges.specs.Disk.{Cloud, Store, Image, IsOutside, MayLeave}
-use Rattle.container_log.specs.Laying.{Placed, IsAt}
-use Rattle.container_log.specs.Places.{place_of, end_after}
-use Rattle.file_index.specs.declared.key.Entry.{Entry}
-use Rattle.file_index.specs.declared.key.FileKey.{FileKey}
-use Rattle.user_dedup.specs.Strings.{fingerprint}
+use Rattle.compact_lists.specs.CdBase.ids.Fp.{Fp}
+use Rattle.compact_lists.specs.CdBase.place.Place.{Place}
+use Rattle.fresh_checkpoints.specs.CdEdges.area.Area.TheVariants.{Journal, Shares, Recipes}
+use Rattle.fresh_checkpoints.specs.CdEdges.Disk.{Cloud, Store, Image, IsOutside, MayLeave}
+use Rattle.record_laws.specs.ContainerLog.Laying.{Placed, IsAt}
+use Rattle.record_laws.specs.ContainerLog.Places.{place_of, end_after}
+use Rattle.record_laws.specs.FileIndex.key.Entry.{Entry}
+use Rattle.record_laws.specs.FileIndex.key.FileKey.{FileKey}
+use Rattle.compact_lists.specs.UserDedup.Strings.{fingerprint}
 use Rattle.open_store.specs.declared.store.OpenStore.{OpenStore}
 use Rattle.blob_copy.specs.Answers.{bytes_at}
 use Rattle.blob_copy.specs.Copying.{copies_start, shares_so_far, entries_so_far}

@@ -1,30 +1,30 @@
 -- A store that copies what is alive to the other region.
 use Rattle.std.specs.Prelude.{◌≡◌, ◌⊎◌, ℕ, List, [], take, All, Some}
 use Rattle.std.specs.List.{Contains}
-use Rattle.cd_base.specs.declared.ids.Fp.{Fp}
-use Rattle.cd_base.specs.declared.place.Place.{Place}
-use Rattle.cd_edges.specs.declared.area.Area.TheVariants.{Shares, Recipes}
-use Rattle.cd_edges.specs.Disk.{Cloud, Image, reads}
-use Rattle.container_log.specs.Laying.{IsAt}
-use Rattle.container_log.specs.Places.{end_of_laid}
-use Rattle.container_log.specs.States.{HasStaged, Agrees}
-use Rattle.file_index.specs.declared.key.Entry.{Entry}
-use Rattle.file_index.specs.declared.key.FileKey.{FileKey}
-use Rattle.journal_start.specs.declared.start.Header.{Header}
-use Rattle.user_dedup.specs.declared.command.Command.{Command}
-use Rattle.user_dedup.specs.declared.file_list.FileEntry.{FileEntry}
-use Rattle.user_dedup.specs.Cloud.{counted, user_view}
-use Rattle.user_dedup.specs.Compact.{compact}
-use Rattle.user_dedup.specs.Pages.{entry_at}
-use Rattle.user_dedup.specs.Spending.{IsWithin}
-use Rattle.cloud_areas.specs.Chains.{laid_shares}
-use Rattle.cloud_areas.specs.Placing.{region_start}
-use Rattle.cloud_areas.specs.Standing.{Chain, region_in, StandsFor}
-use Rattle.cloud_disk.specs.Disk.{IsRead}
-use Rattle.cloud_memory.specs.Memory.{Remembers, IsPlacedBy, HasEnds, Stand}
-use Rattle.cloud_memory.specs.Rooms.{memory_of}
-use Rattle.compact_memories.specs.Kept.{live_in, live_places, entries_in, live_entries}
-use Rattle.compact_memories.specs.Moved.{other_region, new_places, lens_of, new_entries, entry_lens}
+use Rattle.compact_lists.specs.CdBase.ids.Fp.{Fp}
+use Rattle.compact_lists.specs.CdBase.place.Place.{Place}
+use Rattle.fresh_checkpoints.specs.CdEdges.area.Area.TheVariants.{Shares, Recipes}
+use Rattle.fresh_checkpoints.specs.CdEdges.Disk.{Cloud, Image, reads}
+use Rattle.record_laws.specs.ContainerLog.Laying.{IsAt}
+use Rattle.record_laws.specs.ContainerLog.Places.{end_of_laid}
+use Rattle.record_laws.specs.ContainerLog.States.{HasStaged, Agrees}
+use Rattle.record_laws.specs.FileIndex.key.Entry.{Entry}
+use Rattle.record_laws.specs.FileIndex.key.FileKey.{FileKey}
+use Rattle.compact_lists.specs.JournalStart.start.Header.{Header}
+use Rattle.compact_lists.specs.UserDedup.command.Command.{Command}
+use Rattle.compact_lists.specs.UserDedup.file_list.FileEntry.{FileEntry}
+use Rattle.compact_lists.specs.UserDedup.Cloud.{counted, user_view}
+use Rattle.compact_lists.specs.UserDedup.Compact.{compact}
+use Rattle.compact_lists.specs.UserDedup.Pages.{entry_at}
+use Rattle.compact_lists.specs.UserDedup.Spending.{IsWithin}
+use Rattle.fresh_checkpoints.specs.CloudAreas.Chains.{laid_shares}
+use Rattle.fresh_checkpoints.specs.CloudAreas.Placing.{region_start}
+use Rattle.fresh_checkpoints.specs.CloudAreas.Standing.{Chain, region_in, StandsFor}
+use Rattle.fresh_checkpoints.specs.CloudDisk.Disk.{IsRead}
+use Rattle.fresh_checkpoints.specs.CloudMemory.Memory.{Remembers, IsPlacedBy, HasEnds, Stand}
+use Rattle.fresh_checkpoints.specs.CloudMemory.Rooms.{memory_of}
+use Rattle.fresh_checkpoints.specs.CompactMemories.Kept.{live_in, live_places, entries_in, live_entries}
+use Rattle.fresh_checkpoints.specs.CompactMemories.Moved.{other_region, new_places, lens_of, new_entries, entry_lens}
 use Rattle.open_store.specs.declared.store.OpenStore.{OpenStore}
 use Rattle.blob_copy.specs.declared.copying.Copying.{Copying}
 
@@ -55,7 +55,7 @@ abbrev pub copies_start : OpenStore → ℕ
 copies_start store = region_start (other_region store.region)
 
 -- Both logs end behind the copies so far, in the other region, and nothing is staged.
-pub record IsLaid (store : OpenStore) (copying : Copying) : Type 0 where
+pub record IsCopyLaid (store : OpenStore) (copying : Copying) : Type 0 where
   pub shares_end : store.disk.shares.end ≡ end_of_laid (copies_start store) (lens_of (shares_so_far store copying))
   pub recipes_end : store.disk.recipes.end ≡ end_of_laid (copies_start store) (entry_lens (entries_so_far store copying))
   pub shares_none : HasStaged store.disk.shares []
@@ -75,7 +75,7 @@ EntriesLie header list area entries = (key : FileKey) (e : Entry) (entry : FileE
 -- The store knows the list, and copies what is alive of it: the copies so far lie in the other region, where both logs end behind them.
 pub record IsCopying (list : List Command) (c : Chain) (store : OpenStore) (copying : Copying) (cloud : Cloud) : Type 0 where
   pub knows : Knows list c store cloud
-  pub laid : IsLaid store copying
+  pub laid : IsCopyLaid store copying
   pub shares_area : store.disk.shares.area ≡ Shares
   pub recipes_area : store.disk.recipes.area ≡ Recipes
   pub shares_agree : Agrees store.disk.shares (cloud.now Shares).read

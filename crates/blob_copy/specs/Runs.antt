@@ -1,17 +1,17 @@
 -- What a copy from one slot on makes of a log and its cloud. No public clause cites this module.
 use Rattle.std.specs.Prelude.{◌≡◌, ◌≢◌, ℕ, ◌+◌, ◌≤◌, Bool, IsTrue, List, [], ◌∷◌, ◌++◌, length, map, take, drop, All, Option}
 use Rattle.std.specs.List.{Contains}
-use Rattle.cd_base.specs.declared.ids.Fp.{Fp}
-use Rattle.cd_edges.specs.declared.area.Area.{Area}
-use Rattle.cd_edges.specs.Disk.{Cloud, LeavesOnly}
-use Rattle.cd_edges.specs.Shelf.{IsCall, Stays, stable}
-use Rattle.cloud_disk.specs.Disk.{Disk}
-use Rattle.container_log.specs.Laying.{Placed, IsAt, laid, placed}
-use Rattle.container_log.specs.Places.{end_of_laid}
-use Rattle.container_log.specs.States.{State, HasStaged, Agrees, IsTorn, staged_end, in_area}
-use Rattle.half_journal.specs.declared.journal.Stage.TheVariants.{Shut}
-use Rattle.user_dedup.specs.Strings.{fingerprint}
-use Rattle.checkpoints.specs.Picking.{picked}
+use Rattle.compact_lists.specs.CdBase.ids.Fp.{Fp}
+use Rattle.fresh_checkpoints.specs.CdEdges.area.Area.{Area}
+use Rattle.fresh_checkpoints.specs.CdEdges.Disk.{Cloud, LeavesOnly}
+use Rattle.fresh_checkpoints.specs.CdEdges.Shelf.{IsCall, Stays, stable}
+use Rattle.fresh_checkpoints.specs.CloudDisk.Disk.{Disk}
+use Rattle.record_laws.specs.ContainerLog.Laying.{Placed, IsAt, laid, placed}
+use Rattle.record_laws.specs.ContainerLog.Places.{end_of_laid}
+use Rattle.record_laws.specs.ContainerLog.States.{State, HasStaged, Agrees, IsTorn, staged_end, in_area}
+use Rattle.open_store.specs.HalfJournal.journal.Stage.TheVariants.{Shut}
+use Rattle.compact_lists.specs.UserDedup.Strings.{fingerprint}
+use Rattle.fresh_checkpoints.specs.Checkpoints.Picking.{picked}
 use Rattle.blob_copy.specs.Answers.{IsRotten}
 use Rattle.blob_copy.specs.Apart.{IsApart}
 use Rattle.blob_copy.specs.Copies.{Blob, found_in}

@@ -1,15 +1,15 @@
 -- What a step makes of a store and its cloud, in one record. No public clause cites this module.
 use Rattle.std.specs.Prelude.{◌≡◌, ◌+◌, ◌<◌, ◌≤◌, Bool, IsTrue, List, length, Result}
-use Rattle.cd_edges.specs.Disk.{Cloud, LeavesOnly, reads}
-use Rattle.cd_edges.specs.Shelf.{Stays}
-use Rattle.user_dedup.specs.declared.command.Command.{Command}
-use Rattle.cloud_areas.specs.Standing.{Chain}
-use Rattle.checkpoints.specs.Settling.{KeepsList}
+use Rattle.fresh_checkpoints.specs.CdEdges.Disk.{Cloud, LeavesOnly, reads}
+use Rattle.fresh_checkpoints.specs.CdEdges.Shelf.{Stays}
+use Rattle.compact_lists.specs.UserDedup.command.Command.{Command}
+use Rattle.fresh_checkpoints.specs.CloudAreas.Standing.{Chain}
+use Rattle.fresh_checkpoints.specs.Checkpoints.Settling.{KeepsList}
 use Rattle.open_store.specs.declared.store.OpenStore.{OpenStore}
 use Rattle.open_store.specs.Store.{IsSettled}
 use Rattle.blob_copy.specs.Answers.{MatchStep, MatchFault, IfRotten, NeverLong, NeverWrong, SomeRotten, stage_after}
 use Rattle.blob_copy.specs.Copies.{HasCopied, KeepsBeside, IsBeside}
-use Rattle.blob_copy.specs.Copying.{IsLaid, IsCopying, shares_so_far, entries_so_far}
+use Rattle.blob_copy.specs.Copying.{IsCopyLaid, IsCopying, shares_so_far, entries_so_far}
 use Rattle.blob_copy.specs.declared.copying.CopyErr.{CopyErr}
 use Rattle.blob_copy.specs.declared.copying.Copying.{Copying}
 
@@ -29,7 +29,7 @@ pub record IsStep (store after : OpenStore) (from to : Copying) (old new : Cloud
       (length (shares_so_far store from) + length (entries_so_far store from) < length (shares_so_far store to) + length (entries_so_far store to))
       (Unit {0}) (to ≡ from) (to ≡ from)
   pub slots : (from.place_slot ≤ to.place_slot) × (from.file_slot ≤ to.file_slot)
-  pub laid : MatchFault result (Unit {0}) (IsLaid after to)
+  pub laid : MatchFault result (Unit {0}) (IsCopyLaid after to)
   pub rotten : IsTrue old.told → IfRotten result (SomeRotten store.memory (reads old.now))
   pub same : after ≡ record store { disk = after.disk }
   pub settled : IsSettled after

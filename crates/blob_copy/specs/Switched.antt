@@ -1,13 +1,13 @@
 -- What a switch to copies needs, and rows within the rooms.
 use Rattle.std.specs.Prelude.{◌≡◌, ℕ, ◌≤◌, Result, Ok, Err}
-use Rattle.half_journal.specs.declared.journal.Stage.TheVariants.{AtEnd}
-use Rattle.journal_start.specs.Ranges.{IsHeader}
-use Rattle.journal_start.specs.declared.rooms.Rooms.{Rooms}
-use Rattle.spent_table.specs.declared.Spent.{Spent}
-use Rattle.cloud_memory.specs.Fitting.{FitsRecords}
-use Rattle.cloud_memory.specs.Rooms.{memory_of, HasRooms}
-use Rattle.checkpoints.specs.CloudDisk.Disk.{regions_end}
-use Rattle.store_opening.specs.Spared.{IsFor}
+use Rattle.open_store.specs.HalfJournal.journal.Stage.TheVariants.{AtEnd}
+use Rattle.compact_lists.specs.JournalStart.Ranges.{IsHeader}
+use Rattle.compact_lists.specs.JournalStart.rooms.UserRooms.{UserRooms}
+use Rattle.record_laws.specs.SpentTable.Spent.{Spent}
+use Rattle.fresh_checkpoints.specs.CloudMemory.Fitting.{FitsRecords}
+use Rattle.fresh_checkpoints.specs.CloudMemory.Rooms.{memory_of, HasRooms}
+use Rattle.fresh_checkpoints.specs.Checkpoints.CloudDisk.Disk.{regions_end}
+use Rattle.open_store.specs.StoreOpening.Spared.{IsFor}
 use Rattle.open_store.specs.declared.store.OpenStore.{OpenStore}
 use Rattle.blob_copy.specs.declared.copying.CopyErr.{CopyErr}
 use Rattle.blob_copy.specs.declared.copying.CopyErr.TheVariants as why
@@ -20,7 +20,7 @@ OnLong (Err (why.Rotten named found)) P = Unit {0}
 OnLong (Err why.Long) P = P
 
 -- a row is within a user's rooms
-abbrev pub IsRowWithin : Rooms → Spent → Type 0
+abbrev pub IsRowWithin : UserRooms → Spent → Type 0
 IsRowWithin rooms row = (row.owners ≤ rooms.owners) × (row.shares ≤ rooms.shares) × (row.recipes ≤ rooms.recipes)
 
 -- The memory of an open store was moved to this region, and nothing else of it has changed.

@@ -1,6 +1,6 @@
 //! How far a copy is, and why it doesn't go on.
 
-use cd_base::Fp;
+use compact_lists::Fp;
 
 /// How many slots of the memory's tables were gone over: of places and of entries. The copies lie in the other region, one
 /// behind another, in the order of the slots.

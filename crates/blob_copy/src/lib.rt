@@ -8,7 +8,9 @@ mod staging;
 mod steps;
 mod switching;
 
-pub use compact_memories::Reclaimed;
 pub use copying::{CopyErr, Copying};
+pub use fresh_checkpoints::{
+    FindErr, Found, Reclaimed, WINDOW, find, law_of_headers, law_of_peers,
+};
 pub use steps::{forget, start, step, sum};
 pub use switching::switch;

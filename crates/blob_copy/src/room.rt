@@ -2,17 +2,16 @@
 
 ghost use Rattle.std.specs.Prelude.{◌≡◌, ◌↔◌, ◌≤◌, ◌+◌, ◌*◌, length, IsTrue};
 ghost use Rattle.std.specs.List.{sum_by};
-ghost use Rattle.spent_table.specs.declared.Spent.{Spent as Row};
-ghost use Rattle.cloud_areas.specs.Chains.{least_shares, least_recipes};
-ghost use Rattle.cloud_areas.specs.Placing.{region_start};
-ghost use Rattle.cloud_memory.specs.Rooms.{memory_of};
-ghost use Rattle.store_opening.specs.Roomy.{SpendWithin, IsRoomy};
+ghost use Rattle.record_laws.specs.SpentTable.Spent.{Spent as Row};
+ghost use Rattle.fresh_checkpoints.specs.CloudAreas.Chains.{least_shares, least_recipes};
+ghost use Rattle.fresh_checkpoints.specs.CloudAreas.Placing.{region_start};
+ghost use Rattle.fresh_checkpoints.specs.CloudMemory.Rooms.{memory_of};
+ghost use Rattle.open_store.specs.StoreOpening.Roomy.{SpendWithin, IsRoomy};
 ghost use Rattle.blob_copy.specs.Switched.{IsRowWithin};
 
-use cd_base::UserId;
-use cloud_memory::CloudMemory;
-use journal_start::Rooms;
-use spent_table::Spent;
+use compact_lists::{UserId, UserRooms};
+use fresh_checkpoints::CloudMemory;
+use record_laws::Spent;
 
 // The bytes of a region of an area of blobs.
 const REGION: u64 = 34_359_738_368;
@@ -23,14 +22,14 @@ const LEAST_SHARES: u64 = 8_589_934_592;
 const LEAST_RECIPES: u64 = 1_073_741_824;
 
 // Whether a row is within a user's rooms.
-fn is_row_within(row: Spent, rooms: &Rooms) -> bool
+fn is_row_within(row: Spent, rooms: &UserRooms) -> bool
     ensures { IsTrue result ↔ IsRowWithin rooms.now row }
 {
     row.owners <= rooms.owners && row.shares <= rooms.shares && row.recipes <= rooms.recipes
 }
 
 // Whether nobody has spent more than it may.
-fn are_rows_within(memory: &CloudMemory, rooms: &Rooms) -> bool
+fn are_rows_within(memory: &CloudMemory, rooms: &UserRooms) -> bool
     requires { length memory.now.spent ≡ rooms.now.users }
     ensures { IsTrue result ↔ SpendWithin rooms.now memory.now.spent }
 {
@@ -71,7 +70,7 @@ fn recipes_fit(memory: &CloudMemory, region: u8) -> bool
 }
 
 /// Whether nobody has spent more than it may, and both logs end within what was spent.
-pub(crate) fn is_roomy(memory: &CloudMemory, rooms: &Rooms, region: u8) -> bool
+pub(crate) fn is_roomy(memory: &CloudMemory, rooms: &UserRooms, region: u8) -> bool
     requires { length memory.now.spent ≡ rooms.now.users }
     ensures { IsTrue result ↔ IsRoomy rooms.now region (memory_of memory.now) }
 {

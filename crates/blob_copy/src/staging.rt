@@ -1,26 +1,25 @@
 //! One blob after another, read, hashed and staged, and then written.
 
 ghost use Rattle.std.specs.Prelude.{◌≡◌, ◌≤◌, ◌<◌, [], ◌∷◌, length, map, take, slice_index_or, IsTrue, IfSome, IfNone, Option};
-ghost use Rattle.cd_base.specs.Limits.{recipe_limit};
-ghost use Rattle.cd_edges.specs.Shelf.{HasFailed, KeepsCounts, IsCall, Stays};
-ghost use Rattle.container_log.specs.Places.{container_len, end_after};
-ghost use Rattle.container_log.specs.States.{HasStaged, need_of, staged_end, without_staged, in_area};
-ghost use Rattle.file_index.specs.declared.key.Entry.{Entry};
-ghost use Rattle.file_index.specs.declared.key.FileKey.{FileKey};
-ghost use Rattle.user_dedup.specs.Strings.{fingerprint};
-ghost use Rattle.cloud_memory.specs.Fitting.{AreShares, AreShort};
-ghost use Rattle.checkpoints.specs.Picking.{onto};
-ghost use Rattle.compact_memories.specs.Kept.{live_at, live_in, live_places, entries_in, live_entries};
+ghost use Rattle.compact_lists.specs.CdBase.Limits.{recipe_limit};
+ghost use Rattle.fresh_checkpoints.specs.CdEdges.Shelf.{HasFailed, KeepsCounts, IsCall, Stays};
+ghost use Rattle.record_laws.specs.ContainerLog.Places.{container_len, end_after};
+ghost use Rattle.record_laws.specs.ContainerLog.States.{HasStaged, need_of, staged_end, without_staged, in_area};
+ghost use Rattle.record_laws.specs.FileIndex.key.Entry.{Entry};
+ghost use Rattle.record_laws.specs.FileIndex.key.FileKey.{FileKey};
+ghost use Rattle.compact_lists.specs.UserDedup.Strings.{fingerprint};
+ghost use Rattle.fresh_checkpoints.specs.CloudMemory.Fitting.{AreShares, AreShort};
+ghost use Rattle.fresh_checkpoints.specs.Checkpoints.Picking.{onto};
+ghost use Rattle.fresh_checkpoints.specs.CompactMemories.Kept.{live_at, live_in, live_places, entries_in, live_entries};
 ghost use Rattle.blob_copy.specs.Answers.{MatchFault, MatchCopy, EitherWay, IsRotten, bytes_at};
 ghost use Rattle.blob_copy.specs.Copies.{share_blob, entry_blob};
 ghost use Rattle.blob_copy.specs.Runs.{IsReadAs, StagesMore, StagesSome, HasRotten, OnlyReads, all_end};
 ghost use Rattle.blob_copy.specs.Runs.{CopiesTo, MayTear};
 
 use crate::CopyErr;
-use cd_base::{CloudNo, Fp, sha256};
-use cd_edges::{Failed, Shelf};
-use cloud_memory::CloudMemory;
-use container_log::Log;
+use compact_lists::{CloudNo, Fp, sha256};
+use fresh_checkpoints::{CloudMemory, Failed, Shelf};
+use record_laws::Log;
 
 // The fingerprint of what was found, where it is short or has another than was named.
 fn wrong_in(there: &[u8], len: usize, named: &Fp) -> Option<Fp>

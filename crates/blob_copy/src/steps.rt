@@ -1,19 +1,19 @@
 //! Copies of what is alive, a container after another.
 
 ghost use Rattle.std.specs.Prelude.{◌≡◌, ◌≢◌, ◌≤◌, ◌<◌, ◌+◌, false, List, [], length, take, IsTrue, Option};
-ghost use Rattle.cd_base.specs.Limits.{recipe_limit};
-ghost use Rattle.cd_edges.specs.Disk.{Cloud, LeavesOnly, reads};
-ghost use Rattle.cd_edges.specs.Shelf.{IsCall, HasFailed, KeepsCounts, Stays};
-ghost use Rattle.container_log.specs.States.{HasStaged, in_area};
-ghost use Rattle.file_index.specs.declared.key.Entry.{Entry};
-ghost use Rattle.file_index.specs.declared.key.FileKey.{FileKey};
-ghost use Rattle.user_dedup.specs.declared.command.Command.{Command};
-ghost use Rattle.cloud_areas.specs.Standing.{Chain};
-ghost use Rattle.checkpoints.specs.Settling.{KeepsList};
-ghost use Rattle.cloud_memory.specs.Fitting.{AreShares, AreShort};
-ghost use Rattle.cloud_memory.specs.Live.{IsEachLive};
-ghost use Rattle.pool_map.specs.Slots.{IsListed};
-ghost use Rattle.compact_memories.specs.Kept.{live_sum, live_at, live_in, live_places, entries_in, live_entries};
+ghost use Rattle.compact_lists.specs.CdBase.Limits.{recipe_limit};
+ghost use Rattle.fresh_checkpoints.specs.CdEdges.Disk.{Cloud, LeavesOnly, reads};
+ghost use Rattle.fresh_checkpoints.specs.CdEdges.Shelf.{IsCall, HasFailed, KeepsCounts, Stays};
+ghost use Rattle.record_laws.specs.ContainerLog.States.{HasStaged, in_area};
+ghost use Rattle.record_laws.specs.FileIndex.key.Entry.{Entry};
+ghost use Rattle.record_laws.specs.FileIndex.key.FileKey.{FileKey};
+ghost use Rattle.compact_lists.specs.UserDedup.command.Command.{Command};
+ghost use Rattle.fresh_checkpoints.specs.CloudAreas.Standing.{Chain};
+ghost use Rattle.fresh_checkpoints.specs.Checkpoints.Settling.{KeepsList};
+ghost use Rattle.fresh_checkpoints.specs.CloudMemory.Fitting.{AreShares, AreShort};
+ghost use Rattle.fresh_checkpoints.specs.CloudMemory.Live.{IsEachLive};
+ghost use Rattle.record_laws.specs.PoolMap.Slots.{IsListed};
+ghost use Rattle.fresh_checkpoints.specs.CompactMemories.Kept.{live_sum, live_at, live_in, live_places, entries_in, live_entries};
 ghost use Rattle.open_store.specs.Adding.{NoneStaged};
 ghost use Rattle.open_store.specs.Store.{IsOpen, IsSettled, EndsMeet, Serves};
 ghost use Rattle.blob_copy.specs.Answers.{MatchStep, MatchCopy, IfRotten, MatchFault, NeverLong, NeverWrong};
@@ -21,16 +21,13 @@ ghost use Rattle.blob_copy.specs.Answers.{EitherWay, SomeRotten, stage_after};
 ghost use Rattle.blob_copy.specs.Copies.{HasCopied, KeepsBeside, IsBeside, share_blob, entry_blob};
 ghost use Rattle.blob_copy.specs.Runs.{HasRotten, CopiesTo, MayTear, all_end, behind_error};
 ghost use Rattle.blob_copy.specs.Steps.{IsStep};
-ghost use Rattle.blob_copy.specs.Copying.{IsLaid, IsCopying, AreAllCopied, shares_so_far, entries_so_far};
+ghost use Rattle.blob_copy.specs.Copying.{IsCopyLaid, IsCopying, AreAllCopied, shares_so_far, entries_so_far};
 ghost use Rattle.blob_copy.specs.declared.copying.Copying.{Copying as Progress};
 
 use crate::staging::{copy_recipes, copy_shares};
 use crate::{CopyErr, Copying};
-use cd_base::CloudNo;
-use cd_edges::Shelf;
-use cloud_disk::CloudDisk;
-use cloud_memory::CloudMemory;
-use compact_memories::{Reclaimed, live_sum};
+use compact_lists::CloudNo;
+use fresh_checkpoints::{CloudDisk, CloudMemory, Reclaimed, Shelf, live_sum};
 use open_store::OpenStore;
 
 // The bytes of a region of an area of blobs.
@@ -44,7 +41,7 @@ pub fn start(store: &mut OpenStore) -> Copying
     ensures copying { (list : List Command) (c : Chain) (cloud : Cloud) → Serves list c store.old cloud
         → IsCopying list c store.new result cloud }
     ensures none { (result.place_slot ≡ 0) × (result.file_slot ≡ 0) }
-    ensures laid { IsLaid store.new result }
+    ensures laid { IsCopyLaid store.new result }
     ensures same { store.new ≡ record store.old { disk = store.new.disk } }
     ensures journal { store.new.disk.journal ≡ store.old.disk.journal }
     ensures settled { IsSettled store.new }
@@ -198,7 +195,7 @@ fn step_shares<V: Shelf>(
 ) -> Result<bool, CopyErr>
     requires settled { IsSettled store.old }
     requires open { IsOpen store.old }
-    requires laid { IsLaid store.old copying.old }
+    requires laid { IsCopyLaid store.old copying.old }
     requires buffer { recipe_limit ≤ length buffer.old }
     requires some { length (shares_so_far store.old copying.old) < length (live_places store.old.memory) }
     requires each { IsEachLive store.old.memory.shares }
@@ -243,7 +240,7 @@ fn step_recipes<V: Shelf>(
 ) -> Result<bool, CopyErr>
     requires settled { IsSettled store.old }
     requires open { IsOpen store.old }
-    requires laid { IsLaid store.old copying.old }
+    requires laid { IsCopyLaid store.old copying.old }
     requires buffer { recipe_limit ≤ length buffer.old }
     requires some { length (entries_so_far store.old copying.old) < length (live_entries store.old.memory) }
     requires each { IsListed store.old.memory.files.files store.old.memory.files.slots }
@@ -295,7 +292,7 @@ pub fn step<V: Shelf>(
 ) -> Result<bool, CopyErr>
     requires settled { IsSettled store.old }
     requires open { IsOpen store.old }
-    requires laid { IsLaid store.old copying.old }
+    requires laid { IsCopyLaid store.old copying.old }
     requires buffer { recipe_limit ≤ length buffer.old }
 
     // for each list that the store knows
@@ -334,7 +331,7 @@ pub fn step<V: Shelf>(
         (copying.new ≡ copying.old) (copying.new ≡ copying.old) }
     ensures slots { (copying.old.place_slot ≤ copying.new.place_slot)
         × (copying.old.file_slot ≤ copying.new.file_slot) }
-    ensures laid { MatchFault result (Unit {0}) (IsLaid store.new copying.new) }
+    ensures laid { MatchFault result (Unit {0}) (IsCopyLaid store.new copying.new) }
     ensures rotten { IsTrue (V.cloud_at shelf.old store.old.header.cloud.0).told
         → IfRotten result (SomeRotten store.old.memory (reads (V.cloud_at shelf.old store.old.header.cloud.0).now)) }
     ensures same { store.new ≡ record store.old { disk = store.new.disk } }

@@ -1,35 +1,33 @@
 //! The switch to the copies.
 
 ghost use Rattle.std.specs.Prelude.{◌≡◌, List, length, OnOk, OnErr};
-ghost use Rattle.cd_edges.specs.Disk.{LeavesOnly};
-ghost use Rattle.cd_edges.specs.Shelf.{IsCall, HasFailed, KeepsCounts};
-ghost use Rattle.half_journal.specs.Leaving.{OthersStay};
-ghost use Rattle.half_journal.specs.declared.journal.Stage.TheVariants.{Shut};
-ghost use Rattle.user_dedup.specs.declared.command.Command.{Command};
-ghost use Rattle.user_dedup.specs.Compact.{compact};
-ghost use Rattle.cloud_areas.specs.Standing.{Chain};
-ghost use Rattle.cloud_disk.specs.Disk.{IsRead};
-ghost use Rattle.cloud_memory.specs.Rooms.{memory_of};
-ghost use Rattle.checkpoints.specs.Known.{AreListed, checkpoint_in};
-ghost use Rattle.checkpoints.specs.Laying.{KeepsOrSettles, HasSettled};
-ghost use Rattle.checkpoints.specs.Records.{records_of};
-ghost use Rattle.compact_memories.specs.Kept.{commands_in};
-ghost use Rattle.compact_memories.specs.Moved.{IsMoved, other_region};
+ghost use Rattle.fresh_checkpoints.specs.CdEdges.Disk.{LeavesOnly};
+ghost use Rattle.fresh_checkpoints.specs.CdEdges.Shelf.{IsCall, HasFailed, KeepsCounts};
+ghost use Rattle.open_store.specs.HalfJournal.Leaving.{OthersStay};
+ghost use Rattle.open_store.specs.HalfJournal.journal.Stage.TheVariants.{Shut};
+ghost use Rattle.compact_lists.specs.UserDedup.command.Command.{Command};
+ghost use Rattle.compact_lists.specs.UserDedup.Compact.{compact};
+ghost use Rattle.fresh_checkpoints.specs.CloudAreas.Standing.{Chain};
+ghost use Rattle.fresh_checkpoints.specs.CloudDisk.Disk.{IsRead};
+ghost use Rattle.fresh_checkpoints.specs.CloudMemory.Rooms.{memory_of};
+ghost use Rattle.fresh_checkpoints.specs.Checkpoints.Known.{AreListed, checkpoint_in};
+ghost use Rattle.fresh_checkpoints.specs.Checkpoints.Laying.{KeepsOrSettles, HasSettled};
+ghost use Rattle.fresh_checkpoints.specs.Checkpoints.Records.{records_of};
+ghost use Rattle.fresh_checkpoints.specs.CompactMemories.Kept.{commands_in};
+ghost use Rattle.fresh_checkpoints.specs.CompactMemories.Moved.{IsMoved, other_region};
 ghost use Rattle.fresh_checkpoints.specs.Fresh.{IsNextMemory};
 ghost use Rattle.fresh_checkpoints.specs.Switching.{StandsForOneOf};
-ghost use Rattle.store_opening.specs.Roomy.{IsRoomy};
+ghost use Rattle.open_store.specs.StoreOpening.Roomy.{IsRoomy};
 ghost use Rattle.open_store.specs.Store.{IsOpen, IsSettled, EndsMeet, ServesSome};
 ghost use Rattle.blob_copy.specs.Answers.{IfRotten, MatchFault, NeverWrong};
-ghost use Rattle.blob_copy.specs.Copying.{IsLaid, IsCopying, AreAllCopied, StandsForKept};
+ghost use Rattle.blob_copy.specs.Copying.{IsCopyLaid, IsCopying, AreAllCopied, StandsForKept};
 ghost use Rattle.blob_copy.specs.Switched.{OnLong, IsMovedTo};
 
 use crate::room::is_roomy;
 use crate::{CopyErr, Copying};
-use cd_edges::Shelf;
-use cloud_memory::CloudMemory;
-use compact_memories::laws::law_of_moved_fits;
-use compact_memories::{commands_of_compact, make_moved};
-use fresh_checkpoints::{NextList, lay_fresh};
+use fresh_checkpoints::{
+    CloudMemory, NextList, Shelf, commands_of_compact, law_of_moved_fits, lay_fresh, make_moved,
+};
 use open_store::OpenStore;
 
 // The slots of a memory's tables list what they have.
@@ -125,7 +123,7 @@ pub fn switch<V: Shelf>(
 ) -> Result<(), CopyErr>
     requires settled { IsSettled store.old }
     requires open { IsOpen store.old }
-    requires laid { IsLaid store.old copying.now }
+    requires laid { IsCopyLaid store.old copying.now }
     requires all { AreAllCopied store.old copying.now }
 
     // for each list that the store knows

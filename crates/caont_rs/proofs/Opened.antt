@@ -11,9 +11,9 @@ use Rattle.std.proofs.Math.Seq.{get_or-append_right}
 use Rattle.std.proofs.lemmas.List.{take_at, drop_at, length-replicate, get_or-drop}
 use Rattle.std.proofs.lemmas.Nat.{xor_lt}
 use Rattle.std.proofs.lemmas.Simd.{length-zip2}
-use Rattle.cd_base.specs.declared.shape.Shape.{Shape}
-use Rattle.cd_base.specs.Lengths.{share_len_of}
-use Rattle.cd_base.specs.Reading.{AreBytes}
+use Rattle.reed_solomon.specs.CdBase.shape.Shape.{Shape}
+use Rattle.reed_solomon.specs.CdBase.Lengths.{share_len_of}
+use Rattle.reed_solomon.specs.CdBase.Reading.{AreBytes}
 use Rattle.sha2.specs.Sha256.{sha256, digest_bytes}
 use Rattle.sha2.proofs.Facts256.{length-sha256}
 use Rattle.aes256.specs.Cipher.{added}

@@ -7,10 +7,10 @@ use Rattle.reed_solomon.proofs.Rows.{place_below}
 use Rattle.std.proofs.lemmas.List.FromFn.{length-range_with_len, get_or-map-range_with_len}
 use Rattle.std.proofs.lemmas.Nat.{xor_lt, mod-mul-add, div-mul-add}
 use Rattle.std.specs.List.{range_with_len}
-use Rattle.cd_base.specs.declared.shape.Shape.{Shape}
+use Rattle.reed_solomon.specs.CdBase.shape.Shape.{Shape}
 use Rattle.sha2.specs.Sha256.{sha256}
-use Rattle.gf256.specs.Field.{product}
-use Rattle.gf256.proofs.Laws.{product_lt}
+use Rattle.aes256.specs.Gf256.Field.{product}
+use Rattle.aes256.proofs.Gf256.Laws.{product_lt}
 use Rattle.aes256.specs.Cipher.{added}
 use Rattle.reed_solomon.specs.Interpolation.{combine, interpolant, column_value}
 use Rattle.reed_solomon.specs.Dispersal.{AreChoice, row, share_of}

@@ -1,8 +1,8 @@
 -- Packages and their shares.
 use Rattle.std.proofs.Common.{◌≡◌, ℕ, ◌+◌, ◌-◌, ◌*◌, ◌/◌, ◌<◌, List, ◌++◌, length, take, replicate, sym, ap, ◌∙◌, arith}
 use Rattle.std.proofs.lemmas.List.{take_at}
-use Rattle.cd_base.specs.declared.shape.Shape.{Shape}
-use Rattle.cd_base.specs.Lengths.{share_len_of}
+use Rattle.reed_solomon.specs.CdBase.shape.Shape.{Shape}
+use Rattle.reed_solomon.specs.CdBase.Lengths.{share_len_of}
 use Rattle.sha2.specs.Sha256.{sha256}
 use Rattle.aes256.specs.Cipher.{added}
 use Rattle.reed_solomon.specs.Dispersal.{row, share_of}

@@ -1,2 +1,3 @@
-pub mod Package
 pub mod Opening
+pub mod Package
+pub mod ReedSolomon

@@ -2,9 +2,9 @@
 //! definitions.
 
 ghost use Rattle.std.specs.Prelude.{◌≡◌, ◌≢◌, ◌↔◌, ℕ, List, ◌+◌, ◌*◌, ◌/◌, ◌<◌, ◌≤◌, length, take, slice_index, All};
-ghost use Rattle.cd_base.specs.declared.shape.Shape.{Shape};
-ghost use Rattle.cd_base.specs.Lengths.{share_len_of};
-ghost use Rattle.cd_base.specs.Limits.{IsPath};
+ghost use Rattle.reed_solomon.specs.CdBase.shape.Shape.{Shape};
+ghost use Rattle.reed_solomon.specs.CdBase.Lengths.{share_len_of};
+ghost use Rattle.reed_solomon.specs.CdBase.Limits.{IsPath};
 ghost use Rattle.sha2.specs.Sha256.{sha256};
 ghost use Rattle.reed_solomon.specs.Dispersal.{AreChoice, row, share_of};
 ghost use Rattle.caont_rs.specs.Package.{padded, pad_len, package_of, share};

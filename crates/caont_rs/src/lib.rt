@@ -12,6 +12,10 @@ mod names;
 mod opening;
 mod sealing;
 
+pub use aes256::{Key, block, inv, mask, mul, mul_into, pow};
 pub use names::{name_package, name_share, tag_of};
 pub use opening::{RecoverErr, recover};
+pub use reed_solomon::{
+    Bytes, CloudNo, Coder, Ends, Fp, NoMemory, Shape, are_choice, is_path, sha256, share_len,
+};
 pub use sealing::disperse;

@@ -1,11 +1,11 @@
 //! The names of files: a path goes through the same dispersal as a secret.
 
 ghost use Rattle.std.specs.Prelude.{◌≡◌, ◌<◌, ◌++◌, length, OnOk, OnErr, IfOk};
-ghost use Rattle.cd_base.specs.Limits.{IsPath};
+ghost use Rattle.reed_solomon.specs.CdBase.Limits.{IsPath};
 ghost use Rattle.caont_rs.specs.Package.{package_of, share, tag};
 
 use crate::sealing::{disperse, seal};
-use cd_base::{Bytes, CloudNo, NoMemory, Shape, Tag, sha256, share_len};
+use reed_solomon::{Bytes, CloudNo, NoMemory, Shape, Tag, sha256, share_len};
 use std::alloc::Global;
 
 /// Appends the name package of a path: the package of its bytes. For want of memory `out` is as before.

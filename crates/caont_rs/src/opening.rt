@@ -1,8 +1,8 @@
 //! From shares back to a secret.
 
 ghost use Rattle.std.specs.Prelude.{◌≡◌, ℕ, List, ◌+◌, ◌-◌, ◌*◌, ◌/◌, ◌<◌, ◌≤◌, ◌^◌, ◌++◌, ◌≢◌, ◌==◌, not, length, take, drop, position, OnOk, OnErr, IfErr, IfSome};
-ghost use Rattle.cd_base.specs.Lengths.{share_len_of};
-ghost use Rattle.cd_base.specs.Limits.{secret_limit};
+ghost use Rattle.reed_solomon.specs.CdBase.Lengths.{share_len_of};
+ghost use Rattle.reed_solomon.specs.CdBase.Limits.{secret_limit};
 ghost use Rattle.sha2.specs.Sha256.{sha256 as sha256_of};
 ghost use Rattle.aes256.specs.Cipher.{added};
 ghost use Rattle.reed_solomon.specs.Dispersal.{AreChoice};
@@ -11,8 +11,7 @@ ghost use Rattle.caont_rs.specs.Opening.{package_at, opened_package, opened_text
 
 use crate::sealing::sum;
 use aes256::mask::xor_mask;
-use cd_base::{Bytes, Fp, NoMemory, Shape, sha256};
-use reed_solomon::Coder;
+use reed_solomon::{Bytes, Coder, Fp, NoMemory, Shape, sha256};
 
 /// Why shares give no secret.
 #[derive(Clone, Copy, Debug, PartialEq, Eq)]

@@ -1,16 +1,15 @@
 //! From a secret to its shares.
 
 ghost use Rattle.std.specs.Prelude.{◌≡◌, ℕ, ◌+◌, ◌-◌, ◌*◌, ◌/◌, ◌<◌, ◌≤◌, ◌++◌, length, replicate, take, drop, OnOk, OnErr};
-ghost use Rattle.cd_base.specs.Lengths.{share_len_of};
-ghost use Rattle.cd_base.specs.Limits.{secret_limit};
+ghost use Rattle.reed_solomon.specs.CdBase.Lengths.{share_len_of};
+ghost use Rattle.reed_solomon.specs.CdBase.Limits.{secret_limit};
 ghost use Rattle.sha2.specs.Sha256.{sha256 as sha256_of};
 ghost use Rattle.aes256.specs.Cipher.{added};
 ghost use Rattle.reed_solomon.specs.Dispersal.{row};
 ghost use Rattle.caont_rs.specs.Package.{masked, package_of, share};
 
 use aes256::mask::xor_mask;
-use cd_base::{Bytes, NoMemory, Shape, sha256, share_len};
-use reed_solomon::Coder;
+use reed_solomon::{Bytes, Coder, NoMemory, Shape, sha256, share_len};
 use std::simd::prelude::*;
 
 // The sum of two digests.

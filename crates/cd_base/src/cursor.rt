@@ -12,9 +12,9 @@ pub struct Cursor<'a> {
 
 impl<'a> Model for Cursor<'a> {
     ghost use Rattle.std.specs.Prelude.{◌≤◌, length};
-    ghost use Rattle.cd_base.specs.Reading.{Place, AreBytes};
+    ghost use Rattle.cd_base.specs.Reading.{CursorPlace, AreBytes};
 
-    ghost Value = { Place };
+    ghost Value = { CursorPlace };
 
     ghost view = { λ c. record { bytes = c.bytes.now; at = c.taken } };
 

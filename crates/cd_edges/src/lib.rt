@@ -11,6 +11,10 @@ mod whole;
 mod window;
 
 pub use area::Area;
+pub use cd_base::{
+    Bytes, CloudNo, Clouds, Fp, NoMemory, Place, RECIPE_LIMIT, Room, Rooms, Shape, Tag, UserId,
+    Version, is_path, sha256, share_len,
+};
 pub use laws::{law_of_images, law_of_overwriting, law_of_stable};
 pub use ports::Ports;
 pub use shelf::Shelf;

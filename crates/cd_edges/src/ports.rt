@@ -3,7 +3,7 @@
 ghost use Rattle.std.specs.Prelude.{◌≡◌, ℕ, ◌<◌, length, take, IsTrue, IfOk, OnErr};
 ghost use Rattle.std.specs.Io.{ReadsAtMost, WritesAtMost};
 ghost use Rattle.cd_edges.specs.Causes.{HasCause};
-ghost use Rattle.cd_edges.specs.Ports.{Telling, Opens, Receives, Sent};
+ghost use Rattle.cd_edges.specs.Ports.{Telling, HasOpenedPort, Receives, Sent};
 
 use crate::Failed;
 
@@ -26,14 +26,14 @@ pub trait Ports {
 
     /// Waits for the next connection, and answers the number of its port.
     fn accept(&mut self) -> Result<u32, Failed>
-        ensures opens { IsTrue (tells self.old).told → IfOk result (Opens (tells self.old) (tells self.new)) }
+        ensures opens { IsTrue (tells self.old).told → IfOk result (HasOpenedPort (tells self.old) (tells self.new)) }
         ensures told { (tells self.new).told ≡ (tells self.old).told }
         ensures failed { OnErr result (tells self.new ≡ tells self.old) }
         ensures cause { HasCause (faults self.old) (faults self.new) result };
 
     /// Connects to an address, and answers the number of the new port.
     fn dial(&mut self, addr: &str) -> Result<u32, Failed>
-        ensures opens { IsTrue (tells self.old).told → IfOk result (Opens (tells self.old) (tells self.new)) }
+        ensures opens { IsTrue (tells self.old).told → IfOk result (HasOpenedPort (tells self.old) (tells self.new)) }
         ensures told { (tells self.new).told ≡ (tells self.old).told }
         ensures failed { OnErr result (tells self.new ≡ tells self.old) }
         ensures cause { HasCause (faults self.old) (faults self.new) result };

@@ -2,14 +2,14 @@
 use Rattle.std.proofs.Common.{Bool, Result, Ok, Err, IsErr, OnOk, OnErr, ◌≡◌, ◌≢◌, inl, inr, ⊎_elim, ℕ, ◌-◌, ◌≤◌, List, [], ◌∷◌, ◌++◌, length, sym, ◌∙◌, ap, subst, arith}
 use Rattle.std.proofs.lemmas.Bool.Decides.{nat_tests}
 use Rattle.std.proofs.lemmas.Bool.{false≢true}
-use Rattle.cd_edges.specs.declared.area.Area.{Area}
-use Rattle.cd_edges.specs.Disk.{Store, Areas, IsImage, MayLeave}
-use Rattle.cd_edges.specs.Shelf.{wrote, stable, Changes, IsCutShort, counted_down, arming_of, IsCut, Writes, Syncs, Refreshes}
-use Rattle.cd_edges.proofs.Shrinks.{area_cases}
-use Rattle.cd_edges.proofs.Since.{image_of_wrote}
+use Rattle.mem_disk.specs.CdEdges.area.Area.{Area}
+use Rattle.mem_disk.specs.CdEdges.Disk.{Store, Areas, IsImage, MayLeave}
+use Rattle.mem_disk.specs.CdEdges.Shelf.{wrote, stable, Changes, IsCutShort, counted_down, arming_of, IsCut, Writes, Syncs, Refreshes}
+use Rattle.mem_disk.proofs.CdEdges.Shrinks.{area_cases}
+use Rattle.mem_disk.proofs.CdEdges.Since.{image_of_wrote}
 use Rattle.cd_fakes.specs.declared.cloud.MemCloud.{MemCloud}
 use Rattle.mem_disk.specs.declared.disk.MemDisk.{MemDisk}
-use Rattle.mem_disk.specs.History.{Step, Write, Sync, Empty, Crash, nothing, after, now_of, past_of}
+use Rattle.mem_disk.specs.History.{DiskStep, Write, Sync, Empty, Crash, nothing, after, now_of, past_of}
 use Rattle.mem_disk.specs.StepsImage.{reads_image, nothing_image}
 use Rattle.mem_disk.specs.Crashed.{crashed}
 use Rattle.mem_disk.proofs.Filled.{crashed_image}
@@ -26,12 +26,12 @@ longer store place short long image le left = record {
 }
 
 module _ (m m' : MemCloud) where
-  module _ (step : Step) (more : history_of m'.disk ≡ history_of m.disk ++ step ∷ []) where
+  module _ (step : DiskStep) (more : history_of m'.disk ≡ history_of m.disk ++ step ∷ []) where
     pub now_is : (cloud_of m').now ≡ after (cloud_of m).now step
-    now_is = ap (λ (l : List Step). now_of nothing l) more ∙ now_more nothing (history_of m.disk) step
+    now_is = ap (λ (l : List DiskStep). now_of nothing l) more ∙ now_more nothing (history_of m.disk) step
 
     pub past_is : (cloud_of m').past ≡ (cloud_of m).past ++ (cloud_of m).now ∷ []
-    past_is = ap (λ (l : List Step). past_of nothing l) more ∙ past_more nothing (history_of m.disk) step
+    past_is = ap (λ (l : List DiskStep). past_of nothing l) more ∙ past_more nothing (history_of m.disk) step
 
   pub changes_wrote : (area : Area) (place : ℕ) (bytes : List ℕ) → history_of m'.disk ≡ history_of m.disk ++ Write area place bytes ∷ [] → Changes (cloud_of m) (cloud_of m') area (wrote ((cloud_of m).now area) place bytes)
   changes_wrote area place bytes more =
@@ -70,9 +70,9 @@ module _ (m m' : MemCloud) where
   -- nothing was done
   pub cut_unchanged : (area : Area) (torn : Store) → ((image : List ℕ) → MayLeave ((cloud_of m).now area) image → MayLeave torn image) → history_of m'.disk ≡ history_of m.disk → IsCutShort (cloud_of m) (cloud_of m') area torn
   cut_unchanged area torn less same =
-      let now : (cloud_of m').now ≡ (cloud_of m).now = ap (λ (l : List Step). now_of nothing l) same in
+      let now : (cloud_of m').now ≡ (cloud_of m).now = ap (λ (l : List DiskStep). now_of nothing l) same in
       record {
-        past = inl (ap (λ (l : List Step). past_of nothing l) same);
+        past = inl (ap (λ (l : List DiskStep). past_of nothing l) same);
         still = λ image old. subst (λ (a : Areas). IsImage a image) (sym now) old;
         area = λ image left. less image (subst (λ (a : Areas). MayLeave (a area) image) now left);
         others = λ other ne image left. subst (λ (a : Areas). MayLeave (a other) image) now left;

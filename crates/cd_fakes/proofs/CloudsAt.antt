@@ -2,9 +2,9 @@
 use Rattle.std.proofs.Common.{◌≤◌, Ok, Err, OnOk, OnErr, IfOk, ◌++◌, ◌≡◌, ◌≢◌, ℕ, zero, suc, ◌<◌, List, [], ◌∷◌, length, get_or, set, Some, None, Result, refl, sym, ◌∙◌, ap, subst, arith}
 use Rattle.std.specs.Prelude.{slice_get}
 use Rattle.std.proofs.lemmas.Option.{slice_get_read}
-use Rattle.cd_edges.specs.Causes.{HasCause, Rose}
-use Rattle.cd_edges.specs.Disk.{Cloud}
-use Rattle.cd_edges.specs.Shelf.{IsCall, HasFailed, KeepsCounts}
+use Rattle.mem_disk.specs.CdEdges.Causes.{HasCause, Rose}
+use Rattle.mem_disk.specs.CdEdges.Disk.{Cloud}
+use Rattle.mem_disk.specs.CdEdges.Shelf.{IsCall, HasFailed, KeepsCounts}
 use Rattle.cd_fakes.specs.declared.cloud.MemCloud.{MemCloud}
 use Rattle.cd_fakes.specs.Clouds.{cloud_of}
 use Rattle.cd_fakes.specs.Shelves.{clouds_of, At, AtBoth}

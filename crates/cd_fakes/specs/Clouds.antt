@@ -1,9 +1,9 @@
 -- What is told of the clouds in memory, and what makes their calls fail.
 use Rattle.std.specs.Prelude.{◌≡◌, ◌≢◌, ◌++◌, ℕ, Bool, ◌+◌, ◌<◌, ◌≤◌, false, IsTrue, List, [], ◌∷◌, length, take, min, vec_len, vec_capacity}
-use Rattle.cd_base.specs.declared.ids.CloudNo.{CloudNo}
-use Rattle.cd_edges.specs.declared.area.Area.{Area}
-use Rattle.cd_edges.specs.Disk.{Cloud, IsImage, reads, overwritten}
-use Rattle.cd_edges.specs.Shelf.{arming_of, stable}
+use Rattle.mem_disk.specs.CdBase.ids.CloudNo.{CloudNo}
+use Rattle.mem_disk.specs.CdEdges.area.Area.{Area}
+use Rattle.mem_disk.specs.CdEdges.Disk.{Cloud, IsImage, reads, overwritten}
+use Rattle.mem_disk.specs.CdEdges.Shelf.{arming_of, stable}
 use Rattle.cd_fakes.specs.declared.cloud.MemCloud.{MemCloud}
 use Rattle.mem_disk.specs.declared.disk.MemDisk.{MemDisk}
 use Rattle.cd_fakes.specs.Counts.{counted_up, is_named}
@@ -24,9 +24,9 @@ cloud_of m = record {
 }
 
 -- A call on a cloud fails before it does anything.
-pub data IsRefused (fails : List (CloudNo × ℕ)) (number : ℕ) (m : MemCloud) : Type 0 where
-  Absent : m.is_there ≡ false → IsRefused fails number m
-  Named : IsTrue (is_named fails number (counted_up m.calls)) → IsRefused fails number m
+pub data IsCallRefused (fails : List (CloudNo × ℕ)) (number : ℕ) (m : MemCloud) : Type 0 where
+  Absent : m.is_there ≡ false → IsCallRefused fails number m
+  Named : IsTrue (is_named fails number (counted_up m.calls)) → IsCallRefused fails number m
 
 -- There is no room for a write, or none for its note.
 pub data PutFails (left : ℕ) (m : MemCloud) (area : Area) (place len : ℕ) : Type 0 where
@@ -36,19 +36,19 @@ pub data PutFails (left : ℕ) (m : MemCloud) (area : Area) (place len : ℕ) : 
 
 -- A write fails.
 pub data WriteFails (fails : List (CloudNo × ℕ)) (left number : ℕ) (m : MemCloud) (area : Area) (place len : ℕ) : Type 0 where
-  Refused : IsRefused fails number m → WriteFails fails left number m area place len
+  Refused : IsCallRefused fails number m → WriteFails fails left number m area place len
   Cut : m.cut ≡ 1 → WriteFails fails left number m area place len
   Past : PutFails left m area place len → WriteFails fails left number m area place len
 
 -- A sync fails.
 pub data SyncFails (fails : List (CloudNo × ℕ)) (left number : ℕ) (m : MemCloud) : Type 0 where
-  SyncRefused : IsRefused fails number m → SyncFails fails left number m
+  SyncRefused : IsCallRefused fails number m → SyncFails fails left number m
   SyncCut : m.cut ≡ 1 → SyncFails fails left number m
   SyncPastNotes : left ≡ 0 → SyncFails fails left number m
 
 -- A fresh fails.
 pub data FreshFails (fails : List (CloudNo × ℕ)) (left number : ℕ) (m : MemCloud) : Type 0 where
-  FreshRefused : IsRefused fails number m → FreshFails fails left number m
+  FreshRefused : IsCallRefused fails number m → FreshFails fails left number m
   FreshPastNotes : left ≡ 0 → FreshFails fails left number m
 
 -- There is memory for the notes that are left.
@@ -66,8 +66,8 @@ pub record Puts (old new : MemDisk) (area : Area) (place : ℕ) (bytes : List �
 
 -- What a failed write left: the first bytes of a cut one where there was room for them, or nothing.
 pub data KeepsPart (fails : List (CloudNo × ℕ)) (left later number : ℕ) (old new : MemCloud) (area : Area) (place : ℕ) (bytes : List ℕ) : Type 0 where
-  Kept : old.cut ≡ 1 → ¬ IsRefused fails number old → Puts old.disk new.disk area place (take (min (length bytes) old.keep) bytes) → later + 1 ≡ left → KeepsPart fails left later number old new area place bytes
-  Kept_nothing : (old.cut ≡ 1 → ¬ IsRefused fails number old → PutFails left old area place (min (length bytes) old.keep)) → new.disk ≡ old.disk → later ≡ left → KeepsPart fails left later number old new area place bytes
+  Kept : old.cut ≡ 1 → ¬ IsCallRefused fails number old → Puts old.disk new.disk area place (take (min (length bytes) old.keep) bytes) → later + 1 ≡ left → KeepsPart fails left later number old new area place bytes
+  Kept_nothing : (old.cut ≡ 1 → ¬ IsCallRefused fails number old → PutFails left old area place (min (length bytes) old.keep)) → new.disk ≡ old.disk → later ≡ left → KeepsPart fails left later number old new area place bytes
 
 -- A crash needs a cloud that is there and told, and room for its note.
 pub record CanCrash (left : ℕ) (m : MemCloud) : Type 0 where

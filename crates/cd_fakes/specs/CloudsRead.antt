@@ -1,6 +1,6 @@
 -- What each cloud in memory reads is one of its images.
 use Rattle.std.proofs.Common.{ℕ, zero, suc, List, [], ◌∷◌}
-use Rattle.cd_edges.specs.Disk.{IsImage, reads}
+use Rattle.mem_disk.specs.CdEdges.Disk.{IsImage, reads}
 use Rattle.cd_fakes.specs.declared.cloud.MemCloud.{MemCloud}
 use Rattle.mem_disk.specs.Disks.{history_of}
 use Rattle.mem_disk.specs.History.{nothing}

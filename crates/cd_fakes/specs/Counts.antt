@@ -1,7 +1,7 @@
 -- Counts, and the calls that fail by their numbers.
 use Rattle.std.specs.Prelude.{ℕ, ◌+◌, ◌-◌, ◌^◌, min, Bool, List, ◌==◌, ◌&&◌}
 use Rattle.std.specs.List.{list_any}
-use Rattle.cd_base.specs.declared.ids.CloudNo.{CloudNo}
+use Rattle.mem_disk.specs.CdBase.ids.CloudNo.{CloudNo}
 
 -- one more, but for the last value, that of a u64
 abbrev pub counted_up : ℕ → ℕ

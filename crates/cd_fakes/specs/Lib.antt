@@ -1,3 +1,4 @@
+pub mod CdBase
 pub mod Clouds
 pub mod CloudsRead
 pub mod Counts

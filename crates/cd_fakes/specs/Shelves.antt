@@ -1,7 +1,7 @@
 -- The clouds in memory, by their numbers.
 use Rattle.std.specs.Prelude.{◌≡◌, ℕ, suc, zero, ◌<◌, false, nat_lt, List, [], ◌∷◌, None, Some, slice_get}
-use Rattle.cd_edges.specs.declared.area.Area.{Area}
-use Rattle.cd_edges.specs.Disk.{Cloud}
+use Rattle.mem_disk.specs.CdEdges.area.Area.{Area}
+use Rattle.mem_disk.specs.CdEdges.Disk.{Cloud}
 use Rattle.cd_fakes.specs.declared.cloud.MemCloud.{MemCloud}
 use Rattle.mem_disk.specs.Areas.{area_of, held_of, log_of}
 use Rattle.mem_disk.specs.Numbers.{number_of}

@@ -1,6 +1,6 @@
 -- What streams in memory tell as ports.
 use Rattle.std.specs.Prelude.{◌≡◌, ◌≢◌, ℕ, ◌-◌, if◌then◌else◌, ◌≤◌, ◌<◌, Bool, true, false, List, [], drop, length, Some, slice_get, Option, None}
-use Rattle.cd_edges.specs.Ports.{Port, Telling}
+use Rattle.mem_disk.specs.CdEdges.Ports.{Port, Telling}
 use Rattle.cd_fakes.specs.Counts.{counted_up}
 use Rattle.cd_fakes.specs.declared.count.CallCount.{CallCount}
 use Rattle.cd_fakes.specs.declared.stream.MemStream.{MemStream}

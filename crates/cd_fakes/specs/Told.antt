@@ -1,6 +1,6 @@
 -- Ports in memory as ports, and the causes for which their calls fail.
 use Rattle.std.specs.Prelude.{◌≡◌, ℕ, length, Contains}
-use Rattle.cd_edges.specs.Ports.{Telling}
+use Rattle.mem_disk.specs.CdEdges.Ports.{Telling}
 use Rattle.cd_fakes.specs.Counts.{counted_up}
 use Rattle.cd_fakes.specs.declared.ports.MemPorts.{MemPorts}
 use Rattle.cd_fakes.specs.Streams.{IsOpen, telling_of}

@@ -1,8 +1,8 @@
 -- A cloud of which only the counts are told.
 use Rattle.std.specs.Prelude.{ℕ, List, [], false, None, IsTrue, slice_index}
 use Rattle.std.proofs.lemmas.Bool.{false≢true}
-use Rattle.cd_edges.specs.Disk.{Cloud}
-use Rattle.cd_edges.specs.Shelf.{stable}
+use Rattle.mem_disk.specs.CdEdges.Disk.{Cloud}
+use Rattle.mem_disk.specs.CdEdges.Shelf.{stable}
 
 abbrev pub untold : List ℕ → List ℕ → ℕ → Cloud
 untold faults armings number = record {

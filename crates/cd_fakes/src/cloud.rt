@@ -1,18 +1,16 @@
 //! One cloud in memory.
 
 ghost use Rattle.std.specs.Prelude.{◌≡◌, ◌≢◌, ◌↔◌, ℕ, ◌+◌, ◌-◌, ◌^◌, ◌≤◌, ◌<◌, List, [], ◌∷◌, ◌++◌, length, min, take, IsTrue, IsOk, IsErr, IfOk, OnOk, OnErr, is_ok, if◌then◌else◌, vec_len, vec_capacity, cond, slice_set, false};
-ghost use Rattle.cd_edges.specs.declared.area.Area.{Area};
-ghost use Rattle.cd_edges.specs.Causes.{HasCause};
-ghost use Rattle.cd_edges.specs.Shelf.{Writes, Syncs, Refreshes, Arms, ReadsFrom};
+ghost use Rattle.mem_disk.specs.CdEdges.area.Area.{Area};
+ghost use Rattle.mem_disk.specs.CdEdges.Causes.{HasCause};
+ghost use Rattle.mem_disk.specs.CdEdges.Shelf.{Writes, Syncs, Refreshes, Arms, ReadsFrom};
 ghost use Rattle.cd_fakes.specs.Counts.{counted_up, is_named};
 ghost use Rattle.mem_disk.specs.Areas.{Fits, damaged, area_of, held_of, log_of};
 ghost use Rattle.mem_disk.specs.History.{Write, Sync, Empty, Crash};
 ghost use Rattle.mem_disk.specs.Disks.{history_of};
 ghost use Rattle.mem_disk.specs.Numbers.{number_of};
 
-use cd_base::{CloudNo, NoMemory};
-use cd_edges::{Area, Failed};
-use mem_disk::{MemDisk, PerArea};
+use mem_disk::{Area, CloudNo, Failed, MemDisk, NoMemory, PerArea};
 use std::alloc::Global;
 
 /// A cloud in memory: what it holds, and what was said of its calls.
@@ -46,7 +44,7 @@ fn names(fails: &[(CloudNo, u64)], number: CloudNo, call: u64) -> bool
 }
 
 impl MemCloud {
-    ghost use Rattle.cd_fakes.specs.Clouds.{cloud_of, IsRefused, PutFails, WriteFails, SyncFails, FreshFails, HasSpare, Puts, KeepsPart, CanCrash, Crashes};
+    ghost use Rattle.cd_fakes.specs.Clouds.{cloud_of, IsCallRefused, PutFails, WriteFails, SyncFails, FreshFails, HasSpare, Puts, KeepsPart, CanCrash, Crashes};
 
     /// An empty cloud of this room in each area, with memory for so many notes.
     pub fn of(alloc: Global, is_there: bool, room: u64, notes: u32) -> Result<MemCloud, NoMemory>
@@ -75,7 +73,7 @@ impl MemCloud {
     /// Begins a call on the cloud, which has this number, and says whether it fails before it does anything.
     pub fn begin(&mut self, fails: &[(CloudNo, u64)], number: CloudNo) -> bool
         ensures calls { self.new ≡ record self.old { calls = counted_up self.old.calls } }
-        ensures refused { IsTrue result ↔ IsRefused fails.now number.0 self.old }
+        ensures refused { IsTrue result ↔ IsCallRefused fails.now number.0 self.old }
     {
         self.calls = self.calls.saturating_add(1);
         !self.is_there || names(fails, number, self.calls)
@@ -131,7 +129,7 @@ impl MemCloud {
         ensures rest { self.new ≡ record self.old { calls = counted_up self.old.calls; faults = self.new.faults } }
         ensures cause { HasCause self.old.faults self.new.faults result }
         ensures faults { self.new.faults ≡ (if is_ok result then self.old.faults else counted_up self.old.faults) }
-        ensures fails { IsErr result ↔ IsRefused fails.now number.0 self.old }
+        ensures fails { IsErr result ↔ IsCallRefused fails.now number.0 self.old }
     {
         if self.begin(fails, number) {
             return self.refuse();
@@ -160,7 +158,7 @@ impl MemCloud {
             number_of self.new.reads other ≡ number_of self.old.reads other }
         ensures cause { HasCause self.old.faults self.new.faults result }
         ensures faults { self.new.faults ≡ (if is_ok result then self.old.faults else counted_up self.old.faults) }
-        ensures fails { IsErr result ↔ IsRefused fails.now number.0 self.old }
+        ensures fails { IsErr result ↔ IsCallRefused fails.now number.0 self.old }
     {
         self.reads.set(area, self.reads.get(area).saturating_add(1));
         if self.begin(fails, number) {

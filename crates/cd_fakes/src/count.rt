@@ -1,11 +1,10 @@
 //! Calls that fail by their numbers.
 
 ghost use Rattle.std.specs.Prelude.{◌≡◌, ◌↔◌, ◌+◌, ◌-◌, ◌^◌, min, Contains, IsTrue, IsErr, IfOk};
-ghost use Rattle.cd_edges.specs.Causes.{HasCause};
+ghost use Rattle.mem_disk.specs.CdEdges.Causes.{HasCause};
 ghost use Rattle.cd_fakes.specs.Counts.{counted_up};
 
-use cd_base::NoMemory;
-use cd_edges::Failed;
+use mem_disk::{Failed, NoMemory};
 use std::alloc::Global;
 
 /// Numbers the calls of an object from 1, and knows which of them fail. Each count stays at the last value of a u64.

@@ -12,6 +12,10 @@ mod untold;
 
 pub use cloud::MemCloud;
 pub use count::CallCount;
+pub use mem_disk::{
+    Area, Bytes, CloudNo, Clouds, Failed, Fp, NoMemory, Note, Place, Ports, Room, Shape, Shelf,
+    Source, Tag, UserId, Version, is_path, sha256, share_len,
+};
 pub use ports::MemPorts;
 pub use shelf::MemShelf;
 pub use sink::MemSink;

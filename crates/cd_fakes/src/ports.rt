@@ -4,8 +4,7 @@ ghost use Rattle.std.specs.Prelude.{◌≡◌, ◌+◌, ◌-◌, ◌^◌, ◌≤
 ghost use Rattle.cd_fakes.specs.Streams.{AreFresh};
 
 use crate::{CallCount, MemStream};
-use cd_base::NoMemory;
-use cd_edges::{Failed, Ports};
+use mem_disk::{Failed, NoMemory, Ports};
 use std::alloc::Global;
 
 /// Connections in memory. The accepts and dials that answer Ok are numbered from 0, and on port i the bytes of stream i come.
@@ -30,8 +29,8 @@ pub struct MemPorts {
 impl MemPorts {
     ghost use Rattle.std.specs.Prelude.{◌≡◌, ◌≢◌, ◌↔◌, ◌⊎◌, ℕ, ◌+◌, ◌-◌, ◌^◌, ◌≤◌, ◌<◌, min, length, take, [], ◌∷◌, ◌++◌, false, IsTrue, IfOk, OnOk, OnErr, IsErr, is_ok, vec_len};
     ghost use Rattle.std.specs.Io.{ReadsAtMost, WritesAtMost};
-    ghost use Rattle.cd_edges.specs.Causes.{HasCause};
-    ghost use Rattle.cd_edges.specs.Ports.{Opens, Receives, Sent};
+    ghost use Rattle.mem_disk.specs.CdEdges.Causes.{HasCause};
+    ghost use Rattle.mem_disk.specs.CdEdges.Ports.{HasOpenedPort, Receives, Sent};
     ghost use Rattle.cd_fakes.specs.declared.stream.MemStream.{MemStream};
     ghost use Rattle.cd_fakes.specs.Streams.{Counts, KeepOpen, KeepOpenBut, KeepRooms, port_at, room_left};
     ghost use Rattle.cd_fakes.specs.Told.{HasNoMore, HasOpen, IsNamed, KeepsSizes, telling};
@@ -97,7 +96,7 @@ impl MemPorts {
 
     // Opens the next port.
     fn open(&mut self) -> Result<u32, Failed>
-        ensures opens { IfOk result (Opens (telling self.old) (telling self.new)) }
+        ensures opens { IfOk result (HasOpenedPort (telling self.old) (telling self.new)) }
         ensures failed { OnErr result (telling self.new ≡ telling self.old) }
         ensures cause { HasCause self.old.count.faults self.new.count.faults result }
         ensures fails { IsErr result ↔ (IsNamed self.old ⊎ HasNoMore self.old) }
@@ -118,8 +117,8 @@ impl MemPorts {
 impl Ports for MemPorts {
     ghost use Rattle.std.specs.Prelude.{◌≡◌, ◌≢◌, ◌↔◌, ◌⊎◌, ℕ, ◌+◌, ◌-◌, ◌^◌, ◌≤◌, ◌<◌, min, length, take, [], ◌∷◌, ◌++◌, false, IsTrue, IfOk, OnOk, OnErr, IsErr, is_ok, vec_len};
     ghost use Rattle.std.specs.Io.{ReadsAtMost, WritesAtMost};
-    ghost use Rattle.cd_edges.specs.Causes.{HasCause};
-    ghost use Rattle.cd_edges.specs.Ports.{Opens, Receives, Sent};
+    ghost use Rattle.mem_disk.specs.CdEdges.Causes.{HasCause};
+    ghost use Rattle.mem_disk.specs.CdEdges.Ports.{HasOpenedPort, Receives, Sent};
     ghost use Rattle.cd_fakes.specs.declared.stream.MemStream.{MemStream};
     ghost use Rattle.cd_fakes.specs.Streams.{Counts, KeepOpen, KeepOpenBut, KeepRooms, port_at, room_left};
     ghost use Rattle.cd_fakes.specs.Told.{HasNoMore, HasOpen, IsNamed, KeepsSizes, telling};
@@ -143,7 +142,8 @@ impl Ports for MemPorts {
     }
 
     fn accept(&mut self) -> Result<u32, Failed>
-        ensures opens { IsTrue (telling self.old).told → IfOk result (Opens (telling self.old) (telling self.new)) }
+        ensures opens { IsTrue (telling self.old).told
+            → IfOk result (HasOpenedPort (telling self.old) (telling self.new)) }
         ensures told { (telling self.new).told ≡ (telling self.old).told }
         ensures failed { OnErr result (telling self.new ≡ telling self.old) }
         ensures cause { HasCause self.old.count.faults self.new.count.faults result }
@@ -155,7 +155,8 @@ impl Ports for MemPorts {
     }
 
     fn dial(&mut self, _addr: &str) -> Result<u32, Failed>
-        ensures opens { IsTrue (telling self.old).told → IfOk result (Opens (telling self.old) (telling self.new)) }
+        ensures opens { IsTrue (telling self.old).told
+            → IfOk result (HasOpenedPort (telling self.old) (telling self.new)) }
         ensures told { (telling self.new).told ≡ (telling self.old).told }
         ensures failed { OnErr result (telling self.new ≡ telling self.old) }
         ensures cause { HasCause self.old.count.faults self.new.count.faults result }

@@ -1,21 +1,20 @@
 //! Clouds in memory, one for each number.
 
 ghost use Rattle.std.specs.Prelude.{◌≡◌, ◌≢◌, ◌↔◌, ℕ, ◌+◌, ◌-◌, ◌^◌, ◌≤◌, ◌<◌, List, [], ◌∷◌, ◌++◌, length, min, slice_get, slice_set, Some, IfOk, OnOk, OnErr, IsOk, IsErr, IsTrue, is_ok, if◌then◌else◌, cond, false};
-ghost use Rattle.cd_edges.specs.declared.area.Area.{Area};
-ghost use Rattle.cd_edges.specs.Causes.{HasCause};
-ghost use Rattle.cd_edges.specs.Shelf.{IsCall, HasFailed, KeepsCounts, Stays, Writes, Syncs, Refreshes, Arms, ReadsFrom};
+ghost use Rattle.mem_disk.specs.CdEdges.area.Area.{Area};
+ghost use Rattle.mem_disk.specs.CdEdges.Causes.{HasCause};
+ghost use Rattle.mem_disk.specs.CdEdges.Shelf.{IsCall, HasFailed, KeepsCounts, Stays, Writes, Syncs, Refreshes, Arms, ReadsFrom};
 ghost use Rattle.cd_fakes.specs.declared.cloud.MemCloud.{MemCloud};
 ghost use Rattle.cd_fakes.specs.Counts.{counted_up};
 ghost use Rattle.mem_disk.specs.Areas.{damaged, area_of, held_of, log_of};
 ghost use Rattle.mem_disk.specs.Disks.{history_of};
 ghost use Rattle.mem_disk.specs.Numbers.{number_of};
-ghost use Rattle.cd_fakes.specs.Clouds.{HasSpare, IsRefused, WriteFails, SyncFails, FreshFails, Puts, KeepsPart, CanCrash, Crashes};
+ghost use Rattle.cd_fakes.specs.Clouds.{HasSpare, IsCallRefused, WriteFails, SyncFails, FreshFails, Puts, KeepsPart, CanCrash, Crashes};
 ghost use Rattle.cd_fakes.specs.Shelves.{clouds_of, AllSpare, At, AtBoth, IsNew};
 ghost use Rattle.cd_fakes.specs.CloudsRead.{clouds_read};
 
 use crate::MemCloud;
-use cd_base::{CloudNo, NoMemory};
-use cd_edges::{Area, Failed, Shelf};
+use mem_disk::{Area, CloudNo, Failed, NoMemory, Shelf};
 use std::alloc::Global;
 
 /// Clouds in memory, which tell everything, until a byte is damaged. They have all their memory from the start.
@@ -169,7 +168,7 @@ impl Shelf for MemShelf {
             (clouds_of self.new.clouds.items cloud.0) self.old.total self.new.total) }
 
         ensures fails { At self.old.clouds.items cloud.0
-            (λ m. IsErr result ↔ IsRefused self.old.fails.items cloud.0 m) }
+            (λ m. IsErr result ↔ IsCallRefused self.old.fails.items cloud.0 m) }
         ensures counts { AtBoth self.old.clouds.items self.new.clouds.items cloud.0 (λ m m'. (m'.calls
             ≡ counted_up m.calls) × (m'.faults ≡ (if is_ok result then m.faults else counted_up m.faults))) }
         ensures reads { AtBoth self.old.clouds.items self.new.clouds.items cloud.0 (λ m m'. m'.reads ≡ m.reads) }
@@ -198,7 +197,7 @@ impl Shelf for MemShelf {
             (clouds_of self.new.clouds.items cloud.0) self.old.total self.new.total) }
 
         ensures fails { At self.old.clouds.items cloud.0
-            (λ m. IsErr result ↔ IsRefused self.old.fails.items cloud.0 m) }
+            (λ m. IsErr result ↔ IsCallRefused self.old.fails.items cloud.0 m) }
         ensures counts { AtBoth self.old.clouds.items self.new.clouds.items cloud.0 (λ m m'. (m'.calls
             ≡ counted_up m.calls) × (m'.faults ≡ (if is_ok result then m.faults else counted_up m.faults))) }
         ensures reads { AtBoth self.old.clouds.items self.new.clouds.items cloud.0 (λ m m'.

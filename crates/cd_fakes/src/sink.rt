@@ -3,12 +3,11 @@
 ghost use Rattle.std.specs.Prelude.{◌≡◌, ◌↔◌, ◌⊎◌, ℕ, ◌+◌, ◌-◌, ◌^◌, ◌≤◌, ◌<◌, min, length, [], Contains, Some, IfOk, IsErr, if◌then◌else◌, is_ok, vec_len, vec_capacity};
 ghost use Rattle.std.specs.Io.{WritesAtMost};
 ghost use Rattle.std.specs.Io.KnownBytes.{WriteAppends};
-ghost use Rattle.cd_edges.specs.Causes.{HasCause};
+ghost use Rattle.mem_disk.specs.CdEdges.Causes.{HasCause};
 ghost use Rattle.cd_fakes.specs.Counts.{counted_up};
 
 use crate::CallCount;
-use cd_base::NoMemory;
-use cd_edges::{Failed, Sink};
+use mem_disk::{Failed, NoMemory, Sink};
 use std::alloc::Global;
 
 /// Takes bytes into memory, so many a call at most, and so many in all. It has all its memory from the start.

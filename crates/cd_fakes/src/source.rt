@@ -3,12 +3,11 @@
 ghost use Rattle.std.specs.Prelude.{◌≡◌, ◌↔◌, ℕ, ◌+◌, ◌-◌, ◌^◌, ◌≤◌, min, drop, length, Contains, Some, IfOk, IsErr, if◌then◌else◌, is_ok, vec_len};
 ghost use Rattle.std.specs.Io.{ReadsAtMost};
 ghost use Rattle.std.specs.Io.KnownBytes.{ReadConsumes};
-ghost use Rattle.cd_edges.specs.Causes.{HasCause};
+ghost use Rattle.mem_disk.specs.CdEdges.Causes.{HasCause};
 ghost use Rattle.cd_fakes.specs.Counts.{counted_up};
 
 use crate::CallCount;
-use cd_base::NoMemory;
-use cd_edges::{Failed, Source};
+use mem_disk::{Failed, NoMemory, Source};
 use std::alloc::Global;
 
 /// Gives bytes from memory, so many a call at most.

@@ -1,9 +1,9 @@
 //! One connection in memory.
 
 ghost use Rattle.std.specs.Prelude.{◌≡◌, ◌+◌, ◌-◌, ◌≤◌, min, length, take, drop, [], ◌++◌, false, true, IfOk, vec_len, vec_capacity};
-ghost use Rattle.cd_edges.specs.Ports.{Port};
+ghost use Rattle.mem_disk.specs.CdEdges.Ports.{Port};
 
-use cd_base::NoMemory;
+use mem_disk::NoMemory;
 use std::alloc::Global;
 
 /// The bytes that come on a connection, and those that were sent there. It has all its memory from the start.

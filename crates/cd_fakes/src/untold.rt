@@ -1,12 +1,11 @@
 //! A shelf that tells nothing, takes nothing and gives nothing.
 
 ghost use Rattle.std.specs.Prelude.{◌≡◌, ◌≢◌, refl, ℕ, ◌≤◌, slice_index, slice_set, IsErr};
-ghost use Rattle.cd_edges.specs.Shelf.{IsCall, HasFailed};
+ghost use Rattle.mem_disk.specs.CdEdges.Shelf.{IsCall, HasFailed};
 ghost use Rattle.cd_fakes.specs.Counts.{counted_up};
 ghost use Rattle.cd_fakes.specs.Untold.{untold, untold_is_not};
 
-use cd_base::CloudNo;
-use cd_edges::{Area, Failed, Shelf};
+use mem_disk::{Area, CloudNo, Failed, Shelf};
 
 /// A shelf over which every write, sync and fresh fails, and which reads as empty. It counts, and tells no more.
 #[derive(Drop)]

@@ -2,22 +2,22 @@
 use Rattle.std.proofs.Common.{◌≡◌, ℕ, List, [], ◌++◌, length, Option, inl, inr, refl, sym, ap, ◌∙◌, subst, subst₂, append_assoc, append-nil, arith}
 use Rattle.std.specs.Prelude.{◌≢◌, ◌⊎◌}
 use Rattle.std.specs.Io.KnownBytes.{Appends}
-use Rattle.cd_edges.specs.Causes.{Rose}
-use Rattle.cd_edges.specs.Disk.{Cloud}
-use Rattle.session.specs.Texts.{text_of}
+use Rattle.delete_command.specs.CdEdges.Causes.{Rose}
+use Rattle.delete_command.specs.CdEdges.Disk.{Cloud}
+use Rattle.two_worlds.specs.Session.Texts.{text_of}
 use Rattle.generated_session.specs.SessionModel.Headline.{Session, due}
 use Rattle.generated_session.specs.ReplayCore.end.ReplayEnd.{ReplayEnd}
 use Rattle.generated_session.specs.ReplayCore.end.ReplayEnd.TheVariants as ends
-use Rattle.generated_session.specs.ReplayCore.Endings.{Call, EndingLine, HasCause, IsDue}
+use Rattle.generated_session.specs.ReplayCore.Endings.{ReplayCall, EndingLine, HasStatusCause, IsDue}
 use Rattle.generated_session.specs.ReplayCore.Endings as due_lines
-use Rattle.generated_session.specs.ReplayCore.Replayed.{Replayed, Replays, IsPrinted, IsCut, IsLast, status_of, ending_of}
-use Rattle.cd_top.specs.Ends.{WantsLast, WantsNone, Closes, Silent, Said, CutShort, Unsaid}
+use Rattle.generated_session.specs.ReplayCore.Replayed.{Replayed, HasReplayed, IsPrinted, IsTextCut, IsLast, status_of, ending_of}
+use Rattle.cd_top.specs.Ends.{WantsLast, WantsNone, HasLastLine, Silent, Said, CutShort, Unsaid}
 use Rattle.cd_top.specs.Replay.{ending_text, due_text, IsWritten, IsReplayed, until, WritesFront}
 use Rattle.cd_top.proofs.Texts.{appends_both}
 
 -- ---- what another count of the sink leaves
 
-due_until : (call : Call) (faults : ℕ) (run : Session) (line : EndingLine) → IsDue call run line → IsDue (until call faults) run line
+due_until : (call : ReplayCall) (faults : ℕ) (run : Session) (line : EndingLine) → IsDue call run line → IsDue (until call faults) run line
 due_until call faults run due_lines.NoEnding is = is
 due_until call faults run (due_lines.DoneEnding events) is = is
 due_until call faults run (due_lines.ScriptEnding line fault) is = is
@@ -26,7 +26,7 @@ due_until call faults run (due_lines.StoreEnding cloud area len) is = is
 due_until call faults run (due_lines.DamagedEnding cloud at byte) is = is
 
 -- the same status
-same_cause : (status : ℕ) (call : Call) (faults : ℕ) (run : Session) (line : EndingLine) → faults ≡ call.sink_after → HasCause status call run line → HasCause status (until call faults) run line
+same_cause : (status : ℕ) (call : ReplayCall) (faults : ℕ) (run : Session) (line : EndingLine) → faults ≡ call.sink_after → HasStatusCause status call run line → HasStatusCause status (until call faults) run line
 same_cause status call faults run line same cause = record {
   known = cause.known;
   header = cause.header;
@@ -44,7 +44,7 @@ same_cause status call faults run line same cause = record {
 }
 
 -- the sink failed, where this line was due
-sink_cause : (status : ℕ) (call : Call) (faults : ℕ) (run : Session) (line last : EndingLine) → HasCause status call run line → IsDue call run last → Rose call.sink_before faults → HasCause 4 (until call faults) run last
+sink_cause : (status : ℕ) (call : ReplayCall) (faults : ℕ) (run : Session) (line last : EndingLine) → HasStatusCause status call run line → IsDue call run last → Rose call.sink_before faults → HasStatusCause 4 (until call faults) run last
 sink_cause status call faults run line last cause is rose = record {
   known = (omega arith, λ e. omega (arith, e));
   header = cause.header;
@@ -62,7 +62,7 @@ sink_cause status call faults run line last cause is rose = record {
 }
 
 -- memory ran out, where this line was due
-memory_cause : (status : ℕ) (call : Call) (faults : ℕ) (run : Session) (line last : EndingLine) → HasCause status call run line → IsDue call run last → HasCause 6 (until call faults) run last
+memory_cause : (status : ℕ) (call : ReplayCall) (faults : ℕ) (run : Session) (line last : EndingLine) → HasStatusCause status call run line → IsDue call run last → HasStatusCause 6 (until call faults) run last
 memory_cause status call faults run line last cause is = record {
   known = (omega arith, λ e. omega (arith, e));
   header = cause.header;
@@ -115,12 +115,12 @@ six_is_cut (inr (inr (inr e))) = absurd (omega (arith, e))
 -- ---- ends whose last line is written, or that have none
 
 -- the line whose front may stand at the end of a text that was cut
-cut_line : (call : Call) (run : Session) (last : List ℕ) → IsLast call run last → (line : EndingLine) × (ending_text line ≡ last) × IsDue call run line
+cut_line : (call : ReplayCall) (run : Session) (last : List ℕ) → IsLast call run last → (line : EndingLine) × (ending_text line ≡ last) × IsDue call run line
 cut_line call run last (inl none) = (due_lines.NoEnding, sym none, tt)
 cut_line call run last (inr done) = (due_lines.DoneEnding (length run.history), sym done.0, done.1)
 
-sink_cut : (call : Call) (faults : ℕ) (before after : Option (List ℕ)) (run : Session) (line : EndingLine) → faults ≡ call.sink_after
-    → Replayed 4 call.old call.new run → HasCause 4 call run line → IsCut call run before after → IsReplayed 4 (until call faults) before after
+sink_cut : (call : ReplayCall) (faults : ℕ) (before after : Option (List ℕ)) (run : Session) (line : EndingLine) → faults ≡ call.sink_after
+    → Replayed 4 call.old call.new run → HasStatusCause 4 call run line → IsTextCut call run before after → IsReplayed 4 (until call faults) before after
 sink_cut call faults before after run line same r cause cut =
     let last = cut_line call run cut.last cut.last_is in record {
       run = run;
@@ -136,8 +136,8 @@ sink_cut call faults before after run line same r cause cut =
       cause = sink_cause 4 call faults run line last.0 cause last.2 (subst (λ n. Rose call.sink_before n) (sym same) (cause.sink refl));
     }
 
-memory_cut : (call : Call) (faults : ℕ) (before after : Option (List ℕ)) (run : Session) (line : EndingLine)
-    → Replayed 6 call.old call.new run → HasCause 6 call run line → IsCut call run before after → IsReplayed 6 (until call faults) before after
+memory_cut : (call : ReplayCall) (faults : ℕ) (before after : Option (List ℕ)) (run : Session) (line : EndingLine)
+    → Replayed 6 call.old call.new run → HasStatusCause 6 call run line → IsTextCut call run before after → IsReplayed 6 (until call faults) before after
 memory_cut call faults before after run line r cause cut =
     let last = cut_line call run cut.last cut.last_is in record {
       run = run;
@@ -163,7 +163,7 @@ written_whole status before after run line written = record {
   written = written;
 }
 
-closes : (end : ReplayEnd) (call : Call) (faults : ℕ) (before after : Option (List ℕ)) → WantsNone end → faults ≡ call.sink_after → Replays end call before after → IsReplayed (status_of end) (until call faults) before after
+closes : (end : ReplayEnd) (call : ReplayCall) (faults : ℕ) (before after : Option (List ℕ)) → WantsNone end → faults ≡ call.sink_after → HasReplayed end call before after → IsReplayed (status_of end) (until call faults) before after
 closes (ends.Done events) call faults before after none same r = record {
   run = r.run;
   line = due_lines.DoneEnding events;
@@ -187,7 +187,7 @@ closes (ends.Damaged cloud at byte) call faults before after none same r = absur
 
 -- ---- ends whose last line is still to be written
 
-lines_printed : (end : ReplayEnd) (call : Call) (run : Session) (before after : Option (List ℕ)) → WantsLast end → IsPrinted end call run before after → Appends before after (text_of (due run))
+lines_printed : (end : ReplayEnd) (call : ReplayCall) (run : Session) (before after : Option (List ℕ)) → WantsLast end → IsPrinted end call run before after → Appends before after (text_of (due run))
 lines_printed (ends.Done events) call run before after wants printed = absurd wants
 lines_printed (ends.Script line at found) call run before after wants printed = printed
 lines_printed ends.SourceFault call run before after wants printed = absurd wants
@@ -217,8 +217,8 @@ no_want_of_memory ends.NoMemory wants = absurd wants
 no_want_of_memory (ends.NotEmpty cloud area len) wants = λ e. omega (arith, e)
 no_want_of_memory (ends.Damaged cloud at byte) wants = λ e. omega (arith, e)
 
-module _ (end : ReplayEnd) (call : Call) (before middle after : Option (List ℕ)) (faults now : ℕ) (last : List ℕ) (wants : WantsLast end)
-    (same : faults ≡ call.sink_after) (named : ending_text (ending_of end) ≡ last) (r : Replays end call before middle) where
+module _ (end : ReplayEnd) (call : ReplayCall) (before middle after : Option (List ℕ)) (faults now : ℕ) (last : List ℕ) (wants : WantsLast end)
+    (same : faults ≡ call.sink_after) (named : ending_text (ending_of end) ≡ last) (r : HasReplayed end call before middle) where
   printed : Appends before middle (text_of (due r.run))
   printed = lines_printed end call r.run before middle wants r.printed
 
@@ -272,23 +272,23 @@ module _ (end : ReplayEnd) (call : Call) (before middle after : Option (List ℕ
 
 module _ (end : ReplayEnd) (status : ℕ) (before after : Option (List ℕ)) (faults now : ℕ) (last : List ℕ) (wants : WantsLast end)
     (named : ending_text (ending_of end) ≡ last) where
-  pub said_as : status ≡ status_of end → Appends before after last → now ≡ faults → Closes end status before after faults now
+  pub said_as : status ≡ status_of end → Appends before after last → now ≡ faults → HasLastLine end status before after faults now
   said_as is wrote still = Said wants is (subst (λ (l : List ℕ). Appends before after l) (sym named) wrote) still
 
-  pub cut_as : status ≡ 4 → WritesFront last before after → Rose faults now → Closes end status before after faults now
+  pub cut_as : status ≡ 4 → WritesFront last before after → Rose faults now → HasLastLine end status before after faults now
   cut_as is front rose = CutShort wants is (subst (λ (l : List ℕ). WritesFront l before after) (sym named) front) rose
 
 -- ---- what that makes of a replay
 
 -- what is promised at another status, of another sink
-same_promise : (status other : ℕ) (call : Call) (before after changed : Option (List ℕ)) (faults now : ℕ) → other ≡ status → changed ≡ after → now ≡ faults
+same_promise : (status other : ℕ) (call : ReplayCall) (before after changed : Option (List ℕ)) (faults now : ℕ) → other ≡ status → changed ≡ after → now ≡ faults
     → IsReplayed status (until call faults) before after → IsReplayed other (until call now) before changed
 same_promise status other call before after changed faults now is same still r =
     subst (λ (n : ℕ). IsReplayed n (until call now) before changed) (sym is)
     (subst₂ (λ (o : Option (List ℕ)) (n : ℕ). IsReplayed status (until call n) before o) (sym same) (sym still) r)
 
-pub replayed_by : (end : ReplayEnd) (status : ℕ) (call : Call) (before middle after : Option (List ℕ)) (faults now : ℕ) → Closes end status middle after faults now
-    → faults ≡ call.sink_after → Replays end call before middle → IsReplayed status (until call now) before after
+pub replayed_by : (end : ReplayEnd) (status : ℕ) (call : ReplayCall) (before middle after : Option (List ℕ)) (faults now : ℕ) → HasLastLine end status middle after faults now
+    → faults ≡ call.sink_after → HasReplayed end call before middle → IsReplayed status (until call now) before after
 replayed_by end status call before middle after faults now (Silent none is same still) at r =
     same_promise (status_of end) status call before middle after faults now is same still (closes end call faults before middle none at r)
 replayed_by end status call before middle after faults now (Said wants is wrote still) at r =

@@ -1,25 +1,25 @@
 -- Where nothing fails, a replay answers 0 or runs out of memory: each other status has a cause that isn't there.
 use Rattle.std.proofs.Common.{◌≡◌, ◌<◌, ◌≤◌, ◌-◌, ◌^◌, ℕ, zero, suc, ◌+◌, true, false, List, [], ◌∷◌, length, Option, Some, None, Result, Ok, Err, inl, inr, refl, sym, ap, ◌∙◌, subst, arith}
 use Rattle.std.specs.Prelude.{◌≢◌, ◌⊎◌, IfSome, MatchOption, IsTrue}
-use Rattle.journal_start.specs.declared.rooms.Rooms.{Rooms}
-use Rattle.cd_base.specs.declared.shape.Shape.{Shape}
-use Rattle.cd_edges.specs.declared.area.Area.{Area}
-use Rattle.cd_edges.specs.Causes.{Rose}
-use Rattle.cd_edges.specs.Disk.{Cloud}
-use Rattle.user_dedup.specs.Exec.{Peer}
-use Rattle.session.specs.Fault.{Fault}
-use Rattle.session.specs.Lines.{after_line}
-use Rattle.session.specs.Reading.{event_at}
-use Rattle.session.specs.declared.event.Event.{Event}
-use Rattle.session.specs.Scripts.{Place, Begins, Leads, Reaches, Says, IsEnd, IsWrong, IsWrongFirst, FailsIn, FailsFirst, behind}
+use Rattle.command_words.specs.JournalStart.rooms.UserRooms.{UserRooms}
+use Rattle.command_words.specs.CdBase.shape.Shape.{Shape}
+use Rattle.delete_command.specs.CdEdges.area.Area.{Area}
+use Rattle.delete_command.specs.CdEdges.Causes.{Rose}
+use Rattle.delete_command.specs.CdEdges.Disk.{Cloud}
+use Rattle.delete_command.specs.UserDedup.Exec.{Peer}
+use Rattle.two_worlds.specs.Session.Fault.{Fault}
+use Rattle.two_worlds.specs.Session.Lines.{after_line}
+use Rattle.two_worlds.specs.Session.Reading.{event_at}
+use Rattle.two_worlds.specs.Session.event.Event.{Event}
+use Rattle.two_worlds.specs.Session.Scripts.{ScriptPlace, Begins, Leads, Reaches, Says, IsEnd, IsWrong, IsWrongFirst, FailsIn, FailsFirst, behind}
 use Rattle.generated_session.specs.SessionModel.Steps.{cloud_no}
 use Rattle.generated_session.specs.SessionModel.Vault.{Vault, opening}
 use Rattle.generated_session.specs.SessionModel.Run.{Answered, Turns}
 use Rattle.generated_session.specs.SessionModel.Headline.{Session, Begun, IsRun, IsPartOf, script_in}
 use Rattle.generated_session.proofs.SessionModel.Counts.{counts_last}
-use Rattle.generated_session.specs.ReplayCore.Endings.{Call, EndingLine, HasCause, HasRead, HasReadSome, IsDue, IsOfScript, IsOfShelf, IsOfStore, IsFirstFilled, IsWrongAt, MayFailIn}
+use Rattle.generated_session.specs.ReplayCore.Endings.{ReplayCall, EndingLine, HasStatusCause, HasRead, HasReadSome, IsDue, IsOfScript, IsOfShelf, IsOfStore, IsFirstFilled, IsWrongAt, MayFailIn}
 use Rattle.generated_session.specs.ReplayCore.Endings as due_lines
-use Rattle.cd_top.specs.Complete.{IsStill, GoesWell}
+use Rattle.cd_top.specs.Complete.{IsStill, IsReplayUnhindered}
 use Rattle.cd_top.specs.Replay.{IsReplayed}
 
 -- ---- counts
@@ -41,25 +41,25 @@ not_ended r line first second = let e : Ok None ≡ Ok (Some line) = sym first �
 not_failed : {A : Type 0} (r : Result A Fault) (value : A) (fault : Fault) → r ≡ Ok value → r ≡ Err fault → ⊥
 not_failed r value fault first second = let e : Ok value ≡ Err fault = sym first ∙ second in cc
 
-same_next : (shape : Shape) (place : Place) (one other : Event) (after behind_it : Place) → Says shape place one after → Says shape place other behind_it → after ≡ behind_it
+same_next : (shape : Shape) (place : ScriptPlace) (one other : Event) (after behind_it : ScriptPlace) → Says shape place one after → Says shape place other behind_it → after ≡ behind_it
 same_next shape place one other after behind_it first second =
     let line = same_line _ first.line second.line first.here second.here in
     let event = same_event _ one other first.says (ap (λ (l : List ℕ). event_at shape place.jobs l) line ∙ second.says) in
     first.next_is ∙ ap (λ (l : List ℕ). behind place l one) line ∙ ap (λ (e : Event). behind place second.line e) event ∙ sym second.next_is
 
-never_wrong : (shape : Shape) (place other last : Place) (some all : List Event) (fault : Fault) → Leads shape place some other → Leads shape place all last → IsEnd last → IsWrong shape other fault → ⊥
+never_wrong : (shape : Shape) (place other last : ScriptPlace) (some all : List Event) (fault : Fault) → Leads shape place some other → Leads shape place all last → IsEnd last → IsWrong shape other fault → ⊥
 never_wrong shape place other last [] [] fault here there ends wrong =
-    subst (λ (r : Result (Option (List ℕ)) Fault). FailsIn shape place.jobs r fault) (subst (λ (p : Place). IsEnd p) there ends) (subst (λ (p : Place). IsWrong shape p fault) here wrong)
+    subst (λ (r : Result (Option (List ℕ)) Fault). FailsIn shape place.jobs r fault) (subst (λ (p : ScriptPlace). IsEnd p) there ends) (subst (λ (p : ScriptPlace). IsWrong shape p fault) here wrong)
 never_wrong shape place other last [] (y ∷ all) fault here there ends wrong =
     let says = there.1 in
-    not_failed _ y fault says.says (subst (λ (r : Result (Option (List ℕ)) Fault). FailsIn shape place.jobs r fault) says.here (subst (λ (p : Place). IsWrong shape p fault) here wrong))
+    not_failed _ y fault says.says (subst (λ (r : Result (Option (List ℕ)) Fault). FailsIn shape place.jobs r fault) says.here (subst (λ (p : ScriptPlace). IsWrong shape p fault) here wrong))
 never_wrong shape place other last (x ∷ some) [] fault here there ends wrong =
-    let says = here.1 in not_ended _ says.line (subst (λ (p : Place). IsEnd p) there ends) says.here
+    let says = here.1 in not_ended _ says.line (subst (λ (p : ScriptPlace). IsEnd p) there ends) says.here
 never_wrong shape place other last (x ∷ some) (y ∷ all) fault here there ends wrong =
-    never_wrong shape there.0 other last some all fault (subst (λ (p : Place). Leads shape p some other) (same_next shape place x y here.0 there.0 here.1 there.1) here.2) there.2 ends wrong
+    never_wrong shape there.0 other last some all fault (subst (λ (p : ScriptPlace). Leads shape p some other) (same_next shape place x y here.0 there.0 here.1 there.1) here.2) there.2 ends wrong
 
 -- the place behind a first line
-abbrev place_behind : List ℕ → List ℕ → Place
+abbrev place_behind : List ℕ → List ℕ → ScriptPlace
 place_behind script line = record { jobs = 0; taken = length line + 1; rest = after_line script }
 
 -- before the clouds are opened, their counts are those of the start
@@ -72,15 +72,15 @@ counts_unopened old run carried closed cloud =
 
 -- ---- each cause
 
-module _ (call : Call) (run : Session) (well : GoesWell call) where
+module _ (call : ReplayCall) (run : Session) (well : IsReplayUnhindered call) where
   script : List ℕ
   script = well.script
 
   -- the shape is that of the script
-  shape_is : (status : ℕ) (line : EndingLine) → HasCause status call run line → run.setting.shape ≡ well.shape
+  shape_is : (status : ℕ) (line : EndingLine) → HasStatusCause status call run line → run.setting.shape ≡ well.shape
   shape_is status line cause =
       let begins = well.is_script.reaches.1 in
-      let header = subst (λ (o : Option (List ℕ)). IfSome o (λ s. (shape : Shape) (rooms : Rooms) (place : Place) → Begins s shape rooms place
+      let header = subst (λ (o : Option (List ℕ)). IfSome o (λ s. (shape : Shape) (rooms : UserRooms) (place : ScriptPlace) → Begins s shape rooms place
       → (run.setting.shape ≡ shape) × (run.setting.rooms ≡ rooms))) well.has cause.header in
       (header well.shape well.is_script.rooms well.is_script.reaches.0 begins).0
 
@@ -88,7 +88,7 @@ module _ (call : Call) (run : Session) (well : GoesWell call) where
   not_wrong same fault wrong =
       let reaches = well.is_script.reaches in
       let at = subst (λ (o : Option (List ℕ)). IfSome o (λ s. ((run.opened ≡ false) × IsWrongFirst s fault)
-      ⊎ (IsTrue run.opened × ((place : Place) × HasRead call run place × IsWrong run.setting.shape place fault)))) well.has wrong in
+      ⊎ (IsTrue run.opened × ((place : ScriptPlace) × HasRead call run place × IsWrong run.setting.shape place fault)))) well.has wrong in
       elim at [
         | inl first ↦ not_failed _ (well.shape, well.is_script.rooms) fault reaches.1.says
             (subst (λ (r : Result (Option (List ℕ)) Fault). FailsFirst r fault) reaches.1.here first.1)
@@ -97,7 +97,7 @@ module _ (call : Call) (run : Session) (well : GoesWell call) where
             let firsts : read.0 ≡ reaches.0 = read.1.next_is
             ∙ ap (λ (l : List ℕ). place_behind well.script l) (same_line _ read.1.line reaches.1.line read.1.here reaches.1.here) ∙ sym reaches.1.next_is in
             let leads = subst (λ (s : Shape). Leads s reaches.0 (script_in run) later.1.0) same
-            (subst (λ (p : Place). Leads run.setting.shape p (script_in run) later.1.0) firsts read.2) in
+            (subst (λ (p : ScriptPlace). Leads run.setting.shape p (script_in run) later.1.0) firsts read.2) in
             never_wrong well.shape reaches.0 later.1.0 well.is_script.place (script_in run) well.is_script.events fault leads reaches.2 well.is_script.ends
             (subst (λ (s : Shape). IsWrong s later.1.0 fault) same later.1.2)
       ]
@@ -169,7 +169,7 @@ one_of_both (suc (suc (suc (suc (suc (suc zero)))))) le no1 no2 no3 no4 no5 no7 
 one_of_both (suc (suc (suc (suc (suc (suc (suc zero))))))) le no1 no2 no3 no4 no5 no7 = absurd (no7 refl)
 one_of_both (suc (suc (suc (suc (suc (suc (suc (suc n)))))))) le no1 no2 no3 no4 no5 no7 = absurd (omega (arith, le))
 
-pub completes : (status : ℕ) (call : Call) (before after : Option (List ℕ)) → IsReplayed status call before after → GoesWell call → (status ≡ 0) ⊎ (status ≡ 6)
+pub completes : (status : ℕ) (call : ReplayCall) (before after : Option (List ℕ)) → IsReplayed status call before after → IsReplayUnhindered call → (status ≡ 0) ⊎ (status ≡ 6)
 completes status call before after r well =
     let cause = r.cause in
     let same = shape_is call r.run well status r.line cause in

@@ -4,14 +4,14 @@ use Rattle.command_words.specs.Asked.{AskedRead, AskedServe, AskedFile, AskedSpo
 use Rattle.command_words.specs.Asked.{ForReplay, ForRead, ForServe, ForBackup, ForRestore, ForDelete, ForSpool, ForResume}
 use Rattle.command_words.specs.Asked.{ForAudit, ForCheck, ForReclaim, ForMigrate, ForGenerate}
 use Rattle.command_words.specs.Commands.{IsCommand}
-use Rattle.cd_top.specs.Dispatch.{Each, Promises}
+use Rattle.cd_top.specs.Dispatch.{EachCommand, Promises}
 use Rattle.cd_top.specs.Replay.{IsReplay}
 
 abbrev pub Law : Type 0
 Law = (words : List (List ℕ)) (a b : Asked) → IsCommand words a → IsCommand words b → a ≡ b
 
 module _ (one : Law) (words : List (List ℕ)) (asked : Asked) (is : IsCommand words asked)
-    (each : Each) (promises : Promises asked each) where
+    (each : EachCommand) (promises : Promises asked each) where
   promised : (other : Asked) → IsCommand words other → Promises other each
   promised other has = subst (λ a. Promises a each) (one words asked other is has) promises
 
@@ -54,5 +54,5 @@ module _ (one : Law) (words : List (List ℕ)) (asked : Asked) (is : IsCommand w
   pub is_generated : (g : AskedSession) → IsCommand words (ForGenerate g) → each.generated g
   is_generated g other = promised (ForGenerate g) other
 
-pub promised_as : (asked other : Asked) → asked ≡ other → (each : Each) → Promises other each → Promises asked each
+pub promised_as : (asked other : Asked) → asked ≡ other → (each : EachCommand) → Promises other each → Promises asked each
 promised_as asked other is each promised = subst (λ a. Promises a each) (sym is) promised

@@ -2,8 +2,8 @@
 use Rattle.std.proofs.Common.{◌≡◌, ℕ, true, false, List, [], length, Option, inl, inr, refl, sym, ap, ◌∙◌, subst, subst₂, append-nil, arith}
 use Rattle.std.specs.Prelude.{◌⊎◌}
 use Rattle.std.specs.Io.KnownBytes.{Appends}
-use Rattle.cd_edges.specs.Causes.{Rose}
-use Rattle.cd_edges.specs.Disk.{Cloud}
+use Rattle.delete_command.specs.CdEdges.Causes.{Rose}
+use Rattle.delete_command.specs.CdEdges.Disk.{Cloud}
 use Rattle.generated_session.specs.SessionModel.Headline.{Session, IsRun}
 use Rattle.generated_session.specs.ReplayCore.end.ReplayEnd.{ReplayEnd}
 use Rattle.generated_session.specs.ReplayCore.end.ReplayEnd.TheVariants as ends
@@ -12,8 +12,8 @@ use Rattle.generated_session.specs.Numbers.{summary_text}
 use Rattle.generated_session.specs.Generates as generator
 use Rattle.generated_session.specs.Generates.{Order, Passing, Generates, WritesSummary, IsSummed}
 use Rattle.command_words.specs.Asked.{AskedSession}
-use Rattle.cd_top.specs.Ends.{WantsLast, WantsNone, Closes, Silent, Said, CutShort, Unsaid}
-use Rattle.cd_top.specs.Generate.{IsCaused, IsDue, IsClosed, Whole, Short, Makes, NoPlace, MadeTo, NothingFails, IsGenerated, order_of}
+use Rattle.cd_top.specs.Ends.{WantsLast, WantsNone, HasLastLine, Silent, Said, CutShort, Unsaid}
+use Rattle.cd_top.specs.Generate.{IsCaused, IsDue, IsSessionClosed, Whole, Short, Makes, NoPlace, MadeTo, NothingFails, IsGenerated, order_of}
 use Rattle.cd_top.specs.Read.{Around}
 use Rattle.cd_top.specs.Replay.{ending_text}
 use Rattle.cd_top.proofs.Closing.{other_status, rose_since}
@@ -40,7 +40,7 @@ module _ (order : Order) (call : Passing) (total total_after now : ℕ) (after :
   -- the same session, which is said to have come to this end
   made_as : (end said : ReplayEnd) (status : ℕ) (g : Generates end order call) → Replayed status call.old call.new g.run
       → IsCaused said order around g.run → (text : List ℕ) → IsDue said order g.run text
-      → IsClosed status said text around call.before after → Makes status around order call.before after
+      → IsSessionClosed status said text around call.before after → Makes status around order call.before after
   made_as end said status g replayed cause text due closed = MadeTo said (record {
     run = g.run;
     replayed = replayed;
@@ -130,7 +130,7 @@ module _ (order : Order) (call : Passing) (total total_after now : ℕ) (after :
   line_due ends.SinkFault run wants = absurd wants
   line_due ends.NoMemory run wants = absurd wants
 
-  pub makes : (end : ReplayEnd) (status : ℕ) → Generates end order call → Closes end status call.after after call.sink_after now → Makes status around order call.before after
+  pub makes : (end : ReplayEnd) (status : ℕ) → Generates end order call → HasLastLine end status call.after after call.sink_after now → Makes status around order call.before after
   makes end status g (Silent none is same still) = silent end status g none is same still
   makes end status g (Said wants is wrote still) =
       made_as end end status g (at_status end status g is) (cause_unopened end g.run wants g.cause) (ending_text (ending_of end)) (line_due end g.run wants)
@@ -153,7 +153,7 @@ module _ (order : Order) (call : Passing) (total total_after now : ℕ) (after :
 -- ---- where nothing fails
 
 module _ (c : Around) (order : Order) (well : NothingFails c) where
-  written_whole : (status : ℕ) (end : ReplayEnd) (text : List ℕ) (before after : Option (List ℕ)) → IsClosed status end text c before after → status ≡ status_of end
+  written_whole : (status : ℕ) (end : ReplayEnd) (text : List ℕ) (before after : Option (List ℕ)) → IsSessionClosed status end text c before after → status ≡ status_of end
   written_whole status end text before after (Whole is wrote still) = is
   written_whole status end text before after (Short is front rose) = absurd (not_risen c.sink_before c.sink_after well.sink rose)
 
@@ -189,7 +189,7 @@ unplaced_session c g before same still rose = record {
 }
 
 made_there : (status : ℕ) (g : AskedSession) (end : ReplayEnd) (call : Passing) (total total_after now : ℕ) (after : Option (List ℕ)) → Generates end (order_of g) call
-    → Closes end status call.after after call.sink_after now → IsGenerated status (around_of call total total_after now) g call.before after
+    → HasLastLine end status call.after after call.sink_after now → IsGenerated status (around_of call total total_after now) g call.before after
 made_there status g end call total total_after now after generates closes =
     let made = makes (order_of g) call total total_after now after end status generates closes in record {
       made = made;
@@ -207,7 +207,7 @@ pub made_in : (status : ℕ) (g : AskedSession) (end : ReplayEnd) (middle old ne
       old = middle;
       new = new;
     })
-    → Closes end status made after sink_made now
+    → HasLastLine end status made after sink_made now
     → IsGenerated status (record {
       sink_before = sink_before;
       sink_after = now;

@@ -1,25 +1,25 @@
 -- A cloud that is served in a place, and clients whose addresses are counted.
 use Rattle.std.proofs.Common.{◌≡◌, ℕ, IsTrue, ◌⊎◌, List, Option, length, refl, subst, subst₂}
-use Rattle.cd_edges.specs.Causes.{Rose}
-use Rattle.cd_edges.specs.Disk.{Cloud}
-use Rattle.cd_edges.specs.Ports.{Telling}
-use Rattle.cd_edges.specs.Shelf.{IsCall}
+use Rattle.delete_command.specs.CdEdges.Causes.{Rose}
+use Rattle.delete_command.specs.CdEdges.Disk.{Cloud}
+use Rattle.delete_command.specs.CdEdges.Ports.{Telling}
+use Rattle.delete_command.specs.CdEdges.Shelf.{IsCall}
 use Rattle.command_words.specs.Asked.{AskedFile, AskedServe}
-use Rattle.serve_command.specs.Complete.{GoesWell}
-use Rattle.serve_command.specs.Served.{IsServed, Output}
+use Rattle.migrate_command.specs.ServeCommand.Complete.{IsServeUnhindered}
+use Rattle.migrate_command.specs.ServeCommand.Served.{IsServed, ServeOutput}
 use Rattle.restore_command.specs.Calls.{OnlyDialled}
 use Rattle.restore_command.specs.Ends.{IsFetched}
-use Rattle.cd_top.specs.Serve.{HasServed, Serves, NoPlace, InPlace, serving}
+use Rattle.cd_top.specs.Serve.{HasServedCloud, HasServedOrCause, NoPlace, InPlace, serving}
 use Rattle.delete_command.specs.Deleted.{IsDeleted}
 use Rattle.delete_command.specs.Writing as deletions
-use Rattle.ports_link.specs.Dialled.{OnlyDialled as OnlyThose}
-use Rattle.cd_top.specs.Clients.{Lines, Deletes, Restores}
+use Rattle.delete_command.specs.PortsLink.Dialled.{OnlyDialled as OnlyThose}
+use Rattle.cd_top.specs.Clients.{PortsAround, Deletes, HasRestoredOrCause}
 
 -- the place couldn't be made or found
-pub unplaced : (s : AskedServe) (out : Output) (old new : ℕ → Cloud) (total total_after : ℕ) (tells : Telling) (ports : ℕ)
+pub unplaced : (s : AskedServe) (out : ServeOutput) (old new : ℕ → Cloud) (total total_after : ℕ) (tells : Telling) (ports : ℕ)
     → out.written_after ≡ out.written_before → out.faults_after ≡ out.faults_before
     → ((cloud : ℕ) → new cloud ≡ old cloud) → Rose total total_after
-    → Serves 5 (serving s out old new total total_after tells tells ports ports)
+    → HasServedOrCause 5 (serving s out old new total total_after tells tells ports ports)
 unplaced s out old new total total_after tells ports silent still same rose = NoPlace refl (record {
   written = silent;
   sink = still;
@@ -29,22 +29,22 @@ unplaced s out old new total total_after tells ports silent still same rose = No
 }) rose
 
 -- the naming of the place changed no cloud and no count
-pub served_in : (status : ℕ) (s : AskedServe) (out : Output) (old middle new : ℕ → Cloud) (total count total_after : ℕ)
+pub served_in : (status : ℕ) (s : AskedServe) (out : ServeOutput) (old middle new : ℕ → Cloud) (total count total_after : ℕ)
     (tells tells_after : Telling) (ports ports_after : ℕ)
     → ((cloud : ℕ) → middle cloud ≡ old cloud) → count ≡ total
     → IsServed status (serving s out middle new count total_after tells tells_after ports ports_after)
     → IsCall middle new s.cloud.0 count total_after
-    → (GoesWell (serving s out middle new count total_after tells tells_after ports ports_after)
+    → (IsServeUnhindered (serving s out middle new count total_after tells tells_after ports ports_after)
     → (status ≡ 0) ⊎ (status ≡ 6))
-    → Serves status (serving s out old new total total_after tells tells_after ports ports_after)
+    → HasServedOrCause status (serving s out old new total total_after tells tells_after ports ports_after)
 served_in status s out old middle new total count total_after tells tells_after ports ports_after same kept served
     alone complete =
     InPlace (subst₂ (λ (o : ℕ → Cloud) (n : ℕ).
-    HasServed status (serving s out o new n total_after tells tells_after ports ports_after))
+    HasServedCloud status (serving s out o new n total_after tells tells_after ports ports_after))
     (λ i cloud. same cloud i) kept (record { served = served; alone = alone; complete = complete }))
 
 -- the addresses are as many as the words that they were
-pub restored_by : (status : ℕ) (f : AskedFile) (l : Lines) (many : ℕ) (before after : Option (List ℕ)) (faults now : ℕ)
+pub restored_by : (status : ℕ) (f : AskedFile) (l : PortsAround) (many : ℕ) (before after : Option (List ℕ)) (faults now : ℕ)
     → many ≡ length f.addresses
     → IsFetched status (record {
       user = f.user;
@@ -57,7 +57,7 @@ pub restored_by : (status : ℕ) (f : AskedFile) (l : Lines) (many : ℕ) (befor
       faults_after = l.faults_after;
     }) before after faults now
     → (IsTrue l.before.told → OnlyDialled l.before l.after) → l.after.told ≡ l.before.told
-    → Restores status f l before after faults now
+    → HasRestoredOrCause status f l before after faults now
 restored_by status f l many before after faults now same fetched others told = record {
   fetched = subst (λ (n : ℕ). IsFetched status (record {
     user = f.user;
@@ -73,7 +73,7 @@ restored_by status f l many before after faults now same fetched others told = r
   told = told;
 }
 
-pub deleted_by : (status : ℕ) (f : AskedFile) (l : Lines) (many : ℕ) (out : deletions.Output) → many ≡ length f.addresses
+pub deleted_by : (status : ℕ) (f : AskedFile) (l : PortsAround) (many : ℕ) (out : deletions.DeleteOutput) → many ≡ length f.addresses
     → IsDeleted status (record {
       user = f.user;
       path = f.path;

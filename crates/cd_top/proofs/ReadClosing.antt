@@ -3,17 +3,17 @@ use Rattle.std.proofs.Common.{◌≡◌, ℕ, List, [], ◌++◌, Option, inl, i
 use Rattle.std.proofs.Common.{append-nil}
 use Rattle.std.specs.Prelude.{IsTrue}
 use Rattle.std.specs.Io.KnownBytes.{Appends}
-use Rattle.cd_edges.specs.Causes.{Rose}
-use Rattle.cd_edges.specs.Disk.{Cloud}
-use Rattle.journal_start.specs.declared.rooms.Rooms.{Rooms}
-use Rattle.user_dedup.specs.declared.command.Command.{Command}
+use Rattle.delete_command.specs.CdEdges.Causes.{Rose}
+use Rattle.delete_command.specs.CdEdges.Disk.{Cloud}
+use Rattle.command_words.specs.JournalStart.rooms.UserRooms.{UserRooms}
+use Rattle.delete_command.specs.UserDedup.command.Command.{Command}
 use Rattle.read_command.specs.declared.end.ReadEnd.{ReadEnd}
 use Rattle.read_command.specs.declared.end.ReadEnd.TheVariants as ends
 use Rattle.read_command.specs.Disks.{AreReadable, IsSpared, KeepsDisks}
 use Rattle.read_command.specs.Ends.{Outside, CountsSink, Gives, GivesAnyway, IsOfOpening, Says}
 use Rattle.read_command.specs.KeptFiles.Kept.{key_of}
 use Rattle.command_words.specs.Asked.{AskedRead}
-use Rattle.cd_top.specs.Read.{Around, IsClosed, IsRead, ReadTo, NoPlace, given_of}
+use Rattle.cd_top.specs.Read.{Around, IsClosed, IsVersionRead, ReadTo, NoPlace, given_of}
 use Rattle.cd_top.specs.Read.{last_line, status_of}
 use Rattle.cd_top.specs.Replay.{WritesFront}
 use Rattle.cd_top.proofs.Texts.{appends_both, appends_nothing}
@@ -89,7 +89,7 @@ nothing_said ends.NoMemory c r text is says = absurd is
 
 -- DIR failed
 pub no_place : (c : Around) (r : AskedRead) (before : Option (List ℕ)) → ((cloud : ℕ) → c.new cloud ≡ c.old cloud)
-    → c.sink_after ≡ c.sink_before → Rose c.total_before c.total_after → IsRead 5 c r before before
+    → c.sink_after ≡ c.sink_before → Rose c.total_before c.total_after → IsVersionRead 5 c r before before
 no_place c r before same kept rose =
     NoPlace refl (record { written = appends_nothing before; clouds = same; sink = kept }) rose
 
@@ -103,7 +103,7 @@ pub read_to : (status : ℕ) (r : AskedRead) (end : ReadEnd) (middle old new : �
       old = middle;
       new = new;
     }) r.shape r.clouds end text
-    × ((rooms : ℕ → Rooms) (lists : ℕ → List Command) → AreReadable r.shape r.clouds middle rooms lists
+    × ((rooms : ℕ → UserRooms) (lists : ℕ → List Command) → AreReadable r.shape r.clouds middle rooms lists
     → Gives (record {
       total_before = count;
       total_after = total_after;
@@ -121,7 +121,7 @@ pub read_to : (status : ℕ) (r : AskedRead) (end : ReadEnd) (middle old new : �
     → ((faults : ℕ) (text : List ℕ) (first : Option (List ℕ)) → CountsSink faults sink_middle end
     → Appends first written text → (IsOfOpening end → text ≡ [])
     → IsClosed status faults sink_after end text first after)
-    → IsRead status (record {
+    → IsVersionRead status (record {
       sink_before = sink_before;
       sink_after = sink_after;
       total_before = total;
@@ -131,7 +131,7 @@ pub read_to : (status : ℕ) (r : AskedRead) (end : ReadEnd) (middle old new : �
     }) r before after
 read_to status r end middle old new count total total_after sink_before sink_middle sink_after before written after same
     kept reads counts disks areas anyway closes =
-    subst₂ (λ (o : ℕ → Cloud) (n : ℕ). IsRead status (record {
+    subst₂ (λ (o : ℕ → Cloud) (n : ℕ). IsVersionRead status (record {
       sink_before = sink_before;
       sink_after = sink_after;
       total_before = n;

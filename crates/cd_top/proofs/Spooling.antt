@@ -1,17 +1,17 @@
 -- A job that is kept in a place, for clouds whose addresses are counted.
 use Rattle.std.proofs.Common.{◌≡◌, ◌≤◌, ℕ, IsTrue, length, refl, subst, subst₂}
-use Rattle.cd_edges.specs.Causes.{Rose}
-use Rattle.cd_edges.specs.Disk.{Cloud}
-use Rattle.cd_edges.specs.Shelf.{IsCall}
+use Rattle.delete_command.specs.CdEdges.Causes.{Rose}
+use Rattle.delete_command.specs.CdEdges.Disk.{Cloud}
+use Rattle.delete_command.specs.CdEdges.Shelf.{IsCall}
 use Rattle.command_words.specs.Asked.{AskedFile, AskedSpool, AskedResume}
-use Rattle.backup_command.specs.Reading.{Input}
-use Rattle.backup_command.specs.Writing.{Output, IsSilent}
-use Rattle.ports_link.specs.Dialled.{OnlyDialled}
+use Rattle.spool_command.specs.BackupCommand.Reading.{Input}
+use Rattle.spool_command.specs.BackupCommand.Writing.{Output, IsSilent}
+use Rattle.delete_command.specs.PortsLink.Dialled.{OnlyDialled}
 use Rattle.spool_command.specs.declared.spooling.SpooledFile.{SpooledFile}
 use Rattle.spool_command.specs.Spooled.{IsSpooled, SparesFilled}
 use Rattle.spool_command.specs.Resumed.{IsResumed}
-use Rattle.cd_top.specs.Clients.{Lines}
-use Rattle.cd_top.specs.Spool.{Beside, beside, outside_of, IsUnplaced, IsAlone, IsAsked, Spools, NoFolder, InFolder}
+use Rattle.cd_top.specs.Clients.{PortsAround}
+use Rattle.cd_top.specs.Spool.{Beside, beside, outside_of, IsUnplaced, IsFolderAlone, IsAskedVersion, Spools, NoFolder, InFolder}
 use Rattle.cd_top.specs.Spool.{Resumes, NoKept, Kept}
 
 -- the place couldn't be made or found
@@ -31,15 +31,15 @@ unplaced_job c out tells ports written still same rose = record {
 -- what was done in the place touched nothing beside
 pub alone_in : (c : Beside) → IsCall c.old c.new 0 c.total_before c.total_after
     → (IsTrue c.lines.before.told → OnlyDialled c.lines.before c.lines.after)
-    → c.lines.after.told ≡ c.lines.before.told → c.lines.faults_before ≤ c.lines.faults_after → IsAlone c
+    → c.lines.after.told ≡ c.lines.before.told → c.lines.faults_before ≤ c.lines.faults_after → IsFolderAlone c
 alone_in c call others told later = record { clouds = call; others = others; told = told; later = later }
 
 -- the naming of the place changed no cloud and no count
 pub spooled_in : (status : ℕ) (s : AskedSpool) (file : SpooledFile) (many : ℕ) (old middle new : ℕ → Cloud)
-    (total count total_after : ℕ) (lines : Lines) (unread : Type 0) (input : Input) (out : Output)
-    → many ≡ length s.file.addresses → ((cloud : ℕ) → middle cloud ≡ old cloud) → count ≡ total → IsAsked s.file file
+    (total count total_after : ℕ) (lines : PortsAround) (unread : Type 0) (input : Input) (out : Output)
+    → many ≡ length s.file.addresses → ((cloud : ℕ) → middle cloud ≡ old cloud) → count ≡ total → IsAskedVersion s.file file
     → IsSpooled status (outside_of many (beside middle new count total_after lines)) file input out
-    → SparesFilled (middle 0) (new 0) → IsAlone (beside middle new count total_after lines)
+    → SparesFilled (middle 0) (new 0) → IsFolderAlone (beside middle new count total_after lines)
     → Spools status s (beside old new total total_after lines) unread input out
 spooled_in status s file many old middle new total count total_after lines unread input out few same kept asked spooled
     spared alone =
@@ -48,9 +48,9 @@ spooled_in status s file many old middle new total count total_after lines unrea
     IsSpooled status (outside_of m (beside middle new count total_after lines)) file input out) few spooled) spared alone)
 
 pub resumed_in : (status : ℕ) (r : AskedResume) (many : ℕ) (old middle new : ℕ → Cloud) (total count total_after : ℕ)
-    (lines : Lines) (out : Output) → many ≡ length r.addresses → ((cloud : ℕ) → middle cloud ≡ old cloud)
+    (lines : PortsAround) (out : Output) → many ≡ length r.addresses → ((cloud : ℕ) → middle cloud ≡ old cloud)
     → count ≡ total → IsResumed status (outside_of many (beside middle new count total_after lines)) out
-    → IsAlone (beside middle new count total_after lines)
+    → IsFolderAlone (beside middle new count total_after lines)
     → Resumes status r (beside old new total total_after lines) out
 resumed_in status r many old middle new total count total_after lines out few same kept resumed alone =
     subst₂ (λ (o : ℕ → Cloud) (n : ℕ). Resumes status r (beside o new n total_after lines) out)

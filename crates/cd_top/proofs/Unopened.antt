@@ -2,24 +2,24 @@
 use Rattle.std.proofs.Common.{◌≡◌, ℕ, true, false, List, [], ◌∷◌, ◌++◌, Option, Some, None, Result, Ok, Err, inl, inr, refl, sym, ap, ◌∙◌, subst, subst₂, append-nil, arith}
 use Rattle.std.specs.Prelude.{IfSome}
 use Rattle.std.specs.Io.KnownBytes.{Appends}
-use Rattle.journal_start.specs.Ranges.{usual_rooms}
-use Rattle.journal_start.specs.declared.rooms.Rooms.{Rooms}
-use Rattle.cd_base.specs.declared.shape.Shape.{Shape}
-use Rattle.cd_edges.specs.Causes.{Rose}
-use Rattle.cd_edges.specs.Disk.{Cloud, Image, IsImage}
-use Rattle.cd_edges.specs.Shelf.{Stays}
-use Rattle.cd_edges.proofs.Moments.{left_alone, each_since}
-use Rattle.serve_command.specs.CloudAreas.Peers.{StandsForSome}
-use Rattle.serve_command.proofs.CloudServer.NoCommands.{empty_stands}
+use Rattle.command_words.specs.JournalStart.Ranges.{usual_rooms}
+use Rattle.command_words.specs.JournalStart.rooms.UserRooms.{UserRooms}
+use Rattle.command_words.specs.CdBase.shape.Shape.{Shape}
+use Rattle.delete_command.specs.CdEdges.Causes.{Rose}
+use Rattle.delete_command.specs.CdEdges.Disk.{Cloud, Image, IsImage}
+use Rattle.delete_command.specs.CdEdges.Shelf.{Stays}
+use Rattle.delete_command.proofs.CdEdges.Moments.{left_alone, each_since}
+use Rattle.migrate_command.specs.ServeCommand.CloudAreas.Peers.{StandsForSome}
+use Rattle.migrate_command.proofs.ServeCommand.CloudServer.NoCommands.{empty_stands}
 use Rattle.read_command.specs.LocalLink.Calls.{header_of}
-use Rattle.session.specs.Fault.{Fault}
-use Rattle.session.specs.Lines.{next_line}
-use Rattle.session.specs.Reading.{header_at}
-use Rattle.session.specs.Scripts.{Place, Begins}
+use Rattle.two_worlds.specs.Session.Fault.{Fault}
+use Rattle.two_worlds.specs.Session.Lines.{next_line}
+use Rattle.two_worlds.specs.Session.Reading.{header_at}
+use Rattle.two_worlds.specs.Session.Scripts.{ScriptPlace, Begins}
 use Rattle.generated_session.specs.SessionModel.Vault.{Setting, opening}
 use Rattle.generated_session.specs.SessionModel.Run.{Answered}
 use Rattle.generated_session.specs.SessionModel.Headline.{Session, IsRun, DisksStand}
-use Rattle.generated_session.specs.ReplayCore.Endings.{Call, NoEnding, HasCause}
+use Rattle.generated_session.specs.ReplayCore.Endings.{ReplayCall, NoEnding, HasStatusCause}
 use Rattle.generated_session.specs.ReplayCore.Replayed.{Replayed, BeginsEmpty}
 use Rattle.two_worlds.proofs.Two.{two_worlds}
 use Rattle.cd_top.specs.Replay.{IsReplayed}
@@ -29,32 +29,32 @@ use Rattle.cd_top.specs.Replay.{IsReplayed}
 abbrev some_shape : Shape
 some_shape = record { n = 4; k = 3; several = omega arith; spare = omega arith; few = omega arith }
 
-abbrev said : Result (Shape × Rooms) Fault → Shape × Rooms
+abbrev said : Result (Shape × UserRooms) Fault → Shape × UserRooms
 said (Ok header) = header
 said (Err fault) = (some_shape, usual_rooms)
 
-abbrev said_by : Result (Option (List ℕ)) Fault → Shape × Rooms
+abbrev said_by : Result (Option (List ℕ)) Fault → Shape × UserRooms
 said_by (Ok (Some line)) = said (header_at line)
 said_by (Ok None) = (some_shape, usual_rooms)
 said_by (Err fault) = (some_shape, usual_rooms)
 
-abbrev head_of : Option (List ℕ) → Shape × Rooms
+abbrev head_of : Option (List ℕ) → Shape × UserRooms
 head_of None = (some_shape, usual_rooms)
 head_of (Some script) = said_by (next_line 0 script)
 
-head_is : (script : List ℕ) (shape : Shape) (rooms : Rooms) (place : Place) → Begins script shape rooms place → head_of (Some script) ≡ (shape, rooms)
+head_is : (script : List ℕ) (shape : Shape) (rooms : UserRooms) (place : ScriptPlace) → Begins script shape rooms place → head_of (Some script) ≡ (shape, rooms)
 head_is script shape rooms place begins = ap said_by begins.here ∙ ap said begins.says
 
-says_header : (script : Option (List ℕ)) → IfSome script (λ bytes. (shape : Shape) (rooms : Rooms) (place : Place) → Begins bytes shape rooms place → ((head_of script).0 ≡ shape) × ((head_of script).1 ≡ rooms))
+says_header : (script : Option (List ℕ)) → IfSome script (λ bytes. (shape : Shape) (rooms : UserRooms) (place : ScriptPlace) → Begins bytes shape rooms place → ((head_of script).0 ≡ shape) × ((head_of script).1 ≡ rooms))
 says_header None = tt
-says_header (Some bytes) = λ shape rooms place begins. let e = head_is bytes shape rooms place begins in (ap (λ (h : Shape × Rooms). h.0) e, ap (λ (h : Shape × Rooms). h.1) e)
+says_header (Some bytes) = λ shape rooms place begins. let e = head_is bytes shape rooms place begins in (ap (λ (h : Shape × UserRooms). h.0) e, ap (λ (h : Shape × UserRooms). h.1) e)
 
 -- ---- the session
 
-abbrev setting_of : Call → Setting
+abbrev setting_of : ReplayCall → Setting
 setting_of call = record { shape = (head_of call.script).0; rooms = (head_of call.script).1; told = λ cloud. (call.old cloud).told }
 
-abbrev session_of : Call → Session
+abbrev session_of : ReplayCall → Session
 session_of call = record {
   setting = setting_of call;
   opened = false;
@@ -68,7 +68,7 @@ no_line : {A : Type 0} (earlier later : List Answered) (a : Answered) → [] ≡
 no_line [] later a e = absurd (let f : [] ≡ a ∷ later = e in cc)
 no_line (b ∷ earlier) later a e = absurd (let f : [] ≡ b ∷ (earlier ++ a ∷ later) = e in cc)
 
-module _ (call : Call) (same : (cloud : ℕ) → call.new cloud ≡ call.old cloud) where
+module _ (call : ReplayCall) (same : (cloud : ℕ) → call.new cloud ≡ call.old cloud) where
   abbrev run : Session
   run = session_of call
 
@@ -107,7 +107,7 @@ module _ (call : Call) (same : (cloud : ℕ) → call.new cloud ≡ call.old clo
     worlds = two_worlds call.old run;
   }
 
-  cause : Rose call.total_before call.total_after → call.sink_after ≡ call.sink_before → HasCause 5 call run NoEnding
+  cause : Rose call.total_before call.total_after → call.sink_after ≡ call.sink_before → HasStatusCause 5 call run NoEnding
   cause rose still = record {
     known = (omega arith, λ e. omega (arith, e));
     header = says_header call.script;
@@ -124,7 +124,7 @@ module _ (call : Call) (same : (cloud : ℕ) → call.new cloud ≡ call.old clo
     store = λ e. absurd (omega (arith, e));
   }
 
-pub rootless : (call : Call) (before : Option (List ℕ)) → ((cloud : ℕ) → call.new cloud ≡ call.old cloud) → Rose call.total_before call.total_after → call.sink_after ≡ call.sink_before → IsReplayed 5 call before before
+pub rootless : (call : ReplayCall) (before : Option (List ℕ)) → ((cloud : ℕ) → call.new cloud ≡ call.old cloud) → Rose call.total_before call.total_after → call.sink_after ≡ call.sink_before → IsReplayed 5 call before before
 rootless call before same rose still = record {
   run = session_of call;
   line = NoEnding;

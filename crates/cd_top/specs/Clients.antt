@@ -1,31 +1,31 @@
 -- What the words of a client promise: `backup`, `restore` and `delete`, each with USER PATH VERSION ADDR..
 use Rattle.std.specs.Prelude.{◌≡◌, ℕ, IsTrue, Option, List, length}
-use Rattle.cd_edges.specs.Ports.{Telling}
+use Rattle.delete_command.specs.CdEdges.Ports.{Telling}
 use Rattle.command_words.specs.Asked.{AskedFile}
-use Rattle.backup_command.specs.BackedUp as backing
-use Rattle.backup_command.specs.BackedUp.{IsBackedUp}
-use Rattle.backup_command.specs.Reading.{Input}
-use Rattle.backup_command.specs.Writing.{Output}
+use Rattle.spool_command.specs.BackupCommand.BackedUp as backing
+use Rattle.spool_command.specs.BackupCommand.BackedUp.{IsBackedUp}
+use Rattle.spool_command.specs.BackupCommand.Reading.{Input}
+use Rattle.spool_command.specs.BackupCommand.Writing.{Output}
 use Rattle.delete_command.specs.Deleted as deleting
 use Rattle.delete_command.specs.Deleted.{IsDeleted}
 use Rattle.delete_command.specs.Writing as deletions
-use Rattle.ports_link.specs.Dialled.{OnlyDialled}
+use Rattle.delete_command.specs.PortsLink.Dialled.{OnlyDialled}
 use Rattle.restore_command.specs.Calls as restoring
 use Rattle.restore_command.specs.Ends.{IsFetched}
 
 -- what the ports tell before and after, and how often they had failed and have failed
-pub record Lines : Type 0 where
+pub record PortsAround : Type 0 where
   pub before : Telling
   pub after : Telling
   pub faults_before : ℕ
   pub faults_after : ℕ
 
-abbrev pub lines_of : Telling → Telling → ℕ → ℕ → Lines
+abbrev pub lines_of : Telling → Telling → ℕ → ℕ → PortsAround
 lines_of before after faults now =
     record { before = before; after = after; faults_before = faults; faults_after = now }
 
 -- what is asked to be backed up, over these ports
-abbrev pub backup_of : AskedFile → Lines → backing.Call
+abbrev pub backup_of : AskedFile → PortsAround → backing.BackupCall
 backup_of f l = record {
   user = f.user;
   path = f.path;
@@ -39,13 +39,13 @@ backup_of f l = record {
 
 -- The file in the source was backed up: what was read, sent, received and written, by the way it ended. Ports that were
 -- open before are as they were.
-pub record BacksUp (status : ℕ) (f : AskedFile) (l : Lines) (input : Input) (out : Output) : Type 0 where
+pub record BacksUp (status : ℕ) (f : AskedFile) (l : PortsAround) (input : Input) (out : Output) : Type 0 where
   pub backed_up : IsBackedUp status (backup_of f l) input out
   pub others : IsTrue l.before.told → backing.OnlyDialled l.before l.after
   pub told : l.after.told ≡ l.before.told
 
 -- what is asked to be restored, over these ports
-abbrev pub restore_of : AskedFile → Lines → restoring.Call
+abbrev pub restore_of : AskedFile → PortsAround → restoring.RestoreCall
 restore_of f l = record {
   user = f.user;
   path = f.path;
@@ -59,14 +59,15 @@ restore_of f l = record {
 
 -- A version was restored: what was sent, received and written, by the way it ended. Ports that were open before are as
 -- they were.
-pub record Restores (status : ℕ) (f : AskedFile) (l : Lines) (before after : Option (List ℕ)) (faults now : ℕ)
+pub record HasRestoredOrCause (status : ℕ) (f : AskedFile) (l : PortsAround) (before after : Option (List ℕ))
+    (faults now : ℕ)
     : Type 0 where
   pub fetched : IsFetched status (restore_of f l) before after faults now
   pub others : IsTrue l.before.told → restoring.OnlyDialled l.before l.after
   pub told : l.after.told ≡ l.before.told
 
 -- what is asked to be deleted, over these ports
-abbrev pub delete_of : AskedFile → Lines → deleting.Call
+abbrev pub delete_of : AskedFile → PortsAround → deleting.DeleteCall
 delete_of f l = record {
   user = f.user;
   path = f.path;
@@ -80,7 +81,7 @@ delete_of f l = record {
 
 -- A version was deleted at each cloud: what was sent, received and written, by the way it ended. Ports that were open
 -- before are as they were.
-pub record Deletes (status : ℕ) (f : AskedFile) (l : Lines) (out : deletions.Output) : Type 0 where
+pub record Deletes (status : ℕ) (f : AskedFile) (l : PortsAround) (out : deletions.DeleteOutput) : Type 0 where
   pub deleted : IsDeleted status (delete_of f l) out
   pub others : IsTrue l.before.told → OnlyDialled l.before l.after
   pub told : l.after.told ≡ l.before.told

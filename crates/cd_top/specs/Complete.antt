@@ -1,19 +1,19 @@
 -- When a replay answers 0, or runs out of memory: a script within the limits, clouds that are empty and told, and
 -- nothing that fails.
 use Rattle.std.specs.Prelude.{◌≡◌, ℕ, ◌-◌, ◌^◌, ◌<◌, List, Some, IsTrue}
-use Rattle.cd_base.specs.declared.shape.Shape.{Shape}
-use Rattle.journal_start.specs.declared.rooms.Rooms.{Rooms}
-use Rattle.cd_edges.specs.declared.area.Area.{Area}
-use Rattle.cd_edges.specs.Disk.{Cloud}
-use Rattle.session.specs.declared.event.Event.{Event}
-use Rattle.session.specs.Scripts.{Place, Reaches, IsEnd}
-use Rattle.generated_session.specs.ReplayCore.Endings.{Call, IsEmptyAt}
+use Rattle.command_words.specs.CdBase.shape.Shape.{Shape}
+use Rattle.command_words.specs.JournalStart.rooms.UserRooms.{UserRooms}
+use Rattle.delete_command.specs.CdEdges.area.Area.{Area}
+use Rattle.delete_command.specs.CdEdges.Disk.{Cloud}
+use Rattle.two_worlds.specs.Session.event.Event.{Event}
+use Rattle.two_worlds.specs.Session.Scripts.{ScriptPlace, Reaches, IsEnd}
+use Rattle.generated_session.specs.ReplayCore.Endings.{ReplayCall, IsEmptyAt}
 
 -- the bytes are a script for clouds of this shape, to its last line
 pub record IsScript (script : List ℕ) (shape : Shape) : Type 0 where
-  pub rooms : Rooms
+  pub rooms : UserRooms
   pub events : List Event
-  pub place : Place
+  pub place : ScriptPlace
   pub reaches : Reaches script shape rooms events place
   pub ends : IsEnd place
 
@@ -25,7 +25,7 @@ abbrev pub IsNew : Cloud → Type 0
 IsNew cloud = IsTrue cloud.told × ((area : Area) → IsEmptyAt cloud area)
 
 -- Nothing fails in the call: the source has a script, its clouds are new, and no count rises.
-pub record GoesWell (call : Call) : Type 0 where
+pub record IsReplayUnhindered (call : ReplayCall) : Type 0 where
   pub script : List ℕ
   pub shape : Shape
   pub has : call.script ≡ Some script

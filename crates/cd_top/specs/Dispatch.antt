@@ -21,7 +21,7 @@ IsFit (ForMigrate m) = FitsMigrate m
 IsFit (ForGenerate g) = FitsSession g
 
 -- what each command promises
-pub record Each : Type 1 where
+pub record EachCommand : Type 1 where
   pub replayed : Type 0
   pub read : AskedRead → Type 0
   pub served : AskedServe → Type 0
@@ -37,7 +37,7 @@ pub record Each : Type 1 where
   pub generated : AskedSession → Type 0
 
 -- what a call promises of what is asked for
-abbrev pub Promises : Asked → Each → Type 0
+abbrev pub Promises : Asked → EachCommand → Type 0
 Promises (ForReplay directory) each = each.replayed
 Promises (ForRead r) each = each.read r
 Promises (ForServe s) each = each.served s

@@ -1,7 +1,7 @@
 -- Which ends of a session still want their last line, and what comes of it.
 use Rattle.std.specs.Prelude.{◌≡◌, ℕ, List, Option}
 use Rattle.std.specs.Io.KnownBytes.{Appends}
-use Rattle.cd_edges.specs.Causes.{Rose}
+use Rattle.delete_command.specs.CdEdges.Causes.{Rose}
 use Rattle.generated_session.specs.ReplayCore.end.ReplayEnd.{ReplayEnd}
 use Rattle.generated_session.specs.ReplayCore.end.ReplayEnd.TheVariants as ends
 use Rattle.generated_session.specs.ReplayCore.Replayed.{status_of, ending_of}
@@ -31,12 +31,12 @@ WantsNone (ends.Damaged cloud at byte) = ⊥
 
 -- What comes of the last line of an end, whatever stands before it: none is due, and nothing is written; it is written;
 -- the sink failed within it; or memory ran out before it.
-pub data Closes (end : ReplayEnd) (status : ℕ) (before after : Option (List ℕ)) (faults now : ℕ) : Type 0 where
+pub data HasLastLine (end : ReplayEnd) (status : ℕ) (before after : Option (List ℕ)) (faults now : ℕ) : Type 0 where
   Silent : WantsNone end → status ≡ status_of end → after ≡ before → now ≡ faults
-      → Closes end status before after faults now
+      → HasLastLine end status before after faults now
   Said : WantsLast end → status ≡ status_of end → Appends before after (ending_text (ending_of end)) → now ≡ faults
-      → Closes end status before after faults now
+      → HasLastLine end status before after faults now
   CutShort : WantsLast end → status ≡ 4 → WritesFront (ending_text (ending_of end)) before after → Rose faults now
-      → Closes end status before after faults now
+      → HasLastLine end status before after faults now
   Unsaid : WantsLast end → status ≡ 6 → after ≡ before → now ≡ faults
-      → Closes end status before after faults now
+      → HasLastLine end status before after faults now

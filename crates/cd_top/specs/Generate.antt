@@ -1,9 +1,9 @@
 -- What the words `gen SEED FILES PIECES DIR` promise.
 use Rattle.std.specs.Prelude.{◌≡◌, ◌⊎◌, ℕ, ◌<◌, false, IsTrue, List, ◌++◌, length, Option}
 use Rattle.std.specs.Io.KnownBytes.{Appends}
-use Rattle.journal_start.specs.Ranges.{usual_rooms}
-use Rattle.cd_edges.specs.Causes.{Rose}
-use Rattle.session.specs.declared.event.Event.{Event}
+use Rattle.command_words.specs.JournalStart.Ranges.{usual_rooms}
+use Rattle.delete_command.specs.CdEdges.Causes.{Rose}
+use Rattle.two_worlds.specs.Session.event.Event.{Event}
 use Rattle.generated_session.specs.SessionModel.Kept.{uploads}
 use Rattle.generated_session.specs.SessionModel.Run.{script_of}
 use Rattle.generated_session.specs.SessionModel.Headline.{Session, script_in}
@@ -14,10 +14,10 @@ use Rattle.generated_session.specs.ReplayCore.Replayed.{Replayed, status_of, end
 use Rattle.generated_session.specs.declared.numbers.Numbers.{Numbers}
 use Rattle.generated_session.specs.Lines.{generated_lines}
 use Rattle.generated_session.specs.Numbers.{HasNumbers, summary_text}
-use Rattle.generated_session.specs.Generates.{Order, IsWhole}
+use Rattle.generated_session.specs.Generates.{Order, IsSessionWhole}
 use Rattle.command_words.specs.Asked.{AskedSession}
 use Rattle.cd_top.specs.Complete.{IsNew, IsStill}
-use Rattle.cd_top.specs.Read.{Around, IsUntouched}
+use Rattle.cd_top.specs.Read.{Around, IsReadUntouched}
 use Rattle.cd_top.specs.Replay.{ending_text, WritesFront}
 
 -- the session that is asked for
@@ -34,7 +34,7 @@ pub record IsOrdered (order : Order) (run : Session) : Type 0 where
 -- Why the session came to this end: all its lines were answered; or no cloud was opened, since the one that is named
 -- failed, wasn't empty, or, where nothing is told of it, was damaged. Want of memory alone has no cause.
 abbrev pub IsCaused : ReplayEnd → Order → Around → Session → Type 0
-IsCaused (ends.Done events) order c run = IsWhole order run × (events ≡ length run.history)
+IsCaused (ends.Done events) order c run = IsSessionWhole order run × (events ≡ length run.history)
 IsCaused ends.NoMemory order c run = Unit {0}
 IsCaused (ends.ShelfFault cloud) order c run =
     (run.opened ≡ false) × (cloud.0 < 4) × Rose (run.last cloud.0).faults (c.new cloud.0).faults
@@ -57,12 +57,12 @@ IsDue (ends.Done events) order run text =
 IsDue end order run text = text ≡ ending_text (ending_of end)
 
 -- All of it was written, and the status is that of the end; or the sink failed within it.
-pub data IsClosed (status : ℕ) (end : ReplayEnd) (text : List ℕ) (c : Around) (before after : Option (List ℕ))
+pub data IsSessionClosed (status : ℕ) (end : ReplayEnd) (text : List ℕ) (c : Around) (before after : Option (List ℕ))
     : Type 0 where
   Whole : status ≡ status_of end → Appends before after text → c.sink_after ≡ c.sink_before
-      → IsClosed status end text c before after
+      → IsSessionClosed status end text c before after
   Short : status ≡ 4 → WritesFront text before after → Rose c.sink_before c.sink_after
-      → IsClosed status end text c before after
+      → IsSessionClosed status end text c before after
 
 -- A session came to this end. Of it all holds that holds of a replay: with 0 its final counts are the shelf's, and each
 -- disk that a crash may leave stands for a list of its cloud.
@@ -80,11 +80,11 @@ pub record IsMadeTo (status : ℕ) (c : Around) (order : Order) (before after : 
   pub cause : IsCaused end order c run
   pub text : List ℕ
   pub due : IsDue end order run text
-  pub closed : IsClosed status end text c before after
+  pub closed : IsSessionClosed status end text c before after
 
 -- DIR failed, and nothing was done; or a session came to an end.
 pub data Makes (status : ℕ) (c : Around) (order : Order) (before after : Option (List ℕ)) : Type 0 where
-  NoPlace : status ≡ 5 → IsUntouched c before after → Rose c.total_before c.total_after
+  NoPlace : status ≡ 5 → IsReadUntouched c before after → Rose c.total_before c.total_after
       → Makes status c order before after
   MadeTo : (end : ReplayEnd) → IsMadeTo status c order before after end → Makes status c order before after
 

@@ -1,13 +1,13 @@
 -- What the words `read DIR N K USER PATH VERSION CLOUDS` promise.
 use Rattle.std.specs.Prelude.{◌≡◌, ℕ, ◌⊎◌, List, [], ◌++◌, IsTrue, Option}
-use Rattle.cd_edges.specs.Disk.{Cloud}
+use Rattle.delete_command.specs.CdEdges.Disk.{Cloud}
 use Rattle.std.specs.Io.KnownBytes.{Appends}
-use Rattle.cd_edges.specs.Causes.{Rose}
-use Rattle.journal_start.specs.declared.rooms.Rooms.{Rooms}
+use Rattle.delete_command.specs.CdEdges.Causes.{Rose}
+use Rattle.command_words.specs.JournalStart.rooms.UserRooms.{UserRooms}
 use Rattle.read_command.specs.KeptFiles.Kept.{key_of}
-use Rattle.transcript.specs.declared.ending.Ending.TheVariants as endings
-use Rattle.transcript.specs.Endings.{ending_text}
-use Rattle.user_dedup.specs.declared.command.Command.{Command}
+use Rattle.two_worlds.specs.Transcript.ending.Ending.TheVariants as endings
+use Rattle.two_worlds.specs.Transcript.Endings.{ending_text}
+use Rattle.delete_command.specs.UserDedup.command.Command.{Command}
 use Rattle.read_command.specs.declared.end.ReadEnd.{ReadEnd}
 use Rattle.read_command.specs.declared.end.ReadEnd.TheVariants as ends
 use Rattle.read_command.specs.Disks.{AreReadable, IsSpared, KeepsDisks}
@@ -62,7 +62,7 @@ given_of r lists = due_of r.shape r.user (key_of r.shape r.path r.version) r.clo
 -- told, begun and stand for lists, each within rooms of its own, by what these lists give.
 pub record BelongsTo (c : Outside) (r : AskedRead) (end : ReadEnd) (text : List ℕ) : Type 0 where
   pub says : Says c r.shape r.clouds end text
-  pub gives : (rooms : ℕ → Rooms) (lists : ℕ → List Command) → AreReadable r.shape r.clouds c.old rooms lists
+  pub gives : (rooms : ℕ → UserRooms) (lists : ℕ → List Command) → AreReadable r.shape r.clouds c.old rooms lists
       → Gives c r.clouds (given_of r lists) end text
 
 -- The text and the last line were written, and the status is the end's; or the sink failed within the last line; or
@@ -85,7 +85,7 @@ pub record IsReadTo (status : ℕ) (c : Around) (r : AskedRead) (before after : 
   pub areas : IsOfOpening end → (cloud : ℕ) → IsTrue (c.old cloud).told → IsSpared (c.old cloud) (c.new cloud)
 
 -- Nothing was written, no cloud changed, and the sink didn't fail.
-pub record IsUntouched (c : Around) (before after : Option (List ℕ)) : Type 0 where
+pub record IsReadUntouched (c : Around) (before after : Option (List ℕ)) : Type 0 where
   pub written : Appends before after []
   pub clouds : (cloud : ℕ) → c.new cloud ≡ c.old cloud
   pub sink : c.sink_after ≡ c.sink_before
@@ -93,7 +93,8 @@ pub record IsUntouched (c : Around) (before after : Option (List ℕ)) : Type 0 
 -- The whole promise. Memory ran out before all; or DIR failed; or the version was read to an end, and then each image
 -- since of a named cloud stands for one of the lists that its images stood for, the other clouds are as they were, and
 -- where the openings ended it each told cloud is spared, whatever its areas hold.
-pub data IsRead (status : ℕ) (c : Around) (r : AskedRead) (before after : Option (List ℕ)) : Type 0 where
-  Unread : status ≡ 6 → IsUntouched c before after → IsRead status c r before after
-  NoPlace : status ≡ 5 → IsUntouched c before after → Rose c.total_before c.total_after → IsRead status c r before after
-  ReadTo : (end : ReadEnd) → IsReadTo status c r before after end → IsRead status c r before after
+pub data IsVersionRead (status : ℕ) (c : Around) (r : AskedRead) (before after : Option (List ℕ)) : Type 0 where
+  Unread : status ≡ 6 → IsReadUntouched c before after → IsVersionRead status c r before after
+  NoPlace : status ≡ 5 → IsReadUntouched c before after → Rose c.total_before c.total_after
+      → IsVersionRead status c r before after
+  ReadTo : (end : ReadEnd) → IsReadTo status c r before after end → IsVersionRead status c r before after

@@ -1,15 +1,15 @@
 -- What the words `replay DIR` promise.
 use Rattle.std.specs.Prelude.{◌≡◌, ℕ, ◌⊎◌, List, [], ◌∷◌, ◌++◌, codes, Option, Result, Ok, Err}
 use Rattle.std.specs.Io.KnownBytes.{Appends}
-use Rattle.cd_edges.specs.Causes.{Rose}
-use Rattle.transcript.specs.declared.ending.Ending.TheVariants as endings
-use Rattle.transcript.specs.declared.line.Line.TheVariants as lines
-use Rattle.transcript.specs.Endings as texts
-use Rattle.transcript.specs.Transcript.{line_text}
+use Rattle.delete_command.specs.CdEdges.Causes.{Rose}
+use Rattle.two_worlds.specs.Transcript.ending.Ending.TheVariants as endings
+use Rattle.two_worlds.specs.Transcript.line.Line.TheVariants as lines
+use Rattle.two_worlds.specs.Transcript.Endings as texts
+use Rattle.two_worlds.specs.Transcript.Transcript.{line_text}
 use Rattle.generated_session.specs.SessionModel.Steps.{cloud_no}
-use Rattle.session.specs.Texts.{text_of}
+use Rattle.two_worlds.specs.Session.Texts.{text_of}
 use Rattle.generated_session.specs.SessionModel.Headline.{Session, due}
-use Rattle.generated_session.specs.ReplayCore.Endings.{Call, EndingLine, HasCause}
+use Rattle.generated_session.specs.ReplayCore.Endings.{ReplayCall, EndingLine, HasStatusCause}
 use Rattle.generated_session.specs.ReplayCore.Endings as due_lines
 use Rattle.generated_session.specs.ReplayCore.Replayed.{Replayed}
 use Rattle.cd_top.specs.declared.ending.LastErr.{LastErr}
@@ -41,17 +41,17 @@ pub record IsWritten (status : ℕ) (before after : Option (List ℕ)) (run : Se
   pub written : Appends before after text
 
 -- The whole promise: the session, the text, and the cause of the status.
-pub record IsReplayed (status : ℕ) (call : Call) (before after : Option (List ℕ)) : Type 0 where
+pub record IsReplayed (status : ℕ) (call : ReplayCall) (before after : Option (List ℕ)) : Type 0 where
   pub run : Session
   pub line : EndingLine
   pub replayed : Replayed status call.old call.new run
   pub text : IsWritten status before after run line
-  pub cause : HasCause status call run line
+  pub cause : HasStatusCause status call run line
 
 -- ---- the last line
 
 -- the call as it is when the sink has failed so often
-abbrev pub until : Call → ℕ → Call
+abbrev pub until : ReplayCall → ℕ → ReplayCall
 until call faults = record {
   script = call.script;
   left = call.left;

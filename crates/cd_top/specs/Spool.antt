@@ -1,16 +1,16 @@
 -- What the words `spool DIR USER PATH VERSION ADDR..` and `resume DIR ADDR..` promise.
 use Rattle.std.specs.Prelude.{◌≡◌, ◌≤◌, ℕ, IsTrue, length}
-use Rattle.cd_edges.specs.Causes.{Rose}
-use Rattle.cd_edges.specs.Disk.{Cloud}
-use Rattle.cd_edges.specs.Shelf.{IsCall}
+use Rattle.delete_command.specs.CdEdges.Causes.{Rose}
+use Rattle.delete_command.specs.CdEdges.Disk.{Cloud}
+use Rattle.delete_command.specs.CdEdges.Shelf.{IsCall}
 use Rattle.command_words.specs.Asked.{AskedFile, AskedSpool, AskedResume}
-use Rattle.backup_command.specs.Reading.{Input}
-use Rattle.backup_command.specs.Writing.{Output, IsSilent}
-use Rattle.ports_link.specs.Dialled.{OnlyDialled}
+use Rattle.spool_command.specs.BackupCommand.Reading.{Input}
+use Rattle.spool_command.specs.BackupCommand.Writing.{Output, IsSilent}
+use Rattle.delete_command.specs.PortsLink.Dialled.{OnlyDialled}
 use Rattle.spool_command.specs.declared.spooling.SpooledFile.{SpooledFile}
-use Rattle.spool_command.specs.Spooled.{IsSpooled, Outside, SparesFilled}
+use Rattle.spool_command.specs.Spooled.{IsSpooled, SpoolOutside, SparesFilled}
 use Rattle.spool_command.specs.Resumed.{IsResumed}
-use Rattle.cd_top.specs.Clients.{Lines}
+use Rattle.cd_top.specs.Clients.{PortsAround}
 
 -- what is told before and after: the clouds of the shelf, how often it had failed and has failed, and the ports
 pub record Beside : Type 0 where
@@ -18,9 +18,9 @@ pub record Beside : Type 0 where
   pub new : ℕ → Cloud
   pub total_before : ℕ
   pub total_after : ℕ
-  pub lines : Lines
+  pub lines : PortsAround
 
-abbrev pub beside : (ℕ → Cloud) → (ℕ → Cloud) → ℕ → ℕ → Lines → Beside
+abbrev pub beside : (ℕ → Cloud) → (ℕ → Cloud) → ℕ → ℕ → PortsAround → Beside
 beside old new total total_after lines = record {
   old = old;
   new = new;
@@ -30,7 +30,7 @@ beside old new total total_after lines = record {
 }
 
 -- so many addresses over these ports, with the client's own folder, which is cloud 0 of the shelf
-abbrev pub outside_of : ℕ → Beside → Outside
+abbrev pub outside_of : ℕ → Beside → SpoolOutside
 outside_of addresses c = record {
   addresses = addresses;
   before = c.lines.before;
@@ -51,14 +51,14 @@ pub record IsUnplaced (status : ℕ) (c : Beside) (out : Output) : Type 0 where
   pub ports : c.lines.faults_after ≡ c.lines.faults_before
 
 -- No cloud but the folder was touched, and ports that were open before are as they were.
-pub record IsAlone (c : Beside) : Type 0 where
+pub record IsFolderAlone (c : Beside) : Type 0 where
   pub clouds : IsCall c.old c.new 0 c.total_before c.total_after
   pub others : IsTrue c.lines.before.told → OnlyDialled c.lines.before c.lines.after
   pub told : c.lines.after.told ≡ c.lines.before.told
   pub later : c.lines.faults_before ≤ c.lines.faults_after
 
 -- this is the version of the user's file that is asked for
-pub record IsAsked (f : AskedFile) (file : SpooledFile) : Type 0 where
+pub record IsAskedVersion (f : AskedFile) (file : SpooledFile) : Type 0 where
   pub user : file.user ≡ f.user
   pub path : file.path.now ≡ f.path
   pub version : file.version ≡ f.version
@@ -68,12 +68,12 @@ pub record IsAsked (f : AskedFile) (file : SpooledFile) : Type 0 where
 -- isn't empty stays as it is.
 pub data Spools (status : ℕ) (s : AskedSpool) (c : Beside) (unread : Type 0) (input : Input) (out : Output) : Type 0 where
   NoFolder : unread → IsUnplaced status c out → Spools status s c unread input out
-  InFolder : (file : SpooledFile) → IsAsked s.file file
+  InFolder : (file : SpooledFile) → IsAskedVersion s.file file
       → IsSpooled status (outside_of (length s.file.addresses) c) file input out
-      → SparesFilled (c.old 0) (c.new 0) → IsAlone c → Spools status s c unread input out
+      → SparesFilled (c.old 0) (c.new 0) → IsFolderAlone c → Spools status s c unread input out
 
 -- That of `resume`: DIR failed; or the job that the folder keeps went on: what was sent, received, kept and written, by the
 -- way it ended.
 pub data Resumes (status : ℕ) (r : AskedResume) (c : Beside) (out : Output) : Type 0 where
   NoKept : IsUnplaced status c out → Resumes status r c out
-  Kept : IsResumed status (outside_of (length r.addresses) c) out → IsAlone c → Resumes status r c out
+  Kept : IsResumed status (outside_of (length r.addresses) c) out → IsFolderAlone c → Resumes status r c out

@@ -3,13 +3,13 @@
 ghost use Rattle.std.specs.Prelude.{◌≡◌};
 ghost use Rattle.command_words.specs.Commands.{FitsCloud};
 ghost use Rattle.command_words.specs.Views.{asked_cloud};
-ghost use Rattle.backup_command.specs.Reading.{input_of};
-ghost use Rattle.backup_command.specs.Writing.{output_of};
+ghost use Rattle.spool_command.specs.BackupCommand.Reading.{input_of};
+ghost use Rattle.spool_command.specs.BackupCommand.Writing.{output_of};
 ghost use Rattle.cd_top.specs.Audit.{Audits, Checks, clouds_of};
 
 use audit_command::{audit_cloud, check_cloud};
-use cd_edges::{Failed, Shelf, Sink, Source};
 use command_words::CloudWords;
+use delete_command::{Failed, Shelf, Sink, Source};
 use std::alloc::Global;
 
 /// Reads all that the cloud in the directory lists, writes its certificate, and answers the status.

@@ -3,16 +3,15 @@
 ghost use Rattle.std.specs.Prelude.{◌≡◌};
 ghost use Rattle.command_words.specs.Commands.{FitsFile};
 ghost use Rattle.command_words.specs.Views.{asked_backup, asked_delete, asked_restore};
-ghost use Rattle.backup_command.specs.Reading.{input_of};
-ghost use Rattle.backup_command.specs.Writing.{output_of};
+ghost use Rattle.spool_command.specs.BackupCommand.Reading.{input_of};
+ghost use Rattle.spool_command.specs.BackupCommand.Writing.{output_of};
 ghost use Rattle.delete_command.specs.Writing.{output_of as deletion_of};
-ghost use Rattle.cd_top.specs.Clients.{BacksUp, Deletes, Restores, lines_of};
+ghost use Rattle.cd_top.specs.Clients.{BacksUp, Deletes, HasRestoredOrCause, lines_of};
 
-use backup_command::backup;
-use cd_edges::{Ports, Sink, Source};
 use command_words::{BackupWords, DeleteWords, RestoreWords};
-use delete_command::delete;
+use delete_command::{Ports, Sink, Source, delete};
 use restore_command::restore;
+use spool_command::backup;
 use std::alloc::Global;
 
 /// Backs the source's bytes up as the version that is asked for, to the clouds behind the addresses, and answers the
@@ -51,7 +50,7 @@ pub fn restore_from<K: Sink, P: Ports>(
     ports: &mut P,
 ) -> u8
     requires { FitsFile 2 (asked_restore asked.now) }
-    ensures { Restores result (asked_restore asked.now)
+    ensures { HasRestoredOrCause result (asked_restore asked.now)
         (lines_of (P.tells ports.old) (P.tells ports.new) (P.faults ports.old) (P.faults ports.new))
         (K.written sink.old) (K.written sink.new) (K.faults sink.old) (K.faults sink.new) }
 {

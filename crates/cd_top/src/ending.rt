@@ -1,16 +1,16 @@
 //! The status of a session that ended, and its last line.
 
 ghost use Rattle.std.specs.Prelude.{◌≡◌, IfSome, IfNone};
-ghost use Rattle.transcript.specs.Endings.{ending_text as text_of_ending};
+ghost use Rattle.two_worlds.specs.Transcript.Endings.{ending_text as text_of_ending};
 ghost use Rattle.generated_session.specs.ReplayCore.Replayed.{status_of as status_due, ending_of};
 ghost use Rattle.cd_top.specs.Replay.{ending_text, WritesLast};
-ghost use Rattle.cd_top.specs.Ends.{Closes, WantsLast, WantsNone};
+ghost use Rattle.cd_top.specs.Ends.{HasLastLine, WantsLast, WantsNone};
 
-use cd_base::{Bytes, NoMemory};
-use cd_edges::{Sink, write_all};
+use command_words::{Bytes, NoMemory};
+use delete_command::{Sink, write_all};
 use generated_session::ReplayEnd;
 use std::alloc::Global;
-use transcript::{Ending, write_ending};
+use two_worlds::{Ending, write_ending};
 
 /// Why a last line isn't written.
 #[derive(Clone, Copy)]
@@ -84,7 +84,8 @@ pub fn write_last<K: Sink>(alloc: Global, last: &Ending, sink: &mut K) -> Result
 /// Writes the last line of a session that ended so, if one is still to be written, whatever stands before it, and answers the
 /// status: 4 where the sink failed in this line, and 6 where memory ran out before it.
 pub fn finish<K: Sink>(alloc: Global, end: &ReplayEnd, sink: &mut K) -> u8
-    ensures { Closes end.now result (K.written sink.old) (K.written sink.new) (K.faults sink.old) (K.faults sink.new) }
+    ensures { HasLastLine end.now result (K.written sink.old) (K.written sink.new) (K.faults sink.old)
+        (K.faults sink.new) }
 {
     match last_line(end) {
         None => status_of(end),

@@ -6,8 +6,8 @@ ghost use Rattle.command_words.specs.Views.{asked_session};
 ghost use Rattle.cd_top.specs.Generate.{IsGenerated};
 
 use crate::ending::finish;
-use cd_edges::{Failed, Shelf, Sink};
 use command_words::GenerateWords;
+use delete_command::{Failed, Shelf, Sink};
 use generated_session::generate;
 use std::alloc::Global;
 

@@ -12,5 +12,6 @@ mod serve;
 mod spool;
 mod top;
 
-pub use serve_command::{OpenErr, Server};
+pub use command_words::UserRooms;
+pub use migrate_command::{OpenErr, Server};
 pub use top::run;

@@ -2,12 +2,12 @@
 
 ghost use Rattle.command_words.specs.Commands.{FitsMigrate};
 ghost use Rattle.command_words.specs.Views.{asked_migrate};
-ghost use Rattle.backup_command.specs.Writing.{output_of};
+ghost use Rattle.spool_command.specs.BackupCommand.Writing.{output_of};
 ghost use Rattle.cd_top.specs.Audit.{clouds_of};
-ghost use Rattle.cd_top.specs.Migrate.{Migrates};
+ghost use Rattle.cd_top.specs.Migrate.{HasMigratedOrCause};
 
-use cd_edges::{Failed, Shelf, Sink};
 use command_words::MigrateWords;
+use delete_command::{Failed, Shelf, Sink};
 use migrate_command::migrate_cloud;
 use std::alloc::Global;
 
@@ -19,7 +19,7 @@ pub fn migrate_in<K: Sink, V: Shelf>(
     shelf: &mut V,
 ) -> u8
     requires { FitsMigrate (asked_migrate asked.now) }
-    ensures { Migrates result (asked_migrate asked.now)
+    ensures { HasMigratedOrCause result (asked_migrate asked.now)
         (clouds_of (V.cloud_at shelf.old) (V.cloud_at shelf.new) (V.faults shelf.old) (V.faults shelf.new))
         (output_of (K.written sink.old) (K.written sink.new) (K.faults sink.old) (K.faults sink.new)) }
 {

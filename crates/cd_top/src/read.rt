@@ -2,18 +2,18 @@
 
 ghost use Rattle.std.specs.Prelude.{◌≡◌, ℕ, List, [], Option, IfSome, IfNone};
 ghost use Rattle.std.specs.Io.KnownBytes.{Appends};
-ghost use Rattle.transcript.specs.Endings.{ending_text as text_of_ending};
+ghost use Rattle.two_worlds.specs.Transcript.Endings.{ending_text as text_of_ending};
 ghost use Rattle.read_command.specs.Ends.{CountsSink, IsOfOpening};
 ghost use Rattle.command_words.specs.Commands.{FitsRead};
 ghost use Rattle.command_words.specs.Views.{asked_read};
-ghost use Rattle.cd_top.specs.Read.{IsClosed, IsRead, last_line as line_due, status_of as status_due};
+ghost use Rattle.cd_top.specs.Read.{IsClosed, IsVersionRead, last_line as line_due, status_of as status_due};
 
 use crate::ending::{LastErr, write_last};
-use cd_edges::{Failed, Shelf, Sink};
 use command_words::ReadWords;
+use delete_command::{Failed, Shelf, Sink};
 use read_command::{ReadEnd, Wanted, read_file};
 use std::alloc::Global;
-use transcript::Ending;
+use two_worlds::Ending;
 
 // The status of a read that ended so.
 fn status_of(end: &ReadEnd) -> u8
@@ -87,7 +87,7 @@ pub fn read_in<K: Sink, V: Shelf>(
     shelf: &mut V,
 ) -> u8
     requires { FitsRead (asked_read asked.now) }
-    ensures { IsRead result (record {
+    ensures { IsVersionRead result (record {
       sink_before = K.faults sink.old;
       sink_after = K.faults sink.new;
       total_before = V.faults shelf.old;

@@ -2,12 +2,12 @@
 
 ghost use Rattle.command_words.specs.Commands.{FitsCloud};
 ghost use Rattle.command_words.specs.Views.{asked_cloud};
-ghost use Rattle.backup_command.specs.Writing.{output_of};
+ghost use Rattle.spool_command.specs.BackupCommand.Writing.{output_of};
 ghost use Rattle.cd_top.specs.Audit.{clouds_of};
-ghost use Rattle.cd_top.specs.Reclaim.{Reclaims};
+ghost use Rattle.cd_top.specs.Reclaim.{HasReclaimedOrCause};
 
-use cd_edges::{Failed, Shelf, Sink};
 use command_words::CloudWords;
+use delete_command::{Failed, Shelf, Sink};
 use reclaim_command::reclaim_cloud;
 use std::alloc::Global;
 
@@ -19,7 +19,7 @@ pub fn reclaim_in<K: Sink, V: Shelf>(
     shelf: &mut V,
 ) -> u8
     requires { FitsCloud (asked_cloud asked.now) }
-    ensures { Reclaims result (asked_cloud asked.now)
+    ensures { HasReclaimedOrCause result (asked_cloud asked.now)
         (clouds_of (V.cloud_at shelf.old) (V.cloud_at shelf.new) (V.faults shelf.old) (V.faults shelf.new))
         (output_of (K.written sink.old) (K.written sink.new) (K.faults sink.old) (K.faults sink.new)) }
 {

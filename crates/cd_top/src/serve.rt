@@ -3,12 +3,12 @@
 ghost use Rattle.std.specs.Prelude.{◌≡◌};
 ghost use Rattle.command_words.specs.Commands.{FitsServe};
 ghost use Rattle.command_words.specs.Views.{asked_serve};
-ghost use Rattle.serve_command.specs.Served.{output_of};
-ghost use Rattle.cd_top.specs.Serve.{Serves, serving};
+ghost use Rattle.migrate_command.specs.ServeCommand.Served.{output_of};
+ghost use Rattle.cd_top.specs.Serve.{HasServedOrCause, serving};
 
-use cd_edges::{Failed, Ports, Shelf, Sink};
 use command_words::ServeWords;
-use serve_command::serve;
+use delete_command::{Failed, Ports, Shelf, Sink};
+use migrate_command::serve;
 use std::alloc::Global;
 
 /// Serves the cloud that is asked for in the directory, writes a line for each connection, and answers the status.
@@ -20,7 +20,7 @@ pub fn serve_in<K: Sink, V: Shelf, P: Ports>(
     ports: &mut P,
 ) -> u8
     requires { FitsServe (asked_serve asked.now) }
-    ensures { Serves result (serving (asked_serve asked.now)
+    ensures { HasServedOrCause result (serving (asked_serve asked.now)
         (output_of (K.written sink.old) (K.written sink.new) (K.faults sink.old) (K.faults sink.new))
         (V.cloud_at shelf.old) (V.cloud_at shelf.new) (V.faults shelf.old) (V.faults shelf.new)
         (P.tells ports.old) (P.tells ports.new) (P.faults ports.old) (P.faults ports.new)) }

@@ -3,13 +3,13 @@
 ghost use Rattle.std.specs.Prelude.{◌≡◌};
 ghost use Rattle.command_words.specs.Commands.{FitsFile, FitsResume};
 ghost use Rattle.command_words.specs.Views.{asked_backup, asked_resume, asked_spool};
-ghost use Rattle.backup_command.specs.Reading.{input_of};
-ghost use Rattle.backup_command.specs.Writing.{output_of};
+ghost use Rattle.spool_command.specs.BackupCommand.Reading.{input_of};
+ghost use Rattle.spool_command.specs.BackupCommand.Writing.{output_of};
 ghost use Rattle.cd_top.specs.Clients.{lines_of};
 ghost use Rattle.cd_top.specs.Spool.{Resumes, Spools, beside};
 
-use cd_edges::{Failed, Ports, Shelf, Sink, Source};
 use command_words::{ResumeWords, SpoolWords};
+use delete_command::{Failed, Ports, Shelf, Sink, Source};
 use spool_command::{SpooledFile, resume, spool};
 use std::alloc::Global;
 

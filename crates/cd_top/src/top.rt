@@ -6,21 +6,21 @@ ghost use Rattle.command_words.specs.Asked.{ForAudit, ForBackup, ForCheck, ForDe
 ghost use Rattle.command_words.specs.Asked.{ForMigrate, ForResume, ForServe, ForSpool};
 ghost use Rattle.command_words.specs.Commands.{IsAnyCommand, IsCommand};
 ghost use Rattle.command_words.specs.Views.{asked_of};
-ghost use Rattle.generated_session.specs.ReplayCore.Endings.{Call};
-ghost use Rattle.cd_top.specs.Complete.{GoesWell};
-ghost use Rattle.backup_command.specs.Reading.{input_of};
-ghost use Rattle.backup_command.specs.Writing.{output_of as output_by};
-ghost use Rattle.serve_command.specs.Served.{output_of};
+ghost use Rattle.generated_session.specs.ReplayCore.Endings.{ReplayCall};
+ghost use Rattle.cd_top.specs.Complete.{IsReplayUnhindered};
+ghost use Rattle.spool_command.specs.BackupCommand.Reading.{input_of};
+ghost use Rattle.spool_command.specs.BackupCommand.Writing.{output_of as output_by};
+ghost use Rattle.migrate_command.specs.ServeCommand.Served.{output_of};
 ghost use Rattle.delete_command.specs.Writing.{output_of as deletion_of};
 ghost use Rattle.cd_top.specs.Audit.{Audits, Checks, clouds_of};
-ghost use Rattle.cd_top.specs.Clients.{BacksUp, Deletes, Restores, lines_of};
+ghost use Rattle.cd_top.specs.Clients.{BacksUp, Deletes, HasRestoredOrCause, lines_of};
 ghost use Rattle.cd_top.specs.Dispatch.{IsFit, Promises};
 ghost use Rattle.cd_top.specs.Generate.{IsGenerated};
-ghost use Rattle.cd_top.specs.Migrate.{Migrates};
-ghost use Rattle.cd_top.specs.Serve.{Serves, serving};
+ghost use Rattle.cd_top.specs.Migrate.{HasMigratedOrCause};
+ghost use Rattle.cd_top.specs.Serve.{HasServedOrCause, serving};
 ghost use Rattle.cd_top.specs.Spool.{Resumes, Spools, beside};
-ghost use Rattle.cd_top.specs.Read.{Around, IsRead};
-ghost use Rattle.cd_top.specs.Reclaim.{Reclaims};
+ghost use Rattle.cd_top.specs.Read.{Around, IsVersionRead};
+ghost use Rattle.cd_top.specs.Reclaim.{HasReclaimedOrCause};
 ghost use Rattle.cd_top.specs.Replay.{IsReplay, IsReplayed};
 
 use crate::audits::{audit_in, check_in};
@@ -32,9 +32,8 @@ use crate::read::read_in;
 use crate::reclaims::reclaim_in;
 use crate::serve::serve_in;
 use crate::spool::{resume_in, spool_in};
-use cd_base::NoMemory;
-use cd_edges::{Failed, Ports, Shelf, Sink, Source};
-use command_words::{Command, law_of_words, read_words};
+use command_words::{AskedCommand, NoMemory, law_of_words, read_words};
+use delete_command::{Failed, Ports, Shelf, Sink, Source};
 use generated_session::replay;
 use std::alloc::Global;
 
@@ -70,7 +69,7 @@ fn replay_in<S: Source, K: Sink, V: Shelf>(
 // Carries out what is asked for, each command by a call of its own.
 fn carry_out<S: Source, K: Sink, V: Shelf, P: Ports>(
     alloc: Global,
-    command: &Command<'_>,
+    command: &AskedCommand<'_>,
     source: &mut S,
     sink: &mut K,
     shelf: &mut V,
@@ -90,7 +89,7 @@ fn carry_out<S: Source, K: Sink, V: Shelf, P: Ports>(
         old = V.cloud_at shelf.old;
         new = V.cloud_at shelf.new;
       }) (K.written sink.old) (K.written sink.new);
-      read = λ asked. (source.new ≡ source.old) × (ports.new ≡ ports.old) × IsRead result (record {
+      read = λ asked. (source.new ≡ source.old) × (ports.new ≡ ports.old) × IsVersionRead result (record {
         sink_before = K.faults sink.old;
         sink_after = K.faults sink.new;
         total_before = V.faults shelf.old;
@@ -98,7 +97,7 @@ fn carry_out<S: Source, K: Sink, V: Shelf, P: Ports>(
         old = V.cloud_at shelf.old;
         new = V.cloud_at shelf.new;
       }) asked (K.written sink.old) (K.written sink.new);
-      served = λ asked. (source.new ≡ source.old) × Serves result (serving asked
+      served = λ asked. (source.new ≡ source.old) × HasServedOrCause result (serving asked
           (output_of (K.written sink.old) (K.written sink.new) (K.faults sink.old) (K.faults sink.new))
           (V.cloud_at shelf.old) (V.cloud_at shelf.new) (V.faults shelf.old) (V.faults shelf.new)
           (P.tells ports.old) (P.tells ports.new) (P.faults ports.old) (P.faults ports.new));
@@ -106,7 +105,7 @@ fn carry_out<S: Source, K: Sink, V: Shelf, P: Ports>(
           (lines_of (P.tells ports.old) (P.tells ports.new) (P.faults ports.old) (P.faults ports.new))
           (input_of (S.left source.old) (S.faults source.old) (S.faults source.new))
           (output_by (K.written sink.old) (K.written sink.new) (K.faults sink.old) (K.faults sink.new));
-      restored = λ asked. (source.new ≡ source.old) × (shelf.new ≡ shelf.old) × Restores result asked
+      restored = λ asked. (source.new ≡ source.old) × (shelf.new ≡ shelf.old) × HasRestoredOrCause result asked
           (lines_of (P.tells ports.old) (P.tells ports.new) (P.faults ports.old) (P.faults ports.new))
           (K.written sink.old) (K.written sink.new) (K.faults sink.old) (K.faults sink.new);
       deleted = λ asked. (source.new ≡ source.old) × (shelf.new ≡ shelf.old) × Deletes result asked
@@ -130,10 +129,10 @@ fn carry_out<S: Source, K: Sink, V: Shelf, P: Ports>(
           (source.new ≡ source.old)
           (input_of (S.left source.old) (S.faults source.old) (S.faults source.new))
           (output_by (K.written sink.old) (K.written sink.new) (K.faults sink.old) (K.faults sink.new));
-      reclaimed = λ asked. (source.new ≡ source.old) × (ports.new ≡ ports.old) × Reclaims result asked
+      reclaimed = λ asked. (source.new ≡ source.old) × (ports.new ≡ ports.old) × HasReclaimedOrCause result asked
           (clouds_of (V.cloud_at shelf.old) (V.cloud_at shelf.new) (V.faults shelf.old) (V.faults shelf.new))
           (output_by (K.written sink.old) (K.written sink.new) (K.faults sink.old) (K.faults sink.new));
-      migrated = λ asked. (source.new ≡ source.old) × (ports.new ≡ ports.old) × Migrates result asked
+      migrated = λ asked. (source.new ≡ source.old) × (ports.new ≡ ports.old) × HasMigratedOrCause result asked
           (clouds_of (V.cloud_at shelf.old) (V.cloud_at shelf.new) (V.faults shelf.old) (V.faults shelf.new))
           (output_by (K.written sink.old) (K.written sink.new) (K.faults sink.old) (K.faults sink.new));
       generated = λ asked. (source.new ≡ source.old) × (ports.new ≡ ports.old) × IsGenerated result (record {
@@ -147,19 +146,19 @@ fn carry_out<S: Source, K: Sink, V: Shelf, P: Ports>(
     }) }
 {
     match command {
-        Command::Replay { directory } => replay_in(alloc, directory, source, sink, shelf),
-        Command::Read(asked) => read_in(alloc, asked, sink, shelf),
-        Command::Serve(asked) => serve_in(alloc, asked, sink, shelf, ports),
-        Command::Backup(asked) => backup_to(alloc, asked, source, sink, ports),
-        Command::Restore(asked) => restore_from(alloc, asked, sink, ports),
-        Command::Delete(asked) => delete_at(alloc, asked, sink, ports),
-        Command::Spool(asked) => spool_in(alloc, asked, source, sink, shelf, ports),
-        Command::Resume(asked) => resume_in(alloc, asked, sink, shelf, ports),
-        Command::Audit(asked) => audit_in(alloc, asked, sink, shelf),
-        Command::Check(asked) => check_in(alloc, asked, source, sink, shelf),
-        Command::Reclaim(asked) => reclaim_in(alloc, asked, sink, shelf),
-        Command::Migrate(asked) => migrate_in(alloc, asked, sink, shelf),
-        Command::Generate(asked) => generate_in(alloc, asked, sink, shelf),
+        AskedCommand::Replay { directory } => replay_in(alloc, directory, source, sink, shelf),
+        AskedCommand::Read(asked) => read_in(alloc, asked, sink, shelf),
+        AskedCommand::Serve(asked) => serve_in(alloc, asked, sink, shelf, ports),
+        AskedCommand::Backup(asked) => backup_to(alloc, asked, source, sink, ports),
+        AskedCommand::Restore(asked) => restore_from(alloc, asked, sink, ports),
+        AskedCommand::Delete(asked) => delete_at(alloc, asked, sink, ports),
+        AskedCommand::Spool(asked) => spool_in(alloc, asked, source, sink, shelf, ports),
+        AskedCommand::Resume(asked) => resume_in(alloc, asked, sink, shelf, ports),
+        AskedCommand::Audit(asked) => audit_in(alloc, asked, sink, shelf),
+        AskedCommand::Check(asked) => check_in(alloc, asked, source, sink, shelf),
+        AskedCommand::Reclaim(asked) => reclaim_in(alloc, asked, sink, shelf),
+        AskedCommand::Migrate(asked) => migrate_in(alloc, asked, sink, shelf),
+        AskedCommand::Generate(asked) => generate_in(alloc, asked, sink, shelf),
     }
 }
 
@@ -255,7 +254,7 @@ pub fn run<S: Source, K: Sink, V: Shelf, P: Ports>(
       new = V.cloud_at shelf.new;
     }) (K.written sink.old) (K.written sink.new) }
     // Where the source has a script, its clouds are empty and told, and no count rises, it is done or memory ran out.
-    ensures complete { IsReplay (map string_bytes words.now) → GoesWell (record {
+    ensures complete { IsReplay (map string_bytes words.now) → IsReplayUnhindered (record {
       script = S.left source.old;
       left = S.left source.new;
       source_before = S.faults source.old;
@@ -270,7 +269,7 @@ pub fn run<S: Source, K: Sink, V: Shelf, P: Ports>(
     // What is written is what the named clouds' disks give, or why they give nothing, and the status has its cause. The
     // source isn't touched.
     ensures read { (asked : AskedRead) → IsCommand (map string_bytes words.now) (ForRead asked)
-        → (source.new ≡ source.old) × (ports.new ≡ ports.old) × IsRead result (record {
+        → (source.new ≡ source.old) × (ports.new ≡ ports.old) × IsVersionRead result (record {
           sink_before = K.faults sink.old;
           sink_after = K.faults sink.new;
           total_before = V.faults shelf.old;
@@ -281,7 +280,7 @@ pub fn run<S: Source, K: Sink, V: Shelf, P: Ports>(
     // The cloud is served: its list goes on by the requests that came, and each line says how a connection ended. The
     // source isn't touched.
     ensures serve { (asked : AskedServe) → IsCommand (map string_bytes words.now) (ForServe asked)
-        → (source.new ≡ source.old) × Serves result (serving asked
+        → (source.new ≡ source.old) × HasServedOrCause result (serving asked
         (output_of (K.written sink.old) (K.written sink.new) (K.faults sink.old) (K.faults sink.new))
         (V.cloud_at shelf.old) (V.cloud_at shelf.new) (V.faults shelf.old) (V.faults shelf.new)
         (P.tells ports.old) (P.tells ports.new) (P.faults ports.old) (P.faults ports.new)) }
@@ -294,7 +293,7 @@ pub fn run<S: Source, K: Sink, V: Shelf, P: Ports>(
         (output_by (K.written sink.old) (K.written sink.new) (K.faults sink.old) (K.faults sink.new)) }
     // What is written follows from what came on the ports, or says why nothing does. Source and shelf aren't touched.
     ensures restore { (asked : AskedFile) → IsCommand (map string_bytes words.now) (ForRestore asked)
-        → (source.new ≡ source.old) × (shelf.new ≡ shelf.old) × Restores result asked
+        → (source.new ≡ source.old) × (shelf.new ≡ shelf.old) × HasRestoredOrCause result asked
         (lines_of (P.tells ports.old) (P.tells ports.new) (P.faults ports.old) (P.faults ports.new))
         (K.written sink.old) (K.written sink.new) (K.faults sink.old) (K.faults sink.new) }
     // Each cloud is asked for the deletion once, and what is written follows from what came on the ports: 0 comes exactly
@@ -337,14 +336,14 @@ pub fn run<S: Source, K: Sink, V: Shelf, P: Ports>(
     // might have left at the start, or the list, or its compact list; 0 says that it stands for the compact list; and what is written
     // has the numbers, or why nothing was given back. No other cloud is touched. Source and ports aren't.
     ensures reclaim { (asked : AskedCloud) → IsCommand (map string_bytes words.now) (ForReclaim asked)
-        → (source.new ≡ source.old) × (ports.new ≡ ports.old) × Reclaims result asked
+        → (source.new ≡ source.old) × (ports.new ≡ ports.old) × HasReclaimedOrCause result asked
         (clouds_of (V.cloud_at shelf.old) (V.cloud_at shelf.new) (V.faults shelf.old) (V.faults shelf.new))
         (output_by (K.written sink.old) (K.written sink.new) (K.faults sink.old) (K.faults sink.new)) }
     // The cloud is taken over from format 1: for each list that it stands for, a crash at any moment leaves the list, or in format 2 its
     // compact list; 0 says that it stands for the compact list alone; whatever its bytes are, they give the answer; and where it isn't
     // migrated, its areas were synced and nothing else. No other cloud is touched. Source and ports aren't.
     ensures migrate { (asked : AskedMigrate) → IsCommand (map string_bytes words.now) (ForMigrate asked)
-        → (source.new ≡ source.old) × (ports.new ≡ ports.old) × Migrates result asked
+        → (source.new ≡ source.old) × (ports.new ≡ ports.old) × HasMigratedOrCause result asked
         (clouds_of (V.cloud_at shelf.old) (V.cloud_at shelf.new) (V.faults shelf.old) (V.faults shelf.new))
         (output_by (K.written sink.old) (K.written sink.new) (K.faults sink.old) (K.faults sink.new)) }
     // The session that is made is the generated one; the summary has its numbers, or what is written says why there is

@@ -2,15 +2,15 @@
 use Rattle.std.proofs.Common.{◌≡◌, ℕ, ◌<◌, ◌^◌, List, ◌∷◌, ◌++◌, Ok, refl, sym, ap, subst, ◌∙◌, append_assoc, arith}
 use Rattle.std.specs.Prelude.{codes, decimal}
 use Rattle.std.proofs.lemmas.Fmt.{decimal_digit}
-use Rattle.cd_base.specs.declared.shape.Shape.{Shape}
-use Rattle.grammar.specs.Words.{word_at}
-use Rattle.grammar.specs.Hexadecimal.{hex}
-use Rattle.grammar.proofs.Laws.{Whole, bind_ok, lawful_then, lawful_given, lawful_whole}
-use Rattle.grammar.proofs.WordLaws.{Ends, Any, word_takes, word_again, lawful_field}
+use Rattle.session.specs.CdBase.shape.Shape.{Shape}
+use Rattle.session.specs.Grammar.Words.{word_at}
+use Rattle.session.specs.Grammar.Hexadecimal.{hex}
+use Rattle.session.proofs.Grammar.Laws.{Whole, bind_ok, lawful_then, lawful_given, lawful_whole}
+use Rattle.session.proofs.Grammar.WordLaws.{Ends, Any, word_takes, word_again, lawful_field}
 use Rattle.certificate.specs.declared.line.Heading.{Heading as Head}
 use Rattle.certificate.specs.declared.line.CertificateLine.{CertificateLine}
 use Rattle.certificate.specs.declared.line.CertificateLine.TheVariants as lines
-use Rattle.transcript.specs.Ranges.{IsPrint}
+use Rattle.session.specs.Transcript.Ranges.{IsPrint}
 use Rattle.certificate.specs.Lines.{certificate_body, FitsLine}
 use Rattle.certificate.specs.declared.kinds.LineKind.{LineKind}
 use Rattle.certificate.specs.declared.kinds.LineKind.TheVariants.{Heading, Share, File, End}

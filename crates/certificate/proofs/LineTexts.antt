@@ -4,7 +4,7 @@ use Rattle.std.specs.Prelude.{All}
 use Rattle.std.specs.List.{AllByRecursion}
 use Rattle.std.proofs.lemmas.List.{take_at, drop_at}
 use Rattle.std.proofs.lemmas.List.Elements.{All-from_recursion}
-use Rattle.transcript.specs.Reading.{line_len}
+use Rattle.session.specs.Transcript.Reading.{line_len}
 use Rattle.certificate.specs.declared.line.CertificateLine.{CertificateLine}
 use Rattle.certificate.specs.declared.line.CertificateLine.TheVariants as lines
 use Rattle.certificate.specs.declared.kinds.LineStage.{LineStage}

@@ -11,9 +11,9 @@ use Rattle.std.proofs.lemmas.List.{take_at, drop_at, length-append, get_or_appen
 use Rattle.std.proofs.lemmas.List.Elements.{All-from_recursion, recursion_from_All}
 use Rattle.std.proofs.lemmas.List.Sums.{position_or_len_is, split_at_first, passes_at_first}
 use Rattle.std.proofs.Math.Seq.{get_or-append_right}
-use Rattle.grammar.specs.Hexadecimal.{hex, hex_digit}
-use Rattle.grammar.proofs.NumeralLaws.{own}
-use Rattle.grammar.proofs.HexadecimalLaws.{chosen}
+use Rattle.session.specs.Grammar.Hexadecimal.{hex, hex_digit}
+use Rattle.session.proofs.Grammar.NumeralLaws.{own}
+use Rattle.session.proofs.Grammar.HexadecimalLaws.{chosen}
 use Rattle.certificate.specs.declared.line.ShareLine.{ShareLine}
 use Rattle.certificate.specs.declared.line.FileLine.{FileLine}
 use Rattle.certificate.specs.declared.line.CertificateLine.{CertificateLine}
@@ -24,7 +24,7 @@ use Rattle.certificate.specs.declared.kinds.LineKind.TheVariants.{Heading, Share
 use Rattle.certificate.specs.declared.kinds.LineStage.{LineStage}
 use Rattle.certificate.specs.declared.kinds.LineStage.TheVariants.{First, Shares, Files, Over}
 use Rattle.certificate.specs.declared.reading.WrongLine.{WrongLine}
-use Rattle.transcript.specs.Reading.{is_newline, line_len}
+use Rattle.session.specs.Transcript.Reading.{is_newline, line_len}
 use Rattle.certificate.specs.Reading.{stage_behind, kind_of, line_left, line_onto, line_then, is_over, ended_behind, certificate_by, certificate_at}
 use Rattle.certificate.proofs.Words.{May}
 use Rattle.certificate.proofs.FieldLaws.{IsLine, line_takes, line_again}

@@ -3,13 +3,13 @@ use Rattle.std.proofs.Common.{◌≡◌, ◌≢◌, ℕ, zero, suc, ◌+◌, ◌
 use Rattle.std.proofs.lemmas.Bool.{lt-ltb, le-ltb, ne_eqb}
 use Rattle.std.proofs.lemmas.List.{length-take-le, length-drop}
 use Rattle.std.proofs.lemmas.Option.{same_Some}
-use Rattle.grammar.specs.Readers.{Fails}
-use Rattle.grammar.specs.Words.{keep}
-use Rattle.grammar.specs.Hexadecimal.{unhex}
-use Rattle.grammar.specs.declared.stop.Stop.{Stop}
-use Rattle.grammar.specs.declared.stop.Stop.TheVariants as stops
-use Rattle.grammar.proofs.HexadecimalLaws.{unhex_length}
-use Rattle.transcript.specs.Reading.{print_in, line_len}
+use Rattle.session.specs.Grammar.Readers.{Fails}
+use Rattle.session.specs.Grammar.Words.{keep}
+use Rattle.session.specs.Grammar.Hexadecimal.{unhex}
+use Rattle.session.specs.Grammar.stop.Stop.{Stop}
+use Rattle.session.specs.Grammar.stop.Stop.TheVariants as stops
+use Rattle.session.proofs.Grammar.HexadecimalLaws.{unhex_length}
+use Rattle.session.specs.Transcript.Reading.{print_in, line_len}
 use Rattle.certificate.specs.declared.kinds.LineStage.{LineStage}
 use Rattle.certificate.specs.declared.kinds.LineStage.TheVariants.{First, Shares}
 use Rattle.certificate.specs.declared.line.Heading.{Heading as Head}

@@ -7,17 +7,17 @@ use Rattle.std.proofs.lemmas.Bool.{and_parts, not-true, eq-eqb, eqb-true, cases_
 use Rattle.std.proofs.lemmas.Option.{same_Some}
 use Rattle.std.proofs.lemmas.Slice.Eq.{bytes_eq-Decides}
 use Rattle.std.proofs.lemmas.List.Elements.{All-from_recursion, recursion_from_All}
-use Rattle.cd_base.specs.declared.shape.Shape.{Shape}
-use Rattle.grammar.specs.Words.{is_blank, field_at}
-use Rattle.grammar.specs.Numerals.{number, capped}
-use Rattle.grammar.specs.Hexadecimal.{hex, unhex}
-use Rattle.grammar.proofs.Laws.{Takes, err_is, bind_ok, bind_err, rest_fits}
-use Rattle.grammar.proofs.WordLaws.{Plain, Ends, Any, Reads, LawfulText, keep_some, keep_again, field_took, field_reread, word_fails}
-use Rattle.grammar.proofs.NumeralLaws.{number_reads, capped_takes, capped_again, decimal_plain}
-use Rattle.grammar.proofs.HexadecimalLaws.{chosen, unhex_takes, unhex_again, hex_plain}
-use Rattle.transcript.proofs.Shapes.{shape_of_is}
-use Rattle.transcript.specs.Ranges.{IsPrint}
-use Rattle.transcript.specs.Reading.{print_in}
+use Rattle.session.specs.CdBase.shape.Shape.{Shape}
+use Rattle.session.specs.Grammar.Words.{is_blank, field_at}
+use Rattle.session.specs.Grammar.Numerals.{number, capped}
+use Rattle.session.specs.Grammar.Hexadecimal.{hex, unhex}
+use Rattle.session.proofs.Grammar.Laws.{Takes, err_is, bind_ok, bind_err, rest_fits}
+use Rattle.session.proofs.Grammar.WordLaws.{Plain, Ends, Any, Reads, LawfulText, keep_some, keep_again, field_took, field_reread, word_fails}
+use Rattle.session.proofs.Grammar.NumeralLaws.{number_reads, capped_takes, capped_again, decimal_plain}
+use Rattle.session.proofs.Grammar.HexadecimalLaws.{chosen, unhex_takes, unhex_again, hex_plain}
+use Rattle.session.proofs.Transcript.Shapes.{shape_of_is}
+use Rattle.session.specs.Transcript.Ranges.{IsPrint}
+use Rattle.session.specs.Transcript.Reading.{print_in}
 use Rattle.session.specs.Reading.{shape_with, needed, shape_at}
 use Rattle.session.proofs.Shapes.{shape_with_some}
 use Rattle.certificate.specs.declared.kinds.LineKind.{LineKind}

@@ -1,8 +1,8 @@
 -- What a certificate says, and its one text.
 use Rattle.std.specs.Prelude.{ℕ, ◌<◌, ◌^◌, List, [], ◌∷◌, ◌++◌, map, All, codes, decimal}
 use Rattle.std.specs.List.{join_with_byte, flat_map}
-use Rattle.grammar.specs.Hexadecimal.{hex}
-use Rattle.transcript.specs.Ranges.{IsPrint}
+use Rattle.session.specs.Grammar.Hexadecimal.{hex}
+use Rattle.session.specs.Transcript.Ranges.{IsPrint}
 use Rattle.certificate.specs.declared.line.Heading.{Heading}
 use Rattle.certificate.specs.declared.line.ShareLine.{ShareLine}
 use Rattle.certificate.specs.declared.line.FileLine.{FileLine}

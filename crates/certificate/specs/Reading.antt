@@ -2,10 +2,10 @@
 use Rattle.std.specs.Prelude.{ℕ, zero, suc, ◌+◌, ◌-◌, Bool, true, false, List, [], ◌∷◌, length, take, drop, Option, Result, Ok, Err, nat_lt, if◌then◌else◌, codes}
 use Rattle.std.specs.List.{find}
 use Rattle.std.specs.Str.{bytes_eq}
-use Rattle.cd_base.specs.declared.shape.Shape.{Shape}
-use Rattle.grammar.specs.Readers.{◌>>=◌, ◌▷◌, ◌▷▷◌, whole}
-use Rattle.grammar.specs.Words.{word_at, field_at, keep}
-use Rattle.transcript.specs.Reading.{number_32, number_64, print_in, line_len}
+use Rattle.session.specs.CdBase.shape.Shape.{Shape}
+use Rattle.session.specs.Grammar.Readers.{◌>>=◌, ◌▷◌, ◌▷▷◌, whole}
+use Rattle.session.specs.Grammar.Words.{word_at, field_at, keep}
+use Rattle.session.specs.Transcript.Reading.{number_32, number_64, print_in, line_len}
 use Rattle.session.specs.Reading.{literal, shape_at, cloud}
 use Rattle.certificate.specs.declared.line.CertificateLine.{CertificateLine}
 use Rattle.certificate.specs.declared.line.CertificateLine.TheVariants as lines

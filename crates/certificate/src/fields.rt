@@ -1,18 +1,19 @@
 //! What follows the first word of a line.
 
 ghost use Rattle.std.specs.Prelude.{◌≡◌, ◌≢◌, ◌*◌, length, Some, None, IfErr, IsTrue, is_some, false};
-ghost use Rattle.grammar.specs.Readers.{Gives};
-ghost use Rattle.grammar.specs.Words.{field_at};
-ghost use Rattle.grammar.specs.Hexadecimal.{unhex, unhex_digit};
-ghost use Rattle.transcript.specs.Reading.{print_in};
+ghost use Rattle.session.specs.Grammar.Readers.{Gives};
+ghost use Rattle.session.specs.Grammar.Words.{field_at};
+ghost use Rattle.session.specs.Grammar.Hexadecimal.{unhex, unhex_digit};
+ghost use Rattle.session.specs.Transcript.Reading.{print_in};
 ghost use Rattle.certificate.specs.Reading.{heading_line_at, share_line_at, file_line_at, end_line_at};
 ghost use Rattle.certificate.specs.Reading.{fields_behind, line_left};
 
 use crate::kinds::{LineKind, LineStage, kind_word};
 use crate::{CertificateLine, FileLine, Heading, ShareLine};
-use cd_base::{Fp, Tag, UserId, Version};
-use grammar::{Stop, cut_word, u32_field, u64_field};
-use session::{cloud_field, literal_field, shape_field};
+use session::{
+    Fp, Stop, Tag, UserId, Version, cloud_field, cut_word, literal_field, shape_field, u32_field,
+    u64_field,
+};
 
 // Whether a byte is a digit in lower case.
 fn is_digit(c: u8) -> bool

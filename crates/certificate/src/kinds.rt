@@ -1,12 +1,12 @@
 //! Which kinds of lines there are, and which may stand where.
 
 ghost use Rattle.std.specs.Prelude.{◌≡◌, ◌≢◌, IfErr};
-ghost use Rattle.grammar.specs.Readers.{Gives};
-ghost use Rattle.grammar.specs.Words.{word_at};
+ghost use Rattle.session.specs.Grammar.Readers.{Gives};
+ghost use Rattle.session.specs.Grammar.Words.{word_at};
 ghost use Rattle.certificate.specs.Reading.{kind_named, may_stand, kind_at, kind_of, stage_behind, is_over};
 
 use crate::CertificateLine;
-use grammar::{Stop, cut_word};
+use session::{Stop, cut_word};
 
 /// Which lines may come: the first; shares, files or the last; files or the last; none.
 #[derive(Clone, Copy, Debug, PartialEq, Eq)]

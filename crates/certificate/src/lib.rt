@@ -11,4 +11,5 @@ mod writing;
 pub use laws::law_of_certificates;
 pub use line::{CertificateLine, FileLine, Heading, ShareLine};
 pub use reading::{WrongLine, read_certificate};
+pub use session::{Event, LineErr, LineReader, ScriptErr, encode, read_header, read_line};
 pub use writing::write_line;

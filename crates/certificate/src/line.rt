@@ -1,6 +1,6 @@
 //! What a certificate's lines say.
 
-use cd_base::{CloudNo, Fp, Shape, Tag, UserId, Version};
+use session::{CloudNo, Fp, Shape, Tag, UserId, Version};
 
 /// Which cloud a certificate is of.
 #[derive(Clone, Copy, Debug, PartialEq, Eq)]

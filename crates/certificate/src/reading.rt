@@ -12,7 +12,7 @@ ghost use Rattle.certificate.specs.declared.line.CertificateLine.TheVariants as 
 use crate::fields::line_of;
 use crate::kinds::{LineStage, no_more, stage_after};
 use crate::{CertificateLine, Heading};
-use grammar::{Stop, after, before, len_to};
+use session::{Stop, after, before, len_to};
 
 /// Where a text is no certificate.
 #[derive(Clone, Copy, Debug, PartialEq, Eq)]

@@ -1,13 +1,12 @@
 //! A certificate's lines, written.
 
 ghost use Rattle.std.specs.Prelude.{◌≡◌, ◌++◌, length, take, OnOk, OnErr};
-ghost use Rattle.transcript.specs.Words.{spaced};
+ghost use Rattle.session.specs.Transcript.Words.{spaced};
 ghost use Rattle.certificate.specs.Lines.{certificate_words, certificate_line};
 
 use crate::CertificateLine;
-use cd_base::{Bytes, NoMemory};
-use transcript::Word::{Number, Print};
-use transcript::put_first;
+use session::Word::{Number, Print};
+use session::{Bytes, NoMemory, put_first};
 
 // Appends a line without its newline. For want of memory a part of it may stand there.
 fn put_line(line: &CertificateLine, out: &mut Bytes) -> Result<(), NoMemory>

@@ -2,19 +2,19 @@
 use Rattle.std.proofs.Common.{◌≡◌, ◌≢◌, inl, ℕ, ◌+◌, ◌≤◌, List, [], ◌∷◌, ◌++◌, length, map, Result, Ok, Err, IsTrue, sym, ap, ◌∙◌, subst, arith, append-nil, append_assoc}
 use Rattle.std.specs.Prelude.{OnOk, OnErr}
 use Rattle.std.proofs.lemmas.List.{nil_from_length}
-use Rattle.cd_edges.specs.declared.area.Area.{Area}
-use Rattle.cd_edges.specs.declared.area.Area.TheVariants.{Journal}
-use Rattle.cd_edges.specs.Disk.{Store, Image, Cloud, LeavesOnly, IsAtArea, MayLeave}
-use Rattle.cd_edges.specs.Shelf.{IsCall, HasFailed, KeepsCounts}
-use Rattle.cd_edges.proofs.Calls.{called_twice, failed_after}
-use Rattle.cd_edges.proofs.Moments.{weaker, joined, told_on}
-use Rattle.journal_start.specs.declared.start.Header.{Header}
-use Rattle.journal_halves.specs.Journals.{Where, HasChain, IsEither, with_body}
-use Rattle.half_journal.specs.Turning.{used_of}
-use Rattle.half_journal.specs.declared.journal.Stage.TheVariants.{Laying}
-use Rattle.half_journal.specs.States.{State, IsEnded, IsLaying}
-use Rattle.record_bodies.specs.Spelling.{Body, Put, Commit, Delete, Kept, Spent, body_bytes}
-use Rattle.checkpoints.specs.Laying.{records_len, IsNext, with_bodies, checkpoint_behind}
+use Rattle.cloud_disk.specs.CdEdges.area.Area.{Area}
+use Rattle.cloud_disk.specs.CdEdges.area.Area.TheVariants.{Journal}
+use Rattle.cloud_disk.specs.CdEdges.Disk.{Store, Image, Cloud, LeavesOnly, IsAtArea, MayLeave}
+use Rattle.cloud_disk.specs.CdEdges.Shelf.{IsCall, HasFailed, KeepsCounts}
+use Rattle.cloud_disk.proofs.CdEdges.Calls.{called_twice, failed_after}
+use Rattle.cloud_disk.proofs.CdEdges.Moments.{weaker, joined, told_on}
+use Rattle.cloud_disk.specs.JournalStart.start.Header.{Header}
+use Rattle.cloud_disk.specs.JournalHalves.Journals.{Where, HasChain, IsEither, with_body}
+use Rattle.cloud_disk.specs.HalfJournal.Turning.{used_of}
+use Rattle.cloud_disk.specs.HalfJournal.journal.Stage.TheVariants.{Laying}
+use Rattle.cloud_disk.specs.HalfJournal.States.{JournalState, IsJournalEnded, IsLaying}
+use Rattle.cloud_memory.specs.RecordBodies.Spelling.{Body, Put, Commit, Delete, Kept, Spent, body_bytes}
+use Rattle.checkpoints.specs.Laying.{records_len, IsNextInBuffer, with_bodies, checkpoint_behind}
 
 -- ---- images
 
@@ -37,12 +37,12 @@ still_either a b w next run = weaker a b (Chained a w) (Either a w next) run (λ
 -- ---- the checkpoint so far
 
 -- These records are to be laid yet, and then it is whole.
-pub record StillLaying (state : State) (store : Store) (w whole : Where) (rest : List Body) : Type 0 where
+pub record StillLaying (state : JournalState) (store : Store) (w whole : Where) (rest : List Body) : Type 0 where
   pub so_far : Where
   pub laying : IsLaying state store w so_far
   pub whole_is : with_bodies so_far rest ≡ whole
 
-pub record Along (a b : ℕ → Cloud) (number before now : ℕ) (first state : State) (header : Header) (commands count region : ℕ) (all rest : List Body) (index : ℕ) : Type 0 where
+pub record Along (a b : ℕ → Cloud) (number before now : ℕ) (first state : JournalState) (header : Header) (commands count region : ℕ) (all rest : List Body) (index : ℕ) : Type 0 where
   pub call : IsCall a b number before now
   pub counts : KeepsCounts (a number) (b number) before now
   pub stage : state.stage ≡ Laying
@@ -51,8 +51,8 @@ pub record Along (a b : ℕ → Cloud) (number before now : ℕ) (first state : 
   pub to_come : length rest + index ≡ count
   pub room : used_of state.laid + records_len rest ≡ 63 + records_len all
   pub others : IsTrue (a number).told → (other : Area) → other ≢ Journal → (b number).now other ≡ (a number).now other
-  pub images : IsTrue (a number).told → (w : Where) → IsEnded first ((a number).now Journal) w → LeavesOnly (a number) (b number) (Chained (a number) w)
-  pub laid : IsTrue (a number).told → (w : Where) → IsEnded first ((a number).now Journal) w
+  pub images : IsTrue (a number).told → (w : Where) → IsJournalEnded first ((a number).now Journal) w → LeavesOnly (a number) (b number) (Chained (a number) w)
+  pub laid : IsTrue (a number).told → (w : Where) → IsJournalEnded first ((a number).now Journal) w
       → StillLaying state ((b number).now Journal) w (checkpoint_behind w header commands count region all) rest
 
 -- one record more of it
@@ -66,20 +66,20 @@ body_some (Delete delete) = omega arith
 body_some (Kept items) = omega arith
 body_some (Spent spent) = omega arith
 
-pub next_some : (old new : List Body) (bytes : List ℕ) → IsNext old new bytes → 1 ≤ length bytes
+pub next_some : (old new : List Body) (bytes : List ℕ) → IsNextInBuffer old new bytes → 1 ≤ length bytes
 next_some old new bytes n = omega (arith, ap (λ (l : List ℕ). length l) n.is_body.spelled, body_some n.body)
 
-pub next_len : (old new : List Body) (bytes : List ℕ) → IsNext old new bytes → records_len old ≡ length bytes + 5 + records_len new
+pub next_len : (old new : List Body) (bytes : List ℕ) → IsNextInBuffer old new bytes → records_len old ≡ length bytes + 5 + records_len new
 next_len old new bytes n = omega (arith, ap (λ (l : List ℕ). length l) n.is_body.spelled, ap records_len n.front)
 
-pub next_count : (old new : List Body) (bytes : List ℕ) → IsNext old new bytes → length old ≡ length new + 1
+pub next_count : (old new : List Body) (bytes : List ℕ) → IsNextInBuffer old new bytes → length old ≡ length new + 1
 next_count old new bytes n = omega (arith, ap (λ (l : List Body). length l) n.front)
 
-module _ (a b c : ℕ → Cloud) (number before mid now : ℕ) (first state after : State) (header : Header) (commands count region : ℕ) (all rest left : List Body) (bytes : List ℕ) (index : ℕ)
-    (along : Along a b number before mid first state header commands count region all rest index) (n : IsNext rest left bytes) where
+module _ (a b c : ℕ → Cloud) (number before mid now : ℕ) (first state after : JournalState) (header : Header) (commands count region : ℕ) (all rest left : List Body) (bytes : List ℕ) (index : ℕ)
+    (along : Along a b number before mid first state header commands count region all rest index) (n : IsNextInBuffer rest left bytes) where
   -- the images while it is laid
   pub laid_images : (IsTrue (b number).told → (w next : Where) → IsLaying state ((b number).now Journal) w next → LeavesOnly (b number) (c number) (Chained (b number) w))
-      → IsTrue (a number).told → (w : Where) → IsEnded first ((a number).now Journal) w → LeavesOnly (a number) (c number) (Chained (a number) w)
+      → IsTrue (a number).told → (w : Where) → IsJournalEnded first ((a number).now Journal) w → LeavesOnly (a number) (c number) (Chained (a number) w)
   laid_images run told w is =
       joined (a number) (b number) (c number) (Chained (a number) w) (along.images told w is)
       (weaker (b number) (c number) (Chained (b number) w) (Chained (a number) w) (run (told_on (a number) (b number) along.call.told told) w (along.laid told w is).so_far (along.laid told w is).laying)
@@ -114,7 +114,7 @@ module _ (a b c : ℕ → Cloud) (number before mid now : ℕ) (first state afte
 with_none : (w : Where) → with_bodies w [] ≡ w
 with_none w = λ i. record { half = w.half; start = w.start; bodies = append-nil w.bodies i }
 
-module _ (a b c : ℕ → Cloud) (number before mid now : ℕ) (first state after : State) (header : Header) (commands count region : ℕ) (all rest : List Body) (index : ℕ)
+module _ (a b c : ℕ → Cloud) (number before mid now : ℕ) (first state after : JournalState) (header : Header) (commands count region : ℕ) (all rest : List Body) (index : ℕ)
     (along : Along a b number before mid first state header commands count region all rest index) (at_end : count ≤ index) where
   pub none_left : rest ≡ []
   none_left = nil_from_length rest (omega (arith, along.to_come, at_end))
@@ -126,21 +126,21 @@ module _ (a b c : ℕ → Cloud) (number before mid now : ℕ) (first state afte
   all_used = omega (arith, along.room, ap records_len none_left)
 
   -- the whole of it is laid
-  laid_whole : IsTrue (a number).told → (w : Where) → IsEnded first ((a number).now Journal) w → IsLaying state ((b number).now Journal) w (checkpoint_behind w header commands count region all)
+  laid_whole : IsTrue (a number).told → (w : Where) → IsJournalEnded first ((a number).now Journal) w → IsLaying state ((b number).now Journal) w (checkpoint_behind w header commands count region all)
   laid_whole told w is =
       let s = along.laid told w is in
       subst (λ (v : Where). IsLaying state ((b number).now Journal) w v) (sym (with_none s.so_far) ∙ ap (with_bodies s.so_far) (sym none_left) ∙ s.whole_is) s.laying
 
   pub settled_images : (IsTrue (b number).told → (w next : Where) → IsLaying state ((b number).now Journal) w next → LeavesOnly (b number) (c number) (Either (b number) w next))
-      → IsTrue (a number).told → (w : Where) → IsEnded first ((a number).now Journal) w → LeavesOnly (a number) (c number) (Either (a number) w (checkpoint_behind w header commands count region all))
+      → IsTrue (a number).told → (w : Where) → IsJournalEnded first ((a number).now Journal) w → LeavesOnly (a number) (c number) (Either (a number) w (checkpoint_behind w header commands count region all))
   settled_images run told w is =
       let next = checkpoint_behind w header commands count region all in
       joined (a number) (b number) (c number) (Either (a number) w next) (still_either (a number) (b number) w next (along.images told w is))
       (weaker (b number) (c number) (Either (b number) w next) (Either (a number) w next) (run (told_on (a number) (b number) along.call.told told) w next (laid_whole told w is))
       (λ image at. at_start (a number) (b number) (IsEither w next) (along.others told) image at))
 
-  pub settled_on : {T E : Type 0} (r : Result T E) → (IsTrue (b number).told → (w next : Where) → IsLaying state ((b number).now Journal) w next → OnOk r (IsEnded after ((c number).now Journal) next))
-      → IsTrue (a number).told → (w : Where) → IsEnded first ((a number).now Journal) w → OnOk r (IsEnded after ((c number).now Journal) (checkpoint_behind w header commands count region all))
+  pub settled_on : {T E : Type 0} (r : Result T E) → (IsTrue (b number).told → (w next : Where) → IsLaying state ((b number).now Journal) w next → OnOk r (IsJournalEnded after ((c number).now Journal) next))
+      → IsTrue (a number).told → (w : Where) → IsJournalEnded first ((a number).now Journal) w → OnOk r (IsJournalEnded after ((c number).now Journal) (checkpoint_behind w header commands count region all))
   settled_on r run told w is = run (told_on (a number) (b number) along.call.told told) w (checkpoint_behind w header commands count region all) (laid_whole told w is)
 
 -- ---- a call behind one that was Ok

@@ -2,7 +2,7 @@
 use Rattle.std.proofs.Common.{◌≡◌, ◌<◌, ◌≤◌, Bool, true, false, List, [], ◌∷◌, ◌++◌, length, refl, sym, ap, ◌∙◌, arith, eq-eqb, length-append}
 use Rattle.std.specs.Prelude.{if◌then◌else◌, ◌==◌}
 use Rattle.std.proofs.lemmas.Bool.{ne_eqb}
-use Rattle.message_fields.specs.Fingerprints.{batch_limit}
+use Rattle.cloud_memory.specs.MessageFields.Fingerprints.{batch_limit}
 use Rattle.checkpoints.specs.Picking.{batched, batches, with_batch}
 
 module _ {X : Type 0} where

@@ -3,9 +3,9 @@ use Rattle.std.proofs.Common.{◌≡◌, ◌≢◌, ℕ, zero, suc, ◌+◌, ◌
 use Rattle.std.specs.Prelude.{◌==◌, option_map, is_some, ◌-◌, take, drop}
 use Rattle.std.proofs.lemmas.List.{get_or-set_same, get_or-set_other, get_or-replicate, get_or_past, drop_all, take_all, take_at}
 use Rattle.std.proofs.lemmas.Bool.{cases_eq, cases_lt, eqb-true}
-use Rattle.cd_base.specs.declared.ids.Fp.{Fp}
-use Rattle.pool_map.specs.Slots.{slot_of}
-use Rattle.share_index.specs.declared.key.Owner.{Owner}
+use Rattle.cloud_memory.specs.CdBase.ids.Fp.{Fp}
+use Rattle.cloud_memory.specs.PoolMap.Slots.{slot_of}
+use Rattle.cloud_memory.specs.ShareIndex.key.Owner.{Owner}
 use Rattle.checkpoints.specs.Chained.{user_in, IsOwn, AreOthers, IsNextOwn, AreChained}
 use Rattle.checkpoints.specs.Picking.{picked}
 use Rattle.checkpoints.specs.Records.{owned_at}

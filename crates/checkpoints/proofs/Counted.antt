@@ -2,8 +2,8 @@
 use Rattle.std.proofs.Common.{◌≡◌, ℕ, ◌+◌, ◌<◌, ◌≤◌, ◌*◌, min, List, [], length, refl, sym, ap, subst, arith}
 use Rattle.std.specs.Prelude.{All}
 use Rattle.std.proofs.lemmas.List.Elements.{All-cons, All-nil}
-use Rattle.record_bodies.specs.Spelling.{Body, FitsBody}
-use Rattle.checkpoints.specs.Laying.{records_len, IsNext}
+use Rattle.cloud_memory.specs.RecordBodies.Spelling.{Body, FitsBody}
+use Rattle.checkpoints.specs.Laying.{records_len, IsNextInBuffer}
 use Rattle.checkpoints.proofs.Along.{next_len, next_count}
 
 -- So many were counted, with so many bytes behind the start, as far as 32 and 64 bits reach. They fit, if the others do.
@@ -20,7 +20,7 @@ pub record Counted (all rest : List Body) (count len : ℕ) : Type 0 where
 pub none_counted : (all : List Body) → Counted all all 0 63
 none_counted all = record { done = 0; size = 63; number = omega arith; long = refl; few = omega arith; count_is = refl; len_is = refl; fit = λ f. f }
 
-pub one_counted : (all rest left : List Body) (bytes : List ℕ) (count len : ℕ) → Counted all rest count len → IsNext rest left bytes
+pub one_counted : (all rest left : List Body) (bytes : List ℕ) (count len : ℕ) → Counted all rest count len → IsNextInBuffer rest left bytes
     → Counted all left (min (count + 1) 4294967295) (min (len + (length bytes + 5)) 18446744073709551615)
 one_counted all rest left bytes count len c n = record {
   done = c.done + 1;

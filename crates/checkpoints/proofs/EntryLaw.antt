@@ -3,21 +3,21 @@ use Rattle.std.proofs.Common.{◌≡◌, ℕ, List, [], ◌∷◌, map, Option, 
 use Rattle.std.specs.Prelude.{◌↔◌, is_some, IsSome, option_map}
 use Rattle.std.specs.FinMap.{get}
 use Rattle.std.specs.List.{Contains}
-use Rattle.cd_base.specs.declared.ids.Fp.{Fp}
-use Rattle.cd_base.specs.declared.ids.Tag.{Tag}
-use Rattle.cd_base.specs.declared.ids.UserId.{UserId}
-use Rattle.cd_base.specs.declared.ids.Version.{Version}
-use Rattle.cd_base.specs.declared.shape.Shape.{Shape}
-use Rattle.file_index.specs.declared.key.Entry.{Entry}
-use Rattle.file_index.specs.declared.key.FileKey.{FileKey}
-use Rattle.record_body.specs.declared.body.CommitBody.{CommitBody}
-use Rattle.share_index.proofs.Owning.{value-of}
-use Rattle.user_dedup.specs.declared.file_list.FileEntry.{FileEntry}
-use Rattle.user_dedup.specs.Pages.{entry_at}
-use Rattle.user_dedup.proofs.Owned.{contains_here, contains_later}
-use Rattle.user_dedup.specs.declared.command.Command.{Command}
-use Rattle.user_dedup.specs.Cloud.{user_view}
-use Rattle.cloud_areas.specs.Checkpoints.{Lists, key_of, HasEntry, IsEntry, AreEntries}
+use Rattle.cloud_memory.specs.CdBase.ids.Fp.{Fp}
+use Rattle.cloud_memory.specs.CdBase.ids.Tag.{Tag}
+use Rattle.cloud_memory.specs.CdBase.ids.UserId.{UserId}
+use Rattle.cloud_memory.specs.CdBase.ids.Version.{Version}
+use Rattle.cloud_memory.specs.CdBase.shape.Shape.{Shape}
+use Rattle.cloud_memory.specs.FileIndex.key.Entry.{Entry}
+use Rattle.cloud_memory.specs.FileIndex.key.FileKey.{FileKey}
+use Rattle.cloud_memory.specs.RecordBody.body.CommitBody.{CommitBody}
+use Rattle.cloud_memory.proofs.ShareIndexLaws.Owning.{value-of}
+use Rattle.cloud_memory.specs.UserDedup.file_list.FileEntry.{FileEntry}
+use Rattle.cloud_memory.specs.UserDedup.Pages.{entry_at}
+use Rattle.cloud_memory.proofs.UserDedup.Owned.{contains_here, contains_later}
+use Rattle.cloud_memory.specs.UserDedup.command.Command.{Command}
+use Rattle.cloud_memory.specs.UserDedup.Cloud.{user_view}
+use Rattle.cloud_disk.specs.CloudAreas.Checkpoints.{Lists, key_of, HasEntry, IsEntry, AreEntries}
 use Rattle.cloud_memory.specs.declared.cloud.CloudMemory.{CloudMemory}
 use Rattle.cloud_memory.specs.Memory.{Remembers, summary, summary_of}
 use Rattle.cloud_memory.specs.Rooms.{memory_of}

@@ -4,8 +4,8 @@ use Rattle.std.specs.Prelude.{◌==◌, if◌then◌else◌}
 use Rattle.std.specs.List.{flat_map}
 use Rattle.std.proofs.lemmas.Bool.{eqb-true}
 use Rattle.std.proofs.lemmas.List.Concat.{flat_map-cons}
-use Rattle.message_fields.specs.Fingerprints.{batch_limit}
-use Rattle.cloud_areas.specs.Checkpoints.{AreFull}
+use Rattle.cloud_memory.specs.MessageFields.Fingerprints.{batch_limit}
+use Rattle.cloud_disk.specs.CloudAreas.Checkpoints.{AreFull}
 use Rattle.checkpoints.specs.Picking.{batched}
 
 full_cons : (n : ℕ) (ns : List ℕ) → n ≡ 256 → AreFull ns → AreFull (n ∷ ns)

@@ -4,24 +4,24 @@ use Rattle.std.specs.Prelude.{All}
 use Rattle.std.specs.FinMap.{FinMap, get}
 use Rattle.std.specs.List.{Contains}
 use Rattle.std.proofs.lemmas.List.Elements.{All-nil, All-cons, All-append, All-contains, Contains-append_left, Contains-append_right, Contains-append_cases}
-use Rattle.cd_base.specs.declared.ids.Fp.{Fp}
-use Rattle.file_index.specs.declared.key.Entry.{Entry}
-use Rattle.file_index.specs.declared.key.FileKey.{FileKey}
-use Rattle.record_bodies.specs.declared.body.KeptItem.{KeptItem}
-use Rattle.record_bodies.specs.declared.body.SpentBody.{SpentBody}
-use Rattle.record_bodies.specs.Spelling as bodies
-use Rattle.record_bodies.specs.Spelling.{Body}
-use Rattle.record_body.specs.declared.body.CommitBody.{CommitBody}
-use Rattle.record_body.specs.declared.body.PutItem.{PutItem}
-use Rattle.cd_base.specs.declared.place.Place.{Place}
-use Rattle.cd_base.specs.Order.{fp_cmp}
-use Rattle.user_dedup.specs.Owning.{is_among}
-use Rattle.user_dedup.proofs.Owned.{contains_here, contains_later, contains_nothing, contains_cases}
-use Rattle.user_dedup.proofs.Filtered.{in_flat, from_flat}
-use Rattle.cloud_areas.specs.Checkpoints.{PutRecord, put_body, items_in}
-use Rattle.cloud_areas.specs.Placing.{places_given, places_kept, shares_placed, recipes_placed, shares_in, recipes_in}
+use Rattle.cloud_memory.specs.CdBase.ids.Fp.{Fp}
+use Rattle.cloud_memory.specs.FileIndex.key.Entry.{Entry}
+use Rattle.cloud_memory.specs.FileIndex.key.FileKey.{FileKey}
+use Rattle.cloud_memory.specs.RecordBodies.body.KeptItem.{KeptItem}
+use Rattle.cloud_memory.specs.RecordBodies.body.SpentBody.{SpentBody}
+use Rattle.cloud_memory.specs.RecordBodies.Spelling as bodies
+use Rattle.cloud_memory.specs.RecordBodies.Spelling.{Body}
+use Rattle.cloud_memory.specs.RecordBody.body.CommitBody.{CommitBody}
+use Rattle.cloud_memory.specs.RecordBody.body.PutItem.{PutItem}
+use Rattle.cloud_memory.specs.CdBase.place.Place.{Place}
+use Rattle.cloud_memory.specs.CdBase.Order.{fp_cmp}
+use Rattle.cloud_memory.specs.UserDedup.Owning.{is_among}
+use Rattle.cloud_memory.proofs.UserDedup.Owned.{contains_here, contains_later, contains_nothing, contains_cases}
+use Rattle.cloud_memory.proofs.UserDedup.Filtered.{in_flat, from_flat}
+use Rattle.cloud_disk.specs.CloudAreas.Checkpoints.{PutRecord, put_body, items_in}
+use Rattle.cloud_disk.specs.CloudAreas.Placing.{places_given, places_kept, shares_placed, recipes_placed, shares_in, recipes_in}
 use Rattle.cloud_memory.specs.declared.cloud.CloudMemory.{CloudMemory}
-use Rattle.share_index.specs.Shares.{Shares}
+use Rattle.cloud_memory.specs.ShareIndex.Shares.{Shares}
 use Rattle.checkpoints.specs.Picking.{picked, batches}
 use Rattle.checkpoints.specs.Records.{owned_in, item_of, items_of, items_from, puts_from, listed, kept_at, kept_from, commit_in, commit_at, commits_from, spents_from, records_of}
 use Rattle.checkpoints.specs.Known.{AreListed}

@@ -7,13 +7,13 @@ use Rattle.std.specs.declared.cmp.Ordering.TheVariants.{Less, Equal, Greater}
 use Rattle.std.specs.Ordering.{eq_by_cmp, is_eq}
 use Rattle.std.specs.Cmp.{tied_itself}
 use Rattle.std.specs.FinMap.{FinMap, get, entries}
-use Rattle.pool_map.specs.MapSums.{sum_by-remove, sum_by-alike}
-use Rattle.share_index.specs.declared.key.Owner.{Owner}
-use Rattle.share_index.specs.Order.{owner_cmp, owner_of, owner_exact}
-use Rattle.cd_base.specs.Order.{fp_cmp, fp_exact}
-use Rattle.share_index.specs.Shares.{owners_of}
-use Rattle.share_index.proofs.Placing.{fp_total}
-use Rattle.share_index.proofs.Owning.{owner_total}
+use Rattle.cloud_memory.specs.PoolMap.MapSums.{sum_by-remove, sum_by-alike}
+use Rattle.cloud_memory.specs.ShareIndex.key.Owner.{Owner}
+use Rattle.cloud_memory.specs.ShareIndex.Order.{owner_cmp, owner_of, owner_exact}
+use Rattle.cloud_memory.specs.CdBase.Order.{fp_cmp, fp_exact}
+use Rattle.cloud_memory.specs.ShareIndex.Shares.{owners_of}
+use Rattle.cloud_memory.proofs.ShareIndexLaws.Placing.{fp_total}
+use Rattle.cloud_memory.proofs.ShareIndexLaws.Owning.{owner_total}
 
 abbrev same : List ℕ → Owner → ℕ
 same fp k = cond (eq_by_cmp fp_cmp k.fp fp) 1 0

@@ -1,24 +1,24 @@
 -- A checkpoint in a chain's place: the cloud stands for the list.
 use Rattle.std.proofs.Common.{◌≡◌, ◌≢◌, ◌⊎◌, inl, inr, ℕ, ◌≤◌, List, Result, Ok, Err, IsTrue, refl, sym, ap, ◌∙◌, subst}
 use Rattle.std.specs.Prelude.{OnOk}
-use Rattle.cd_edges.specs.declared.area.Area.{Area}
-use Rattle.cd_edges.specs.declared.area.Area.TheVariants.{Journal, Shares, Recipes}
-use Rattle.cd_edges.specs.Disk.{Store, Image, Cloud, LeavesOnly, IsAtArea, reads}
-use Rattle.cd_edges.specs.Shelf.{stable}
-use Rattle.cd_edges.proofs.Moments.{weaker, started}
-use Rattle.commit_journal.specs.Records.{IsJournal}
-use Rattle.container_log.specs.Laying.{Placed}
-use Rattle.container_log.specs.States as logs
-use Rattle.cd_base.specs.declared.place.Place.{Place}
-use Rattle.journal_start.specs.declared.start.Header.{Header}
-use Rattle.journal_halves.specs.Halves.{half_limit, half_of}
-use Rattle.journal_halves.specs.Journals.{Where, all_bodies, HasChain, IsEither}
-use Rattle.half_journal.specs.States as journals
-use Rattle.record_bodies.specs.Spelling.{Body}
-use Rattle.user_dedup.specs.declared.command.Command.{Command}
-use Rattle.cloud_areas.specs.Placing.{region_start, greatest_end, shares_in, recipes_in, places_of}
-use Rattle.cloud_areas.specs.Chains.{laid_shares}
-use Rattle.cloud_areas.specs.Standing.{Chain, where_of, region_in, IsChain, Holds, StandsFor}
+use Rattle.cloud_disk.specs.CdEdges.area.Area.{Area}
+use Rattle.cloud_disk.specs.CdEdges.area.Area.TheVariants.{Journal, Shares, Recipes}
+use Rattle.cloud_disk.specs.CdEdges.Disk.{Store, Image, Cloud, LeavesOnly, IsAtArea, reads}
+use Rattle.cloud_disk.specs.CdEdges.Shelf.{stable}
+use Rattle.cloud_disk.proofs.CdEdges.Moments.{weaker, started}
+use Rattle.cloud_disk.specs.CommitJournal.Records.{IsJournal}
+use Rattle.cloud_memory.specs.ContainerLog.Laying.{Placed}
+use Rattle.cloud_memory.specs.ContainerLog.States as logs
+use Rattle.cloud_memory.specs.CdBase.place.Place.{Place}
+use Rattle.cloud_disk.specs.JournalStart.start.Header.{Header}
+use Rattle.cloud_disk.specs.JournalHalves.Halves.{half_limit, half_of}
+use Rattle.cloud_disk.specs.JournalHalves.Journals.{Where, all_bodies, HasChain, IsEither}
+use Rattle.cloud_disk.specs.HalfJournal.States as journals
+use Rattle.cloud_memory.specs.RecordBodies.Spelling.{Body}
+use Rattle.cloud_memory.specs.UserDedup.command.Command.{Command}
+use Rattle.cloud_disk.specs.CloudAreas.Placing.{region_start, greatest_end, shares_in, recipes_in, places_of}
+use Rattle.cloud_disk.specs.CloudAreas.Chains.{laid_shares}
+use Rattle.cloud_disk.specs.CloudAreas.Standing.{Chain, where_of, region_in, IsChain, Holds, StandsFor}
 use Rattle.cloud_disk.specs.Held.{LieIn}
 use Rattle.cloud_disk.specs.Disk.{Disk, IsBehind, IsOn}
 use Rattle.cloud_disk.proofs.Standing.{stands, holds_in}
@@ -28,7 +28,7 @@ use Rattle.cloud_disk.proofs.Holding.{agrees_as}
 use Rattle.checkpoints.specs.Settling.{checkpoint_of, IsSummed, KeepsList}
 
 -- where nothing was done the chain that was read is there
-pub ended_still : (journal : journals.State) (c0 : Cloud) (w next : Where) → journals.IsEnded journal (c0.now Journal) w
+pub ended_still : (journal : journals.JournalState) (c0 : Cloud) (w next : Where) → journals.IsJournalEnded journal (c0.now Journal) w
     → LeavesOnly c0 c0 (IsAtArea c0.now Journal (IsEither w next))
 ended_still journal c0 w next ended =
     started c0 _ (λ image left. record {
@@ -60,7 +60,7 @@ module _ (header : Header) (list : List Command) (c : Chain) (commands count reg
   pub keeps_list : (c1 : Cloud) → LeavesOnly c0 c1 (IsAtArea c0.now Journal (IsEither (where_of c) (where_of next))) → KeepsList header list c0 c1
   keeps_list c1 run = weaker c0 c1 (IsAtArea c0.now Journal (IsEither (where_of c) (where_of next))) (λ (image : Image). StandsFor image header list) run image_of
 
-  pub settled_on : {T E : Type 0} (r : Result T E) (new : Disk) (c1 : Cloud) → IsTrue c1.told → OnOk r (journals.IsEnded new.journal (c1.now Journal) (where_of next))
+  pub settled_on : {T E : Type 0} (r : Result T E) (new : Disk) (c1 : Cloud) → IsTrue c1.told → OnOk r (journals.IsJournalEnded new.journal (c1.now Journal) (where_of next))
       → OnOk r ((other : Area) → other ≢ Journal → c1.now other ≡ c0.now other) → new.journal.limit ≡ disk.journal.limit → new.shares ≡ disk.shares → new.recipes ≡ disk.recipes
       → OnOk r (IsOn header list next new c1)
   settled_on (Err e) new c1 told ended others limit shares recipes = tt

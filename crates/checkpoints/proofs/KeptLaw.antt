@@ -4,15 +4,15 @@ use Rattle.std.specs.Prelude.{◌==◌, ◌↔◌, is_some, option_map}
 use Rattle.std.specs.FinMap.{FinMap, get}
 use Rattle.std.specs.List.{Contains}
 use Rattle.std.proofs.lemmas.Bool.{eqb-true}
-use Rattle.cd_base.specs.declared.ids.Fp.{Fp}
-use Rattle.cd_base.specs.declared.shape.Shape.{Shape}
-use Rattle.record_bodies.specs.declared.body.KeptItem.{KeptItem}
-use Rattle.cd_base.specs.declared.place.Place.{Place}
-use Rattle.share_index.specs.Order.{owner_cmp}
-use Rattle.share_index.specs.Shares.{owners_of}
-use Rattle.share_index.proofs.Owning.{value-of}
-use Rattle.user_dedup.specs.declared.command.Command.{Command}
-use Rattle.cloud_areas.specs.Checkpoints.{Lists, IsOwnerless, ListOwnerless}
+use Rattle.cloud_memory.specs.CdBase.ids.Fp.{Fp}
+use Rattle.cloud_memory.specs.CdBase.shape.Shape.{Shape}
+use Rattle.cloud_memory.specs.RecordBodies.body.KeptItem.{KeptItem}
+use Rattle.cloud_memory.specs.CdBase.place.Place.{Place}
+use Rattle.cloud_memory.specs.ShareIndex.Order.{owner_cmp}
+use Rattle.cloud_memory.specs.ShareIndex.Shares.{owners_of}
+use Rattle.cloud_memory.proofs.ShareIndexLaws.Owning.{value-of}
+use Rattle.cloud_memory.specs.UserDedup.command.Command.{Command}
+use Rattle.cloud_disk.specs.CloudAreas.Checkpoints.{Lists, IsOwnerless, ListOwnerless}
 use Rattle.cloud_memory.specs.declared.cloud.CloudMemory.{CloudMemory}
 use Rattle.cloud_memory.specs.Memory.{Remembers}
 use Rattle.cloud_memory.specs.Rooms.{memory_of}

@@ -25,3 +25,13 @@ pub mod Summed
 pub mod Tallied
 pub mod Unmarked
 pub mod Unowned
+pub mod CloudMemoryLaws
+pub mod CloudAreas
+pub mod FileIndexLaws
+pub mod ShareIndexLaws
+pub mod ContainerLog
+pub mod UserDedup
+pub mod RecordBodies
+pub mod JournalStart
+pub mod RecordBody
+pub mod CdEdges

@@ -4,12 +4,12 @@ use Rattle.std.specs.List.{Contains}
 use Rattle.std.proofs.lemmas.Bool.{ne_eqb}
 use Rattle.std.proofs.lemmas.List.{take-append-drop}
 use Rattle.std.proofs.lemmas.List.Elements.{Contains-append_left, Contains-append_cases}
-use Rattle.cd_base.specs.declared.ids.Fp.{Fp}
-use Rattle.cd_base.specs.declared.place.Place.{Place}
-use Rattle.pool_map.specs.Slots.{slot_of, IsListed}
-use Rattle.share_index.specs.Order.{owner_of}
-use Rattle.share_index.specs.Shares.{Shares, owners_of}
-use Rattle.user_dedup.proofs.Owned.{contains_nothing, among_contains}
+use Rattle.cloud_memory.specs.CdBase.ids.Fp.{Fp}
+use Rattle.cloud_memory.specs.CdBase.place.Place.{Place}
+use Rattle.cloud_memory.specs.PoolMap.Slots.{slot_of, IsListed}
+use Rattle.cloud_memory.specs.ShareIndex.Order.{owner_of}
+use Rattle.cloud_memory.specs.ShareIndex.Shares.{Shares, owners_of}
+use Rattle.cloud_memory.proofs.UserDedup.Owned.{contains_nothing, among_contains}
 use Rattle.std.specs.FinMap.{get}
 use Rattle.checkpoints.specs.Records.{owned_at, owned_in, listed_below, listed, kept_at}
 use Rattle.checkpoints.specs.Ready.{AreMarked, AreOwned}

@@ -6,12 +6,12 @@ use Rattle.std.proofs.lemmas.List.{get_or-set_same, get_or-set_other}
 use Rattle.std.proofs.lemmas.List.Folds.{list_any-append}
 use Rattle.std.proofs.lemmas.Bool.{cases_eq, cases_Bool}
 use Rattle.std.proofs.Math.Bool.{or-false, or-true}
-use Rattle.cd_base.specs.declared.ids.Fp.{Fp}
-use Rattle.pool_map.specs.Slots.{slot_of, IsListed}
-use Rattle.cd_base.specs.declared.place.Place.{Place}
-use Rattle.share_index.specs.Shares.{Shares}
-use Rattle.user_dedup.specs.Owning.{is_among}
-use Rattle.user_dedup.proofs.Owned.{fp_same}
+use Rattle.cloud_memory.specs.CdBase.ids.Fp.{Fp}
+use Rattle.cloud_memory.specs.PoolMap.Slots.{slot_of, IsListed}
+use Rattle.cloud_memory.specs.CdBase.place.Place.{Place}
+use Rattle.cloud_memory.specs.ShareIndex.Shares.{Shares}
+use Rattle.cloud_memory.specs.UserDedup.Owning.{is_among}
+use Rattle.cloud_memory.proofs.UserDedup.Owned.{fp_same}
 use Rattle.checkpoints.specs.Ready.{AreMarked}
 
 -- ---- one fingerprint more

@@ -5,23 +5,23 @@ use Rattle.std.specs.FinMap.{get}
 use Rattle.std.specs.List.{Contains}
 use Rattle.std.proofs.lemmas.Bool.{eqb-true, cases_lt}
 use Rattle.std.proofs.lemmas.List.{get_or_past}
-use Rattle.cd_base.specs.declared.ids.Fp.{Fp}
-use Rattle.cd_base.specs.declared.ids.UserId.{UserId}
-use Rattle.cd_base.specs.declared.shape.Shape.{Shape}
-use Rattle.record_body.specs.declared.body.PutItem.{PutItem}
-use Rattle.share_index.specs.declared.key.Owner.{Owner}
-use Rattle.share_index.specs.Order.{owner_of}
-use Rattle.spent_table.specs.declared.Spent.{Spent as Row}
-use Rattle.spent_table.specs.Spending as rows
-use Rattle.spent_table.specs.Spending.{spent_by}
-use Rattle.user_dedup.specs.Cloud.{fingerprint, has_fingerprint, no_view}
-use Rattle.user_dedup.specs.Owning.{is_among}
-use Rattle.user_dedup.proofs.Owned.{among_contains, contains_among, contains_nothing}
-use Rattle.user_dedup.specs.declared.command.Command.{Command}
-use Rattle.user_dedup.specs.Cloud.{is_of, commands_of, user_view, view_after, strings_in}
-use Rattle.user_dedup.specs.Spending.{Spent, spent_of}
-use Rattle.user_dedup.proofs.Views.{owned_is_held}
-use Rattle.cloud_areas.specs.Checkpoints.{Lists, AreFull, PutRecord, of_user, fps_of, items_in, ListOwners}
+use Rattle.cloud_memory.specs.CdBase.ids.Fp.{Fp}
+use Rattle.cloud_memory.specs.CdBase.ids.UserId.{UserId}
+use Rattle.cloud_memory.specs.CdBase.shape.Shape.{Shape}
+use Rattle.cloud_memory.specs.RecordBody.body.PutItem.{PutItem}
+use Rattle.cloud_memory.specs.ShareIndex.key.Owner.{Owner}
+use Rattle.cloud_memory.specs.ShareIndex.Order.{owner_of}
+use Rattle.cloud_memory.specs.SpentTable.Spent.{Spent as Row}
+use Rattle.cloud_memory.specs.SpentTable.Spending as rows
+use Rattle.cloud_memory.specs.SpentTable.Spending.{spent_by}
+use Rattle.cloud_memory.specs.UserDedup.Cloud.{fingerprint, has_fingerprint, no_view}
+use Rattle.cloud_memory.specs.UserDedup.Owning.{is_among}
+use Rattle.cloud_memory.proofs.UserDedup.Owned.{among_contains, contains_among, contains_nothing}
+use Rattle.cloud_memory.specs.UserDedup.command.Command.{Command}
+use Rattle.cloud_memory.specs.UserDedup.Cloud.{is_of, commands_of, user_view, view_after, strings_in}
+use Rattle.cloud_memory.specs.UserDedup.Spending.{SpentByUser, spent_of}
+use Rattle.cloud_memory.proofs.UserDedup.Views.{owned_is_held}
+use Rattle.cloud_disk.specs.CloudAreas.Checkpoints.{Lists, AreFull, PutRecord, of_user, fps_of, items_in, ListOwners}
 use Rattle.cloud_memory.specs.declared.cloud.CloudMemory.{CloudMemory}
 use Rattle.cloud_memory.specs.Memory.{Remembers, uses_of}
 use Rattle.cloud_memory.specs.Rooms.{memory_of}
@@ -138,7 +138,7 @@ module _ (shape : Shape) (list : List Command) (memory : CloudMemory) (r : Remem
   -- each user that owns anything has a row
   has_row : (user : UserId) (fp : Fp) → length memory.spent ≤ user.0 → Own user fp → ⊥
   has_row user fp beyond c =
-      let nothing_spent : (spent_of list user).owners ≡ 0 = ap (λ (s : Spent). s.owners) (sym (r.spent user)) ∙ ap (λ (row : Row). row.owners) (get_or_past memory.spent user.0 rows.nothing beyond) in
+      let nothing_spent : (spent_of list user).owners ≡ 0 = ap (λ (s : SpentByUser). s.owners) (sym (r.spent user)) ∙ ap (λ (row : Row). row.owners) (get_or_past memory.spent user.0 rows.nothing beyond) in
       omega (arith, nothing_spent, put_some shape list user fp c)
 
   own_list : (user : UserId) → user.0 < length memory.spent → fps_of (items_in (of_user user Puts)) ≡ owned_in user.0 memory.shares.owner_slots

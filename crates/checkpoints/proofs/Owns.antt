@@ -6,14 +6,14 @@ use Rattle.std.specs.List.{flat_map}
 use Rattle.std.proofs.lemmas.Bool.{cases_eq, ne_eqb}
 use Rattle.std.proofs.lemmas.Grind.{flat_map-append}
 use Rattle.std.proofs.lemmas.List.Elements.{filter-append, All-head, All-tail}
-use Rattle.cd_base.specs.declared.ids.Fp.{Fp}
-use Rattle.cd_base.specs.declared.ids.UserId.{UserId}
-use Rattle.record_body.specs.declared.body.PutItem.{PutItem}
-use Rattle.cd_base.specs.declared.place.Place.{Place}
-use Rattle.cd_base.specs.Order.{fp_cmp}
-use Rattle.share_index.specs.Shares.{Shares}
-use Rattle.user_dedup.specs.Owning.{is_among}
-use Rattle.cloud_areas.specs.Checkpoints.{PutRecord, of_user, fps_of, items_in, AreFlagged}
+use Rattle.cloud_memory.specs.CdBase.ids.Fp.{Fp}
+use Rattle.cloud_memory.specs.CdBase.ids.UserId.{UserId}
+use Rattle.cloud_memory.specs.RecordBody.body.PutItem.{PutItem}
+use Rattle.cloud_memory.specs.CdBase.place.Place.{Place}
+use Rattle.cloud_memory.specs.CdBase.Order.{fp_cmp}
+use Rattle.cloud_memory.specs.ShareIndex.Shares.{Shares}
+use Rattle.cloud_memory.specs.UserDedup.Owning.{is_among}
+use Rattle.cloud_disk.specs.CloudAreas.Checkpoints.{PutRecord, of_user, fps_of, items_in, AreFlagged}
 use Rattle.checkpoints.specs.Picking.{batches}
 use Rattle.checkpoints.specs.Records.{owned_in, listed_below, listed, items_of, put_of, items_from, puts_from}
 use Rattle.checkpoints.proofs.FullBatches.{flat_batched}

@@ -1,8 +1,8 @@
 -- The records of a memory of a list are a checkpoint of the list.
 use Rattle.std.proofs.Common.{List, length, refl}
-use Rattle.cd_base.specs.declared.shape.Shape.{Shape}
-use Rattle.user_dedup.specs.declared.command.Command.{Command}
-use Rattle.cloud_areas.specs.Checkpoints.{IsCheckpoint}
+use Rattle.cloud_memory.specs.CdBase.shape.Shape.{Shape}
+use Rattle.cloud_memory.specs.UserDedup.command.Command.{Command}
+use Rattle.cloud_disk.specs.CloudAreas.Checkpoints.{IsCheckpointOfList}
 use Rattle.cloud_memory.specs.declared.cloud.CloudMemory.{CloudMemory}
 use Rattle.cloud_memory.specs.Memory.{Remembers}
 use Rattle.cloud_memory.specs.Rooms.{memory_of}
@@ -15,7 +15,7 @@ use Rattle.checkpoints.proofs.EntryLaw.{entries_law, laid_law}
 use Rattle.checkpoints.proofs.SpentLaw.{spents_law}
 
 pub records_law : (shape : Shape) (list : List Command) (memory : CloudMemory) → Remembers shape list (memory_of memory) → AreListed memory
-    → IsCheckpoint 2 shape list (records_of memory) (recipes_of shape list memory)
+    → IsCheckpointOfList 2 shape list (records_of memory) (recipes_of shape list memory)
 records_law shape list memory remembers listed = record {
   puts = puts_from memory.shares (length memory.spent) 0 0;
   kept = batches (kept_from memory.shares 0);

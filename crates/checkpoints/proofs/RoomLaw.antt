@@ -8,32 +8,32 @@ use Rattle.std.proofs.lemmas.List.{length-map, map-append}
 use Rattle.std.proofs.lemmas.List.Elements.{All-head, All-tail, All-contains, Contains-append_left, Contains-append_right, Contains-append_cases}
 use Rattle.std.proofs.lemmas.List.Sums.{sum_by-cons, sum_by-append}
 use native.Mathlib.Nat.{mul-add, mul_left_comm, mul_comm}
-use Rattle.cd_base.specs.declared.ids.Fp.{Fp}
-use Rattle.cd_base.specs.declared.place.Place.{Place}
-use Rattle.cd_base.specs.Order.{fp_cmp}
-use Rattle.journal_halves.specs.Halves.{half_limit}
-use Rattle.journal_start.specs.declared.rooms.Rooms.{Rooms}
-use Rattle.record_body.specs.declared.body.PutItem.{PutItem}
-use Rattle.record_body.specs.declared.body.CommitBody.{CommitBody}
-use Rattle.record_body.proofs.Spelled.{has_place, length-put, length-commit}
-use Rattle.record_bodies.specs.declared.body.KeptItem.{KeptItem}
-use Rattle.record_bodies.specs.declared.body.SpentBody.{SpentBody}
-use Rattle.record_bodies.specs.Spelling as bodies
-use Rattle.record_bodies.specs.Spelling.{Body, FitsBody}
-use Rattle.record_bodies.proofs.Spelled.{length-kept, longest}
-use Rattle.share_index.specs.declared.key.Owner.{Owner}
-use Rattle.share_index.specs.Order.{owner_cmp, owner_of}
-use Rattle.share_index.specs.Placed.{AreAllPlaced}
-use Rattle.share_index.specs.Shares.{Shares, owners_of}
-use Rattle.share_index.proofs.Owning.{value-of}
-use Rattle.spent_table.specs.declared.Spent.{Spent as Row}
-use Rattle.user_dedup.specs.Owning.{is_among}
-use Rattle.user_dedup.proofs.Owned.{contains_here, contains_nothing, contains_cases, contains_among}
-use Rattle.cloud_areas.specs.Checkpoints.{PutRecord, put_body, fps_of, items_in, AreFlagged}
-use Rattle.cloud_areas.specs.Placing.{places_given, fps_placed}
-use Rattle.cloud_areas.proofs.Apart.{Apart}
-use Rattle.cloud_areas.proofs.Counting.{fewer}
-use Rattle.cloud_areas.proofs.Placed.{given_is_listed}
+use Rattle.cloud_memory.specs.CdBase.ids.Fp.{Fp}
+use Rattle.cloud_memory.specs.CdBase.place.Place.{Place}
+use Rattle.cloud_memory.specs.CdBase.Order.{fp_cmp}
+use Rattle.cloud_disk.specs.JournalHalves.Halves.{half_limit}
+use Rattle.cloud_disk.specs.JournalStart.rooms.UserRooms.{UserRooms}
+use Rattle.cloud_memory.specs.RecordBody.body.PutItem.{PutItem}
+use Rattle.cloud_memory.specs.RecordBody.body.CommitBody.{CommitBody}
+use Rattle.cloud_memory.proofs.RecordBody.Spelled.{has_place, length-put, length-commit}
+use Rattle.cloud_memory.specs.RecordBodies.body.KeptItem.{KeptItem}
+use Rattle.cloud_memory.specs.RecordBodies.body.SpentBody.{SpentBody}
+use Rattle.cloud_memory.specs.RecordBodies.Spelling as bodies
+use Rattle.cloud_memory.specs.RecordBodies.Spelling.{Body, FitsBody}
+use Rattle.cloud_memory.proofs.RecordBodies.Spelled.{length-kept, longest}
+use Rattle.cloud_memory.specs.ShareIndex.key.Owner.{Owner}
+use Rattle.cloud_memory.specs.ShareIndex.Order.{owner_cmp, owner_of}
+use Rattle.cloud_memory.specs.ShareIndex.Placed.{AreAllPlaced}
+use Rattle.cloud_memory.specs.ShareIndex.Shares.{Shares, owners_of}
+use Rattle.cloud_memory.proofs.ShareIndexLaws.Owning.{value-of}
+use Rattle.cloud_memory.specs.SpentTable.Spent.{Spent as Row}
+use Rattle.cloud_memory.specs.UserDedup.Owning.{is_among}
+use Rattle.cloud_memory.proofs.UserDedup.Owned.{contains_here, contains_nothing, contains_cases, contains_among}
+use Rattle.cloud_disk.specs.CloudAreas.Checkpoints.{PutRecord, put_body, fps_of, items_in, AreFlagged}
+use Rattle.cloud_disk.specs.CloudAreas.Placing.{places_given, fps_placed}
+use Rattle.cloud_disk.proofs.CloudAreas.Apart.{Apart}
+use Rattle.cloud_disk.proofs.CloudAreas.Counting.{fewer}
+use Rattle.cloud_disk.proofs.CloudAreas.Placed.{given_is_listed}
 use Rattle.cloud_memory.specs.declared.cloud.CloudMemory.{CloudMemory}
 use Rattle.cloud_memory.specs.Fitting.{FitsRecords}
 use Rattle.cloud_memory.specs.Rooms.{memory_of, HasRooms}
@@ -289,13 +289,13 @@ module _ (memory : CloudMemory) (l : AreListed memory) (placed : AreAllPlaced me
 
 -- ---- all of them: behind them there is room for the longest record
 
-spread : (rooms : Rooms) → half_limit rooms ≡ 11595 + (97 * (rooms.users * rooms.owners) + 94 * (rooms.users * rooms.files) + 30 * rooms.users)
+spread : (rooms : UserRooms) → half_limit rooms ≡ 11595 + (97 * (rooms.users * rooms.owners) + 94 * (rooms.users * rooms.files) + 30 * rooms.users)
 spread rooms =
     let a = mul-add rooms.users (97 * rooms.owners + 94 * rooms.files) 30 in
     let b = mul-add rooms.users (97 * rooms.owners) (94 * rooms.files) in
     omega (arith, a, b, mul_left_comm rooms.users 97 rooms.owners, mul_left_comm rooms.users 94 rooms.files, mul_comm rooms.users 30)
 
-pub records_short : (rooms : Rooms) (memory : CloudMemory) → HasRooms rooms memory → FitsRecords (memory_of memory) → AreListed memory → All FitsBody (records_of memory)
+pub records_short : (rooms : UserRooms) (memory : CloudMemory) → HasRooms rooms memory → FitsRecords (memory_of memory) → AreListed memory → All FitsBody (records_of memory)
     → 63 + records_len (records_of memory) + longest_record ≤ half_limit rooms
 records_short rooms memory has fits l fit =
     let puts = map put_body (puts_from memory.shares (length memory.spent) 0 0) in

@@ -4,17 +4,17 @@ use Rattle.std.specs.Prelude.{All}
 use Rattle.std.proofs.lemmas.List.{take_more_set, length-take-le, take-append-drop}
 use Rattle.std.proofs.Common.{length-set}
 use Rattle.std.proofs.lemmas.List.Elements.{All-append, All-cons, All-nil}
-use Rattle.cd_base.specs.declared.ids.Fp.{Fp}
-use Rattle.record_body.specs.declared.body.PutItem.{PutItem}
-use Rattle.record_body.specs.Spelling.{FitsItem}
-use Rattle.record_bodies.specs.Spelling.{Put, body_bytes}
-use Rattle.share_index.specs.Shares.{Shares}
-use Rattle.cloud_areas.specs.Checkpoints.{put_body}
-use Rattle.checkpoints.specs.Laying.{IsNext}
+use Rattle.cloud_memory.specs.CdBase.ids.Fp.{Fp}
+use Rattle.cloud_memory.specs.RecordBody.body.PutItem.{PutItem}
+use Rattle.cloud_memory.specs.RecordBody.Spelling.{FitsItem}
+use Rattle.cloud_memory.specs.RecordBodies.Spelling.{Put, body_bytes}
+use Rattle.cloud_memory.specs.ShareIndex.Shares.{Shares}
+use Rattle.cloud_disk.specs.CloudAreas.Checkpoints.{put_body}
+use Rattle.checkpoints.specs.Laying.{IsNextInBuffer}
 use Rattle.checkpoints.specs.Picking.{IsPicked, batched, batches, with_batch}
 use Rattle.checkpoints.specs.Records.{owned_at, owned_in, listed_below, listed, item_of, items_of, put_of, items_from, puts_from}
 use Rattle.checkpoints.specs.Ready.{AreMarked, IsAtPuts}
-use Rattle.checkpoints.specs.Steps.{AreListed, KeepsOthers}
+use Rattle.checkpoints.specs.Steps.{AreListedNext, KeepsOthers}
 use Rattle.checkpoints.specs.declared.position.Position.{Position}
 use Rattle.checkpoints.proofs.Picks.{picked-append}
 use Rattle.checkpoints.proofs.Batching.{one_more, at_end, at_full}
@@ -61,7 +61,7 @@ module _ (shares : Shares) (user : ℕ) where
           room = ap (λ (xs : List PutItem). length xs) set_is ∙ length-set items count item ∙ l.room;
         }
 
-    pub ended : count ≤ 256 → owned_in user (drop at shares.owner_slots) ≡ [] → AreListed shares user from (take count items) at
+    pub ended : count ≤ 256 → owned_in user (drop at shares.owner_slots) ≡ [] → AreListedNext shares user from (take count items) at
     ended few none =
         let left : items_from shares user at ≡ [] = ap (items_of shares.places (listed shares.owner_slots user at)) none in
         record {
@@ -71,7 +71,7 @@ module _ (shares : Shares) (user : ℕ) where
           few = omega (arith, few, length-take-le count items (omega (arith, few, l.room)));
         }
 
-    pub filled : count ≡ 256 → AreListed shares user from (take count items) at
+    pub filled : count ≡ 256 → AreListedNext shares user from (take count items) at
     filled full =
         let long : length (take count items) ≡ 256 = length-take-le count items (omega (arith, full, l.room)) ∙ full in
         record {
@@ -112,7 +112,7 @@ listed_next shares user behind none =
     ∙ append-nil (owned_in user (take behind shares.owner_slots)))
 
 module _ (shares : Shares) (marks after : List Bool) (first now : Position) (array new : List PutItem) (p : PutsAlong shares marks first now array) (more : 0 < now.left)
-    (items : List PutItem) (behind : ℕ) (b : AreListed shares now.user now.owner items behind) (m : AreMarked shares after (listed shares.owner_slots now.user behind))
+    (items : List PutItem) (behind : ℕ) (b : AreListedNext shares now.user now.owner items behind) (m : AreMarked shares after (listed shares.owner_slots now.user behind))
     (room : length new ≡ 256) where
   -- the user has no more
   pub next_user : items ≡ [] → PutsAlong shares after first (record now { left = now.left - 1; user = now.user + 1; owner = 0 }) new
@@ -138,7 +138,7 @@ module _ (shares : Shares) (marks after : List Bool) (first now : Position) (arr
   put_ready = record { fit = p.ready.fit; stand = p.ready.stand; listing = m; few = p.ready.few }
 
   pub put_next : (bytes : List ℕ) → 0 < length items → bytes ≡ body_bytes (Put (record { 0 = now.user }) items)
-      → IsNext (map put_body (puts_from shares first.left first.user first.owner)) (map put_body (puts_from shares now.left now.user behind)) bytes
+      → IsNextInBuffer (map put_body (puts_from shares first.left first.user first.owner)) (map put_body (puts_from shares now.left now.user behind)) bytes
   put_next bytes some is =
       let user = now.user in
       let others = puts_from shares (now.left - 1) (user + 1) 0 in

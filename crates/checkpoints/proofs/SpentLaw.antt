@@ -4,15 +4,15 @@ use Rattle.std.specs.Prelude.{◌==◌, ◌&&◌, ◌↔◌}
 use Rattle.std.specs.List.{Contains}
 use Rattle.std.proofs.lemmas.Bool.{eqb-true, cases_lt, cases_Bool}
 use Rattle.std.proofs.lemmas.List.{get_or_past}
-use Rattle.cd_base.specs.declared.ids.UserId.{UserId}
-use Rattle.record_bodies.specs.declared.body.SpentBody.{SpentBody}
-use Rattle.spent_table.specs.declared.Spent.{Spent as Row}
-use Rattle.spent_table.specs.Spending as rows
-use Rattle.user_dedup.proofs.Owned.{contains_here, contains_later, contains_nothing, contains_cases}
-use Rattle.user_dedup.specs.declared.command.Command.{Command}
-use Rattle.user_dedup.specs.Spending.{Spent, nothing, spent_of}
-use Rattle.cd_base.specs.declared.shape.Shape.{Shape}
-use Rattle.cloud_areas.specs.Checkpoints.{spent_by, ListSpent}
+use Rattle.cloud_memory.specs.CdBase.ids.UserId.{UserId}
+use Rattle.cloud_memory.specs.RecordBodies.body.SpentBody.{SpentBody}
+use Rattle.cloud_memory.specs.SpentTable.Spent.{Spent as Row}
+use Rattle.cloud_memory.specs.SpentTable.Spending as rows
+use Rattle.cloud_memory.proofs.UserDedup.Owned.{contains_here, contains_later, contains_nothing, contains_cases}
+use Rattle.cloud_memory.specs.UserDedup.command.Command.{Command}
+use Rattle.cloud_memory.specs.UserDedup.Spending.{SpentByUser, nothing, spent_of}
+use Rattle.cloud_memory.specs.CdBase.shape.Shape.{Shape}
+use Rattle.cloud_disk.specs.CloudAreas.Checkpoints.{spent_by, ListSpent}
 use Rattle.cloud_memory.specs.declared.cloud.CloudMemory.{CloudMemory}
 use Rattle.cloud_memory.specs.Memory.{Remembers, as_spent}
 use Rattle.cloud_memory.specs.Rooms.{memory_of}
@@ -41,8 +41,8 @@ nothing_is row t =
 
 is_nothing : (row : Row) → as_spent row ≡ nothing → nothing_in row ≡ true
 is_nothing row e =
-    λ i. (eq-eqb row.owners 0 (ap (λ (s : Spent). s.owners) e) i)
-    && ((eq-eqb row.shares 0 (ap (λ (s : Spent). s.shares) e) i) && (eq-eqb row.recipes 0 (ap (λ (s : Spent). s.recipes) e) i))
+    λ i. (eq-eqb row.owners 0 (ap (λ (s : SpentByUser). s.owners) e) i)
+    && ((eq-eqb row.shares 0 (ap (λ (s : SpentByUser). s.shares) e) i) && (eq-eqb row.recipes 0 (ap (λ (s : SpentByUser). s.recipes) e) i))
 
 abbrev body_or : SpentBody → Option SpentBody → SpentBody
 body_or other None = other

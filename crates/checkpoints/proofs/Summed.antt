@@ -4,33 +4,33 @@ use Rattle.std.specs.Prelude.{All, is_some}
 use Rattle.std.specs.Int.{w32, to_be_bytes}
 use Rattle.std.specs.FinMap.{get}
 use Rattle.std.specs.List.{Contains}
-use Rattle.cd_base.specs.declared.ids.Fp.{Fp}
-use Rattle.cd_edges.specs.declared.area.Area.TheVariants.{Recipes}
-use Rattle.cd_edges.specs.Disk.{Cloud, Image, reads}
-use Rattle.commit_journal.specs.Records.{sized, chain}
-use Rattle.container_log.specs.Laying.{IsAt}
-use Rattle.file_index.specs.Files.{Files}
-use Rattle.pool_map.specs.Slots.{IsListed}
-use Rattle.share_index.specs.Shares.{Shares}
-use Rattle.journal_halves.specs.Halves.{half_limit}
-use Rattle.journal_halves.specs.Journals.{used_by, with_body}
-use Rattle.journal_start.specs.declared.start.Header.{Header}
-use Rattle.journal_start.specs.Spelling.{start_bytes}
-use Rattle.journal_start.proofs.Lengths as lengths
-use Rattle.record_bodies.specs.Spelling as bodies
-use Rattle.record_bodies.specs.Spelling.{Body, FitsBody, body_bytes}
-use Rattle.record_body.specs.declared.body.CommitBody.{CommitBody}
-use Rattle.cd_base.specs.declared.place.Place.{Place}
-use Rattle.user_dedup.specs.Cloud.{fingerprint}
-use Rattle.user_dedup.proofs.Owned.{contains_here, contains_later, contains_nothing, contains_cases}
-use Rattle.user_dedup.specs.declared.command.Command.{Command}
-use Rattle.user_dedup.specs.Cloud.{strings_in}
-use Rattle.user_dedup.specs.Spending.{IsWithin}
-use Rattle.user_dedup.proofs.Filtered.{in_flat}
-use Rattle.cloud_areas.specs.Checkpoints.{IsCheckpoint}
-use Rattle.cloud_areas.specs.Placing.{region_start, end_of, greatest_end, shares_in, recipes_in, recipes_placed, places_of, HasPlace}
-use Rattle.cloud_areas.specs.Standing.{Chain, where_of, region_in, Holds}
-use Rattle.cloud_areas.specs.Summaries.{SumsUp}
+use Rattle.cloud_memory.specs.CdBase.ids.Fp.{Fp}
+use Rattle.cloud_disk.specs.CdEdges.area.Area.TheVariants.{Recipes}
+use Rattle.cloud_disk.specs.CdEdges.Disk.{Cloud, Image, reads}
+use Rattle.cloud_disk.specs.CommitJournal.Records.{sized, chain}
+use Rattle.cloud_memory.specs.ContainerLog.Laying.{IsAt}
+use Rattle.cloud_memory.specs.FileIndex.Files.{Files}
+use Rattle.cloud_memory.specs.PoolMap.Slots.{IsListed}
+use Rattle.cloud_memory.specs.ShareIndex.Shares.{Shares}
+use Rattle.cloud_disk.specs.JournalHalves.Halves.{half_limit}
+use Rattle.cloud_disk.specs.JournalHalves.Journals.{used_by, with_body}
+use Rattle.cloud_disk.specs.JournalStart.start.Header.{Header}
+use Rattle.cloud_disk.specs.JournalStart.Spelling.{start_bytes}
+use Rattle.cloud_disk.proofs.JournalStart.Lengths as lengths
+use Rattle.cloud_memory.specs.RecordBodies.Spelling as bodies
+use Rattle.cloud_memory.specs.RecordBodies.Spelling.{Body, FitsBody, body_bytes}
+use Rattle.cloud_memory.specs.RecordBody.body.CommitBody.{CommitBody}
+use Rattle.cloud_memory.specs.CdBase.place.Place.{Place}
+use Rattle.cloud_memory.specs.UserDedup.Cloud.{fingerprint}
+use Rattle.cloud_memory.proofs.UserDedup.Owned.{contains_here, contains_later, contains_nothing, contains_cases}
+use Rattle.cloud_memory.specs.UserDedup.command.Command.{Command}
+use Rattle.cloud_memory.specs.UserDedup.Cloud.{strings_in}
+use Rattle.cloud_memory.specs.UserDedup.Spending.{IsWithin}
+use Rattle.cloud_memory.proofs.UserDedup.Filtered.{in_flat}
+use Rattle.cloud_disk.specs.CloudAreas.Checkpoints.{IsCheckpointOfList}
+use Rattle.cloud_disk.specs.CloudAreas.Placing.{region_start, end_of, greatest_end, shares_in, recipes_in, recipes_placed, places_of, HasPlace}
+use Rattle.cloud_disk.specs.CloudAreas.Standing.{Chain, where_of, region_in, Holds}
+use Rattle.cloud_disk.specs.CloudAreas.Summaries.{SumsUp}
 use Rattle.cloud_disk.specs.Disk.{Disk, IsOn}
 use Rattle.cloud_memory.specs.declared.cloud.CloudMemory.{CloudMemory}
 use Rattle.cloud_memory.specs.Memory.{IsPlacedBy}
@@ -96,8 +96,8 @@ module _ (header : Header) (list : List Command) (c : Chain) (commands region : 
   abbrev next : Chain
   next = checkpoint_in header list c commands region memory
 
-  is_checkpoint : IsCheckpoint header.format header.shape list (records_of memory) (recipes_of header.shape list memory)
-  is_checkpoint = subst (λ (n : ℕ). IsCheckpoint n header.shape list (records_of memory) (recipes_of header.shape list memory)) (sym format) (records_law header.shape list memory k.remembers l)
+  is_checkpoint : IsCheckpointOfList header.format header.shape list (records_of memory) (recipes_of header.shape list memory)
+  is_checkpoint = subst (λ (n : ℕ). IsCheckpointOfList n header.shape list (records_of memory) (recipes_of header.shape list memory)) (sym format) (records_law header.shape list memory k.remembers l)
 
   -- ---- what it places
 
@@ -137,7 +137,7 @@ module _ (header : Header) (list : List Command) (c : Chain) (commands region : 
   -- ---- its length
 
   module _ (law : (header : Header) (list : List Command) (c : Chain) (body : Body) → IsWithin header.shape header.rooms list
-      → IsCheckpoint header.format header.shape list c.records c.recipes → All FitsBody c.records → FitsBody body
+      → IsCheckpointOfList header.format header.shape list c.records c.recipes → All FitsBody c.records → FitsBody body
       → used_by (with_body (where_of c) (body_bytes body)) ≤ half_limit header.rooms) (fit : All FitsBody (records_of memory)) where
     abbrev small : Body
     small = bodies.Spent (record { user = record { 0 = 0 }; owners = 0; shares = 0; recipes = 0 })

@@ -8,24 +8,24 @@ use Rattle.std.proofs.lemmas.Grind.{flat_map-append}
 use Rattle.std.proofs.lemmas.List.{length-map, map-append, nil_from_length}
 use Rattle.std.proofs.lemmas.List.Elements.{All-nil, All-cons, All-head, All-tail, All-append}
 use Rattle.std.proofs.lemmas.List.Sums.{count_by-le-length}
-use Rattle.cd_base.specs.declared.ids.Fp.{Fp}
-use Rattle.cd_base.specs.declared.place.Place.{Place}
-use Rattle.cd_base.specs.Order.{fp_cmp, fp_exact}
-use Rattle.message_fields.specs.Fingerprints.{batch_limit, IsBatch}
-use Rattle.pool_map.specs.MapSums.{sum_by-remove}
-use Rattle.pool_map.specs.Slots.{slot_of, IsListed}
-use Rattle.record_body.specs.declared.body.PutItem.{PutItem}
-use Rattle.record_body.specs.declared.body.CommitBody.{CommitBody}
-use Rattle.record_body.specs.Spelling.{FitsItem, FitsPlaced, FitsCommit}
-use Rattle.record_body.proofs.Spelled.{has_place}
-use Rattle.record_bodies.specs.declared.body.KeptItem.{KeptItem}
-use Rattle.record_bodies.specs.declared.body.SpentBody.{SpentBody}
-use Rattle.record_bodies.specs.Spelling as bodies
-use Rattle.record_bodies.specs.Spelling.{Body, FitsBody, FitsKept, FitsSpent}
-use Rattle.share_index.specs.Shares.{Shares, owners_of, ownerless_in}
-use Rattle.share_index.proofs.Placing.{fp_total}
-use Rattle.user_dedup.specs.Owning.{is_among}
-use Rattle.cloud_areas.specs.Checkpoints.{PutRecord, put_body, items_in}
+use Rattle.cloud_memory.specs.CdBase.ids.Fp.{Fp}
+use Rattle.cloud_memory.specs.CdBase.place.Place.{Place}
+use Rattle.cloud_memory.specs.CdBase.Order.{fp_cmp, fp_exact}
+use Rattle.cloud_memory.specs.MessageFields.Fingerprints.{batch_limit, IsBatch}
+use Rattle.cloud_memory.specs.PoolMap.MapSums.{sum_by-remove}
+use Rattle.cloud_memory.specs.PoolMap.Slots.{slot_of, IsListed}
+use Rattle.cloud_memory.specs.RecordBody.body.PutItem.{PutItem}
+use Rattle.cloud_memory.specs.RecordBody.body.CommitBody.{CommitBody}
+use Rattle.cloud_memory.specs.RecordBody.Spelling.{FitsItem, FitsPlaced, FitsCommit}
+use Rattle.cloud_memory.proofs.RecordBody.Spelled.{has_place}
+use Rattle.cloud_memory.specs.RecordBodies.body.KeptItem.{KeptItem}
+use Rattle.cloud_memory.specs.RecordBodies.body.SpentBody.{SpentBody}
+use Rattle.cloud_memory.specs.RecordBodies.Spelling as bodies
+use Rattle.cloud_memory.specs.RecordBodies.Spelling.{Body, FitsBody, FitsKept, FitsSpent}
+use Rattle.cloud_memory.specs.ShareIndex.Shares.{Shares, owners_of, ownerless_in}
+use Rattle.cloud_memory.proofs.ShareIndexLaws.Placing.{fp_total}
+use Rattle.cloud_memory.specs.UserDedup.Owning.{is_among}
+use Rattle.cloud_disk.specs.CloudAreas.Checkpoints.{PutRecord, put_body, items_in}
 use Rattle.cloud_memory.specs.Fitting.{AreShares}
 use Rattle.checkpoints.specs.Laying.{records_len}
 use Rattle.checkpoints.specs.Picking.{onto, picked, batched, batches}

@@ -3,10 +3,10 @@ use Rattle.std.proofs.Common.{◌≡◌, ℕ, ◌+◌, ◌<◌, ◌≤◌, List,
 use Rattle.std.specs.Prelude.{All}
 use Rattle.std.proofs.lemmas.List.{take_more_set, length-take-le}
 use Rattle.std.proofs.lemmas.List.Elements.{All-append, All-cons, All-nil}
-use Rattle.record_bodies.specs.declared.body.KeptItem.{KeptItem}
-use Rattle.record_bodies.specs.Spelling.{Kept, FitsKept, body_bytes}
-use Rattle.share_index.specs.Shares.{Shares}
-use Rattle.checkpoints.specs.Laying.{IsNext}
+use Rattle.cloud_memory.specs.RecordBodies.body.KeptItem.{KeptItem}
+use Rattle.cloud_memory.specs.RecordBodies.Spelling.{Kept, FitsKept, body_bytes}
+use Rattle.cloud_memory.specs.ShareIndex.Shares.{Shares}
+use Rattle.checkpoints.specs.Laying.{IsNextInBuffer}
 use Rattle.checkpoints.specs.Picking.{IsPicked, batched, batches, with_batch}
 use Rattle.checkpoints.specs.Records.{kept_at, kept_from}
 use Rattle.checkpoints.specs.Steps.{AreKept}
@@ -59,7 +59,7 @@ module _ (shares : Shares) where
         no_batches (kept_from shares from) (b.next ∙ ap (λ (xs : List KeptItem). with_batch xs (batches (kept_from shares behind))) none ∙ ap (λ (xs : List KeptItem). batches xs) (b.ends none))
 
     pub kept_next : (bytes : List ℕ) → 0 < length items → bytes ≡ body_bytes (Kept items)
-        → IsNext (map Kept (batches (kept_from shares from))) (map Kept (batches (kept_from shares behind))) bytes
+        → IsNextInBuffer (map Kept (batches (kept_from shares from))) (map Kept (batches (kept_from shares behind))) bytes
     kept_next bytes some is = record {
       body = Kept items;
       front = ap (map Kept) (b.next ∙ some_batch items (batches (kept_from shares behind)) some);

@@ -1,7 +1,7 @@
 -- Slots of owners in chains, one for each user, by which a user's slots are found without the others'.
 use Rattle.std.specs.Prelude.{◌≡◌, ℕ, ◌+◌, ◌<◌, ◌≤◌, min, List, length, Option, None, true, is_some, slice_index_or}
-use Rattle.pool_map.specs.Slots.{slot_of}
-use Rattle.share_index.specs.declared.key.Owner.{Owner}
+use Rattle.cloud_memory.specs.PoolMap.Slots.{slot_of}
+use Rattle.cloud_memory.specs.ShareIndex.key.Owner.{Owner}
 use Rattle.checkpoints.specs.Records.{owned_at}
 use Rattle.checkpoints.specs.declared.chains.OwnerChains.{OwnerChains}
 

@@ -1,25 +1,25 @@
 -- A memory of the list that a disk stands for, and the checkpoint of it.
 use Rattle.std.specs.Prelude.{◌≡◌, ◌<◌, ◌≤◌, ◌+◌, ℕ, List, [], length, map, Option, Some, None, Result, Ok, Err, MatchOption}
-use Rattle.cd_base.specs.declared.shape.Shape.{Shape}
-use Rattle.cd_edges.specs.declared.area.Area.TheVariants.{Shares, Recipes}
-use Rattle.cd_edges.specs.Disk.{Cloud, reads}
-use Rattle.container_log.specs.Laying.{Placed}
-use Rattle.pool_map.specs.Slots.{IsListed}
-use Rattle.journal_start.specs.declared.start.Header.{Header}
-use Rattle.half_journal.specs.declared.journal.Stage.{Stage}
-use Rattle.half_journal.specs.declared.journal.Stage.TheVariants.{AtEnd, Shut}
-use Rattle.record_body.specs.declared.body.CommitBody.{CommitBody}
-use Rattle.user_dedup.specs.declared.file_list.FileEntry.{FileEntry}
-use Rattle.user_dedup.specs.Pages.{entry_at}
-use Rattle.user_dedup.specs.declared.command.Command.{Command}
-use Rattle.user_dedup.specs.Cloud.{counted, user_view}
-use Rattle.user_dedup.specs.Spending.{IsWithin}
-use Rattle.cloud_areas.specs.Standing.{Chain, region_in}
+use Rattle.cloud_memory.specs.CdBase.shape.Shape.{Shape}
+use Rattle.cloud_disk.specs.CdEdges.area.Area.TheVariants.{Shares, Recipes}
+use Rattle.cloud_disk.specs.CdEdges.Disk.{Cloud, reads}
+use Rattle.cloud_memory.specs.ContainerLog.Laying.{Placed}
+use Rattle.cloud_memory.specs.PoolMap.Slots.{IsListed}
+use Rattle.cloud_disk.specs.JournalStart.start.Header.{Header}
+use Rattle.cloud_disk.specs.HalfJournal.journal.Stage.{Stage}
+use Rattle.cloud_disk.specs.HalfJournal.journal.Stage.TheVariants.{AtEnd, Shut}
+use Rattle.cloud_memory.specs.RecordBody.body.CommitBody.{CommitBody}
+use Rattle.cloud_memory.specs.UserDedup.file_list.FileEntry.{FileEntry}
+use Rattle.cloud_memory.specs.UserDedup.Pages.{entry_at}
+use Rattle.cloud_memory.specs.UserDedup.command.Command.{Command}
+use Rattle.cloud_memory.specs.UserDedup.Cloud.{counted, user_view}
+use Rattle.cloud_memory.specs.UserDedup.Spending.{IsWithin}
+use Rattle.cloud_disk.specs.CloudAreas.Standing.{Chain, region_in}
 use Rattle.cloud_disk.specs.Disk.{Disk, IsOn}
 use Rattle.cloud_memory.specs.declared.cloud.CloudMemory.{CloudMemory}
 use Rattle.cloud_memory.specs.Memory.{Remembers, IsPlacedBy, Stand}
 use Rattle.cloud_memory.specs.Rooms.{memory_of}
-use Rattle.record_bodies.specs.Spelling.{Body}
+use Rattle.cloud_memory.specs.RecordBodies.Spelling.{Body}
 use Rattle.checkpoints.specs.Laying.{records_len}
 use Rattle.checkpoints.specs.Settling.{checkpoint_of}
 use Rattle.checkpoints.specs.declared.whole.Unsettled.{Unsettled}

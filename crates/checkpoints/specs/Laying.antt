@@ -1,11 +1,11 @@
 -- The records of a checkpoint, and the chain that they make in the other half.
 use Rattle.std.specs.Prelude.{◌≡◌, ℕ, ◌+◌, List, [], ◌∷◌, ◌++◌, length, map, IsTrue, Result, OnOk}
-use Rattle.cd_edges.specs.declared.area.Area.TheVariants.{Journal}
-use Rattle.cd_edges.specs.Disk.{Cloud, LeavesOnly, IsAtArea}
-use Rattle.journal_start.specs.declared.start.Header.{Header}
-use Rattle.journal_halves.specs.Journals.{Where, IsEither}
-use Rattle.half_journal.specs.States.{State, IsEnded, next_of}
-use Rattle.record_bodies.specs.Spelling.{Body, body_bytes, IsBody}
+use Rattle.cloud_disk.specs.CdEdges.area.Area.TheVariants.{Journal}
+use Rattle.cloud_disk.specs.CdEdges.Disk.{Cloud, LeavesOnly, IsAtArea}
+use Rattle.cloud_disk.specs.JournalStart.start.Header.{Header}
+use Rattle.cloud_disk.specs.JournalHalves.Journals.{Where, IsEither}
+use Rattle.cloud_disk.specs.HalfJournal.States.{JournalState, IsJournalEnded, next_of}
+use Rattle.cloud_memory.specs.RecordBodies.Spelling.{Body, body_bytes, IsBody}
 
 -- the bytes that a record takes with its length and its gate
 abbrev pub record_len : Body → ℕ
@@ -20,7 +20,7 @@ records_len [] = 0
 records_len (body ∷ bodies) = record_len body + records_len bodies
 
 -- The first of these records is in a buffer, and the others are to come.
-pub record IsNext (old new : List Body) (bytes : List ℕ) : Type 0 where
+pub record IsNextInBuffer (old new : List Body) (bytes : List ℕ) : Type 0 where
   pub body : Body
   pub front : old ≡ body ∷ new
   pub is_body : IsBody bytes body
@@ -34,11 +34,11 @@ abbrev pub checkpoint_behind : Where → Header → ℕ → ℕ → ℕ → List
 checkpoint_behind w header commands count region bodies = with_bodies (next_of w header commands count region) bodies
 
 -- Whatever chain the journal has: each image since has it, or the checkpoint's in its place.
-abbrev pub KeepsOrSettles : State → Header → ℕ → ℕ → ℕ → List Body → Cloud → Cloud → Type 0
-KeepsOrSettles state header commands count region bodies old new = IsTrue old.told → (w : Where) → IsEnded state (old.now Journal) w
+abbrev pub KeepsOrSettles : JournalState → Header → ℕ → ℕ → ℕ → List Body → Cloud → Cloud → Type 0
+KeepsOrSettles state header commands count region bodies old new = IsTrue old.told → (w : Where) → IsJournalEnded state (old.now Journal) w
     → LeavesOnly old new (IsAtArea old.now Journal (IsEither w (checkpoint_behind w header commands count region bodies)))
 
 -- Whatever chain it had, it has the checkpoint's then.
-abbrev pub HasSettled : {T E : Type 0} → State → State → Header → ℕ → ℕ → ℕ → List Body → Cloud → Cloud → Result T E → Type 0
-HasSettled before after header commands count region bodies old new result = IsTrue old.told → (w : Where) → IsEnded before (old.now Journal) w
-    → OnOk result (IsEnded after (new.now Journal) (checkpoint_behind w header commands count region bodies))
+abbrev pub HasSettled : {T E : Type 0} → JournalState → JournalState → Header → ℕ → ℕ → ℕ → List Body → Cloud → Cloud → Result T E → Type 0
+HasSettled before after header commands count region bodies old new result = IsTrue old.told → (w : Where) → IsJournalEnded before (old.now Journal) w
+    → OnOk result (IsJournalEnded after (new.now Journal) (checkpoint_behind w header commands count region bodies))

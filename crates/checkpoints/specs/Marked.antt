@@ -5,6 +5,6 @@ use Rattle.std.specs.Prelude.{◌≡◌, ℕ, Bool, false, List, length, slice_i
 abbrev pub slots_limit : ℕ
 slots_limit = 524288
 
-pub record AreUnmarked (marks : List Bool) : Type 0 where
+pub record AreAllUnmarked (marks : List Bool) : Type 0 where
   pub long : length marks ≡ slots_limit
   pub none : (slot : ℕ) → slice_index_or marks slot false ≡ false

@@ -1,6 +1,6 @@
 -- What is picked from the slots of a table, in their order, and batches of it.
 use Rattle.std.specs.Prelude.{◌≡◌, ℕ, ◌==◌, List, [], ◌∷◌, ◌++◌, length, take, drop, Option, Some, None, MatchOption, if◌then◌else◌}
-use Rattle.message_fields.specs.Fingerprints.{batch_limit}
+use Rattle.cloud_memory.specs.MessageFields.Fingerprints.{batch_limit}
 
 -- a list with one thing more in front, where there is one
 abbrev pub onto : {X : Type 0} → Option X → List X → List X

@@ -1,12 +1,12 @@
 -- What holds while the records of a memory are written.
 use Rattle.std.specs.Prelude.{◌≡◌, ℕ, ◌+◌, ◌≤◌, Bool, true, false, List, length, slice_index_or, Some, None}
-use Rattle.cd_base.specs.declared.ids.Fp.{Fp}
-use Rattle.file_index.specs.Files.{Files}
-use Rattle.pool_map.specs.Slots.{slot_of, IsListed}
-use Rattle.cd_base.specs.declared.place.Place.{Place}
-use Rattle.share_index.specs.Shares.{Shares}
-use Rattle.spent_table.specs.declared.Spent.{Spent as Row}
-use Rattle.user_dedup.specs.Owning.{is_among}
+use Rattle.cloud_memory.specs.CdBase.ids.Fp.{Fp}
+use Rattle.cloud_memory.specs.FileIndex.Files.{Files}
+use Rattle.cloud_memory.specs.PoolMap.Slots.{slot_of, IsListed}
+use Rattle.cloud_memory.specs.CdBase.place.Place.{Place}
+use Rattle.cloud_memory.specs.ShareIndex.Shares.{Shares}
+use Rattle.cloud_memory.specs.SpentTable.Spent.{Spent as Row}
+use Rattle.cloud_memory.specs.UserDedup.Owning.{is_among}
 use Rattle.cloud_memory.specs.Fitting.{AreShares, AreRecipes}
 use Rattle.checkpoints.specs.Chained.{HasChains}
 use Rattle.checkpoints.specs.Records.{listed, kept_at}
@@ -30,7 +30,7 @@ pub record IsAtPuts (shares : Shares) (marks : List Bool) (left user at : ℕ) :
   pub few : user + left ≤ 256
 
 -- The next record may be written.
-pub record IsReady (shares : Shares) (files : Files) (rows : List Row) (chains : OwnerChains) (marks : List Bool) (p : Position) : Type 0 where
+pub record IsReadyToWrite (shares : Shares) (files : Files) (rows : List Row) (chains : OwnerChains) (marks : List Bool) (p : Position) : Type 0 where
   pub chained : HasChains shares.owner_slots chains
   pub puts : IsAtPuts shares marks p.left p.user p.owner
   pub recipes : AreRecipes files.files

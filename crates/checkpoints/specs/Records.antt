@@ -1,24 +1,24 @@
 -- The records of a checkpoint of a memory: what its tables have, in the order of their slots.
 use Rattle.std.specs.Prelude.{ℕ, zero, suc, ◌+◌, ◌==◌, ◌&&◌, List, [], ◌∷◌, ◌++◌, length, map, take, drop, Option, Some, None, if◌then◌else◌}
 use Rattle.std.specs.FinMap.{FinMap, get}
-use Rattle.cd_base.specs.declared.ids.Fp.{Fp}
-use Rattle.file_index.specs.declared.key.Entry.{Entry}
-use Rattle.file_index.specs.declared.key.FileKey.{FileKey}
-use Rattle.file_index.specs.Files.{Files}
-use Rattle.record_bodies.specs.declared.body.KeptItem.{KeptItem}
-use Rattle.record_bodies.specs.declared.body.SpentBody.{SpentBody}
-use Rattle.record_bodies.specs.Spelling as bodies
-use Rattle.record_bodies.specs.Spelling.{Body}
-use Rattle.record_body.specs.declared.body.CommitBody.{CommitBody}
-use Rattle.record_body.specs.declared.body.PutItem.{PutItem}
-use Rattle.share_index.specs.declared.key.Owner.{Owner}
-use Rattle.cd_base.specs.declared.place.Place.{Place}
-use Rattle.share_index.specs.Order.{owner_cmp}
-use Rattle.cd_base.specs.Order.{fp_cmp}
-use Rattle.share_index.specs.Shares.{Shares, owners_of}
-use Rattle.spent_table.specs.declared.Spent.{Spent as Row}
-use Rattle.user_dedup.specs.Owning.{is_among}
-use Rattle.cloud_areas.specs.Checkpoints.{PutRecord, put_body}
+use Rattle.cloud_memory.specs.CdBase.ids.Fp.{Fp}
+use Rattle.cloud_memory.specs.FileIndex.key.Entry.{Entry}
+use Rattle.cloud_memory.specs.FileIndex.key.FileKey.{FileKey}
+use Rattle.cloud_memory.specs.FileIndex.Files.{Files}
+use Rattle.cloud_memory.specs.RecordBodies.body.KeptItem.{KeptItem}
+use Rattle.cloud_memory.specs.RecordBodies.body.SpentBody.{SpentBody}
+use Rattle.cloud_memory.specs.RecordBodies.Spelling as bodies
+use Rattle.cloud_memory.specs.RecordBodies.Spelling.{Body}
+use Rattle.cloud_memory.specs.RecordBody.body.CommitBody.{CommitBody}
+use Rattle.cloud_memory.specs.RecordBody.body.PutItem.{PutItem}
+use Rattle.cloud_memory.specs.ShareIndex.key.Owner.{Owner}
+use Rattle.cloud_memory.specs.CdBase.place.Place.{Place}
+use Rattle.cloud_memory.specs.ShareIndex.Order.{owner_cmp}
+use Rattle.cloud_memory.specs.CdBase.Order.{fp_cmp}
+use Rattle.cloud_memory.specs.ShareIndex.Shares.{Shares, owners_of}
+use Rattle.cloud_memory.specs.SpentTable.Spent.{Spent as Row}
+use Rattle.cloud_memory.specs.UserDedup.Owning.{is_among}
+use Rattle.cloud_disk.specs.CloudAreas.Checkpoints.{PutRecord, put_body}
 use Rattle.cloud_memory.specs.declared.cloud.CloudMemory.{CloudMemory}
 use Rattle.checkpoints.specs.Picking.{onto, picked, batches}
 use Rattle.checkpoints.specs.declared.position.Position.{Position}

@@ -1,16 +1,16 @@
 -- A checkpoint that takes the place of a chain, and the list that both say.
 use Rattle.std.specs.Prelude.{ℕ, ◌-◌, ◌≤◌, List, All}
-use Rattle.cd_edges.specs.declared.area.Area.TheVariants.{Journal}
-use Rattle.cd_edges.specs.Disk.{Cloud, LeavesOnly, IsAtArea, reads}
-use Rattle.container_log.specs.Laying.{Placed}
-use Rattle.journal_start.specs.declared.start.Header.{Header}
-use Rattle.journal_halves.specs.Halves.{half_limit}
-use Rattle.journal_halves.specs.Journals.{used_by}
-use Rattle.half_journal.specs.States.{next_start}
-use Rattle.record_bodies.specs.Spelling.{Body, FitsBody}
-use Rattle.user_dedup.specs.declared.command.Command.{Command}
-use Rattle.cloud_areas.specs.Placing.{region_start, greatest_end, shares_in, recipes_in, places_of}
-use Rattle.cloud_areas.specs.Standing.{Chain, where_of, region_in, Holds, StandsFor}
+use Rattle.cloud_disk.specs.CdEdges.area.Area.TheVariants.{Journal}
+use Rattle.cloud_disk.specs.CdEdges.Disk.{Cloud, LeavesOnly, IsAtArea, reads}
+use Rattle.cloud_memory.specs.ContainerLog.Laying.{Placed}
+use Rattle.cloud_disk.specs.JournalStart.start.Header.{Header}
+use Rattle.cloud_disk.specs.JournalHalves.Halves.{half_limit}
+use Rattle.cloud_disk.specs.JournalHalves.Journals.{used_by}
+use Rattle.cloud_disk.specs.HalfJournal.States.{next_start}
+use Rattle.cloud_memory.specs.RecordBodies.Spelling.{Body, FitsBody}
+use Rattle.cloud_memory.specs.UserDedup.command.Command.{Command}
+use Rattle.cloud_disk.specs.CloudAreas.Placing.{region_start, greatest_end, shares_in, recipes_in, places_of}
+use Rattle.cloud_disk.specs.CloudAreas.Standing.{Chain, where_of, region_in, Holds, StandsFor}
 use Rattle.cloud_disk.specs.Disk.{Disk, IsOn}
 
 -- the chain of a checkpoint of these records, and of the recipes that they place, behind another chain

@@ -1,23 +1,23 @@
 -- What a step of a checkpoint's records leaves.
 use Rattle.std.specs.Prelude.{◌≡◌, ◌≤◌, ℕ, Bool, List, [], ◌∷◌, length, drop, All, Option, MatchBool, MatchOption}
-use Rattle.record_body.specs.declared.body.PutItem.{PutItem}
-use Rattle.record_body.specs.Spelling.{FitsItem}
-use Rattle.record_bodies.specs.Spelling.{Body, FitsKept}
-use Rattle.record_bodies.specs.declared.body.KeptItem.{KeptItem}
-use Rattle.record_bodies.specs.declared.body.SpentBody.{SpentBody}
-use Rattle.share_index.specs.Shares.{Shares}
-use Rattle.spent_table.specs.declared.Spent.{Spent as Row}
-use Rattle.checkpoints.specs.Laying.{IsNext}
+use Rattle.cloud_memory.specs.RecordBody.body.PutItem.{PutItem}
+use Rattle.cloud_memory.specs.RecordBody.Spelling.{FitsItem}
+use Rattle.cloud_memory.specs.RecordBodies.Spelling.{Body, FitsKept}
+use Rattle.cloud_memory.specs.RecordBodies.body.KeptItem.{KeptItem}
+use Rattle.cloud_memory.specs.RecordBodies.body.SpentBody.{SpentBody}
+use Rattle.cloud_memory.specs.ShareIndex.Shares.{Shares}
+use Rattle.cloud_memory.specs.SpentTable.Spent.{Spent as Row}
+use Rattle.checkpoints.specs.Laying.{IsNextInBuffer}
 use Rattle.checkpoints.specs.Picking.{batches, with_batch}
 use Rattle.checkpoints.specs.Records.{owned_in, items_from, kept_from, spents_from}
 use Rattle.checkpoints.specs.declared.position.Position.{Position}
 
 -- The first of the records is in the buffer, and the others are left; or else there was none.
 abbrev pub Steps : List Body → List Body → List ℕ → Bool → Type 0
-Steps old new bytes found = MatchBool found (IsNext old new bytes) ((old ≡ []) × (new ≡ []))
+Steps old new bytes found = MatchBool found (IsNextInBuffer old new bytes) ((old ≡ []) × (new ≡ []))
 
 -- These shares of the user's are listed next, up to the slot behind them.
-pub record AreListed (shares : Shares) (user from : ℕ) (items : List PutItem) (behind : ℕ) : Type 0 where
+pub record AreListedNext (shares : Shares) (user from : ℕ) (items : List PutItem) (behind : ℕ) : Type 0 where
   pub next : batches (items_from shares user from) ≡ with_batch items (batches (items_from shares user behind))
   pub ends : items ≡ [] → owned_in user (drop behind shares.owner_slots) ≡ []
   pub fit : All FitsItem items

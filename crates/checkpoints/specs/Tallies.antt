@@ -1,10 +1,10 @@
 -- Records that are counted without being written.
 use Rattle.std.specs.Prelude.{◌≡◌, ◌≤◌, ◌+◌, ℕ, List, length, Option, Some, IfSome}
 use Rattle.std.specs.FinMap.{FinMap, get}
-use Rattle.cd_base.specs.declared.place.Place.{Place}
-use Rattle.cd_base.specs.Order.{fp_cmp}
-use Rattle.record_body.specs.Spelling.{FitsPlace}
-use Rattle.record_bodies.specs.Spelling.{Body}
+use Rattle.cloud_memory.specs.CdBase.place.Place.{Place}
+use Rattle.cloud_memory.specs.CdBase.Order.{fp_cmp}
+use Rattle.cloud_memory.specs.RecordBody.Spelling.{FitsPlace}
+use Rattle.cloud_memory.specs.RecordBodies.Spelling.{Body}
 use Rattle.checkpoints.specs.Laying.{records_len}
 
 -- Each place fits a record.

@@ -1,13 +1,11 @@
 //! Each user's slots among the owners', in a chain.
 
 ghost use Rattle.std.specs.Prelude.{◌≡◌, ◌↔◌, ℕ, ◌-◌, ◌<◌, ◌≤◌, min, length, option_map, replicate, slice_set, slice_index_or, IfOk, IsTrue};
-ghost use Rattle.pool_map.specs.Slots.{slot_of};
+ghost use Rattle.cloud_memory.specs.PoolMap.Slots.{slot_of};
 ghost use Rattle.checkpoints.specs.Chained.{user_in, AreChained, HasChains, HasPlaces};
 
 use crate::marks::SLOTS;
-use cd_base::NoMemory;
-use cloud_memory::CloudMemory;
-use share_index::ShareIndex;
+use cloud_memory::{CloudMemory, NoMemory, ShareIndex};
 use std::alloc::Global;
 
 // As many users as a cloud may have.

@@ -1,24 +1,21 @@
 //! A checkpoint of a disk.
 
 ghost use Rattle.std.specs.Prelude.{◌≡◌, ℕ, ◌+◌, ◌≤◌, List, length, IsTrue, OnOk, OnErr};
-ghost use Rattle.cd_edges.specs.Shelf.{IsCall, HasFailed, KeepsCounts};
-ghost use Rattle.container_log.specs.Laying.{Placed};
-ghost use Rattle.journal_start.specs.Ranges.{IsHeader};
-ghost use Rattle.half_journal.specs.Leaving.{OthersStay};
-ghost use Rattle.half_journal.specs.declared.journal.Stage.TheVariants.{AtEnd};
-ghost use Rattle.half_journal.specs.Outcomes.{stage_after};
-ghost use Rattle.user_dedup.specs.declared.command.Command.{Command};
-ghost use Rattle.cloud_areas.specs.Standing.{Chain};
+ghost use Rattle.cloud_disk.specs.CdEdges.Shelf.{IsCall, HasFailed, KeepsCounts};
+ghost use Rattle.cloud_memory.specs.ContainerLog.Laying.{Placed};
+ghost use Rattle.cloud_disk.specs.JournalStart.Ranges.{IsHeader};
+ghost use Rattle.cloud_disk.specs.HalfJournal.Leaving.{OthersStay};
+ghost use Rattle.cloud_disk.specs.HalfJournal.journal.Stage.TheVariants.{AtEnd};
+ghost use Rattle.cloud_disk.specs.HalfJournal.Outcomes.{stage_after};
+ghost use Rattle.cloud_memory.specs.UserDedup.command.Command.{Command};
+ghost use Rattle.cloud_disk.specs.CloudAreas.Standing.{Chain};
 ghost use Rattle.cloud_disk.specs.Disk.{IsOn};
 ghost use Rattle.checkpoints.specs.Laying.{records_len, KeepsOrSettles, HasSettled};
 ghost use Rattle.checkpoints.specs.Settling.{checkpoint_of, IsSummed, KeepsList, KeepsOthers};
 
 use crate::{CheckpointRecords, lay_checkpoint};
-use cd_base::CloudNo;
-use cd_edges::{Failed, Shelf};
-use cloud_disk::CloudDisk;
-use journal_start::Header;
-use record_bodies::BodyBuf;
+use cloud_disk::{CloudDisk, Failed, Header, Shelf};
+use cloud_memory::{BodyBuf, CloudNo};
 
 /// Puts a checkpoint of so many records, which stands for so many commands and whose blobs lie in this region, in the place of
 /// the chain of a cloud's journal. Where the checkpoint says the list that the chain says, the cloud stands for it whenever a

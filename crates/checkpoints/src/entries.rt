@@ -1,21 +1,17 @@
 //! Entries, and what users have spent.
 
 ghost use Rattle.std.specs.Prelude.{◌≡◌, ◌≤◌, [], length, map, MatchOption, IfSome};
-ghost use Rattle.pool_map.specs.Slots.{slot_of};
-ghost use Rattle.record_body.specs.Spelling.{FitsCommit};
-ghost use Rattle.record_bodies.specs.Spelling.{Commit, Spent, FitsSpent};
-ghost use Rattle.spent_table.specs.Spending.{spent_by};
-ghost use Rattle.checkpoints.specs.Laying.{IsNext};
+ghost use Rattle.cloud_memory.specs.PoolMap.Slots.{slot_of};
+ghost use Rattle.cloud_memory.specs.RecordBody.Spelling.{FitsCommit};
+ghost use Rattle.cloud_memory.specs.RecordBodies.Spelling.{Commit, Spent, FitsSpent};
+ghost use Rattle.cloud_memory.specs.SpentTable.Spending.{spent_by};
+ghost use Rattle.checkpoints.specs.Laying.{IsNextInBuffer};
 ghost use Rattle.checkpoints.specs.Picking.{IsNextPicked};
 ghost use Rattle.checkpoints.specs.Records.{commit_at, commits_from, spent_at, spents_from};
 ghost use Rattle.cloud_memory.specs.Fitting.{AreRecipes};
 ghost use Rattle.checkpoints.specs.Steps.{IsNextSpent};
 
-use cd_base::UserId;
-use file_index::FileIndex;
-use record_bodies::{BodyBuf, SpentBody};
-use record_body::CommitBody;
-use spent_table::SpentTable;
+use cloud_memory::{BodyBuf, CommitBody, FileIndex, SpentBody, SpentTable, UserId};
 
 // The Commit of the entry in a slot, if there is one.
 fn commit_at(files: &FileIndex, slot: u32) -> Option<CommitBody>
@@ -55,7 +51,7 @@ pub(crate) fn next_commit(files: &FileIndex, from: u32) -> Option<(CommitBody, u
 pub(crate) fn write_commit(files: &FileIndex, from: u32, buffer: &mut BodyBuf) -> Option<u32>
     requires { AreRecipes files.now.files }
     ensures { MatchOption result (commits_from files.now from ≡ [])
-        (λ behind. IsNext (map Commit (commits_from files.now from))
+        (λ behind. IsNextInBuffer (map Commit (commits_from files.now from))
         (map Commit (commits_from files.now behind)) buffer.new) }
 {
     match next_commit(files, from) {
@@ -111,7 +107,7 @@ pub(crate) fn next_spent(table: &SpentTable, from: u32) -> Option<(SpentBody, u3
 pub(crate) fn write_spent(table: &SpentTable, from: u32, buffer: &mut BodyBuf) -> Option<u32>
     requires { length table.now ≤ 256 }
     ensures { MatchOption result (spents_from table.now from ≡ [])
-        (λ behind. IsNext (map Spent (spents_from table.now from))
+        (λ behind. IsNextInBuffer (map Spent (spents_from table.now from))
         (map Spent (spents_from table.now behind)) buffer.new) }
 {
     match next_spent(table, from) {

@@ -1,9 +1,9 @@
 //! The shares that no user owns.
 
 ghost use Rattle.std.specs.Prelude.{◌≡◌, ◌+◌, ◌++◌, ◌≤◌, [], length, map, take, MatchOption, IfSome};
-ghost use Rattle.pool_map.specs.Slots.{slot_of};
-ghost use Rattle.record_bodies.specs.Spelling.{Kept, FitsKept, body_bytes, kept_bytes};
-ghost use Rattle.checkpoints.specs.Laying.{IsNext};
+ghost use Rattle.cloud_memory.specs.PoolMap.Slots.{slot_of};
+ghost use Rattle.cloud_memory.specs.RecordBodies.Spelling.{Kept, FitsKept, body_bytes, kept_bytes};
+ghost use Rattle.checkpoints.specs.Laying.{IsNextInBuffer};
 ghost use Rattle.checkpoints.specs.Picking.{IsNextPicked, batches};
 ghost use Rattle.checkpoints.specs.Records.{kept_at, kept_from};
 ghost use Rattle.cloud_memory.specs.Fitting.{AreShares};
@@ -11,9 +11,7 @@ ghost use Rattle.checkpoints.specs.Ready.{AreOwned};
 ghost use Rattle.checkpoints.specs.Steps.{AreKept};
 
 use crate::Marks;
-use cd_base::{Fp, Place};
-use record_bodies::{BodyBuf, KeptItem};
-use share_index::ShareIndex;
+use cloud_memory::{BodyBuf, Fp, KeptItem, Place, ShareIndex};
 
 // The share in a slot, where there is one that no user owns. What is marked has an owner, and isn't looked up.
 fn kept_at(shares: &ShareIndex, marks: &Marks, slot: u32) -> Option<KeptItem>
@@ -104,7 +102,7 @@ pub(crate) fn write_kept(
     requires fit { AreShares shares.now.places }
     requires owned { AreOwned shares.now marks.now }
     ensures { MatchOption result (kept_from shares.now from ≡ [])
-        (λ behind. IsNext (map Kept (batches (kept_from shares.now from)))
+        (λ behind. IsNextInBuffer (map Kept (batches (kept_from shares.now from)))
         (map Kept (batches (kept_from shares.now behind))) buffer.new) }
 {
     if from >= shares.place_slots() {

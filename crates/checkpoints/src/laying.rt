@@ -1,20 +1,17 @@
 //! A checkpoint, from its first gate to its last.
 
 ghost use Rattle.std.specs.Prelude.{◌≡◌, ◌≢◌, ℕ, ◌+◌, ◌≤◌, List, length, IsTrue, OnOk, OnErr};
-ghost use Rattle.cd_edges.specs.Shelf.{IsCall, HasFailed, KeepsCounts};
-ghost use Rattle.journal_start.specs.Ranges.{IsHeader};
-ghost use Rattle.half_journal.specs.Leaving.{OthersStay};
-ghost use Rattle.half_journal.specs.declared.journal.Stage.TheVariants.{AtEnd};
-ghost use Rattle.half_journal.specs.States.{state_of};
-ghost use Rattle.half_journal.specs.Outcomes.{stage_after};
+ghost use Rattle.cloud_disk.specs.CdEdges.Shelf.{IsCall, HasFailed, KeepsCounts};
+ghost use Rattle.cloud_disk.specs.JournalStart.Ranges.{IsHeader};
+ghost use Rattle.cloud_disk.specs.HalfJournal.Leaving.{OthersStay};
+ghost use Rattle.cloud_disk.specs.HalfJournal.journal.Stage.TheVariants.{AtEnd};
+ghost use Rattle.cloud_disk.specs.HalfJournal.States.{state_of};
+ghost use Rattle.cloud_disk.specs.HalfJournal.Outcomes.{stage_after};
 ghost use Rattle.checkpoints.specs.Laying.{records_len, KeepsOrSettles, HasSettled};
 
 use crate::CheckpointRecords;
-use cd_base::CloudNo;
-use cd_edges::{Failed, Shelf};
-use half_journal::Journal;
-use journal_start::Header;
-use record_bodies::BodyBuf;
+use cloud_disk::{Failed, Header, Journal, Shelf};
+use cloud_memory::{BodyBuf, CloudNo};
 
 /// Puts a checkpoint of so many records, which stands for so many commands and whose blobs lie in this region, in the place of
 /// a journal's chain: begins it in the half that isn't current, lays each record, and settles it.

@@ -17,8 +17,14 @@ mod tally;
 mod whole;
 
 pub use chains::OwnerChains;
-pub use cloud_disk::CloudDisk;
-pub use cloud_memory::{CloudMemory, Full, New};
+pub use cloud_disk::{
+    Area, CloudDisk, Failed, Header, OpenErr, Shelf, Start, UserRooms, half_limit, law_of_laying,
+};
+pub use cloud_memory::laws::law_of_fitting;
+pub use cloud_memory::{
+    BodyBuf, CloudMemory, CommitBody, DeleteBody, FileIndex, Full, LogFull, New, PutItem,
+    ShareIndex, Spent,
+};
 pub use entire::checkpoint;
 pub use laying::lay_checkpoint;
 pub use marks::Marks;

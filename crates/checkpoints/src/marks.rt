@@ -1,9 +1,9 @@
 //! Which shares a checkpoint has listed.
 
 ghost use Rattle.std.specs.Prelude.{◌≡◌, IfOk, false, true, length, replicate, slice_set, slice_index_or};
-ghost use Rattle.checkpoints.specs.Marked.{slots_limit, AreUnmarked};
+ghost use Rattle.checkpoints.specs.Marked.{slots_limit, AreAllUnmarked};
 
-use cd_base::NoMemory;
+use cloud_memory::NoMemory;
 use std::alloc::Global;
 use std::marker::Model;
 
@@ -46,7 +46,7 @@ fn unmarked(alloc: Global, slots: usize) -> Result<Vec<bool>, NoMemory>
 impl Marks {
     /// No slot is marked. It takes all its memory here: a byte for each slot.
     pub fn make(alloc: Global) -> Result<Marks, NoMemory>
-        ensures { IfOk result AreUnmarked }
+        ensures { IfOk result AreAllUnmarked }
     {
         let marks = unmarked(alloc, SLOTS)?;
         Ok(Marks { marks })
@@ -62,7 +62,7 @@ impl Marks {
 
     /// Takes all marks away.
     pub fn clear(&mut self)
-        ensures { AreUnmarked self.new }
+        ensures { AreAllUnmarked self.new }
     {
         self.wipe_all();
     }

@@ -2,24 +2,21 @@
 
 ghost use Rattle.std.specs.Prelude.{◌≡◌, ◌+◌, ◌++◌, ◌<◌, ◌≤◌, [], ◌∷◌, List, length, map, take, option_map};
 ghost use Rattle.std.specs.FinMap.{get};
-ghost use Rattle.cd_base.specs.declared.ids.Fp.{Fp};
-ghost use Rattle.pool_map.specs.Slots.{slot_of, IsListed};
-ghost use Rattle.message_fields.specs.Fingerprints.{IsBatch};
-ghost use Rattle.record_body.specs.Spelling.{FitsItem, item_bytes};
-ghost use Rattle.record_bodies.specs.Spelling.{Put, body_bytes};
-ghost use Rattle.cloud_areas.specs.Checkpoints.{put_body};
+ghost use Rattle.cloud_memory.specs.CdBase.ids.Fp.{Fp};
+ghost use Rattle.cloud_memory.specs.PoolMap.Slots.{slot_of, IsListed};
+ghost use Rattle.cloud_memory.specs.MessageFields.Fingerprints.{IsBatch};
+ghost use Rattle.cloud_memory.specs.RecordBody.Spelling.{FitsItem, item_bytes};
+ghost use Rattle.cloud_memory.specs.RecordBodies.Spelling.{Put, body_bytes};
+ghost use Rattle.cloud_disk.specs.CloudAreas.Checkpoints.{put_body};
 ghost use Rattle.checkpoints.specs.Chained.{AreOthers, HasChains};
 ghost use Rattle.checkpoints.specs.Picking.{IsNextPicked};
 ghost use Rattle.checkpoints.specs.Records.{owned_at, listed, item_of, puts_from};
 ghost use Rattle.cloud_memory.specs.Fitting.{AreShares};
 ghost use Rattle.checkpoints.specs.Ready.{AreMarked, IsAtPuts};
-ghost use Rattle.checkpoints.specs.Steps.{AreListed, KeepsOthers, Steps};
+ghost use Rattle.checkpoints.specs.Steps.{AreListedNext, KeepsOthers, Steps};
 
 use crate::{Marks, OwnerChains, Position};
-use cd_base::{Fp, Place, UserId};
-use record_bodies::BodyBuf;
-use record_body::PutItem;
-use share_index::ShareIndex;
+use cloud_memory::{BodyBuf, Fp, Place, PutItem, ShareIndex, UserId};
 
 // The user's fingerprint in a slot, if it has one there.
 fn owned_at(shares: &ShareIndex, user: u32, slot: u32) -> Option<Fp>
@@ -119,7 +116,7 @@ fn list_batch(
     requires chained { HasChains shares.now.owner_slots chains.now }
     requires marks { AreMarked shares.now marks.old (listed shares.now.owner_slots user from) }
     requires room { length items.old ≡ 256 }
-    ensures batch { AreListed shares.now user from (take result.0 items.new) result.1 }
+    ensures batch { AreListedNext shares.now user from (take result.0 items.new) result.1 }
     ensures marks { AreMarked shares.now marks.new (listed shares.now.owner_slots user result.1) }
     ensures few { result.0 ≤ 256 }
 {

@@ -1,10 +1,10 @@
 //! Where the records of a checkpoint come from.
 
 ghost use Rattle.std.specs.Prelude.{ℕ, ◌<◌, List, length};
-ghost use Rattle.record_bodies.specs.Spelling.{Body};
-ghost use Rattle.checkpoints.specs.Laying.{IsNext};
+ghost use Rattle.cloud_memory.specs.RecordBodies.Spelling.{Body};
+ghost use Rattle.checkpoints.specs.Laying.{IsNextInBuffer};
 
-use record_bodies::BodyBuf;
+use cloud_memory::BodyBuf;
 
 /// The records of a checkpoint, one after another.
 pub trait CheckpointRecords {
@@ -18,6 +18,6 @@ pub trait CheckpointRecords {
     fn write_next(&mut self, buffer: &mut BodyBuf)
         requires some { 0 < length (to_come self.old) }
         requires ready { is_ready self.old }
-        ensures next { IsNext (to_come self.old) (to_come self.new) buffer.new }
+        ensures next { IsNextInBuffer (to_come self.old) (to_come self.new) buffer.new }
         ensures ready { is_ready self.new };
 }

@@ -3,22 +3,18 @@
 ghost use Rattle.std.specs.Prelude.{◌≡◌, ◌<◌, ◌≤◌, length, false, replicate};
 ghost use Rattle.cloud_memory.specs.declared.cloud.CloudMemory.{CloudMemory};
 ghost use Rattle.checkpoints.specs.Chained.{HasChains};
-ghost use Rattle.checkpoints.specs.Laying.{IsNext};
+ghost use Rattle.checkpoints.specs.Laying.{IsNextInBuffer};
 ghost use Rattle.checkpoints.specs.Records.{coming, records_of};
 ghost use Rattle.cloud_memory.specs.Rooms.{memory_of};
 ghost use Rattle.cloud_memory.specs.Fitting.{FitsRecords};
-ghost use Rattle.checkpoints.specs.Ready.{IsReady};
+ghost use Rattle.checkpoints.specs.Ready.{IsReadyToWrite};
 ghost use Rattle.checkpoints.specs.Steps.{Steps};
 
 use crate::entries::{end_of_commits, write_commit, write_spent};
 use crate::kept::{end_of_kept, write_kept};
 use crate::puts::write_put;
 use crate::{CheckpointRecords, Marks, OwnerChains, Position};
-use cloud_memory::CloudMemory;
-use file_index::FileIndex;
-use record_bodies::BodyBuf;
-use share_index::ShareIndex;
-use spent_table::SpentTable;
+use cloud_memory::{BodyBuf, CloudMemory, FileIndex, ShareIndex, SpentTable};
 
 // Writes the next record from a position on, if there is one. What was gone through to its end isn't gone through again.
 fn write_record(
@@ -30,8 +26,8 @@ fn write_record(
     at: &mut Position,
     buffer: &mut BodyBuf,
 ) -> bool
-    requires { IsReady shares.now files.now spent.now chains.now marks.old at.old }
-    ensures ready { IsReady shares.now files.now spent.now chains.now marks.new at.new }
+    requires { IsReadyToWrite shares.now files.now spent.now chains.now marks.old at.old }
+    ensures ready { IsReadyToWrite shares.now files.now spent.now chains.now marks.new at.new }
     ensures step { Steps (coming shares.now files.now spent.now at.old)
         (coming shares.now files.now spent.now at.new) buffer.new result }
 {
@@ -88,7 +84,7 @@ impl<'a> MemoryRecords<'a> {
         requires users { length memory.now.spent ≤ 256 }
         requires slots { length memory.now.shares.place_slots ≤ 524288 }
         ensures records { coming result.shares.now result.files.now result.spent.now result.at ≡ records_of memory.now }
-        ensures ready { IsReady result.shares.now result.files.now result.spent.now result.chains.now
+        ensures ready { IsReadyToWrite result.shares.now result.files.now result.spent.now result.chains.now
             result.marks.now result.at }
     {
         marks.clear();
@@ -109,9 +105,9 @@ impl<'a> MemoryRecords<'a> {
 
     /// Writes the next record's body in place of what the buffer has, if there is one, and says whether there was.
     pub fn write_one(&mut self, buffer: &mut BodyBuf) -> bool
-        requires { IsReady self.old.shares.now self.old.files.now self.old.spent.now
+        requires { IsReadyToWrite self.old.shares.now self.old.files.now self.old.spent.now
             self.old.chains.now self.old.marks.now self.old.at }
-        ensures ready { IsReady self.new.shares.now self.new.files.now self.new.spent.now
+        ensures ready { IsReadyToWrite self.new.shares.now self.new.files.now self.new.spent.now
             self.new.chains.now self.new.marks.now self.new.at }
         ensures step { Steps (coming self.old.shares.now self.old.files.now self.old.spent.now self.old.at)
             (coming self.new.shares.now self.new.files.now self.new.spent.now self.new.at) buffer.new result }
@@ -131,7 +127,7 @@ impl<'a> MemoryRecords<'a> {
 impl<'a> CheckpointRecords for MemoryRecords<'a> {
     ghost to_come = { λ s. coming s.shares.now s.files.now s.spent.now s.at };
 
-    ghost is_ready = { λ s. IsReady s.shares.now s.files.now s.spent.now s.chains.now s.marks.now s.at };
+    ghost is_ready = { λ s. IsReadyToWrite s.shares.now s.files.now s.spent.now s.chains.now s.marks.now s.at };
 
     fn write_next(&mut self, buffer: &mut BodyBuf) {
         self.write_one(buffer);

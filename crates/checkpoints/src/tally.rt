@@ -2,16 +2,16 @@
 
 ghost use Rattle.std.specs.Prelude.{◌≡◌, ◌+◌, ◌*◌, ◌<◌, ◌≤◌, ℕ, List, [], length, drop, map, All, Some, IfSome};
 ghost use Rattle.std.specs.FinMap.{get};
-ghost use Rattle.cd_base.specs.declared.ids.Fp.{Fp};
-ghost use Rattle.cd_base.specs.declared.place.Place.{Place};
-ghost use Rattle.pool_map.specs.Slots.{slot_of};
-ghost use Rattle.record_body.specs.Spelling.{FitsCommit};
-ghost use Rattle.record_bodies.specs.Spelling.{FitsBody, FitsKept, FitsSpent};
-ghost use Rattle.cloud_areas.specs.Checkpoints.{put_body, items_in};
+ghost use Rattle.cloud_memory.specs.CdBase.ids.Fp.{Fp};
+ghost use Rattle.cloud_memory.specs.CdBase.place.Place.{Place};
+ghost use Rattle.cloud_memory.specs.PoolMap.Slots.{slot_of};
+ghost use Rattle.cloud_memory.specs.RecordBody.Spelling.{FitsCommit};
+ghost use Rattle.cloud_memory.specs.RecordBodies.Spelling.{FitsBody, FitsKept, FitsSpent};
+ghost use Rattle.cloud_disk.specs.CloudAreas.Checkpoints.{put_body, items_in};
 ghost use Rattle.cloud_memory.specs.Fitting.{AreShares, AreRecipes};
 ghost use Rattle.checkpoints.specs.Chained.{HasChains};
 ghost use Rattle.checkpoints.specs.Laying.{records_len};
-ghost use Rattle.checkpoints.specs.Ready.{AreOwned, IsReady};
+ghost use Rattle.checkpoints.specs.Ready.{AreOwned, IsReadyToWrite};
 ghost use Rattle.checkpoints.specs.Records.{owned_in, puts_from, kept_from, commits_from, spents_from, coming};
 ghost use Rattle.checkpoints.specs.Tallies.{ArePlaces, IsTallied};
 
@@ -19,9 +19,7 @@ use crate::entries::{next_commit, next_spent};
 use crate::kept::next_kept;
 use crate::puts::next_owned;
 use crate::{Marks, OwnerChains, Position};
-use file_index::FileIndex;
-use share_index::ShareIndex;
-use spent_table::SpentTable;
+use cloud_memory::{FileIndex, ShareIndex, SpentTable};
 
 // The place in a slot has 64 bits, as it is read.
 fn see_place(shares: &ShareIndex, slot: u32)
@@ -167,7 +165,7 @@ pub(crate) fn count_surely(
     at: &Position,
     limit: u64,
 ) -> Option<u32>
-    requires ready { IsReady shares.now files.now spent.now chains.now marks.now at.now }
+    requires ready { IsReadyToWrite shares.now files.now spent.now chains.now marks.now at.now }
     requires few { limit < 4294967296 }
     ensures count { IsTallied (coming shares.now files.now spent.now at.now) limit result }
     ensures fit { All FitsBody (coming shares.now files.now spent.now at.now) }

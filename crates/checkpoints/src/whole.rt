@@ -1,33 +1,28 @@
 //! A checkpoint of a memory in the place of the journal's chain.
 
 ghost use Rattle.std.specs.Prelude.{◌≡◌, ◌<◌, ◌≤◌, ◌+◌, ℕ, List, length, All, OnOk};
-ghost use Rattle.cd_edges.specs.Disk.{Cloud};
-ghost use Rattle.cd_edges.specs.Shelf.{IsCall, HasFailed, KeepsCounts};
-ghost use Rattle.journal_halves.specs.Halves.{half_limit};
-ghost use Rattle.journal_start.specs.Ranges.{IsHeader};
-ghost use Rattle.half_journal.specs.Leaving.{OthersStay};
-ghost use Rattle.half_journal.specs.declared.journal.Stage.TheVariants.{AtEnd};
-ghost use Rattle.user_dedup.specs.declared.command.Command.{Command};
-ghost use Rattle.cloud_areas.specs.Standing.{Chain};
+ghost use Rattle.cloud_disk.specs.CdEdges.Disk.{Cloud};
+ghost use Rattle.cloud_disk.specs.CdEdges.Shelf.{IsCall, HasFailed, KeepsCounts};
+ghost use Rattle.cloud_disk.specs.JournalHalves.Halves.{half_limit};
+ghost use Rattle.cloud_disk.specs.JournalStart.Ranges.{IsHeader};
+ghost use Rattle.cloud_disk.specs.HalfJournal.Leaving.{OthersStay};
+ghost use Rattle.cloud_disk.specs.HalfJournal.journal.Stage.TheVariants.{AtEnd};
+ghost use Rattle.cloud_memory.specs.UserDedup.command.Command.{Command};
+ghost use Rattle.cloud_disk.specs.CloudAreas.Standing.{Chain};
 ghost use Rattle.checkpoints.specs.Laying.{records_len, longest_record, KeepsOrSettles, HasSettled};
 ghost use Rattle.checkpoints.specs.Settling.{KeepsList, KeepsOthers};
 ghost use Rattle.checkpoints.specs.Records.{coming, records_of};
 ghost use Rattle.cloud_memory.specs.Rooms.{memory_of, HasRooms};
 ghost use Rattle.cloud_memory.specs.Fitting.{FitsRecords};
-ghost use Rattle.checkpoints.specs.Ready.{IsReady};
+ghost use Rattle.checkpoints.specs.Ready.{IsReadyToWrite};
 ghost use Rattle.checkpoints.specs.Known.{IsKnown, HasCheckpoint, CountsWithin, stage_behind};
 ghost use Rattle.checkpoints.specs.Known.{IfFailed, UnlessFailed, IfLong, UnlessLong};
-ghost use Rattle.record_bodies.specs.Spelling.{Body, FitsBody, body_bytes};
+ghost use Rattle.cloud_memory.specs.RecordBodies.Spelling.{Body, FitsBody, body_bytes};
 
 use crate::tally::count_surely;
 use crate::{Marks, MemoryRecords, OwnerChains, checkpoint};
-use cd_base::CloudNo;
-use cd_edges::Shelf;
-use cloud_areas::laws::{law_of_checkpoints, law_of_places};
-use cloud_disk::CloudDisk;
-use cloud_memory::CloudMemory;
-use journal_start::Header;
-use record_bodies::BodyBuf;
+use cloud_disk::{CloudDisk, Header, Shelf, law_of_checkpoints, law_of_places};
+use cloud_memory::{BodyBuf, CloudMemory, CloudNo};
 
 /// Why there is no checkpoint.
 #[derive(Clone, Copy, Debug, PartialEq, Eq)]
@@ -40,7 +35,7 @@ pub enum Unsettled {
 
 // How many records are still to come, where they fit so many bytes behind a start's 63. It writes each into the buffer.
 fn count_written(records: &mut MemoryRecords<'_>, limit: u64, buffer: &mut BodyBuf) -> Option<u32>
-    requires ready { IsReady records.old.shares.now records.old.files.now records.old.spent.now
+    requires ready { IsReadyToWrite records.old.shares.now records.old.files.now records.old.spent.now
         records.old.chains.now records.old.marks.now records.old.at }
     requires few { limit < 4294967296 }
     ensures count { CountsWithin (coming records.old.shares.now records.old.files.now records.old.spent.now
@@ -60,7 +55,7 @@ fn count_written(records: &mut MemoryRecords<'_>, limit: u64, buffer: &mut BodyB
 // How many records are still to come, where they fit so many bytes behind a start's 63. Only where it isn't sure without
 // they are written into the buffer.
 fn count_within(records: &mut MemoryRecords<'_>, limit: u64, buffer: &mut BodyBuf) -> Option<u32>
-    requires ready { IsReady records.old.shares.now records.old.files.now records.old.spent.now
+    requires ready { IsReadyToWrite records.old.shares.now records.old.files.now records.old.spent.now
         records.old.chains.now records.old.marks.now records.old.at }
     requires few { limit < 4294967296 }
     ensures count { CountsWithin (coming records.old.shares.now records.old.files.now records.old.spent.now

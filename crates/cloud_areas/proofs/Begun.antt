@@ -4,24 +4,24 @@ use Rattle.std.specs.Prelude.{◌==◌, if◌then◌else◌}
 use Rattle.std.specs.List.{Contains}
 use Rattle.std.specs.Int.{w32, to_be_bytes}
 use Rattle.std.proofs.lemmas.List.Elements.{All-nil}
-use Rattle.cd_base.specs.declared.shape.Shape.{Shape}
-use Rattle.cd_edges.specs.declared.area.Area.TheVariants.{Journal, Shares, Recipes}
-use Rattle.cd_edges.specs.Disk.{Image}
-use Rattle.commit_journal.specs.Records.{sized}
+use Rattle.user_dedup.specs.CdBase.shape.Shape.{Shape}
+use Rattle.journal_halves.specs.CdEdges.area.Area.TheVariants.{Journal, Shares, Recipes}
+use Rattle.journal_halves.specs.CdEdges.Disk.{Image}
+use Rattle.journal_halves.specs.CommitJournal.Records.{sized}
 use Rattle.container_log.specs.Laying.{IsAt}
 use Rattle.journal_halves.specs.Beginnings.{IsUnbegun}
 use Rattle.journal_halves.specs.Beginnings.{new_of}
 use Rattle.journal_halves.specs.Halves.{half_limit}
 use Rattle.journal_halves.specs.Journals.{HasChain, used_by}
-use Rattle.journal_start.specs.declared.start.Header.{Header}
-use Rattle.journal_start.specs.Spelling.{front_bytes, rooms_bytes, header_bytes, start_bytes}
+use Rattle.journal_halves.specs.JournalStart.start.Header.{Header}
+use Rattle.journal_halves.specs.JournalStart.Spelling.{front_bytes, rooms_bytes, header_bytes, start_bytes}
 use Rattle.record_bodies.specs.Spelling.{FitsBody}
 use Rattle.user_dedup.specs.declared.command.Command.{Command}
 use Rattle.user_dedup.specs.Cloud.{user_view}
 use Rattle.user_dedup.specs.Dedup.{IsSound, Begun}
 use Rattle.user_dedup.specs.Spending.{spent_of, nothing}
 use Rattle.user_dedup.proofs.Owned.{contains_nothing}
-use Rattle.cloud_areas.specs.Checkpoints.{AreApart, Lists, IsOwnerless, IsCheckpoint, SpentIs, HasEntry}
+use Rattle.cloud_areas.specs.Checkpoints.{AreApart, Lists, IsOwnerless, IsCheckpointOfList, SpentIs, HasEntry}
 use Rattle.cloud_areas.specs.Chains.{Summed, LiesIn, DontOverlap, HaveRoom, least_shares, least_recipes}
 use Rattle.cloud_areas.specs.Standing.{Chain, IsChain, Holds, StandsFor, new_chain}
 
@@ -41,7 +41,7 @@ spent_none list is false = record {
 }
 
 -- It has no records, so a start alone stands for them.
-pub empty_checkpoint : (format : ℕ) (shape : Shape) → IsCheckpoint format shape [] [] []
+pub empty_checkpoint : (format : ℕ) (shape : Shape) → IsCheckpointOfList format shape [] [] []
 empty_checkpoint format shape = record {
   puts = [];
   kept = [];

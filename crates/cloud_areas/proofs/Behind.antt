@@ -3,22 +3,22 @@ use Rattle.std.proofs.Common.{◌≡◌, ℕ, ◌+◌, ◌*◌, ◌≤◌, List,
 use Rattle.std.specs.List.{Contains}
 use Rattle.std.proofs.lemmas.List.{map-append}
 use Rattle.std.proofs.lemmas.List.Elements.{All-contains}
-use Rattle.cd_base.specs.declared.ids.Fp.{Fp}
-use Rattle.cd_base.specs.declared.shape.Shape.{Shape}
-use Rattle.cd_edges.specs.Disk.{Image}
+use Rattle.user_dedup.specs.CdBase.ids.Fp.{Fp}
+use Rattle.user_dedup.specs.CdBase.shape.Shape.{Shape}
+use Rattle.journal_halves.specs.CdEdges.Disk.{Image}
 use Rattle.container_log.specs.Laying.{Placed}
-use Rattle.journal_start.specs.declared.start.Header.{Header}
-use Rattle.journal_start.specs.Spelling.{commands_of, records_of}
-use Rattle.record_body.specs.declared.body.CommitBody.{CommitBody}
+use Rattle.journal_halves.specs.JournalStart.start.Header.{Header}
+use Rattle.journal_halves.specs.JournalStart.Spelling.{commands_of, records_of}
+use Rattle.record_bodies.specs.RecordBody.body.CommitBody.{CommitBody}
 use Rattle.record_bodies.specs.Spelling.{Body}
-use Rattle.cd_base.specs.declared.place.Place.{Place}
+use Rattle.user_dedup.specs.CdBase.place.Place.{Place}
 use Rattle.user_dedup.specs.declared.command.Command.{Command}
 use Rattle.user_dedup.specs.declared.command.Command.TheVariants as commands
 use Rattle.user_dedup.specs.Cloud.{held_bytes}
 use Rattle.user_dedup.specs.Spending.{spent_by_all}
 use Rattle.cloud_areas.specs.Placing.{shares_in, shares_placed, recipes_placed, recipes_in, region_start, greatest_end, AreBehind, places_of, shares_end, recipes_end}
 use Rattle.cloud_areas.specs.Checkpoints.{AreEntries}
-use Rattle.cloud_areas.specs.Chains.{IsRecord, Says, Summed, Then, laid_shares, BothHaveRoom, HaveRoom, least_shares, least_recipes}
+use Rattle.cloud_areas.specs.Chains.{IsRecord, AreRecordsOfList, Summed, Then, laid_shares, BothHaveRoom, HaveRoom, least_shares, least_recipes}
 use Rattle.cloud_areas.specs.Standing.{Chain, region_in, Holds}
 use Rattle.cloud_areas.specs.Adding.{HasRoomFor}
 use Rattle.cloud_areas.specs.Laid.{place_by}
@@ -101,7 +101,7 @@ record_place region before list (commands.Commit user tag version recipe) body l
 record_place region before list (commands.Delete user tag version) body laid is = ap (map place_by) is.1 ∙ ap recipes_placed (sym is.0)
 
 pub recipes_placed_by : (format : ℕ) (shape : Shape) (region records commands : ℕ) (bodies : List Body) (list : List Command) (recipes : List Placed)
-    → Says format shape region records commands bodies list recipes → map place_by recipes ≡ recipes_in bodies
+    → AreRecordsOfList format shape region records commands bodies list recipes → map place_by recipes ≡ recipes_in bodies
 recipes_placed_by format shape region records commands _ _ _ (Summed bodies list recipes is count number) =
     entries_place shape list is.commits recipes is.laid
     ∙ ap (map place_of_commit) (sym (checkpoint_commits format shape list bodies recipes is))

@@ -6,20 +6,20 @@ use Rattle.std.specs.Option.{option_or}
 use Rattle.std.proofs.lemmas.Bool.{cases_eq}
 use Rattle.std.proofs.lemmas.List.Folds.{find-append}
 use Rattle.std.proofs.lemmas.List.Elements.{All-contains, Contains-append_left, Contains-append_right}
-use Rattle.cd_base.specs.declared.ids.Fp.{Fp}
-use Rattle.cd_base.specs.declared.ids.Tag.{Tag}
-use Rattle.cd_base.specs.declared.ids.UserId.{UserId}
-use Rattle.cd_base.specs.declared.ids.Version.{Version}
-use Rattle.cd_base.specs.declared.shape.Shape.{Shape}
-use Rattle.cd_edges.specs.declared.area.Area.TheVariants.{Shares, Recipes}
-use Rattle.cd_edges.specs.Disk.{Image}
+use Rattle.user_dedup.specs.CdBase.ids.Fp.{Fp}
+use Rattle.user_dedup.specs.CdBase.ids.Tag.{Tag}
+use Rattle.user_dedup.specs.CdBase.ids.UserId.{UserId}
+use Rattle.user_dedup.specs.CdBase.ids.Version.{Version}
+use Rattle.user_dedup.specs.CdBase.shape.Shape.{Shape}
+use Rattle.journal_halves.specs.CdEdges.area.Area.TheVariants.{Shares, Recipes}
+use Rattle.journal_halves.specs.CdEdges.Disk.{Image}
 use Rattle.container_log.specs.Laying.{Placed, IsAt}
-use Rattle.journal_start.specs.declared.start.Header.{Header}
-use Rattle.journal_start.specs.Spelling.{commands_of, records_of}
-use Rattle.record_body.specs.declared.body.CommitBody.{CommitBody}
+use Rattle.journal_halves.specs.JournalStart.start.Header.{Header}
+use Rattle.journal_halves.specs.JournalStart.Spelling.{commands_of, records_of}
+use Rattle.record_bodies.specs.RecordBody.body.CommitBody.{CommitBody}
 use Rattle.record_bodies.specs.Spelling as bodies
 use Rattle.record_bodies.specs.Spelling.{Body}
-use Rattle.cd_base.specs.declared.place.Place.{Place}
+use Rattle.user_dedup.specs.CdBase.place.Place.{Place}
 use Rattle.user_dedup.specs.declared.file_list.FileEntry.{FileEntry}
 use Rattle.user_dedup.specs.declared.view.View.{View}
 use Rattle.user_dedup.specs.Pages as pages
@@ -32,8 +32,8 @@ use Rattle.user_dedup.specs.Cloud.{user_of, user_view, view_after, without_key, 
 use Rattle.user_dedup.proofs.Deleting.{its_key, entries_left, entry_stays}
 use Rattle.user_dedup.proofs.Views.{own_adds, others_stay}
 use Rattle.cloud_areas.specs.Placing.{shares_in}
-use Rattle.cloud_areas.specs.Checkpoints.{put_body, key_of, HasEntry, IsEntry, AreEntries, IsCheckpoint}
-use Rattle.cloud_areas.specs.Chains.{commit_of, IsRecord, Says, Summed, Then, laid_shares}
+use Rattle.cloud_areas.specs.Checkpoints.{put_body, key_of, HasEntry, IsEntry, AreEntries, IsCheckpointOfList}
+use Rattle.cloud_areas.specs.Chains.{commit_of, IsRecord, AreRecordsOfList, Summed, Then, laid_shares}
 use Rattle.cloud_areas.specs.Standing.{Chain, region_in, Holds, ShareLies, EntryLies}
 use Rattle.cloud_areas.proofs.Lists.{in_map, from_map}
 
@@ -65,7 +65,7 @@ entry_of shape list (d ∷ commits) (b ∷ recipes) c are here = elim (contains_
   | inr later ↦ (let r = entry_of shape list commits recipes c are.1 later in (r.0, contains_later b recipes r.0 r.1, r.2))
 ]
 
-module _ (format : ℕ) (shape : Shape) (list : List Command) (records : List Body) (recipes : List Placed) (is : IsCheckpoint format shape list records recipes) where
+module _ (format : ℕ) (shape : Shape) (list : List Command) (records : List Body) (recipes : List Placed) (is : IsCheckpointOfList format shape list records recipes) where
   pub in_records : (c : CommitBody) → Contains is.commits c → Contains records (bodies.Commit c)
   in_records c here =
       let puts = map put_body is.puts in
@@ -166,7 +166,7 @@ module _ (shape : Shape) (region : ℕ) (before : List Body) (old : List Command
 -- ---- a chain
 
 entry_placed : (format : ℕ) (shape : Shape) (region records commands : ℕ) (bodies : List Body) (list : List Command) (recipes : List Placed)
-    → Says format shape region records commands bodies list recipes → (user : UserId) (key : Tag × Version) (e : FileEntry)
+    → AreRecordsOfList format shape region records commands bodies list recipes → (user : UserId) (key : Tag × Version) (e : FileEntry)
     → entry_at (user_view shape list user).files key ≡ Some e → IsPlaced bodies recipes user key e
 entry_placed format shape region records commands _ _ _ (Summed bodies list recipes is count number) user key e found =
     checkpoint_placed format shape list bodies recipes is user key e found

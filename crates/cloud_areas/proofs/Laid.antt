@@ -8,7 +8,7 @@ use Rattle.container_log.specs.Laying.{lengths, placed, Placed}
 use Rattle.container_log.specs.Places.{container_len, end_after, end_of_laid, LiesInOne}
 use Rattle.container_log.proofs.Least.{place_cases, place_behind, least_place}
 use Rattle.record_bodies.specs.Spelling.{Body}
-use Rattle.cd_base.specs.declared.place.Place.{Place}
+use Rattle.user_dedup.specs.CdBase.place.Place.{Place}
 use Rattle.user_dedup.proofs.Owned.{contains_nothing, contains_cases}
 use Rattle.user_dedup.specs.declared.command.Command.{Command}
 use Rattle.cloud_areas.specs.Placing.{shares_in, shares_placed, recipes_placed, recipes_in, region_start, end_of, greatest_end, AreBehind, places_of, total_len}

@@ -17,3 +17,7 @@ mod Rows
 mod Settled
 mod Spends
 pub mod Summing
+pub mod UserDedup
+pub mod RecordBodies
+pub mod RecordBody
+pub mod ContainerLog

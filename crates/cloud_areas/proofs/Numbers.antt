@@ -1,21 +1,21 @@
 -- How many commands the lists have that areas stand for.
 use Rattle.std.proofs.Common.{◌≡◌, inl, inr, ℕ, ◌+◌, ◌-◌, ◌^◌, ◌≤◌, min, true, List, [], ◌∷◌, length, map, refl, sym, ap, ◌∙◌, subst, arith, length-append}
 use Rattle.std.proofs.lemmas.Bool.{false≢true}
-use Rattle.cd_base.specs.declared.shape.Shape.{Shape}
-use Rattle.cd_edges.specs.declared.area.Area.TheVariants.{Journal}
-use Rattle.cd_edges.specs.Disk.{Image}
+use Rattle.user_dedup.specs.CdBase.shape.Shape.{Shape}
+use Rattle.journal_halves.specs.CdEdges.area.Area.TheVariants.{Journal}
+use Rattle.journal_halves.specs.CdEdges.Disk.{Image}
 use Rattle.container_log.specs.Laying.{Placed}
 use Rattle.journal_halves.specs.Beginnings.{IsUnbegun}
 use Rattle.journal_halves.specs.Beginnings.{new_of}
 use Rattle.journal_halves.specs.Halves.{is_half_begun}
 use Rattle.journal_halves.specs.Journals.{Where, HasChain}
 use Rattle.journal_halves.proofs.Current.{one_chain, begun_half}
-use Rattle.journal_start.specs.declared.start.Header.{Header}
-use Rattle.journal_start.specs.Spelling.{commands_of, records_of}
+use Rattle.journal_halves.specs.JournalStart.start.Header.{Header}
+use Rattle.journal_halves.specs.JournalStart.Spelling.{commands_of, records_of}
 use Rattle.record_bodies.specs.Spelling.{Body, body_bytes}
 use Rattle.user_dedup.specs.declared.command.Command.{Command}
 use Rattle.user_dedup.specs.Cloud.{counted}
-use Rattle.cloud_areas.specs.Chains.{Says, Summed, Then}
+use Rattle.cloud_areas.specs.Chains.{AreRecordsOfList, Summed, Then}
 use Rattle.cloud_areas.specs.Standing.{Chain, where_of, Holds, HasList, HasChainOf, StandsFor, number_at}
 
 length_map : {X Y : Type 0} (f : X → Y) (xs : List X) → length (map f xs) ≡ length xs
@@ -24,7 +24,7 @@ length_map f (x ∷ xs) = omega (arith, length_map f xs)
 
 -- the number that the start says and one for each later record, as far as 64 bits reach
 counted_on : (format : ℕ) (shape : Shape) (region records commands : ℕ) (bodies : List Body) (list : List Command) (recipes : List Placed)
-    → Says format shape region records commands bodies list recipes → (records ≤ length bodies) × (counted list ≡ min (commands + (length bodies - records)) (2 ^ 64 - 1))
+    → AreRecordsOfList format shape region records commands bodies list recipes → (records ≤ length bodies) × (counted list ≡ min (commands + (length bodies - records)) (2 ^ 64 - 1))
 counted_on format shape region records commands _ _ _ (Summed bodies list recipes is count number) =
     (omega (arith, count), omega (arith, count, number))
 counted_on format shape region records commands _ _ _ (Then before old laid body command more says is) =

@@ -6,20 +6,20 @@ use Rattle.std.proofs.lemmas.Bool.{cases_Bool, false≢true}
 use Rattle.std.proofs.lemmas.List.{map-append}
 use Rattle.std.proofs.lemmas.List.Elements.{Contains-append_left, Contains-append_right, Contains-append_cases}
 use Rattle.std.proofs.lemmas.Grind.{flat_map-append}
-use Rattle.cd_base.specs.declared.ids.Fp.{Fp}
-use Rattle.cd_base.specs.declared.ids.UserId.{UserId}
-use Rattle.cd_base.specs.declared.shape.Shape.{Shape}
-use Rattle.cd_edges.specs.Disk.{Image}
+use Rattle.user_dedup.specs.CdBase.ids.Fp.{Fp}
+use Rattle.user_dedup.specs.CdBase.ids.UserId.{UserId}
+use Rattle.user_dedup.specs.CdBase.shape.Shape.{Shape}
+use Rattle.journal_halves.specs.CdEdges.Disk.{Image}
 use Rattle.container_log.specs.Laying.{Placed}
-use Rattle.journal_start.specs.declared.start.Header.{Header}
-use Rattle.journal_start.specs.Spelling.{commands_of, records_of}
-use Rattle.record_body.specs.declared.body.PutItem.{PutItem}
-use Rattle.record_body.specs.declared.body.CommitBody.{CommitBody}
+use Rattle.journal_halves.specs.JournalStart.start.Header.{Header}
+use Rattle.journal_halves.specs.JournalStart.Spelling.{commands_of, records_of}
+use Rattle.record_bodies.specs.RecordBody.body.PutItem.{PutItem}
+use Rattle.record_bodies.specs.RecordBody.body.CommitBody.{CommitBody}
 use Rattle.record_bodies.specs.declared.body.KeptItem.{KeptItem}
 use Rattle.record_bodies.specs.declared.body.SpentBody.{SpentBody}
 use Rattle.record_bodies.specs.Spelling as bodies
 use Rattle.record_bodies.specs.Spelling.{Body}
-use Rattle.cd_base.specs.declared.place.Place.{Place}
+use Rattle.user_dedup.specs.CdBase.place.Place.{Place}
 use Rattle.user_dedup.specs.Cloud.{fingerprint}
 use Rattle.user_dedup.specs.Owning.{is_among}
 use Rattle.user_dedup.proofs.Owned.{contains_here, contains_later, contains_nothing, contains_cases, among_contains, contains_among}
@@ -28,9 +28,9 @@ use Rattle.user_dedup.specs.declared.command.Command.TheVariants as commands
 use Rattle.user_dedup.specs.Cloud.{user_view, strings_of}
 use Rattle.user_dedup.proofs.Filtered.{from_filter, in_flat, from_flat}
 use Rattle.cloud_areas.specs.Placing.{places_given, places_kept, shares_placed, shares_in, fps_placed, HasPlace}
-use Rattle.cloud_areas.specs.Checkpoints.{AreApart, PutRecord, put_body, of_user, fps_of, items_in, AreFlagged, IsCheckpoint}
+use Rattle.cloud_areas.specs.Checkpoints.{AreApart, PutRecord, put_body, of_user, fps_of, items_in, AreFlagged, IsCheckpointOfList}
 use Rattle.cloud_areas.specs.Standing.{Chain, region_in, Holds}
-use Rattle.cloud_areas.specs.Chains.{PlacedNew, AreItems, IsRecord, Says, Summed, Then}
+use Rattle.cloud_areas.specs.Chains.{PlacedNew, AreItems, IsRecord, AreRecordsOfList, Summed, Then}
 use Rattle.cloud_areas.proofs.Lists.{in_map, from_map}
 use Rattle.cloud_areas.proofs.Apart.{Apart, apart_from, are_apart, apart_append, one_by}
 use Rattle.cloud_areas.proofs.Placed.{fps_sent, sent_more, shares_more, given_is_listed, put_is_owned, placed_is_sent}
@@ -157,7 +157,7 @@ fps_kept : (items : List KeptItem) → fps_placed (places_kept items) ≡ map (�
 fps_kept [] = refl
 fps_kept (item ∷ items) = ap (λ l. item.fp ∷ l) (fps_kept items)
 
-module _ (format : ℕ) (shape : Shape) (list : List Command) (records : List Body) (recipes : List Placed) (is : IsCheckpoint format shape list records recipes) where
+module _ (format : ℕ) (shape : Shape) (list : List Command) (records : List Body) (recipes : List Placed) (is : IsCheckpointOfList format shape list records recipes) where
   pub checkpoint_places : shares_in records ≡ places_given (items_in is.puts) ++ places_kept (all_kept is.kept)
   checkpoint_places =
       let commits = map bodies.Commit is.commits in
@@ -240,7 +240,7 @@ record_all region before list (commands.Delete user tag version) body laid fp is
 -- ---- a chain
 
 pub placed_once : (format : ℕ) (shape : Shape) (region records commands : ℕ) (bodies : List Body) (list : List Command) (recipes : List Placed)
-    → Says format shape region records commands bodies list recipes → Apart (fps_placed (shares_in bodies))
+    → AreRecordsOfList format shape region records commands bodies list recipes → Apart (fps_placed (shares_in bodies))
 placed_once format shape region records commands _ _ _ (Summed bodies list recipes is count number) = checkpoint_once format shape list bodies recipes is
 placed_once format shape region records commands _ _ _ (Then before old laid body command more says is) =
     let new = record_once region before old command body more is in
@@ -252,7 +252,7 @@ placed_once format shape region records commands _ _ _ (Then before old laid bod
     new.new fp r (subst (Contains (fps_sent old)) x.2 (placed_is_sent format shape region records commands before old laid says x.0 x.1))))
 
 pub placed_all : (format : ℕ) (shape : Shape) (region records commands : ℕ) (bodies : List Body) (list : List Command) (recipes : List Placed)
-    → Says format shape region records commands bodies list recipes → (fp : Fp) → Contains (fps_sent list) fp → HasPlace bodies fp
+    → AreRecordsOfList format shape region records commands bodies list recipes → (fp : Fp) → Contains (fps_sent list) fp → HasPlace bodies fp
 placed_all format shape region records commands _ _ _ (Summed bodies list recipes is count number) fp sent = checkpoint_all format shape list bodies recipes is fp sent
 placed_all format shape region records commands _ _ _ (Then before old laid body command more says is) fp sent =
     elim (Contains-append_cases (fps_sent old) (map fingerprint (strings_of command)) fp (subst (λ (l : List Fp). Contains l fp) (sent_more old command) sent)) [

@@ -2,16 +2,16 @@
 use Rattle.std.proofs.Common.{◌≡◌, ℕ, List, [], ◌∷◌, length, map, take, drop, refl, sym, ap, ◌∙◌, subst}
 use Rattle.std.specs.Prelude.{All}
 use Rattle.std.proofs.lemmas.List.Elements.{All-head, All-tail}
-use Rattle.cd_edges.specs.declared.area.Area.TheVariants.{Journal, Recipes}
-use Rattle.cd_edges.specs.Disk.{Image}
+use Rattle.journal_halves.specs.CdEdges.area.Area.TheVariants.{Journal, Recipes}
+use Rattle.journal_halves.specs.CdEdges.Disk.{Image}
 use Rattle.container_log.specs.Laying.{Placed, IsAt}
 use Rattle.journal_halves.specs.Halves.{half_limit}
 use Rattle.journal_halves.specs.Journals.{Where}
-use Rattle.journal_start.specs.declared.start.Header.{Header}
-use Rattle.journal_start.specs.Spelling.{commands_of, records_of}
+use Rattle.journal_halves.specs.JournalStart.start.Header.{Header}
+use Rattle.journal_halves.specs.JournalStart.Spelling.{commands_of, records_of}
 use Rattle.record_bodies.specs.Spelling.{Body, body_bytes, FitsBody}
 use Rattle.record_bodies.proofs.BodyLaws as laws
-use Rattle.cd_base.specs.declared.place.Place.{Place}
+use Rattle.user_dedup.specs.CdBase.place.Place.{Place}
 use Rattle.user_dedup.specs.declared.command.Command.{Command}
 use Rattle.cloud_areas.specs.Placing.{recipes_in}
 use Rattle.cloud_areas.specs.Standing.{Chain, where_of, region_in, IsChain, Holds, StandsFor}

@@ -4,15 +4,15 @@ use Rattle.std.specs.Prelude.{All}
 use Rattle.std.specs.List.{Contains}
 use Rattle.std.proofs.lemmas.List.{map-append}
 use Rattle.std.proofs.lemmas.List.Elements.{All-append, All-push}
-use Rattle.cd_base.specs.declared.ids.Fp.{Fp}
-use Rattle.cd_edges.specs.declared.area.Area.TheVariants.{Shares, Recipes}
-use Rattle.cd_edges.specs.Disk.{Image}
+use Rattle.user_dedup.specs.CdBase.ids.Fp.{Fp}
+use Rattle.journal_halves.specs.CdEdges.area.Area.TheVariants.{Shares, Recipes}
+use Rattle.journal_halves.specs.CdEdges.Disk.{Image}
 use Rattle.container_log.specs.Laying.{Placed, IsAt}
 use Rattle.journal_halves.specs.Journals.{HasChain, with_body, used_by}
-use Rattle.journal_start.specs.declared.start.Header.{Header}
-use Rattle.journal_start.specs.Spelling.{commands_of, records_of}
+use Rattle.journal_halves.specs.JournalStart.start.Header.{Header}
+use Rattle.journal_halves.specs.JournalStart.Spelling.{commands_of, records_of}
 use Rattle.record_bodies.specs.Spelling.{Body, body_bytes, FitsBody}
-use Rattle.cd_base.specs.declared.place.Place.{Place}
+use Rattle.user_dedup.specs.CdBase.place.Place.{Place}
 use Rattle.user_dedup.specs.declared.command.Command.{Command}
 use Rattle.user_dedup.specs.Cloud.{held_bytes}
 use Rattle.cloud_areas.specs.Placing.{shares_in, shares_placed}

@@ -6,17 +6,17 @@ use Rattle.std.proofs.lemmas.List.{map-append}
 use Rattle.std.proofs.lemmas.List.Elements.{All-nil, All-cons, Contains-append_left, Contains-append_right, Contains-append_cases}
 use Rattle.std.specs.Cmp.Lexicographic.{nat_list_eq_equiv}
 use Rattle.sha2.specs.Sha256.{sha256 as sha256_of}
-use Rattle.cd_base.specs.declared.ids.Fp.{Fp}
-use Rattle.cd_base.specs.declared.ids.UserId.{UserId}
-use Rattle.cd_base.specs.declared.shape.Shape.{Shape}
+use Rattle.user_dedup.specs.CdBase.ids.Fp.{Fp}
+use Rattle.user_dedup.specs.CdBase.ids.UserId.{UserId}
+use Rattle.user_dedup.specs.CdBase.shape.Shape.{Shape}
 use Rattle.container_log.specs.Laying.{Placed}
-use Rattle.record_body.specs.declared.body.PutItem.{PutItem}
-use Rattle.record_body.specs.declared.body.CommitBody.{CommitBody}
+use Rattle.record_bodies.specs.RecordBody.body.PutItem.{PutItem}
+use Rattle.record_bodies.specs.RecordBody.body.CommitBody.{CommitBody}
 use Rattle.record_bodies.specs.declared.body.KeptItem.{KeptItem}
 use Rattle.record_bodies.specs.declared.body.SpentBody.{SpentBody}
 use Rattle.record_bodies.specs.Spelling as bodies
 use Rattle.record_bodies.specs.Spelling.{Body}
-use Rattle.cd_base.specs.declared.place.Place.{Place}
+use Rattle.user_dedup.specs.CdBase.place.Place.{Place}
 use Rattle.user_dedup.specs.Cloud.{fingerprint, has_fingerprint}
 use Rattle.user_dedup.specs.Owning.{is_among}
 use Rattle.user_dedup.proofs.Owned.{contains_here, contains_later, contains_nothing, contains_cases}
@@ -26,8 +26,8 @@ use Rattle.user_dedup.specs.Cloud.{user_view, strings_of, strings_in, held_bytes
 use Rattle.user_dedup.proofs.Filtered.{in_filter, in_flat, from_flat}
 use Rattle.user_dedup.proofs.Views.{held_is, sent_is_held, owned_is_held, held_more}
 use Rattle.cloud_areas.specs.Placing.{places_given, places_kept, shares_placed, shares_in}
-use Rattle.cloud_areas.specs.Checkpoints.{PutRecord, put_body, of_user, fps_of, items_in, IsCheckpoint}
-use Rattle.cloud_areas.specs.Chains.{PlacedNew, AreItems, IsRecord, Says, Summed, Then, AreLong}
+use Rattle.cloud_areas.specs.Checkpoints.{PutRecord, put_body, of_user, fps_of, items_in, IsCheckpointOfList}
+use Rattle.cloud_areas.specs.Chains.{PlacedNew, AreItems, IsRecord, AreRecordsOfList, Summed, Then, AreLong}
 use Rattle.cloud_areas.proofs.Lists.{in_map, from_map, flat_more}
 
 abbrev pub fps_sent : List Command → List Fp
@@ -78,7 +78,7 @@ rest_places_none commits spents body x c d = elim (Contains-append_cases (map bo
   | inr r ↦ let m = from_map bodies.Spent spents body r in contains_nothing x (subst (λ (b : Body). Contains (shares_placed b) x) (sym m.2) d)
 ]
 
-module _ (format : ℕ) (shape : Shape) (list : List Command) (records : List Body) (recipes : List Placed) (is : IsCheckpoint format shape list records recipes) where
+module _ (format : ℕ) (shape : Shape) (list : List Command) (records : List Body) (recipes : List Placed) (is : IsCheckpointOfList format shape list records recipes) where
   -- what a Put of a checkpoint lists is owned
   pub put_is_owned : (p : PutRecord) (item : PutItem) → Contains is.puts p → Contains p.items item → Contains (user_view shape list p.user).own item.fp
   put_is_owned p item c d =
@@ -148,7 +148,7 @@ record_is_sent region before list (commands.Delete user tag version) body laid x
 -- ---- a chain
 
 pub placed_is_sent : (format : ℕ) (shape : Shape) (region records commands : ℕ) (bodies : List Body) (list : List Command) (recipes : List Placed)
-    → Says format shape region records commands bodies list recipes → AreSent list (shares_in bodies)
+    → AreRecordsOfList format shape region records commands bodies list recipes → AreSent list (shares_in bodies)
 placed_is_sent format shape region records commands _ _ _ (Summed bodies list recipes is count number) x c = checkpoint_is_sent format shape list bodies recipes is x c
 placed_is_sent format shape region records commands _ _ _ (Then before old laid body command more says is) x c =
     subst (λ (l : List Fp). Contains l x.0) (sym (sent_more old command))

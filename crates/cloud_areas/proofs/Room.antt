@@ -9,30 +9,30 @@ use Rattle.std.proofs.lemmas.List.{map-append}
 use Rattle.std.proofs.lemmas.List.Elements.{All-head, All-tail, All-same, All-contains, Contains-append_left, Contains-append_right}
 use Rattle.std.proofs.lemmas.List.Sums.{sum_by-cons, sum_by-append}
 use native.Mathlib.Nat.{mul-add, mul_left_comm, mul_comm}
-use Rattle.cd_base.specs.declared.ids.Fp.{Fp}
-use Rattle.cd_base.specs.declared.ids.Tag.{Tag}
-use Rattle.cd_base.specs.declared.ids.UserId.{UserId}
-use Rattle.cd_base.specs.declared.ids.Version.{Version}
-use Rattle.cd_base.specs.declared.shape.Shape.{Shape}
-use Rattle.commit_journal.specs.Records.{sized, chain}
+use Rattle.user_dedup.specs.CdBase.ids.Fp.{Fp}
+use Rattle.user_dedup.specs.CdBase.ids.Tag.{Tag}
+use Rattle.user_dedup.specs.CdBase.ids.UserId.{UserId}
+use Rattle.user_dedup.specs.CdBase.ids.Version.{Version}
+use Rattle.user_dedup.specs.CdBase.shape.Shape.{Shape}
+use Rattle.journal_halves.specs.CommitJournal.Records.{sized, chain}
 use Rattle.container_log.specs.Laying.{Placed}
 use Rattle.journal_halves.specs.Halves.{half_limit}
 use Rattle.journal_halves.specs.Journals.{used_by, with_body}
-use Rattle.journal_start.specs.declared.rooms.Rooms.{Rooms}
-use Rattle.journal_start.specs.declared.start.Checkpoint.{Checkpoint}
-use Rattle.journal_start.specs.declared.start.Header.{Header}
-use Rattle.journal_start.specs.declared.start.Start.{Start}
-use Rattle.journal_start.specs.Ranges.{AreRooms}
-use Rattle.journal_start.specs.Spelling.{header_bytes, behind_header, start_bytes}
-use Rattle.record_body.specs.declared.body.PutItem.{PutItem}
-use Rattle.record_body.specs.declared.body.CommitBody.{CommitBody}
-use Rattle.record_body.proofs.Spelled.{length-put, length-commit}
+use Rattle.journal_halves.specs.JournalStart.rooms.UserRooms.{UserRooms}
+use Rattle.journal_halves.specs.JournalStart.start.Checkpoint.{Checkpoint}
+use Rattle.journal_halves.specs.JournalStart.start.Header.{Header}
+use Rattle.journal_halves.specs.JournalStart.start.Start.{Start}
+use Rattle.journal_halves.specs.JournalStart.Ranges.{AreRooms}
+use Rattle.journal_halves.specs.JournalStart.Spelling.{header_bytes, behind_header, start_bytes}
+use Rattle.record_bodies.specs.RecordBody.body.PutItem.{PutItem}
+use Rattle.record_bodies.specs.RecordBody.body.CommitBody.{CommitBody}
+use Rattle.record_bodies.proofs.RecordBody.Spelled.{length-put, length-commit}
 use Rattle.record_bodies.specs.declared.body.KeptItem.{KeptItem}
 use Rattle.record_bodies.specs.declared.body.SpentBody.{SpentBody}
 use Rattle.record_bodies.specs.Spelling as bodies
 use Rattle.record_bodies.specs.Spelling.{Body, body_bytes, FitsBody}
 use Rattle.record_bodies.proofs.Spelled.{length-kept, longest}
-use Rattle.cd_base.specs.declared.place.Place.{Place}
+use Rattle.user_dedup.specs.CdBase.place.Place.{Place}
 use Rattle.user_dedup.specs.declared.file_list.FileEntry.{FileEntry}
 use Rattle.user_dedup.specs.declared.view.View.{View}
 use Rattle.user_dedup.specs.Cloud.{fingerprint, no_view}
@@ -44,12 +44,12 @@ use Rattle.user_dedup.proofs.Sound.{found_entry}
 use Rattle.user_dedup.specs.declared.command.Command.{Command}
 use Rattle.user_dedup.specs.declared.command.Command.TheVariants as commands
 use Rattle.user_dedup.specs.Cloud.{user_of, commands_of, user_view, view_after, strings_of, strings_in, recipes_of, named_by, named_in, without_key}
-use Rattle.user_dedup.specs.Spending.{Spent, nothing, held_len, spent_of, spent_by_all, limits_of, files_of, UsesWithin, IsWithin}
+use Rattle.user_dedup.specs.Spending.{SpentByUser, nothing, held_len, spent_of, spent_by_all, limits_of, files_of, UsesWithin, IsWithin}
 use Rattle.user_dedup.proofs.Filtered.{from_filter}
 use Rattle.user_dedup.proofs.Spending.{each_within}
 use Rattle.cloud_areas.specs.Chains.{BothHaveRoom}
 use Rattle.cloud_areas.specs.Placing.{region_start, shares_end, recipes_end, places_given, shares_in, fps_placed}
-use Rattle.cloud_areas.specs.Checkpoints.{PutRecord, put_body, of_user, fps_of, items_in, key_of, HasEntry, ListSpent, SpentIs, IsCheckpoint}
+use Rattle.cloud_areas.specs.Checkpoints.{PutRecord, put_body, of_user, fps_of, items_in, key_of, HasEntry, ListSpent, SpentIs, IsCheckpointOfList}
 use Rattle.cloud_areas.specs.Standing.{Chain, where_of}
 use Rattle.cloud_areas.proofs.Lists.{contained, in_map, from_map}
 use Rattle.cloud_areas.proofs.Apart.{Apart, apart_from}
@@ -178,7 +178,7 @@ filter_len p (fp ∷ fps) = by_test (p fp) (filter_len p fps)
 
 -- ---- how many there are of each
 
-module _ (shape : Shape) (rooms : Rooms) (list : List Command) (within : IsWithin shape rooms list) where
+module _ (shape : Shape) (rooms : UserRooms) (list : List Command) (within : IsWithin shape rooms list) where
   pub uses : (u : ℕ) → UsesWithin shape rooms list (record { 0 = u })
   uses u = each_within shape rooms list (record { 0 = u }) within
 
@@ -198,9 +198,9 @@ module _ (shape : Shape) (rooms : Rooms) (list : List Command) (within : IsWithi
       let l : limits_of rooms (record { 0 = u }) ≡ nothing =
       ap (λ (b : Bool). if b then record { owners = rooms.owners; shares = rooms.shares; recipes = rooms.recipes } else nothing) (limits_above u ge) in
       let k = uses u in
-      let owners : (spent_of list (record { 0 = u })).owners ≡ 0 = omega (arith, k.owners, ap (λ (s : Spent). s.owners) l) in
-      let shares : (spent_of list (record { 0 = u })).shares ≡ 0 = omega (arith, k.shares, ap (λ (s : Spent). s.shares) l) in
-      let recipes : (spent_of list (record { 0 = u })).recipes ≡ 0 = omega (arith, k.recipes, ap (λ (s : Spent). s.recipes) l) in
+      let owners : (spent_of list (record { 0 = u })).owners ≡ 0 = omega (arith, k.owners, ap (λ (s : SpentByUser). s.owners) l) in
+      let shares : (spent_of list (record { 0 = u })).shares ≡ 0 = omega (arith, k.shares, ap (λ (s : SpentByUser). s.shares) l) in
+      let recipes : (spent_of list (record { 0 = u })).recipes ≡ 0 = omega (arith, k.recipes, ap (λ (s : SpentByUser). s.recipes) l) in
       λ i. record { owners = owners i; shares = shares i; recipes = recipes i }
 
   pub files_below : (u : ℕ) → u < rooms.users → files_of shape list (record { 0 = u }) ≤ rooms.files
@@ -224,7 +224,7 @@ module _ (shape : Shape) (rooms : Rooms) (list : List Command) (within : IsWithi
   strings_few =
       let all = grouped strings_len (λ (c : Command). (user_of c).0) rooms.users rooms.owners list
       (λ u lt. omega (arith, spent_below u lt, strings_sum (commands_of (record { 0 = u }) list)))
-      (λ u ge. omega (arith, ap (λ (s : Spent). s.owners) (spent_above u ge), strings_sum (commands_of (record { 0 = u }) list))) in
+      (λ u ge. omega (arith, ap (λ (s : SpentByUser). s.owners) (spent_above u ge), strings_sum (commands_of (record { 0 = u }) list))) in
       omega (arith, all, strings_sum list)
 
   -- what a user owns was sent by the user
@@ -246,7 +246,7 @@ module _ (shape : Shape) (rooms : Rooms) (list : List Command) (within : IsWithi
         filter_len (λ (fp : Fp). not (is_among (named_by shape (entry_at v.files (tag, version))) fp) || is_among (named_in shape (without_key (tag, version) v.files)) fp) v.own,
       )
 
-  module _ (format : ℕ) (records : List Body) (recipes : List Placed) (is : IsCheckpoint format shape list records recipes) where
+  module _ (format : ℕ) (records : List Body) (recipes : List Placed) (is : IsCheckpointOfList format shape list records recipes) where
     -- what is listed
     items_sum : (puts : List PutRecord) → length (fps_of (items_in puts)) ≡ sum_by len_of puts
     items_sum [] = refl
@@ -275,7 +275,7 @@ module _ (shape : Shape) (rooms : Rooms) (list : List Command) (within : IsWithi
     listed_few =
         grouped len_of (λ (p : PutRecord). p.user.0) rooms.users rooms.owners is.puts
         (λ u lt. omega (arith, listed_for u, spent_below u lt))
-        (λ u ge. omega (arith, listed_for u, ap (λ (s : Spent). s.owners) (spent_above u ge)))
+        (λ u ge. omega (arith, listed_for u, ap (λ (s : SpentByUser). s.owners) (spent_above u ge)))
 
     -- what is placed
     given_len : (items : List PutItem) → length (places_given items) ≡ count_by has_place items
@@ -418,7 +418,7 @@ module _ (shape : Shape) (rooms : Rooms) (list : List Command) (within : IsWithi
 
 -- ---- how far logs reach
 
-module _ (shape : Shape) (rooms : Rooms) (list : List Command) (within : IsWithin shape rooms list) where
+module _ (shape : Shape) (rooms : UserRooms) (list : List Command) (within : IsWithin shape rooms list) where
   pub shares_by : Command → ℕ
   shares_by command = sum_by (held_len list) (strings_of command)
 
@@ -459,7 +459,7 @@ module _ (shape : Shape) (rooms : Rooms) (list : List Command) (within : IsWithi
   shares_few =
       let all = grouped shares_by (λ (c : Command). (user_of c).0) rooms.users rooms.shares list
       (λ u lt. omega (arith, shares_below u lt, shares_sum (commands_of (record { 0 = u }) list)))
-      (λ u ge. omega (arith, ap (λ (s : Spent). s.shares) (spent_above shape rooms list within u ge), shares_sum (commands_of (record { 0 = u }) list))) in
+      (λ u ge. omega (arith, ap (λ (s : SpentByUser). s.shares) (spent_above shape rooms list within u ge), shares_sum (commands_of (record { 0 = u }) list))) in
       omega (arith, all, shares_sum list)
 
   pub recipes_few : (spent_by_all list).recipes ≤ rooms.users * rooms.recipes
@@ -467,15 +467,15 @@ module _ (shape : Shape) (rooms : Rooms) (list : List Command) (within : IsWithi
   recipes_few =
       let all = grouped recipes_by (λ (c : Command). (user_of c).0) rooms.users rooms.recipes list
       (λ u lt. omega (arith, recipes_below u lt, recipes_sum (commands_of (record { 0 = u }) list)))
-      (λ u ge. omega (arith, ap (λ (s : Spent). s.recipes) (spent_above shape rooms list within u ge), recipes_sum (commands_of (record { 0 = u }) list))) in
+      (λ u ge. omega (arith, ap (λ (s : SpentByUser). s.recipes) (spent_above shape rooms list within u ge), recipes_sum (commands_of (record { 0 = u }) list))) in
       omega (arith, all, recipes_sum list)
 
 -- So both areas end far below the region's end, wherever a list within its rooms has brought them.
-pub shares_far : (shape : Shape) (rooms : Rooms) (region : ℕ) (list : List Command) (records : List Body) → IsWithin shape rooms list → AreRooms rooms → BothHaveRoom region list records
+pub shares_far : (shape : Shape) (rooms : UserRooms) (region : ℕ) (list : List Command) (records : List Body) → IsWithin shape rooms list → AreRooms rooms → BothHaveRoom region list records
     → shares_end region records ≤ region_start region + 25769803776
 shares_far shape rooms region list records within are room = omega (arith, room.shares.bound, shares_few shape rooms list within, are.shares)
 
-pub recipes_far : (shape : Shape) (rooms : Rooms) (region : ℕ) (list : List Command) (records : List Body) → IsWithin shape rooms list → AreRooms rooms → BothHaveRoom region list records
+pub recipes_far : (shape : Shape) (rooms : UserRooms) (region : ℕ) (list : List Command) (records : List Body) → IsWithin shape rooms list → AreRooms rooms → BothHaveRoom region list records
     → recipes_end region records ≤ region_start region + 3221225472
 recipes_far shape rooms region list records within are room = omega (arith, room.recipes.bound, recipes_few shape rooms list within, are.recipes)
 
@@ -503,7 +503,7 @@ start_len s = by_format (s.header.format == 1) refl s.checkpoint
 
 -- Behind a checkpoint of a list within its rooms a half has room for one more record, whichever it is.
 pub room_behind : (header : Header) (list : List Command) (c : Chain) (body : Body) → IsWithin header.shape header.rooms list
-    → IsCheckpoint header.format header.shape list c.records c.recipes → All FitsBody c.records → FitsBody body
+    → IsCheckpointOfList header.format header.shape list c.records c.recipes → All FitsBody c.records → FitsBody body
     → used_by (with_body (where_of c) (body_bytes body)) ≤ half_limit header.rooms
 room_behind header list c body within is fit fits =
     let all : List (List ℕ) = start_bytes c.start ∷ (map body_bytes c.records ++ body_bytes body ∷ []) in
@@ -520,7 +520,7 @@ room_behind header list c body within is fit fits =
     )
 
 -- the greatest half limit is far below a half
-pub half_is_enough : (rooms : Rooms) → AreRooms rooms → half_limit rooms ≤ 52415307
+pub half_is_enough : (rooms : UserRooms) → AreRooms rooms → half_limit rooms ≤ 52415307
 half_is_enough rooms are =
     let a = mul-add rooms.users (97 * rooms.owners + 94 * rooms.files) 30 in
     let b = mul-add rooms.users (97 * rooms.owners) (94 * rooms.files) in

@@ -6,32 +6,32 @@ use Rattle.std.proofs.lemmas.List.Elements.{All-nil, All-cons}
 use Rattle.std.proofs.lemmas.List.Sums.{sum_by-cons}
 use Rattle.sha2.specs.Sha256.{sha256 as sha256_of}
 use Rattle.sha2.proofs.Facts256.{length-sha256}
-use Rattle.cd_base.specs.declared.ids.Fp.{Fp}
-use Rattle.cd_base.specs.declared.ids.Tag.{Tag}
-use Rattle.cd_base.specs.declared.ids.UserId.{UserId}
-use Rattle.cd_base.specs.declared.ids.Version.{Version}
-use Rattle.cd_base.specs.declared.rooms.Room.TheVariants as names
-use Rattle.cd_base.specs.declared.shape.Shape.{Shape}
-use Rattle.cd_edges.specs.declared.area.Area.TheVariants.{Journal, Shares, Recipes}
-use Rattle.cd_edges.specs.Disk.{Image}
-use Rattle.commit_journal.specs.Records.{IsBody, chain, is_begun}
+use Rattle.user_dedup.specs.CdBase.ids.Fp.{Fp}
+use Rattle.user_dedup.specs.CdBase.ids.Tag.{Tag}
+use Rattle.user_dedup.specs.CdBase.ids.UserId.{UserId}
+use Rattle.user_dedup.specs.CdBase.ids.Version.{Version}
+use Rattle.user_dedup.specs.CdBase.rooms.Room.TheVariants as names
+use Rattle.user_dedup.specs.CdBase.shape.Shape.{Shape}
+use Rattle.journal_halves.specs.CdEdges.area.Area.TheVariants.{Journal, Shares, Recipes}
+use Rattle.journal_halves.specs.CdEdges.Disk.{Image}
+use Rattle.journal_halves.specs.CommitJournal.Records.{IsJournalBody, chain, is_begun}
 use Rattle.container_log.specs.Laying.{IsAt}
 use Rattle.journal_halves.specs.Beginnings.{new_of}
 use Rattle.journal_halves.specs.Halves.{half_len, half_of, half_limit, is_half_begun}
 use Rattle.journal_halves.specs.Journals.{all_bodies, used_by}
 use Rattle.journal_halves.proofs.Laying.{starts}
-use Rattle.journal_start.specs.declared.rooms.Rooms.{Rooms}
-use Rattle.journal_start.specs.declared.start.Header.{Header}
-use Rattle.journal_start.specs.Ranges.{AreRooms, usual_rooms, IsHeader}
-use Rattle.journal_start.specs.Spelling.{start_bytes}
-use Rattle.message_fields.specs.Shares.{IsShare}
-use Rattle.messages.specs.declared.request.Request.TheVariants as requests
-use Rattle.record_body.specs.declared.body.PutItem.{PutItem}
-use Rattle.record_body.specs.Spelling.{FitsPlace, FitsItem}
-use Rattle.record_body.proofs.Spelled.{length-put}
+use Rattle.journal_halves.specs.JournalStart.rooms.UserRooms.{UserRooms}
+use Rattle.journal_halves.specs.JournalStart.start.Header.{Header}
+use Rattle.journal_halves.specs.JournalStart.Ranges.{AreRooms, usual_rooms, IsHeader}
+use Rattle.journal_halves.specs.JournalStart.Spelling.{start_bytes}
+use Rattle.user_dedup.specs.MessageFields.Shares.{IsShare}
+use Rattle.user_dedup.specs.Messages.request.Request.TheVariants as requests
+use Rattle.record_bodies.specs.RecordBody.body.PutItem.{PutItem}
+use Rattle.record_bodies.specs.RecordBody.Spelling.{FitsPlace, FitsItem}
+use Rattle.record_bodies.proofs.RecordBody.Spelled.{length-put}
 use Rattle.record_bodies.specs.Spelling as bodies
 use Rattle.record_bodies.specs.Spelling.{Body, body_bytes, FitsBody}
-use Rattle.cd_base.specs.declared.place.Place.{Place}
+use Rattle.user_dedup.specs.CdBase.place.Place.{Place}
 use Rattle.user_dedup.specs.Cloud.{fingerprint}
 use Rattle.user_dedup.specs.Owning.{is_among}
 use Rattle.user_dedup.specs.declared.command.Command.{Command}
@@ -129,7 +129,7 @@ migrated shape = refl
 
 -- One checkpoint in 600 commands: 214 versions of an empty file are entered and deleted, and one more is entered. Its deletion doesn't fit; it
 -- and 85 versions more, entered and deleted, stand behind a checkpoint.
-abbrev rooms_of : ℕ → ℕ → ℕ → ℕ → ℕ → Rooms
+abbrev rooms_of : ℕ → ℕ → ℕ → ℕ → ℕ → UserRooms
 rooms_of users shares recipes owners files = record { users = users; shares = shares; recipes = recipes; owners = owners; files = files }
 
 small_limit : half_limit (rooms_of 10 1000 10000 10 10) ≡ 30995
@@ -287,10 +287,10 @@ module _ (shape : Shape) (some : 0 < shape.n) where
   is_header : IsHeader (header shape)
   is_header = record { format = inr refl; cloud = some; rooms = usual; usual = λ e. let no : 2 ≡ 1 = e in absurd (omega (arith, no)) }
 
-  start_body : IsBody (start_bytes one.start)
+  start_body : IsJournalBody (start_bytes one.start)
   start_body = record { some = omega arith; few = omega arith }
 
-  put_body : IsBody (body_bytes record_of)
+  put_body : IsJournalBody (body_bytes record_of)
   put_body = record { some = omega (arith, record_len); few = omega (arith, record_len) }
 
   used : length (chain (all_bodies (where_of one))) ≡ 98
@@ -359,7 +359,7 @@ kept_whole : (shape : Shape) → compact shape stored ≡ stored
 unfolding compact
 kept_whole shape = rw (same (sha256_of s11)) refl
 
-of_kept : (shape : Shape) (rooms : Rooms)
+of_kept : (shape : Shape) (rooms : UserRooms)
     → too_large_for shape rooms stored (user 7) ≡ passed_room rooms (user 7) (spent_of stored (user 7)) (files_of shape stored (user 7))
 of_kept shape rooms = ap (λ (list : List Command). passed_room rooms (user 7) (spent_of list (user 7)) (files_of shape list (user 7))) (kept_whole shape)
 

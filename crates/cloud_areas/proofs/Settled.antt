@@ -2,13 +2,13 @@
 use Rattle.std.proofs.Common.{◌≡◌, ◌⊎◌, inl, inr, ◌↔◌, List, [], ◌∷◌, ◌++◌, Option, Some, None, refl, sym, subst}
 use Rattle.std.specs.Prelude.{IsSomeAnd}
 use Rattle.std.specs.List.{Contains}
-use Rattle.cd_edges.specs.declared.area.Area.{Area}
-use Rattle.cd_edges.specs.Disk.{Store, Areas, Cloud, Image, IsImage, MayLeave, LeavesOnly, reads}
-use Rattle.cd_edges.specs.Shelf.{stable}
-use Rattle.cd_edges.proofs.Moments.{weaker}
-use Rattle.cd_edges.proofs.Torn.{only}
-use Rattle.journal_start.specs.declared.start.Header.{Header}
-use Rattle.messages.specs.declared.request.Request.{Request}
+use Rattle.journal_halves.specs.CdEdges.area.Area.{Area}
+use Rattle.journal_halves.specs.CdEdges.Disk.{Store, Areas, Cloud, Image, IsImage, MayLeave, LeavesOnly, reads}
+use Rattle.journal_halves.specs.CdEdges.Shelf.{stable}
+use Rattle.journal_halves.proofs.CdEdges.Moments.{weaker}
+use Rattle.journal_halves.proofs.CdEdges.Torn.{only}
+use Rattle.journal_halves.specs.JournalStart.start.Header.{Header}
+use Rattle.user_dedup.specs.Messages.request.Request.{Request}
 use Rattle.user_dedup.specs.declared.command.Command.{Command}
 use Rattle.user_dedup.specs.Dedup.{Outcome}
 use Rattle.user_dedup.specs.Exec.{Peer, MaySettleAs}

@@ -3,19 +3,19 @@ use Rattle.std.proofs.Common.{◌≡◌, ℕ, List, [], ◌∷◌, ◌++◌, len
 use Rattle.std.specs.List.{Contains, flat_map}
 use Rattle.std.proofs.lemmas.List.Elements.{All-contains}
 use Rattle.std.proofs.lemmas.Grind.{flat_map-append}
-use Rattle.cd_base.specs.declared.ids.Fp.{Fp}
-use Rattle.cd_base.specs.declared.shape.Shape.{Shape}
-use Rattle.cd_edges.specs.declared.area.Area.TheVariants.{Journal, Shares}
-use Rattle.cd_edges.specs.Disk.{Image}
+use Rattle.user_dedup.specs.CdBase.ids.Fp.{Fp}
+use Rattle.user_dedup.specs.CdBase.shape.Shape.{Shape}
+use Rattle.journal_halves.specs.CdEdges.area.Area.TheVariants.{Journal, Shares}
+use Rattle.journal_halves.specs.CdEdges.Disk.{Image}
 use Rattle.container_log.specs.Laying.{Placed, IsAt}
 use Rattle.journal_halves.specs.Halves.{half_limit}
-use Rattle.journal_start.specs.declared.start.Header.{Header}
-use Rattle.record_body.specs.declared.body.CommitBody.{CommitBody}
+use Rattle.journal_halves.specs.JournalStart.start.Header.{Header}
+use Rattle.record_bodies.specs.RecordBody.body.CommitBody.{CommitBody}
 use Rattle.record_bodies.specs.declared.body.KeptItem.{KeptItem}
 use Rattle.record_bodies.specs.declared.body.SpentBody.{SpentBody}
 use Rattle.record_bodies.specs.Spelling as bodies
 use Rattle.record_bodies.specs.Spelling.{Body}
-use Rattle.cd_base.specs.declared.place.Place.{Place}
+use Rattle.user_dedup.specs.CdBase.place.Place.{Place}
 use Rattle.user_dedup.proofs.Owned.{contains_here, contains_nothing, contains_cases}
 use Rattle.user_dedup.specs.declared.command.Command.{Command}
 use Rattle.user_dedup.specs.Dedup.{IsSound}
@@ -23,7 +23,7 @@ use Rattle.user_dedup.specs.Cloud.{held_bytes}
 use Rattle.user_dedup.specs.Spending.{spent_by_all}
 use Rattle.user_dedup.proofs.Filtered.{in_flat, from_flat}
 use Rattle.cloud_areas.specs.Placing.{shares_in, recipes_in, region_start, greatest_end, places_of}
-use Rattle.cloud_areas.specs.Checkpoints.{PutRecord, put_body, key_of, IsCheckpoint}
+use Rattle.cloud_areas.specs.Checkpoints.{PutRecord, put_body, key_of, IsCheckpointOfList}
 use Rattle.cloud_areas.specs.Chains.{Summed, laid_shares, LiesIn, HaveRoom, BothHaveRoom, least_shares, least_recipes}
 use Rattle.cloud_areas.specs.Standing.{Chain, region_in, IsChain, Holds, StandsFor}
 use Rattle.cloud_areas.specs.Summaries.{SumsUp}
@@ -92,7 +92,7 @@ commits_all (c ∷ commits) = ap (λ l. c ∷ l) (commits_all commits)
 commits_more : (a b : List Body) → commits_in (a ++ b) ≡ commits_in a ++ commits_in b
 commits_more a b = flat_map-append commit_in a b
 
-pub checkpoint_commits : (format : ℕ) (shape : Shape) (list : List Command) (records : List Body) (recipes : List Placed) (is : IsCheckpoint format shape list records recipes)
+pub checkpoint_commits : (format : ℕ) (shape : Shape) (list : List Command) (records : List Body) (recipes : List Placed) (is : IsCheckpointOfList format shape list records recipes)
     → commits_in records ≡ is.commits
 checkpoint_commits format shape list records recipes is =
     let puts = map put_body is.puts in

@@ -1,9 +1,9 @@
 -- A chain with one record more, and areas that keep what a chain places.
 use Rattle.std.specs.Prelude.{ℕ, ◌+◌, ◌*◌, ◌≤◌, List, [], ◌∷◌, ◌++◌, All}
 use Rattle.std.specs.List.{Contains}
-use Rattle.cd_edges.specs.declared.area.Area.TheVariants.{Shares, Recipes}
-use Rattle.cd_edges.specs.Disk.{Image}
-use Rattle.journal_start.specs.declared.start.Header.{Header}
+use Rattle.journal_halves.specs.CdEdges.area.Area.TheVariants.{Shares, Recipes}
+use Rattle.journal_halves.specs.CdEdges.Disk.{Image}
+use Rattle.journal_halves.specs.JournalStart.start.Header.{Header}
 use Rattle.container_log.specs.Laying.{Placed, IsAt}
 use Rattle.record_bodies.specs.Spelling.{Body, FitsBody}
 use Rattle.user_dedup.specs.declared.command.Command.{Command}

@@ -1,15 +1,15 @@
 -- The records of a chain, and the list of commands that they say.
 use Rattle.std.specs.Prelude.{◌≡◌, ◌⊎◌, ℕ, ◌+◌, ◌*◌, ◌≤◌, Bool, true, false, List, [], ◌∷◌, ◌++◌, length, map, slice_get, All, Option, Some, None}
-use Rattle.cd_base.specs.declared.ids.Fp.{Fp}
-use Rattle.cd_base.specs.declared.ids.Tag.{Tag}
-use Rattle.cd_base.specs.declared.ids.UserId.{UserId}
-use Rattle.cd_base.specs.declared.ids.Version.{Version}
-use Rattle.cd_base.specs.declared.shape.Shape.{Shape}
+use Rattle.user_dedup.specs.CdBase.ids.Fp.{Fp}
+use Rattle.user_dedup.specs.CdBase.ids.Tag.{Tag}
+use Rattle.user_dedup.specs.CdBase.ids.UserId.{UserId}
+use Rattle.user_dedup.specs.CdBase.ids.Version.{Version}
+use Rattle.user_dedup.specs.CdBase.shape.Shape.{Shape}
 use Rattle.container_log.specs.Laying.{Placed}
 use Rattle.container_log.specs.Places.{LiesInOne}
-use Rattle.record_body.specs.declared.body.CommitBody.{CommitBody}
-use Rattle.record_body.specs.declared.body.PutItem.{PutItem}
-use Rattle.cd_base.specs.declared.place.Place.{Place}
+use Rattle.record_bodies.specs.RecordBody.body.CommitBody.{CommitBody}
+use Rattle.record_bodies.specs.RecordBody.body.PutItem.{PutItem}
+use Rattle.user_dedup.specs.CdBase.place.Place.{Place}
 use Rattle.user_dedup.specs.Cloud.{fingerprint}
 use Rattle.user_dedup.specs.Owning.{is_among}
 use Rattle.user_dedup.specs.declared.command.Command.{Command}
@@ -19,7 +19,7 @@ use Rattle.user_dedup.specs.Spending.{spent_by_all}
 use Rattle.record_bodies.specs.Spelling as bodies
 use Rattle.record_bodies.specs.Spelling.{Body}
 use Rattle.cloud_areas.specs.Placing.{places_given, shares_in, recipes_in, region_start, end_of, greatest_end, AreBehind, places_of, shares_end, recipes_end}
-use Rattle.cloud_areas.specs.Checkpoints.{IsCheckpoint}
+use Rattle.cloud_areas.specs.Checkpoints.{IsCheckpointOfList}
 
 -- ---- one command more
 
@@ -66,12 +66,14 @@ IsRecord region before list (commands.Delete user tag version) body laid = (body
 
 -- The first records, as many as the start says, are a checkpoint of as many commands as it says; then comes one record for each later
 -- command, in order.
-pub data Says (format : ℕ) (shape : Shape) (region records commands : ℕ) : List Body → List Command → List Placed → Type 0 where
-  Summed : (bodies : List Body) (list : List Command) (recipes : List Placed) → IsCheckpoint format shape list bodies recipes
-      → length bodies ≡ records → counted list ≡ commands → Says format shape region records commands bodies list recipes
+pub data AreRecordsOfList (format : ℕ) (shape : Shape) (region records commands : ℕ) : List Body → List Command → List Placed → Type 0 where
+  Summed : (bodies : List Body) (list : List Command) (recipes : List Placed) → IsCheckpointOfList format shape list bodies recipes
+      → length bodies ≡ records → counted list ≡ commands → AreRecordsOfList format shape region records commands bodies list recipes
   Then : (bodies : List Body) (list : List Command) (recipes : List Placed) (body : Body) (command : Command) (laid : List Placed)
-      → Says format shape region records commands bodies list recipes → IsRecord region bodies list command body laid
-      → Says format shape region records commands (bodies ++ body ∷ []) (list ++ command ∷ []) (recipes ++ laid)
+      → AreRecordsOfList format shape region records commands bodies list recipes
+      → IsRecord region bodies list command body laid
+      → AreRecordsOfList format shape region records commands (bodies ++ body ∷ []) (list ++ command ∷ [])
+      (recipes ++ laid)
 
 -- the shares that the records place, each with the string that is held under its fingerprint
 abbrev pub laid_shares : List Command → List (Fp × Place) → List Placed

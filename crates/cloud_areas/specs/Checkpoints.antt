@@ -1,14 +1,14 @@
 -- The records of a checkpoint: what a list of commands has come to, whatever its order was.
 use Rattle.std.specs.Prelude.{◌≡◌, ◌≢◌, ◌↔◌, ℕ, ◌≤◌, ◌==◌, Bool, true, false, List, [], ◌∷◌, ◌++◌, length, map, filter, slice_get, Some, IsSome, IsFalse}
 use Rattle.std.specs.List.{flat_map, Contains}
-use Rattle.cd_base.specs.declared.ids.Fp.{Fp}
-use Rattle.cd_base.specs.declared.ids.Tag.{Tag}
-use Rattle.cd_base.specs.declared.ids.UserId.{UserId}
-use Rattle.cd_base.specs.declared.ids.Version.{Version}
-use Rattle.cd_base.specs.declared.shape.Shape.{Shape}
+use Rattle.user_dedup.specs.CdBase.ids.Fp.{Fp}
+use Rattle.user_dedup.specs.CdBase.ids.Tag.{Tag}
+use Rattle.user_dedup.specs.CdBase.ids.UserId.{UserId}
+use Rattle.user_dedup.specs.CdBase.ids.Version.{Version}
+use Rattle.user_dedup.specs.CdBase.shape.Shape.{Shape}
 use Rattle.container_log.specs.Laying.{Placed}
-use Rattle.record_body.specs.declared.body.PutItem.{PutItem}
-use Rattle.record_body.specs.declared.body.CommitBody.{CommitBody}
+use Rattle.record_bodies.specs.RecordBody.body.PutItem.{PutItem}
+use Rattle.record_bodies.specs.RecordBody.body.CommitBody.{CommitBody}
 use Rattle.user_dedup.specs.declared.file_list.FileEntry.{FileEntry}
 use Rattle.user_dedup.specs.Cloud.{fingerprint}
 use Rattle.user_dedup.specs.Owning.{is_among}
@@ -17,8 +17,8 @@ use Rattle.record_bodies.specs.declared.body.KeptItem.{KeptItem}
 use Rattle.record_bodies.specs.declared.body.SpentBody.{SpentBody}
 use Rattle.user_dedup.specs.declared.command.Command.{Command}
 use Rattle.user_dedup.specs.Cloud.{user_view, strings_in}
-use Rattle.user_dedup.specs.Spending.{Spent, spent_of, nothing}
-use Rattle.message_fields.specs.Fingerprints.{batch_limit}
+use Rattle.user_dedup.specs.Spending.{SpentByUser, spent_of, nothing}
+use Rattle.user_dedup.specs.MessageFields.Fingerprints.{batch_limit}
 use Rattle.record_bodies.specs.Spelling as bodies
 use Rattle.record_bodies.specs.Spelling.{Body}
 
@@ -106,7 +106,7 @@ AreEntries shape list (c ∷ cs) (recipe ∷ recipes) = IsEntry shape list c rec
 
 -- ---- what was spent
 
-abbrev pub spent_by : SpentBody → Spent
+abbrev pub spent_by : SpentBody → SpentByUser
 spent_by s = record { owners = s.owners; shares = s.shares; recipes = s.recipes }
 
 -- They name each user that has spent anything, with what it has.
@@ -122,7 +122,7 @@ SpentIs false list spents = ListSpent list spents
 -- ---- all of them
 
 -- The records say what the list has come to, in a store of this format; these recipes are those that they place.
-pub record IsCheckpoint (format : ℕ) (shape : Shape) (list : List Command) (records : List Body) (recipes : List Placed) : Type 0 where
+pub record IsCheckpointOfList (format : ℕ) (shape : Shape) (list : List Command) (records : List Body) (recipes : List Placed) : Type 0 where
   pub puts : List PutRecord
   pub kept : List (List KeptItem)
   pub commits : List CommitBody

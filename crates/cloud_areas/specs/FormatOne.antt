@@ -2,24 +2,24 @@
 use Rattle.std.specs.Prelude.{◌≡◌, ◌⊎◌, ℕ, ◌≤◌, ◌==◌, Bool, not, ◌&&◌, List, [], ◌∷◌, ◌++◌, length, take, map, filter, find, bytes_eq, All, Option, Some, option_map}
 use Rattle.std.specs.List.{flat_map, sum_by, Contains}
 use Rattle.std.specs.Option.{option_or}
-use Rattle.cd_base.specs.declared.ids.Fp.{Fp}
-use Rattle.cd_base.specs.declared.ids.Tag.{Tag}
-use Rattle.cd_base.specs.declared.ids.UserId.{UserId}
-use Rattle.cd_base.specs.declared.ids.Version.{Version}
-use Rattle.cd_base.specs.declared.rooms.Room.TheVariants as names
-use Rattle.cd_base.specs.declared.shape.Shape.{Shape}
-use Rattle.cd_edges.specs.declared.area.Area.TheVariants.{Journal, Shares, Recipes}
-use Rattle.cd_edges.specs.Disk.{Image}
+use Rattle.user_dedup.specs.CdBase.ids.Fp.{Fp}
+use Rattle.user_dedup.specs.CdBase.ids.Tag.{Tag}
+use Rattle.user_dedup.specs.CdBase.ids.UserId.{UserId}
+use Rattle.user_dedup.specs.CdBase.ids.Version.{Version}
+use Rattle.user_dedup.specs.CdBase.rooms.Room.TheVariants as names
+use Rattle.user_dedup.specs.CdBase.shape.Shape.{Shape}
+use Rattle.journal_halves.specs.CdEdges.area.Area.TheVariants.{Journal, Shares, Recipes}
+use Rattle.journal_halves.specs.CdEdges.Disk.{Image}
 use Rattle.container_log.specs.Laying.{Placed, lengths, placed, IsAt}
 use Rattle.container_log.specs.Places.{place_of, end_of_laid}
 use Rattle.journal_halves.specs.Beginnings.{IsUnbegun}
 use Rattle.journal_halves.specs.Halves.{half_len}
-use Rattle.journal_start.specs.declared.rooms.Rooms.{Rooms}
-use Rattle.journal_start.specs.declared.start.Header.{Header}
-use Rattle.journal_start.specs.Spelling.{commands_of, records_of, recipes_end_of}
-use Rattle.cd_base.specs.declared.place.Place.{Place}
+use Rattle.journal_halves.specs.JournalStart.rooms.UserRooms.{UserRooms}
+use Rattle.journal_halves.specs.JournalStart.start.Header.{Header}
+use Rattle.journal_halves.specs.JournalStart.Spelling.{commands_of, records_of, recipes_end_of}
+use Rattle.user_dedup.specs.CdBase.place.Place.{Place}
 use Rattle.record_bodies.specs.Spelling.{Body, Commit}
-use Rattle.record_body.specs.declared.body.CommitBody.{CommitBody}
+use Rattle.record_bodies.specs.RecordBody.body.CommitBody.{CommitBody}
 use Rattle.user_dedup.specs.Cloud.{has_fingerprint, counted}
 use Rattle.user_dedup.specs.Dedup.{FullRoom}
 use Rattle.user_dedup.specs.Owning.{new_strings}
@@ -28,8 +28,8 @@ use Rattle.user_dedup.specs.declared.command.Command.TheVariants as commands
 use Rattle.user_dedup.specs.Dedup.{IsSound}
 use Rattle.user_dedup.specs.Cloud.{user_view, strings_in, recipes_of}
 use Rattle.user_dedup.specs.Compact.{users_in, user_at, compact}
-use Rattle.user_dedup.specs.Spending.{Spent, spent_of, files_of, limits_of, files_limit, refusal}
-use Rattle.cloud_areas.specs.Chains.{Says, laid_shares, DontOverlap}
+use Rattle.user_dedup.specs.Spending.{SpentByUser, spent_of, files_of, limits_of, files_limit, refusal}
+use Rattle.cloud_areas.specs.Chains.{AreRecordsOfList, laid_shares, DontOverlap}
 use Rattle.cloud_areas.specs.Placing.{shares_in, recipes_in}
 use Rattle.cloud_areas.specs.Standing.{Chain, IsChain}
 
@@ -98,7 +98,7 @@ IsLaidRecipe before list r = Contains (map (λ (e : LaidEntry). e.recipe) (laid_
 -- The chain says the list; each string and each recipe that it places lies where the list lays it. The checkpoint's recipes don't overlap,
 -- and those behind it lie behind the end that its start says.
 pub record Lays (header : Header) (image : Image) (list : List Command) (c : Chain) : Type 0 where
-  pub says : Says header.format header.shape 0 (records_of c.start.checkpoint) (commands_of c.start.checkpoint) c.records list c.recipes
+  pub says : AreRecordsOfList header.format header.shape 0 (records_of c.start.checkpoint) (commands_of c.start.checkpoint) c.records list c.recipes
   pub places : (fp : Fp) (place : Place) → Contains (shares_in c.records) (fp, place) → place_in list fp ≡ Some place
   pub shares : All (IsAt (image Shares)) (laid_shares list (shares_in c.records))
   pub before : List Command
@@ -142,7 +142,7 @@ pub record IsWithinGreatest (shape : Shape) (list : List Command) : Type 0 where
 -- ---- what a migration refuses
 
 -- the first of a user's rooms that such use passes
-abbrev pub passed_room : Rooms → UserId → Spent → ℕ → Option FullRoom
+abbrev pub passed_room : UserRooms → UserId → SpentByUser → ℕ → Option FullRoom
 passed_room rooms user used files =
     let limits = limits_of rooms user in
     option_or (refusal names.Owners used.owners 0 limits.owners)
@@ -150,5 +150,5 @@ passed_room rooms user used files =
     (option_or (refusal names.Recipes used.recipes 0 limits.recipes) (refusal names.Files files 0 (files_limit rooms user))))
 
 -- the first room of a user's that is too small for what is kept
-abbrev pub too_large_for : Shape → Rooms → List Command → UserId → Option FullRoom
+abbrev pub too_large_for : Shape → UserRooms → List Command → UserId → Option FullRoom
 too_large_for shape rooms list user = passed_room rooms user (spent_of (compact shape list) user) (files_of shape (compact shape list) user)

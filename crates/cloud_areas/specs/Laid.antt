@@ -3,7 +3,7 @@ use Rattle.std.specs.Prelude.{◌≡◌, ℕ, ◌+◌, ◌*◌, ◌≤◌, List,
 use Rattle.container_log.specs.Laying.{Placed}
 use Rattle.container_log.specs.Places.{container_len, place_of}
 use Rattle.record_bodies.specs.Spelling.{Body}
-use Rattle.cd_base.specs.declared.place.Place.{Place}
+use Rattle.user_dedup.specs.CdBase.place.Place.{Place}
 use Rattle.user_dedup.specs.declared.command.Command.{Command}
 use Rattle.user_dedup.specs.Spending.{spent_by_all}
 use Rattle.cloud_areas.specs.Placing.{shares_placed, recipes_placed, region_start, end_of, places_of, shares_end, recipes_end}

@@ -1,9 +1,15 @@
 pub mod Adding
 pub mod Chains
 pub mod Checkpoints
+pub mod ContainerLog
 pub mod FormatOne
+pub mod JournalStart
 pub mod Laid
+pub mod MessageFields
 pub mod Peers
 pub mod Placing
+pub mod RecordBodies
+pub mod RecordBody
 pub mod Standing
 pub mod Summaries
+pub mod UserDedup

@@ -1,8 +1,8 @@
 -- A cloud of a shelf as one that users ask: its list, and the command that may be there or not.
 use Rattle.std.specs.Prelude.{◌≡◌, ◌⊎◌, List, [], ◌∷◌, ◌++◌, Some}
-use Rattle.cd_edges.specs.Disk.{Cloud, Image, IsImage, LeavesOnly}
-use Rattle.journal_start.specs.declared.start.Header.{Header}
-use Rattle.messages.specs.declared.request.Request.{Request}
+use Rattle.journal_halves.specs.CdEdges.Disk.{Cloud, Image, IsImage, LeavesOnly}
+use Rattle.journal_halves.specs.JournalStart.start.Header.{Header}
+use Rattle.user_dedup.specs.Messages.request.Request.{Request}
 use Rattle.user_dedup.specs.declared.command.Command.{Command}
 use Rattle.user_dedup.specs.Dedup.{Outcome}
 use Rattle.user_dedup.specs.Exec.{Peer, MaySettleAs}

@@ -1,9 +1,9 @@
 -- Where the records of a journal say that blobs lie.
 use Rattle.std.specs.Prelude.{ℕ, ◌+◌, ◌*◌, ◌≤◌, max, List, [], ◌∷◌, map, Option, Some, None}
 use Rattle.std.specs.List.{flat_map, sum_by, Contains}
-use Rattle.cd_base.specs.declared.ids.Fp.{Fp}
-use Rattle.cd_base.specs.declared.place.Place.{Place}
-use Rattle.record_body.specs.declared.body.PutItem.{PutItem}
+use Rattle.user_dedup.specs.CdBase.ids.Fp.{Fp}
+use Rattle.user_dedup.specs.CdBase.place.Place.{Place}
+use Rattle.record_bodies.specs.RecordBody.body.PutItem.{PutItem}
 use Rattle.record_bodies.specs.declared.body.KeptItem.{KeptItem}
 use Rattle.record_bodies.specs.Spelling.{Body, Put, Commit, Delete, Kept, Spent}
 

@@ -2,27 +2,27 @@
 -- not the list.
 use Rattle.std.specs.Prelude.{◌≡◌, ◌⊎◌, ℕ, ◌+◌, ◌-◌, ◌^◌, ◌≤◌, min, List, [], length, map, None, All}
 use Rattle.std.specs.List.{Contains}
-use Rattle.cd_base.specs.declared.ids.Fp.{Fp}
-use Rattle.cd_base.specs.declared.ids.Tag.{Tag}
-use Rattle.cd_base.specs.declared.ids.UserId.{UserId}
-use Rattle.cd_base.specs.declared.ids.Version.{Version}
-use Rattle.cd_edges.specs.declared.area.Area.TheVariants.{Journal, Shares, Recipes}
-use Rattle.cd_edges.specs.Disk.{Image}
-use Rattle.journal_start.specs.declared.start.Header.{Header}
-use Rattle.journal_start.specs.declared.start.Start.{Start}
-use Rattle.journal_start.specs.Spelling.{commands_of, records_of, region_of}
+use Rattle.user_dedup.specs.CdBase.ids.Fp.{Fp}
+use Rattle.user_dedup.specs.CdBase.ids.Tag.{Tag}
+use Rattle.user_dedup.specs.CdBase.ids.UserId.{UserId}
+use Rattle.user_dedup.specs.CdBase.ids.Version.{Version}
+use Rattle.journal_halves.specs.CdEdges.area.Area.TheVariants.{Journal, Shares, Recipes}
+use Rattle.journal_halves.specs.CdEdges.Disk.{Image}
+use Rattle.journal_halves.specs.JournalStart.start.Header.{Header}
+use Rattle.journal_halves.specs.JournalStart.start.Start.{Start}
+use Rattle.journal_halves.specs.JournalStart.Spelling.{commands_of, records_of, region_of}
 use Rattle.journal_halves.specs.Halves.{half_limit}
 use Rattle.journal_halves.specs.Journals.{Where, HasChain, used_by}
 use Rattle.journal_halves.specs.Beginnings.{IsUnbegun}
 use Rattle.container_log.specs.Laying.{Placed, IsAt}
 use Rattle.record_bodies.specs.Spelling.{Body, Commit, body_bytes, FitsBody}
-use Rattle.cd_base.specs.declared.place.Place.{Place}
+use Rattle.user_dedup.specs.CdBase.place.Place.{Place}
 use Rattle.user_dedup.specs.declared.file_list.FileEntry.{FileEntry}
 use Rattle.user_dedup.specs.declared.command.Command.{Command}
 use Rattle.user_dedup.specs.Dedup.{IsSound}
 use Rattle.user_dedup.specs.Cloud.{held_bytes}
 use Rattle.cloud_areas.specs.Placing.{shares_in}
-use Rattle.cloud_areas.specs.Chains.{commit_of, Says, laid_shares, AreLong, BothHaveRoom}
+use Rattle.cloud_areas.specs.Chains.{commit_of, AreRecordsOfList, laid_shares, AreLong, BothHaveRoom}
 
 -- the chain of a journal's current half: where it is, its start, and what its records say
 pub record Chain : Type 0 where
@@ -57,7 +57,7 @@ pub record IsChain (header : Header) (limit : ℕ) (journal : List ℕ) (c : Cha
 
 -- The chain says the list, and what it places stands in the areas.
 pub record Holds (header : Header) (image : Image) (list : List Command) (c : Chain) : Type 0 where
-  pub says : Says header.format header.shape (region_in c) (records_of c.start.checkpoint) (commands_of c.start.checkpoint) c.records list c.recipes
+  pub says : AreRecordsOfList header.format header.shape (region_in c) (records_of c.start.checkpoint) (commands_of c.start.checkpoint) c.records list c.recipes
   pub long : AreLong list (shares_in c.records)
   pub shares : All (IsAt (image Shares)) (laid_shares list (shares_in c.records))
   pub recipes : All (IsAt (image Recipes)) c.recipes

@@ -2,25 +2,25 @@
 
 ghost use Rattle.std.specs.Prelude.{◌≡◌, ◌↔◌, ◌+◌, ◌≤◌, ℕ, List, [], ◌∷◌, ◌++◌, length, map, Some, All};
 ghost use Rattle.std.specs.List.{Contains};
-ghost use Rattle.cd_base.specs.declared.ids.Fp.{Fp};
-ghost use Rattle.cd_base.specs.declared.ids.Tag.{Tag};
-ghost use Rattle.cd_base.specs.declared.ids.UserId.{UserId};
-ghost use Rattle.cd_base.specs.declared.ids.Version.{Version};
-ghost use Rattle.cd_base.specs.declared.shape.Shape.{Shape};
-ghost use Rattle.cd_edges.specs.declared.area.Area.TheVariants.{Journal};
-ghost use Rattle.cd_edges.specs.Disk.{Image};
+ghost use Rattle.user_dedup.specs.CdBase.ids.Fp.{Fp};
+ghost use Rattle.user_dedup.specs.CdBase.ids.Tag.{Tag};
+ghost use Rattle.user_dedup.specs.CdBase.ids.UserId.{UserId};
+ghost use Rattle.user_dedup.specs.CdBase.ids.Version.{Version};
+ghost use Rattle.user_dedup.specs.CdBase.shape.Shape.{Shape};
+ghost use Rattle.journal_halves.specs.CdEdges.area.Area.TheVariants.{Journal};
+ghost use Rattle.journal_halves.specs.CdEdges.Disk.{Image};
 ghost use Rattle.container_log.specs.Laying.{lengths, Placed, placed};
 ghost use Rattle.container_log.specs.Places.{end_of_laid};
 ghost use Rattle.journal_halves.specs.Beginnings.{IsUnbegun};
 ghost use Rattle.journal_halves.specs.Beginnings.{new_of};
 ghost use Rattle.journal_halves.specs.Halves.{half_limit, IsCurrent};
 ghost use Rattle.journal_halves.specs.Journals.{Where, HasChain, with_body, used_by};
-ghost use Rattle.journal_start.specs.declared.rooms.Rooms.{Rooms};
-ghost use Rattle.journal_start.specs.declared.start.Header.{Header};
-ghost use Rattle.journal_start.specs.declared.start.Start.{Start};
-ghost use Rattle.journal_start.specs.Ranges.{AreRooms};
+ghost use Rattle.journal_halves.specs.JournalStart.rooms.UserRooms.{UserRooms};
+ghost use Rattle.journal_halves.specs.JournalStart.start.Header.{Header};
+ghost use Rattle.journal_halves.specs.JournalStart.start.Start.{Start};
+ghost use Rattle.journal_halves.specs.JournalStart.Ranges.{AreRooms};
 ghost use Rattle.record_bodies.specs.Spelling.{Body, body_bytes, FitsBody};
-ghost use Rattle.cd_base.specs.declared.place.Place.{Place};
+ghost use Rattle.user_dedup.specs.CdBase.place.Place.{Place};
 ghost use Rattle.user_dedup.specs.declared.file_list.FileEntry.{FileEntry};
 ghost use Rattle.user_dedup.specs.Cloud.{fingerprint};
 ghost use Rattle.user_dedup.specs.Pages.{entry_at};
@@ -30,7 +30,7 @@ ghost use Rattle.user_dedup.specs.Cloud.{counted, strings_in, user_view};
 ghost use Rattle.user_dedup.specs.Spending.{spent_by_all, IsWithin};
 ghost use Rattle.cloud_areas.specs.Adding.{with_record, Adds, KeepsBlobs, HasRoomFor};
 ghost use Rattle.cloud_areas.specs.Chains.{IsRecord, laid_shares, BothHaveRoom};
-ghost use Rattle.cloud_areas.specs.Checkpoints.{AreApart, IsCheckpoint};
+ghost use Rattle.cloud_areas.specs.Checkpoints.{AreApart, IsCheckpointOfList};
 ghost use Rattle.cloud_areas.specs.Placing.{shares_in, shares_placed, recipes_in, recipes_placed, fps_placed};
 ghost use Rattle.cloud_areas.specs.Laid.{AreLaid, end_behind, place_by, IsLaidBehind, HaveEnds};
 ghost use Rattle.cloud_areas.specs.Placing.{AreBehind, HasPlace, places_of, total_len, region_start, shares_end, recipes_end};
@@ -165,10 +165,10 @@ pub fn law_of_places()
         → Holds header image list c → Contains c.recipes b
         → b.place + length b.blob ≤ recipes_end (region_in c) c.records }
     // A list within its rooms brings neither end near the end of its region, which has 34,359,738,368 places.
-    ensures shares_far { (shape : Shape) (rooms : Rooms) (region : ℕ) (list : List Command) (records : List Body)
+    ensures shares_far { (shape : Shape) (rooms : UserRooms) (region : ℕ) (list : List Command) (records : List Body)
         → IsWithin shape rooms list → AreRooms rooms → BothHaveRoom region list records
         → shares_end region records ≤ region_start region + 25769803776 }
-    ensures recipes_far { (shape : Shape) (rooms : Rooms) (region : ℕ) (list : List Command) (records : List Body)
+    ensures recipes_far { (shape : Shape) (rooms : UserRooms) (region : ℕ) (list : List Command) (records : List Body)
         → IsWithin shape rooms list → AreRooms rooms → BothHaveRoom region list records
         → recipes_end region records ≤ region_start region + 3221225472 }
 {}
@@ -185,8 +185,9 @@ pub fn law_of_checkpoints()
     // Behind it the half has room for one record more, whichever it is.
     ensures room { (header : Header) (list : List Command) (c : Chain) (body : Body)
         → IsWithin header.shape header.rooms list
-        → IsCheckpoint header.format header.shape list c.records c.recipes → All FitsBody c.records → FitsBody body
+        → IsCheckpointOfList header.format header.shape list c.records c.recipes → All FitsBody c.records
+        → FitsBody body
         → used_by (with_body (where_of c) (body_bytes body)) ≤ half_limit header.rooms }
     // The greatest limit is less than half of a half.
-    ensures limit { (rooms : Rooms) → AreRooms rooms → half_limit rooms ≤ 52415307 }
+    ensures limit { (rooms : UserRooms) → AreRooms rooms → half_limit rooms ≤ 52415307 }
 {}

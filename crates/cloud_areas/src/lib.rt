@@ -4,3 +4,11 @@
 
 pub mod laws;
 pub mod peers;
+
+pub use container_log::{CONTAINER, Log, LogFull};
+pub use journal_halves::UserRooms;
+pub use record_bodies::{
+    BodyBuf, BodyErr, BodyView, CommitBody, DeleteBody, FoundItem, FoundKept, KeptItem, KeptItems,
+    PutItem, PutItems, SpentBody,
+};
+pub use user_dedup::{Link, Lost};

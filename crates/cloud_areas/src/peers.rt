@@ -2,11 +2,11 @@
 
 ghost use Rattle.std.specs.Prelude.{◌≡◌, ◌⊎◌, ◌↔◌, List, [], ◌∷◌, ◌++◌, Some};
 ghost use Rattle.std.specs.List.{Contains};
-ghost use Rattle.cd_edges.specs.declared.area.Area.{Area};
-ghost use Rattle.cd_edges.specs.Disk.{Cloud, Image, IsImage, LeavesOnly, reads};
-ghost use Rattle.cd_edges.specs.Shelf.{stable};
-ghost use Rattle.journal_start.specs.declared.start.Header.{Header};
-ghost use Rattle.messages.specs.declared.request.Request.{Request};
+ghost use Rattle.journal_halves.specs.CdEdges.area.Area.{Area};
+ghost use Rattle.journal_halves.specs.CdEdges.Disk.{Cloud, Image, IsImage, LeavesOnly, reads};
+ghost use Rattle.journal_halves.specs.CdEdges.Shelf.{stable};
+ghost use Rattle.journal_halves.specs.JournalStart.start.Header.{Header};
+ghost use Rattle.user_dedup.specs.Messages.request.Request.{Request};
 ghost use Rattle.user_dedup.specs.declared.command.Command.{Command};
 ghost use Rattle.user_dedup.specs.Dedup.{Outcome};
 ghost use Rattle.user_dedup.specs.Exec.{Peer, MaySettleAs};

@@ -3,23 +3,23 @@ use Rattle.std.proofs.Common.{◌≡◌, ◌≢◌, ◌⊎◌, inl, inr, ℕ, �
 use Rattle.std.specs.Prelude.{All, OnOk}
 use Rattle.std.proofs.lemmas.Grind.{flat_map-append}
 use Rattle.std.proofs.lemmas.List.{map-append}
-use Rattle.cd_base.specs.declared.ids.Fp.{Fp}
-use Rattle.cd_edges.specs.declared.area.Area.{Area}
-use Rattle.cd_edges.specs.declared.area.Area.TheVariants.{Journal, Shares, Recipes}
-use Rattle.cd_edges.specs.Disk.{Store, Areas, Image, Cloud, LeavesOnly, IsAtArea, reads}
-use Rattle.cd_edges.specs.Shelf.{stable}
-use Rattle.cd_edges.proofs.Moments.{weaker, joined}
-use Rattle.commit_journal.specs.Records.{IsJournal}
-use Rattle.commit_journal.proofs.Chain.{length-chain-push}
-use Rattle.container_log.specs.Laying.{Placed, placed, IsAt}
-use Rattle.container_log.specs.States as logs
-use Rattle.cd_base.specs.declared.place.Place.{Place}
-use Rattle.journal_start.specs.declared.start.Header.{Header}
-use Rattle.journal_halves.specs.Halves.{half_limit, half_of}
-use Rattle.journal_halves.specs.Journals.{Where, all_bodies, with_body, used_by, HasChain, IsEither}
+use Rattle.half_journal.specs.CdBase.ids.Fp.{Fp}
+use Rattle.half_journal.specs.CdEdges.area.Area.{Area}
+use Rattle.half_journal.specs.CdEdges.area.Area.TheVariants.{Journal, Shares, Recipes}
+use Rattle.half_journal.specs.CdEdges.Disk.{Store, Areas, Image, Cloud, LeavesOnly, IsAtArea, reads}
+use Rattle.half_journal.specs.CdEdges.Shelf.{stable}
+use Rattle.half_journal.proofs.CdEdges.Moments.{weaker, joined}
+use Rattle.half_journal.specs.CommitJournal.Records.{IsJournal}
+use Rattle.half_journal.proofs.CommitJournal.Chain.{length-chain-push}
+use Rattle.cloud_areas.specs.ContainerLog.Laying.{Placed, placed, IsAt}
+use Rattle.cloud_areas.specs.ContainerLog.States as logs
+use Rattle.half_journal.specs.CdBase.place.Place.{Place}
+use Rattle.half_journal.specs.JournalStart.start.Header.{Header}
+use Rattle.half_journal.specs.JournalHalves.Halves.{half_limit, half_of}
+use Rattle.half_journal.specs.JournalHalves.Journals.{Where, all_bodies, with_body, used_by, HasChain, IsEither}
 use Rattle.half_journal.specs.States as journals
-use Rattle.record_bodies.specs.Spelling.{Body, body_bytes, FitsBody}
-use Rattle.user_dedup.specs.declared.command.Command.{Command}
+use Rattle.cloud_areas.specs.RecordBodies.Spelling.{Body, body_bytes, FitsBody}
+use Rattle.cloud_areas.specs.UserDedup.command.Command.{Command}
 use Rattle.cloud_areas.specs.Placing.{region_start, greatest_end, shares_placed, shares_in, recipes_in, places_of}
 use Rattle.cloud_areas.specs.Chains.{laid_shares, AreLong}
 use Rattle.cloud_areas.specs.Standing.{Chain, where_of, region_in, IsChain, Holds}
@@ -33,7 +33,7 @@ use Rattle.cloud_disk.proofs.Ends.{IsLong, greatest_least, end_all, end_both, sh
 use Rattle.cloud_disk.proofs.Standing.{stands, holds_in}
 
 -- the half's chain is there where the journal is at its end
-pub chain_there : (j : journals.State) (store : Store) (w : Where) → journals.IsEnded j store w → HasChain store.read w
+pub chain_there : (j : journals.JournalState) (store : Store) (w : Where) → journals.IsJournalEnded j store w → HasChain store.read w
 chain_there j store w is = record { current = is.is_current; chain_is = subst (λ (h : ℕ). IsJournal (all_bodies w) (half_of h store.read)) is.half is.read.chain_is }
 
 -- one record more takes its body's bytes and five
@@ -143,8 +143,8 @@ module _ (header : Header) (list : List Command) (c : Chain) (command : Command)
       joined c0 c1 c2 _ (while_flushed c1 first) (weaker c1 c2 _ _ run (λ image at. appended_image room shares recipes c1.now image h at))
 
   -- the journal is what it was before the record is added
-  pub still_ended : (c1 : Cloud) → c1.now Journal ≡ c0.now Journal → journals.IsEnded disk.journal (c1.now Journal) (where_of c)
-  still_ended c1 same = subst (λ (s : Store). journals.IsEnded disk.journal s (where_of c)) (sym same) p.on.read.ended
+  pub still_ended : (c1 : Cloud) → c1.now Journal ≡ c0.now Journal → journals.IsJournalEnded disk.journal (c1.now Journal) (where_of c)
+  still_ended c1 same = subst (λ (s : Store). journals.IsJournalEnded disk.journal s (where_of c)) (sym same) p.on.read.ended
 
   -- ---- after Ok
 
@@ -169,7 +169,7 @@ module _ (header : Header) (list : List Command) (c : Chain) (command : Command)
 
   pub is_on : HasRoom → (new : Disk) (c1 c2 : Cloud) → IsTrue c2.told → LogsHold all_shares all_recipes new.shares new.recipes c1.now
       → new.shares.end ≡ logs.staged_end disk.shares → new.recipes.end ≡ logs.staged_end disk.recipes → new.journal.limit ≡ disk.journal.limit
-      → journals.IsEnded new.journal (c2.now Journal) (with_body (where_of c) bytes) → ((other : Area) → other ≢ Journal → c2.now other ≡ c1.now other)
+      → journals.IsJournalEnded new.journal (c2.now Journal) (with_body (where_of c) bytes) → ((other : Area) → other ≢ Journal → c2.now other ≡ c1.now other)
       → IsOn header next longer new c2
   is_on room new c1 c2 told h ends ends_too limit ended others = record {
     read = record {
@@ -177,7 +177,7 @@ module _ (header : Header) (list : List Command) (c : Chain) (command : Command)
       sound = p.sound;
       on_disk = disk_is;
       limit = limit ∙ p.on.read.limit;
-      ended = subst (λ (w : Where). journals.IsEnded new.journal (c2.now Journal) w) (ap (with_body (where_of c)) p.is_body.spelled ∙ sym law.where_is) ended;
+      ended = subst (λ (w : Where). journals.IsJournalEnded new.journal (c2.now Journal) w) (ap (with_body (where_of c)) p.is_body.spelled ∙ sym law.where_is) ended;
       is_chain = chain_next room (c2.now Journal).read (chain_there new.journal (c2.now Journal) (with_body (where_of c) bytes) ended);
       holds = holds_now;
     };
@@ -208,7 +208,7 @@ module _ (header : Header) (list : List Command) (c : Chain) (command : Command)
 
   pub added_on : HasRoom → {T E : Type 0} (r : Result T E) (new : Disk) (c1 c2 : Cloud) → IsTrue c2.told → LogsHold all_shares all_recipes new.shares new.recipes c1.now
       → new.shares.end ≡ logs.staged_end disk.shares → new.recipes.end ≡ logs.staged_end disk.recipes → new.journal.limit ≡ disk.journal.limit
-      → OnOk r (journals.IsEnded new.journal (c2.now Journal) (with_body (where_of c) bytes)) → OnOk r ((other : Area) → other ≢ Journal → c2.now other ≡ c1.now other)
+      → OnOk r (journals.IsJournalEnded new.journal (c2.now Journal) (with_body (where_of c) bytes)) → OnOk r ((other : Area) → other ≢ Journal → c2.now other ≡ c1.now other)
       → OnOk r (IsOn header next longer new c2)
   added_on room (Err e) new c1 c2 told h ends ends_too limit ended others = tt
   added_on room (Ok v) new c1 c2 told h ends ends_too limit ended others = is_on room new c1 c2 told h ends ends_too limit ended others

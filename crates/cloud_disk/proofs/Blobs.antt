@@ -2,12 +2,12 @@
 use Rattle.std.proofs.Common.{ℕ, ◌+◌, ◌≤◌, List, [], ◌∷◌, ◌++◌, length, arith}
 use Rattle.std.specs.Prelude.{All, slice_index_or}
 use Rattle.std.proofs.lemmas.List.Elements.{All-nil, All-cons, All-append, All-weaker, All-head, All-tail}
-use Rattle.cd_edges.specs.Shelf.{stable}
-use Rattle.container_log.specs.Kept.{KeepsBelow}
-use Rattle.container_log.specs.Places.{place_of, end_after, end_of_laid}
-use Rattle.container_log.specs.Laying.{Placed, lengths, placed, IsAt}
-use Rattle.container_log.proofs.Blobs.{crashed_at}
-use Rattle.container_log.proofs.Least.{place_behind}
+use Rattle.half_journal.specs.CdEdges.Shelf.{stable}
+use Rattle.cloud_areas.specs.ContainerLog.Kept.{KeepsBelow}
+use Rattle.cloud_areas.specs.ContainerLog.Places.{place_of, end_after, end_of_laid}
+use Rattle.cloud_areas.specs.ContainerLog.Laying.{Placed, lengths, placed, IsAt}
+use Rattle.cloud_areas.proofs.ContainerLog.Blobs.{crashed_at}
+use Rattle.cloud_areas.proofs.ContainerLog.Least.{place_behind}
 use Rattle.cloud_disk.specs.Held.{IsBelow, AreBelow, LieIn}
 
 pub end_behind : (end : ℕ) (blobs : List (List ℕ)) → end ≤ end_of_laid end (lengths blobs)

@@ -1,15 +1,15 @@
 -- Both logs, flushed one after the other.
 use Rattle.std.proofs.Common.{◌≡◌, ◌≢◌, ℕ, ◌+◌, List, Result, Ok, Err, refl, sym, ap, ◌∙◌, subst, arith}
 use Rattle.std.specs.Prelude.{OnOk, OnErr}
-use Rattle.cd_edges.specs.declared.area.Area.{Area}
-use Rattle.cd_edges.specs.declared.area.Area.TheVariants.{Journal, Shares, Recipes}
-use Rattle.cd_edges.specs.Disk.{Store, Areas, Image, Cloud, LeavesOnly, IsAtArea, MayLeave}
-use Rattle.cd_edges.specs.Shelf.{stable, IsCall, HasFailed, KeepsCounts}
-use Rattle.cd_edges.proofs.Calls.{failed_after}
-use Rattle.cd_edges.proofs.Moments.{weaker, joined}
-use Rattle.cd_edges.proofs.Torn.{only}
-use Rattle.container_log.specs.Laying.{Placed, placed}
-use Rattle.container_log.specs.States.{State}
+use Rattle.half_journal.specs.CdEdges.area.Area.{Area}
+use Rattle.half_journal.specs.CdEdges.area.Area.TheVariants.{Journal, Shares, Recipes}
+use Rattle.half_journal.specs.CdEdges.Disk.{Store, Areas, Image, Cloud, LeavesOnly, IsAtArea, MayLeave}
+use Rattle.half_journal.specs.CdEdges.Shelf.{stable, IsCall, HasFailed, KeepsCounts}
+use Rattle.half_journal.proofs.CdEdges.Calls.{failed_after}
+use Rattle.half_journal.proofs.CdEdges.Moments.{weaker, joined}
+use Rattle.half_journal.proofs.CdEdges.Torn.{only}
+use Rattle.cloud_areas.specs.ContainerLog.Laying.{Placed, placed}
+use Rattle.cloud_areas.specs.ContainerLog.States.{State}
 use Rattle.cloud_disk.specs.Held.{LogHolds, LogsHold, IsHeld, HaveBoth, LieIn, with_staged}
 use Rattle.cloud_disk.proofs.Blobs.{front_lies}
 use Rattle.cloud_disk.proofs.Holding.{agrees_as}

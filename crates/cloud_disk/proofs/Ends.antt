@@ -4,21 +4,21 @@ use Rattle.std.specs.Prelude.{All}
 use Rattle.std.proofs.lemmas.Grind.{flat_map-append}
 use Rattle.std.proofs.lemmas.List.{map-append}
 use Rattle.std.proofs.lemmas.List.Elements.{All-nil, All-cons, All-head, All-tail}
-use Rattle.cd_base.specs.declared.ids.Fp.{Fp}
-use Rattle.cd_base.specs.declared.shape.Shape.{Shape}
-use Rattle.container_log.specs.Laying.{Placed}
-use Rattle.cd_base.specs.declared.place.Place.{Place}
-use Rattle.record_body.specs.declared.body.CommitBody.{CommitBody}
-use Rattle.record_bodies.specs.declared.body.KeptItem.{KeptItem}
-use Rattle.record_bodies.specs.declared.body.SpentBody.{SpentBody}
-use Rattle.record_bodies.specs.Spelling as bodies
-use Rattle.record_bodies.specs.Spelling.{Body}
-use Rattle.user_dedup.specs.declared.command.Command.{Command}
-use Rattle.user_dedup.specs.declared.command.Command.TheVariants as commands
-use Rattle.user_dedup.specs.Cloud.{held_bytes}
+use Rattle.half_journal.specs.CdBase.ids.Fp.{Fp}
+use Rattle.half_journal.specs.CdBase.shape.Shape.{Shape}
+use Rattle.cloud_areas.specs.ContainerLog.Laying.{Placed}
+use Rattle.half_journal.specs.CdBase.place.Place.{Place}
+use Rattle.cloud_areas.specs.RecordBody.body.CommitBody.{CommitBody}
+use Rattle.cloud_areas.specs.RecordBodies.body.KeptItem.{KeptItem}
+use Rattle.cloud_areas.specs.RecordBodies.body.SpentBody.{SpentBody}
+use Rattle.cloud_areas.specs.RecordBodies.Spelling as bodies
+use Rattle.cloud_areas.specs.RecordBodies.Spelling.{Body}
+use Rattle.cloud_areas.specs.UserDedup.command.Command.{Command}
+use Rattle.cloud_areas.specs.UserDedup.command.Command.TheVariants as commands
+use Rattle.cloud_areas.specs.UserDedup.Cloud.{held_bytes}
 use Rattle.cloud_areas.specs.Placing.{recipes_placed, recipes_in, end_of, greatest_end, places_of}
-use Rattle.cloud_areas.specs.Checkpoints.{PutRecord, put_body, AreEntries, IsCheckpoint}
-use Rattle.cloud_areas.specs.Chains.{IsRecord, Says, Summed, Then, laid_shares, AreLong}
+use Rattle.cloud_areas.specs.Checkpoints.{PutRecord, put_body, AreEntries, IsCheckpointOfList}
+use Rattle.cloud_areas.specs.Chains.{IsRecord, AreRecordsOfList, Summed, Then, laid_shares, AreLong}
 use Rattle.cloud_disk.specs.Held.{IsBelow, AreBelow}
 
 -- ---- places
@@ -110,7 +110,7 @@ entry_recipes shape list (commit ∷ commits) (recipe ∷ recipes) more are none
     let here : record { at = commit.at; len = commit.len } ≡ place_at recipe = λ i. record { at = sym are.0.place i; len = (are.0.len ∙ sym (ap (λ (l : List ℕ). length l) are.0.bytes)) i } in
     λ i. here i ∷ entry_recipes shape list commits recipes more are.1 none i
 
-checkpoint_recipes : (format : ℕ) (shape : Shape) (list : List Command) (records : List Body) (recipes : List Placed) → IsCheckpoint format shape list records recipes → recipes_in records ≡ map place_at recipes
+checkpoint_recipes : (format : ℕ) (shape : Shape) (list : List Command) (records : List Body) (recipes : List Placed) → IsCheckpointOfList format shape list records recipes → recipes_in records ≡ map place_at recipes
 checkpoint_recipes format shape list records recipes k =
     let entries = map bodies.Commit k.commits ++ map bodies.Spent k.spents in
     ap recipes_in k.whole
@@ -122,7 +122,7 @@ checkpoint_recipes format shape list records recipes k =
 
 -- The recipes that a chain places are where its records say.
 pub recipes_said : (format : ℕ) (shape : Shape) (region records commands : ℕ) (bodies : List Body) (list : List Command) (recipes : List Placed)
-    → Says format shape region records commands bodies list recipes → recipes_in bodies ≡ map place_at recipes
+    → AreRecordsOfList format shape region records commands bodies list recipes → recipes_in bodies ≡ map place_at recipes
 recipes_said format shape region records commands _ _ _ (Summed bodies list recipes k few counted) = checkpoint_recipes format shape list bodies recipes k
 recipes_said format shape region records commands _ _ _ (Then bodies list recipes body command laid before is) =
     flat_map-append recipes_placed bodies (body ∷ [])

@@ -2,11 +2,11 @@
 use Rattle.std.proofs.Common.{◌≡◌, ◌≢◌, ℕ, ◌+◌, ◌≤◌, List, [], ◌∷◌, length, Result, Ok, Err, sym, subst}
 use Rattle.std.specs.Prelude.{OnOk}
 use Rattle.std.proofs.lemmas.List.Elements.{All-nil, All-cons, All-head}
-use Rattle.cd_edges.specs.declared.area.Area.{Area}
-use Rattle.cd_edges.specs.declared.area.Area.TheVariants.{Journal, Shares, Recipes}
-use Rattle.cd_edges.specs.Disk.{Store, Cloud}
-use Rattle.container_log.specs.Laying.{Placed, placed, IsAt}
-use Rattle.container_log.specs.States.{State}
+use Rattle.half_journal.specs.CdEdges.area.Area.{Area}
+use Rattle.half_journal.specs.CdEdges.area.Area.TheVariants.{Journal, Shares, Recipes}
+use Rattle.half_journal.specs.CdEdges.Disk.{Store, Cloud}
+use Rattle.cloud_areas.specs.ContainerLog.Laying.{Placed, placed, IsAt}
+use Rattle.cloud_areas.specs.ContainerLog.States.{State}
 use Rattle.cloud_disk.specs.Held.{LogHolds, LogsHold, HaveBoth, IsBelow, with_staged}
 use Rattle.cloud_disk.specs.Disk.{Disk, KeepsFronts}
 

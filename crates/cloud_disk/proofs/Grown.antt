@@ -1,13 +1,13 @@
 -- What an add leaves of areas whose records may say anything: the chain or one record more, and what lies below the ends of both logs.
 use Rattle.std.proofs.Common.{◌≡◌, ◌≢◌, inl, ℕ, List, Result, Ok, Err, subst, sym, ◌∙◌}
 use Rattle.std.specs.Prelude.{OnOk}
-use Rattle.cd_edges.specs.declared.area.Area.{Area}
-use Rattle.cd_edges.specs.declared.area.Area.TheVariants.{Journal, Shares, Recipes}
-use Rattle.cd_edges.specs.Disk.{Store, Areas, Image, Cloud, IsImage, IsAtArea, MayLeave, LeavesOnly}
-use Rattle.cd_edges.proofs.Moments.{weaker, joined, at_end}
-use Rattle.container_log.specs.Kept.{KeepsBelow}
-use Rattle.container_log.specs.States.{State}
-use Rattle.journal_halves.specs.Journals.{Where, with_body, HasChain, IsEither}
+use Rattle.half_journal.specs.CdEdges.area.Area.{Area}
+use Rattle.half_journal.specs.CdEdges.area.Area.TheVariants.{Journal, Shares, Recipes}
+use Rattle.half_journal.specs.CdEdges.Disk.{Store, Areas, Image, Cloud, IsImage, IsAtArea, MayLeave, LeavesOnly}
+use Rattle.half_journal.proofs.CdEdges.Moments.{weaker, joined, at_end}
+use Rattle.cloud_areas.specs.ContainerLog.Kept.{KeepsBelow}
+use Rattle.cloud_areas.specs.ContainerLog.States.{State}
+use Rattle.half_journal.specs.JournalHalves.Journals.{Where, with_body, HasChain, IsEither}
 use Rattle.half_journal.specs.States as journals
 use Rattle.cloud_disk.specs.Held.{HasFronts}
 use Rattle.cloud_disk.specs.Disk.{Disk, IsGrown}
@@ -58,7 +58,7 @@ journal_still (Ok v) area c0 c1 c2 is first others =
     let away : (other : Area) → other ≢ Recipes → c2.now other ≡ c1.now other = subst (λ (a : Area). (other : Area) → other ≢ a → c2.now other ≡ c1.now other) is others in
     away Journal (λ e. cc) ∙ first
 
-module _ (disk : Disk) (body : List ℕ) (c0 : Cloud) (w : Where) (ended : journals.IsEnded disk.journal (c0.now Journal) w) where
+module _ (disk : Disk) (body : List ℕ) (c0 : Cloud) (w : Where) (ended : journals.IsJournalEnded disk.journal (c0.now Journal) w) where
   still : (image : Image) → HasFronts disk.shares disk.recipes c0 image → IsGrown disk c0 w (with_body w body) image
   still image h =
       let same = as_read (c0.now Journal) (image Journal) ended.read.synced h.0 in

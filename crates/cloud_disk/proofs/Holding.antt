@@ -1,15 +1,15 @@
 -- One area while its log is flushed.
 use Rattle.std.proofs.Common.{◌≡◌, ◌≢◌, ℕ, ◌+◌, ◌≤◌, List, [], ◌∷◌, ◌++◌, length, Result, Ok, Err, refl, sym, ap, ◌∙◌, subst, arith}
 use Rattle.std.specs.Prelude.{All, OnOk}
-use Rattle.cd_edges.specs.declared.area.Area.{Area}
-use Rattle.cd_edges.specs.Disk.{Store, Areas, Cloud, LeavesOnly, IsAtArea, moment, overwritten}
-use Rattle.cd_edges.specs.Shelf.{stable}
-use Rattle.cd_edges.proofs.Moments.{weaker}
-use Rattle.container_log.specs.Caches.{Kept, AreOf}
-use Rattle.container_log.specs.Kept.{KeepsBelow}
-use Rattle.container_log.specs.Places.{end_of_laid}
-use Rattle.container_log.specs.Laying.{Placed, lengths, placed, IsAt}
-use Rattle.container_log.specs.States.{State, after_flush, Agrees}
+use Rattle.half_journal.specs.CdEdges.area.Area.{Area}
+use Rattle.half_journal.specs.CdEdges.Disk.{Store, Areas, Cloud, LeavesOnly, IsAtArea, moment, overwritten}
+use Rattle.half_journal.specs.CdEdges.Shelf.{stable}
+use Rattle.half_journal.proofs.CdEdges.Moments.{weaker}
+use Rattle.cloud_areas.specs.ContainerLog.Caches.{Kept, AreOf}
+use Rattle.cloud_areas.specs.ContainerLog.Kept.{KeepsBelow}
+use Rattle.cloud_areas.specs.ContainerLog.Places.{end_of_laid}
+use Rattle.cloud_areas.specs.ContainerLog.Laying.{Placed, lengths, placed, IsAt}
+use Rattle.cloud_areas.specs.ContainerLog.States.{State, after_flush, Agrees}
 use Rattle.cloud_disk.specs.Held.{LogHolds, AreBelow, LieIn, with_staged, write_moments, flush_moments}
 use Rattle.cloud_disk.proofs.Blobs.{placed_below, below_more, below_both, lie_both, end_behind, crashed_all, stay_all}
 

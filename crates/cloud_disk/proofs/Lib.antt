@@ -6,3 +6,11 @@ pub mod Standing
 pub mod Adding
 mod Fronts
 pub mod Grown
+pub mod HalfJournal
+pub mod RecordBodies
+pub mod JournalStart
+pub mod CloudAreas
+pub mod JournalHalves
+pub mod CommitJournal
+pub mod CdEdges
+pub mod UserDedup

@@ -1,22 +1,22 @@
 -- What a disk that stands for a list knows of its cloud, and calls that leave what it stands for.
 use Rattle.std.proofs.Common.{◌≡◌, inl, ℕ, ◌+◌, ◌≤◌, List, [], ◌∷◌, ◌++◌, length, drop, map, Result, Ok, Err, refl, sym, ap, ◌∙◌, subst, arith, length-take, length-drop}
 use Rattle.std.specs.Prelude.{IfOk, OnOk, OnErr}
-use Rattle.cd_edges.specs.declared.area.Area.{Area}
-use Rattle.cd_edges.specs.declared.area.Area.TheVariants.{Journal, Shares, Recipes}
-use Rattle.cd_edges.specs.Disk.{Areas, Image, IsImage, Cloud, reads}
-use Rattle.cd_edges.specs.Shelf.{stable, Stays, ReadsFrom}
-use Rattle.cd_edges.proofs.Moments.{told_on}
-use Rattle.container_log.specs.Places.{place_of, end_of_laid}
-use Rattle.container_log.specs.Laying.{Placed, lengths, placed, IsAt}
-use Rattle.container_log.specs.States as logs
-use Rattle.container_log.proofs.Laid.{placed_more}
-use Rattle.cd_base.specs.declared.place.Place.{Place}
-use Rattle.journal_start.specs.declared.start.Header.{Header}
-use Rattle.journal_halves.specs.Halves.{half_limit}
-use Rattle.journal_halves.specs.Journals.{used_by}
+use Rattle.half_journal.specs.CdEdges.area.Area.{Area}
+use Rattle.half_journal.specs.CdEdges.area.Area.TheVariants.{Journal, Shares, Recipes}
+use Rattle.half_journal.specs.CdEdges.Disk.{Areas, Image, IsImage, Cloud, reads}
+use Rattle.half_journal.specs.CdEdges.Shelf.{stable, Stays, ReadsFrom}
+use Rattle.half_journal.proofs.CdEdges.Moments.{told_on}
+use Rattle.cloud_areas.specs.ContainerLog.Places.{place_of, end_of_laid}
+use Rattle.cloud_areas.specs.ContainerLog.Laying.{Placed, lengths, placed, IsAt}
+use Rattle.cloud_areas.specs.ContainerLog.States as logs
+use Rattle.cloud_areas.proofs.ContainerLog.Laid.{placed_more}
+use Rattle.half_journal.specs.CdBase.place.Place.{Place}
+use Rattle.half_journal.specs.JournalStart.start.Header.{Header}
+use Rattle.half_journal.specs.JournalHalves.Halves.{half_limit}
+use Rattle.half_journal.specs.JournalHalves.Journals.{used_by}
 use Rattle.half_journal.specs.States as journals
-use Rattle.user_dedup.specs.declared.command.Command.{Command}
-use Rattle.user_dedup.specs.Dedup.{IsSound}
+use Rattle.cloud_areas.specs.UserDedup.command.Command.{Command}
+use Rattle.cloud_areas.specs.UserDedup.Dedup.{IsSound}
 use Rattle.cloud_areas.specs.Placing.{region_start, greatest_end, shares_in, recipes_in, places_of}
 use Rattle.cloud_areas.specs.Chains.{laid_shares}
 use Rattle.cloud_areas.specs.Standing.{Chain, where_of, region_in, IsChain, Holds, StandsFor}
@@ -42,7 +42,7 @@ pub one_image : (now : Areas) (image : Image) → ((area : Area) → now area �
 one_image now image disk left = λ i. λ (area : Area). as_read (now area) (image area) (disk area) (left area) i
 
 module _ (header : Header) (list : List Command) (c : Chain) where
-  pub stands_read : (j : journals.State) (cloud : Cloud) → IsRead header list c j cloud → StandsFor (reads cloud.now) header list
+  pub stands_read : (j : journals.JournalState) (cloud : Cloud) → IsRead header list c j cloud → StandsFor (reads cloud.now) header list
   stands_read j cloud is = stands (reads cloud.now) header list c is.sound is.is_chain is.holds
 
   pub stands_on : (disk : Disk) (cloud : Cloud) → IsOn header list c disk cloud → StandsFor (reads cloud.now) header list
@@ -86,7 +86,7 @@ module _ (header : Header) (list : List Command) (c : Chain) where
       → new.shares.area ≡ old.shares.area → new.shares.end ≡ old.shares.end → new.recipes.area ≡ old.recipes.area → new.recipes.end ≡ old.recipes.end
       → new.shares.kept ≡ old.shares.kept → new.recipes.kept ≡ old.recipes.kept → IsOn header list c old cloud → IsOn header list c new cloud
   on_alike old new cloud journal shares_area shares_end recipes_area recipes_end shares_kept recipes_kept on = record {
-    read = subst (λ (j : journals.State). IsRead header list c j cloud) (sym journal) on.read;
+    read = subst (λ (j : journals.JournalState). IsRead header list c j cloud) (sym journal) on.read;
     shares = behind_alike Shares (region_in c) (places_of (shares_in c.records)) old.shares new.shares cloud shares_area shares_end shares_kept on.shares;
     recipes = behind_alike Recipes (region_in c) (recipes_in c.records) old.recipes new.recipes cloud recipes_area recipes_end recipes_kept on.recipes;
   }
@@ -106,7 +106,7 @@ module _ (header : Header) (list : List Command) (c : Chain) where
       → ((bytes : List ℕ) → logs.Agrees new.shares bytes) → ((bytes : List ℕ) → logs.Agrees new.recipes bytes)
       → AreEnds header list c old shares_end recipes_end cloud → IsOn header list c new cloud
   on_ended old new shares_end recipes_end cloud journal shares recipes shares_agree recipes_agree is = record {
-    read = subst (λ (j : journals.State). IsRead header list c j cloud) (sym journal) is.read;
+    read = subst (λ (j : journals.JournalState). IsRead header list c j cloud) (sym journal) is.read;
     shares = record {
       area_is = ap (λ (s : logs.State). s.area) shares ∙ is.shares_area;
       behind = subst (λ (s : logs.State). greatest_end (region_start (region_in c)) (places_of (shares_in c.records)) ≤ s.end) (sym shares) is.shares;
@@ -121,20 +121,20 @@ module _ (header : Header) (list : List Command) (c : Chain) where
 
   -- ---- reads
 
-  pub read_still : (j : journals.State) (old new : Cloud) → Stays old new → new.told ≡ old.told → IsRead header list c j old → IsRead header list c j new
+  pub read_still : (j : journals.JournalState) (old new : Cloud) → Stays old new → new.told ≡ old.told → IsRead header list c j old → IsRead header list c j new
   read_still j old new stays same is = record {
     told = told_on old new same is.told;
     sound = is.sound;
     on_disk = subst (λ (a : Areas). (area : Area) → a area ≡ stable (a area).read) (sym stays.now) is.on_disk;
     limit = is.limit;
-    ended = subst (λ (a : Areas). journals.IsEnded j (a Journal) (where_of c)) (sym stays.now) is.ended;
+    ended = subst (λ (a : Areas). journals.IsJournalEnded j (a Journal) (where_of c)) (sym stays.now) is.ended;
     is_chain = subst (λ (a : Areas). IsChain header (half_limit header.rooms) (a Journal).read c) (sym stays.now) is.is_chain;
     holds = subst (λ (a : Areas). Holds header (reads a) list c) (sym stays.now) is.holds;
   }
 
   pub on_read : (old new : Disk) (before after : Cloud) → IsOn header list c old before → IsReadThrough old new before after → IsOn header list c new after
   on_read old new before after on r = record {
-    read = subst (λ (j : journals.State). IsRead header list c j after) (sym r.journal) (read_still old.journal before after r.stays r.told on.read);
+    read = subst (λ (j : journals.JournalState). IsRead header list c j after) (sym r.journal) (read_still old.journal before after r.stays r.told on.read);
     shares = behind_read Shares (region_in c) (places_of (shares_in c.records)) old.shares new.shares r.shares on.shares;
     recipes = behind_read Recipes (region_in c) (recipes_in c.records) old.recipes new.recipes r.recipes on.recipes;
   }

@@ -1,27 +1,27 @@
 -- What the disk's half of a server is, and that it stands for a list of commands.
 use Rattle.std.specs.Prelude.{◌≡◌, ◌⊎◌, ℕ, ◌+◌, ◌≤◌, IsTrue, List, [], ◌∷◌, ◌++◌, length}
-use Rattle.cd_edges.specs.declared.area.Area.{Area}
-use Rattle.cd_edges.specs.declared.area.Area.TheVariants.{Journal, Shares, Recipes}
-use Rattle.cd_edges.specs.Disk.{Areas, Image, Cloud, LeavesOnly, reads}
-use Rattle.cd_edges.specs.Shelf.{stable, Stays}
-use Rattle.container_log.specs.Laying.{Placed, placed, IsAt}
-use Rattle.container_log.specs.Kept.{KeepsBelow}
-use Rattle.container_log.specs.States as logs
-use Rattle.cd_base.specs.declared.place.Place.{Place}
-use Rattle.journal_start.specs.declared.start.Header.{Header}
-use Rattle.journal_halves.specs.Halves.{half_limit}
-use Rattle.journal_halves.specs.Journals.{Where, with_body, IsEither}
+use Rattle.half_journal.specs.CdEdges.area.Area.{Area}
+use Rattle.half_journal.specs.CdEdges.area.Area.TheVariants.{Journal, Shares, Recipes}
+use Rattle.half_journal.specs.CdEdges.Disk.{Areas, Image, Cloud, LeavesOnly, reads}
+use Rattle.half_journal.specs.CdEdges.Shelf.{stable, Stays}
+use Rattle.cloud_areas.specs.ContainerLog.Laying.{Placed, placed, IsAt}
+use Rattle.cloud_areas.specs.ContainerLog.Kept.{KeepsBelow}
+use Rattle.cloud_areas.specs.ContainerLog.States as logs
+use Rattle.half_journal.specs.CdBase.place.Place.{Place}
+use Rattle.half_journal.specs.JournalStart.start.Header.{Header}
+use Rattle.half_journal.specs.JournalHalves.Halves.{half_limit}
+use Rattle.half_journal.specs.JournalHalves.Journals.{Where, with_body, IsEither}
 use Rattle.half_journal.specs.States as journals
-use Rattle.record_bodies.specs.Spelling.{Body, IsBody}
-use Rattle.user_dedup.specs.declared.command.Command.{Command}
-use Rattle.user_dedup.specs.Dedup.{IsSound}
+use Rattle.cloud_areas.specs.RecordBodies.Spelling.{Body, IsBody}
+use Rattle.cloud_areas.specs.UserDedup.command.Command.{Command}
+use Rattle.cloud_areas.specs.UserDedup.Dedup.{IsSound}
 use Rattle.cloud_areas.specs.Placing.{region_start, greatest_end, shares_placed, shares_in, recipes_in, places_of}
 use Rattle.cloud_areas.specs.Chains.{IsRecord, laid_shares, BothHaveRoom}
 use Rattle.cloud_areas.specs.Standing.{Chain, where_of, region_in, IsChain, Holds, StandsFor}
 
 -- the journal and the two logs
 pub record Disk : Type 0 where
-  pub journal : journals.State
+  pub journal : journals.JournalState
   pub shares : logs.State
   pub recipes : logs.State
 
@@ -45,12 +45,12 @@ without_staged disk = record disk { shares = logs.without_staged disk.shares; re
 
 -- The cloud is told, and all of its areas is on the disk. The journal was read to its end, within the limit of the header's rooms; its current
 -- half has the chain, which holds the sound list.
-pub record IsRead (header : Header) (list : List Command) (c : Chain) (journal : journals.State) (cloud : Cloud) : Type 0 where
+pub record IsRead (header : Header) (list : List Command) (c : Chain) (journal : journals.JournalState) (cloud : Cloud) : Type 0 where
   pub told : IsTrue cloud.told
   pub sound : IsSound header.shape header.cloud.0 list
   pub on_disk : (area : Area) → cloud.now area ≡ stable (cloud.now area).read
   pub limit : journal.limit ≡ half_limit header.rooms
-  pub ended : journals.IsEnded journal (cloud.now Journal) (where_of c)
+  pub ended : journals.IsJournalEnded journal (cloud.now Journal) (where_of c)
   pub is_chain : IsChain header (half_limit header.rooms) (cloud.now Journal).read c
   pub holds : Holds header (reads cloud.now) list c
 
@@ -113,7 +113,7 @@ IsGrown disk old w next image = IsEither w next (image Journal) × KeepsBelow di
 -- Whatever the chain that was read says: each image since has it, or it with this record, and keeps what lies below the ends of both logs.
 abbrev pub KeepsOrGrows : Disk → List ℕ → Cloud → Cloud → Type 0
 KeepsOrGrows disk body old new = IsTrue old.told → disk.shares.area ≡ Shares → disk.recipes.area ≡ Recipes
-    → (w : Where) → journals.IsEnded disk.journal (old.now Journal) w → LeavesOnly old new (IsGrown disk old w (with_body w body))
+    → (w : Where) → journals.IsJournalEnded disk.journal (old.now Journal) w → LeavesOnly old new (IsGrown disk old w (with_body w body))
 
 -- What lies in front of the ends of both logs lies there still.
 pub record KeepsFronts (disk : Disk) (old new : Cloud) : Type 0 where

@@ -1,12 +1,12 @@
 -- Blobs that lie in an area before its log's end, and what a flush of the log leaves of them.
 use Rattle.std.specs.Prelude.{◌≡◌, ℕ, ◌+◌, ◌≤◌, List, [], ◌∷◌, ◌++◌, length, All, OnOk, Result, IsTrue}
-use Rattle.cd_edges.specs.declared.area.Area.{Area}
-use Rattle.cd_edges.specs.declared.area.Area.TheVariants.{Journal, Shares, Recipes}
-use Rattle.cd_edges.specs.Disk.{Areas, Image, Cloud, LeavesOnly, IsAtArea, MayLeave}
-use Rattle.cd_edges.specs.Shelf.{stable}
-use Rattle.container_log.specs.Laying.{Placed, placed, IsAt}
-use Rattle.container_log.specs.Kept.{KeepsBelow}
-use Rattle.container_log.specs.States.{State, HasStaged, Agrees}
+use Rattle.half_journal.specs.CdEdges.area.Area.{Area}
+use Rattle.half_journal.specs.CdEdges.area.Area.TheVariants.{Journal, Shares, Recipes}
+use Rattle.half_journal.specs.CdEdges.Disk.{Areas, Image, Cloud, LeavesOnly, IsAtArea, MayLeave}
+use Rattle.half_journal.specs.CdEdges.Shelf.{stable}
+use Rattle.cloud_areas.specs.ContainerLog.Laying.{Placed, placed, IsAt}
+use Rattle.cloud_areas.specs.ContainerLog.Kept.{KeepsBelow}
+use Rattle.cloud_areas.specs.ContainerLog.States.{State, HasStaged, Agrees}
 
 -- ---- one area
 

@@ -5,8 +5,8 @@ use Rattle.cloud_disk.specs.Disk.{Disk}
 use Rattle.half_journal.specs.declared.journal.Journal.{Journal}
 use Rattle.half_journal.specs.contracts.journal.Journal as journal
 use Rattle.half_journal.specs.States as journals
-use Rattle.container_log.specs.contracts.log.Log as log
-use Rattle.container_log.specs.States as logs
+use Rattle.cloud_areas.specs.ContainerLog.log.Log as log
+use Rattle.cloud_areas.specs.ContainerLog.States as logs
 
 abbrev pub LendsJournal : MutBor Disk → MutBor Journal → Fml
 LendsJournal l r = Lends the_row journal.the_row l r (λ w. record l.now { journal = journals.state_of w })

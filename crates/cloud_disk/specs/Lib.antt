@@ -1,3 +1,14 @@
+pub mod CdBase
+pub mod CdEdges
+pub mod CloudAreas
+pub mod CommitJournal
+pub mod ContainerLog
 pub mod Disk
+pub mod HalfJournal
 pub mod Held
+pub mod JournalHalves
+pub mod JournalStart
 pub mod Lending
+pub mod RecordBodies
+pub mod RecordBody
+pub mod UserDedup

@@ -4,20 +4,20 @@ ghost use Rattle.std.specs.Prelude.{◌≡◌, ◌↔◌, ℕ, ◌+◌, ◌<◌,
 ghost use Rattle.std.specs.Prelude.{OnErr, MatchResult};
 ghost use Rattle.std.specs.List.{Contains};
 ghost use Rattle.std.specs.Borrow.{sem};
-ghost use Rattle.cd_edges.specs.declared.area.Area.TheVariants.{Shares, Recipes};
-ghost use Rattle.cd_edges.specs.Disk.{Cloud, moment};
-ghost use Rattle.cd_edges.specs.Shelf.{IsCall, HasFailed, KeepsCounts, Stays, ReadsFrom};
-ghost use Rattle.container_log.specs.Laying.{Placed};
-ghost use Rattle.container_log.specs.Places.{container_len, place_of};
-ghost use Rattle.container_log.specs.States.{HasStaged, staged_end, need_of, with_blob, in_area};
-ghost use Rattle.journal_start.specs.declared.start.Header.{Header};
-ghost use Rattle.journal_start.specs.Ranges.{AreRooms};
-ghost use Rattle.journal_halves.specs.Halves.{half_limit};
+ghost use Rattle.half_journal.specs.CdEdges.area.Area.TheVariants.{Shares, Recipes};
+ghost use Rattle.half_journal.specs.CdEdges.Disk.{Cloud, moment};
+ghost use Rattle.half_journal.specs.CdEdges.Shelf.{IsCall, HasFailed, KeepsCounts, Stays, ReadsFrom};
+ghost use Rattle.cloud_areas.specs.ContainerLog.Laying.{Placed};
+ghost use Rattle.cloud_areas.specs.ContainerLog.Places.{container_len, place_of};
+ghost use Rattle.cloud_areas.specs.ContainerLog.States.{HasStaged, staged_end, need_of, with_blob, in_area};
+ghost use Rattle.half_journal.specs.JournalStart.start.Header.{Header};
+ghost use Rattle.half_journal.specs.JournalStart.Ranges.{AreRooms};
+ghost use Rattle.half_journal.specs.JournalHalves.Halves.{half_limit};
 ghost use Rattle.half_journal.specs.declared.journal.Stage.TheVariants.{Shut, AtEnd};
 ghost use Rattle.half_journal.specs.States.{state_of};
 ghost use Rattle.half_journal.specs.Outcomes.{stage_after};
-ghost use Rattle.record_bodies.specs.Spelling.{Body};
-ghost use Rattle.user_dedup.specs.declared.command.Command.{Command};
+ghost use Rattle.cloud_areas.specs.RecordBodies.Spelling.{Body};
+ghost use Rattle.cloud_areas.specs.UserDedup.command.Command.{Command};
 ghost use Rattle.cloud_areas.specs.Placing.{shares_in};
 ghost use Rattle.cloud_areas.specs.Chains.{laid_shares};
 ghost use Rattle.cloud_areas.specs.Standing.{Chain};
@@ -28,13 +28,9 @@ ghost use Rattle.cloud_disk.specs.Disk.{IsPrepared, KeepsOrAdds, KeepsOrGrows, K
 ghost use Rattle.cloud_disk.specs.Lending.{LendsJournal, LendsShares, LendsRecipes};
 
 use crate::flush::flush_both;
-use cd_base::{CloudNo, NoMemory};
-use cd_edges::{Area, Failed, Shelf};
 use cloud_areas::laws::law_of_one_more;
-use container_log::{Log, LogFull};
-use half_journal::{Journal, Stage};
-use journal_halves::half_limit;
-use journal_start::Rooms;
+use cloud_areas::{Log, LogFull};
+use half_journal::{Area, CloudNo, Failed, Journal, NoMemory, Shelf, Stage, UserRooms, half_limit};
 use std::alloc::Global;
 use std::marker::Model;
 
@@ -69,7 +65,7 @@ impl CloudDisk {
     /// A disk that isn't open yet, with nothing staged, for a cloud of these rooms. Each of the two logs keeps up to 4
     /// containers that were read lately, and takes 4,194,304 bytes for each when it is read, where there is memory. All else
     /// is taken here. The only error is want of memory.
-    pub fn make(alloc: Global, rooms: &Rooms) -> Result<CloudDisk, NoMemory>
+    pub fn make(alloc: Global, rooms: &UserRooms) -> Result<CloudDisk, NoMemory>
         requires { AreRooms rooms.now }
         ensures journal { IfOk result (λ disk. (disk.journal.limit ≡ half_limit rooms.now)
             × (disk.journal.stage ≡ Shut)) }

@@ -7,4 +7,15 @@ mod disk;
 mod flush;
 pub mod laws;
 
+pub use cloud_areas::laws::{
+    law_of_checkpoints, law_of_headers, law_of_laying, law_of_numbers, law_of_places,
+    law_of_standing,
+};
+pub use cloud_areas::peers::law_of_peers;
+pub use cloud_areas::{BodyBuf, CommitBody, DeleteBody, Log, LogFull, PutItem};
 pub use disk::CloudDisk;
+pub use half_journal::{
+    Area, Bytes, CloudNo, Failed, FindErr, Found, HALF_LEN, Header, Journal, NoMemory, OpenErr,
+    Place, RECIPE_LIMIT, RecordErr, Room, Shape, Shelf, Sink, Stage, Start, UserId, UserRooms,
+    WINDOW, find, half_limit,
+};

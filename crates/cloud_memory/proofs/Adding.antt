@@ -7,26 +7,26 @@ use Rattle.std.proofs.lemmas.Bool.{false_from_ne_true}
 use Rattle.std.proofs.lemmas.List.Elements.{All-nil, All-cons, All-head, All-tail}
 use Rattle.std.proofs.lemmas.List.Sums.{sum_by-cons}
 use Rattle.std.proofs.Math.Seq.{take-suc, take-suc-set, drop-cons}
-use Rattle.cd_base.specs.declared.ids.Fp.{Fp}
-use Rattle.cd_base.specs.declared.ids.UserId.{UserId}
-use Rattle.pool_map.specs.declared.accounts.Accounts.{Accounts}
-use Rattle.pool_map.specs.Accounts.{limit_for, use_for, keys_of}
-use Rattle.pool_map.specs.MapSums.{sum_by-insert_new}
-use Rattle.record_body.specs.declared.body.PutItem.{PutItem}
+use Rattle.spent_table.specs.CdBase.ids.Fp.{Fp}
+use Rattle.spent_table.specs.CdBase.ids.UserId.{UserId}
+use Rattle.file_index.specs.PoolMap.accounts.Accounts.{Accounts}
+use Rattle.file_index.specs.PoolMap.Accounts.{limit_for, use_for, keys_of}
+use Rattle.file_index.specs.PoolMap.MapSums.{sum_by-insert_new}
+use Rattle.cloud_areas.specs.RecordBody.body.PutItem.{PutItem}
 use Rattle.share_index.specs.declared.key.Owner.{Owner}
-use Rattle.cd_base.specs.declared.place.Place.{Place}
+use Rattle.spent_table.specs.CdBase.place.Place.{Place}
 use Rattle.share_index.specs.Order.{owner_cmp, owner_of}
-use Rattle.cd_base.specs.Order.{fp_cmp}
+use Rattle.spent_table.specs.CdBase.Order.{fp_cmp}
 use Rattle.share_index.proofs.Owning.{owner_total}
 use Rattle.share_index.proofs.Placing.{fp_total}
-use Rattle.user_dedup.proofs.Owned.{fp_same}
+use Rattle.cloud_areas.proofs.UserDedup.Owned.{fp_same}
 use Rattle.cloud_memory.specs.declared.cloud.CloudMemory.{CloudMemory}
 use Rattle.cloud_memory.specs.declared.rooms.New.{New}
 use Rattle.cloud_memory.specs.Memory.{Memory}
 use Rattle.cloud_memory.specs.News.{AreApart}
 use Rattle.cloud_memory.specs.Rooms.{memory_of}
 use Rattle.cloud_memory.specs.Steps.{places_with, with_item, with_items, part_in, parts_of, placed_len, len_or, held_len}
-use Rattle.cloud_memory.specs.Inner.{KeepsLimits, Adds, AddsAll, HasShareRoom, MayAdd}
+use Rattle.cloud_memory.specs.Inner.{KeepsLimits, HasAddedShare, AddsAll, HasShareRoom, MayAdd}
 use Rattle.cloud_memory.proofs.Keys.{owner_in}
 use Rattle.cloud_memory.proofs.Puts.{place_for, placed_more}
 
@@ -95,7 +95,7 @@ first_room cloud user n ns may = record {
 pub first_end : (cloud : CloudMemory) (user : UserId) (news : List New) → MayAdd cloud user news → cloud.shares_end < 2 ^ 63
 first_end cloud user news may = let m = may.end in omega (arith, m)
 
-pub may_rest : (old mid : CloudMemory) (user : UserId) (n : New) (item : PutItem) (ns : List New) → Adds old mid user n item → MayAdd old user (n ∷ ns) → MayAdd mid user ns
+pub may_rest : (old mid : CloudMemory) (user : UserId) (n : New) (item : PutItem) (ns : List New) → HasAddedShare old mid user n item → MayAdd old user (n ∷ ns) → MayAdd mid user ns
 may_rest old mid user n item ns adds may =
     let owners : mid.shares.owners ≡ insert old.shares.owners (owner_of user.0 n.fp.0) 0 =
     ap (λ (m : Memory). m.owners) adds.taken ∙ ap (λ (i : PutItem). insert old.shares.owners (owner_of user.0 i.fp.0) 0) adds.part in
@@ -123,9 +123,9 @@ may_rest old mid user n item ns adds may =
 
 -- ---- all of them
 
-more_added : (a b c : CloudMemory) (user : UserId) (ns : List New) (is : List PutItem) (n : New) (item : PutItem) → AddsAll a b user ns is → Adds b c user n item
+more_added : (a b c : CloudMemory) (user : UserId) (ns : List New) (is : List PutItem) (n : New) (item : PutItem) → AddsAll a b user ns is → HasAddedShare b c user n item
     → AddsAll a c user (ns ++ n ∷ []) (is ++ item ∷ [])
-more_added a b c user [] [] n item all one = (c, subst (λ (x : CloudMemory). Adds x c user n item) all one, refl)
+more_added a b c user [] [] n item all one = (c, subst (λ (x : CloudMemory). HasAddedShare x c user n item) all one, refl)
 more_added a b c user [] (i ∷ is) n item all one = absurd all
 more_added a b c user (m ∷ ns) [] n item all one = absurd all
 more_added a b c user (m ∷ ns) (i ∷ is) n item all one = (all.0, all.1, more_added all.0 b c user ns is n item all.2 one)
@@ -140,7 +140,7 @@ pub adding_room : (start now : CloudMemory) (user : UserId) (news : List New) (i
 adding_room start now user news items place d lt adding = subst (λ (l : List New). MayAdd now user l) (drop-cons news place d lt) adding.room
 
 pub adding_more : (start now next : CloudMemory) (user : UserId) (news : List New) (items : List PutItem) (place : ℕ) (d : New) (item : PutItem) → place < length news → length items ≡ length news
-    → Adding start now user news items place → Adds now next user (get_or news place d) item → Adding start next user news (set items place item) (place + 1)
+    → Adding start now user news items place → HasAddedShare now next user (get_or news place d) item → Adding start next user news (set items place item) (place + 1)
 adding_more start now next user news items place d item lt same adding one =
     let below : place < length items = omega (arith, same, lt) in
     let next_place : suc place ≡ place + 1 = omega arith in

@@ -5,10 +5,10 @@ use Rattle.std.specs.FinMap.{get-empty}
 use Rattle.file_index.specs.Files.{key_of}
 use Rattle.file_index.specs.Order.{key_cmp}
 use Rattle.share_index.specs.Order.{owner_cmp, owner_of}
-use Rattle.cd_base.specs.Order.{fp_cmp}
-use Rattle.cd_base.specs.declared.shape.Shape.{Shape}
+use Rattle.spent_table.specs.CdBase.Order.{fp_cmp}
+use Rattle.spent_table.specs.CdBase.shape.Shape.{Shape}
 use Rattle.spent_table.specs.Spending.{nothing as no_row}
-use Rattle.user_dedup.proofs.Owned.{contains_nothing}
+use Rattle.cloud_areas.proofs.UserDedup.Owned.{contains_nothing}
 use Rattle.cloud_memory.specs.Memory.{Remembers, IsPlacedBy, HasEnds, as_spent, summary}
 use Rattle.cloud_memory.specs.Steps.{begun}
 

@@ -8,30 +8,30 @@ use Rattle.std.proofs.lemmas.Bool.{cases_eq, ne_eqb}
 use Rattle.std.proofs.lemmas.List.Elements.{All-contains}
 use Rattle.std.proofs.lemmas.List.Folds.{find-append}
 use Rattle.std.proofs.lemmas.Grind.{flat_map-append}
-use Rattle.cd_base.specs.declared.ids.Fp.{Fp}
-use Rattle.cd_base.specs.declared.ids.Tag.{Tag}
-use Rattle.cd_base.specs.declared.ids.UserId.{UserId}
-use Rattle.cd_base.specs.declared.ids.Version.{Version}
-use Rattle.cd_base.specs.declared.shape.Shape.{Shape}
+use Rattle.spent_table.specs.CdBase.ids.Fp.{Fp}
+use Rattle.spent_table.specs.CdBase.ids.Tag.{Tag}
+use Rattle.spent_table.specs.CdBase.ids.UserId.{UserId}
+use Rattle.spent_table.specs.CdBase.ids.Version.{Version}
+use Rattle.spent_table.specs.CdBase.shape.Shape.{Shape}
 use Rattle.file_index.specs.declared.key.Entry.{Entry}
 use Rattle.file_index.specs.Files.{key_of}
 use Rattle.share_index.specs.Order.{owner_of}
 use Rattle.spent_table.specs.declared.Spent.{Spent as Row}
 use Rattle.spent_table.specs.Spending.{spent_by, both}
-use Rattle.user_dedup.specs.declared.file_list.FileEntry.{FileEntry}
-use Rattle.user_dedup.specs.declared.view.View.{View}
-use Rattle.user_dedup.specs.Cloud.{fingerprint}
-use Rattle.user_dedup.specs.Owning.{is_among}
-use Rattle.user_dedup.specs.Pages.{is_at, entry_at}
-use Rattle.user_dedup.specs.Pages.{key_of as file_key}
-use Rattle.user_dedup.specs.Requests.{fps_of}
-use Rattle.user_dedup.proofs.Owned.{among_contains}
-use Rattle.user_dedup.specs.declared.command.Command.{Command}
-use Rattle.user_dedup.specs.declared.command.Command.TheVariants as commands
-use Rattle.user_dedup.specs.Cloud.{user_view, named_in, strings_in}
-use Rattle.user_dedup.specs.Spending.{Spent, spent_of, files_of}
-use Rattle.user_dedup.proofs.Deleting.{its_key}
-use Rattle.user_dedup.proofs.Views.{own_adds, others_stay}
+use Rattle.cloud_areas.specs.UserDedup.file_list.FileEntry.{FileEntry}
+use Rattle.cloud_areas.specs.UserDedup.view.View.{View}
+use Rattle.cloud_areas.specs.UserDedup.Cloud.{fingerprint}
+use Rattle.cloud_areas.specs.UserDedup.Owning.{is_among}
+use Rattle.cloud_areas.specs.UserDedup.Pages.{is_at, entry_at}
+use Rattle.cloud_areas.specs.UserDedup.Pages.{key_of as file_key}
+use Rattle.cloud_areas.specs.UserDedup.Requests.{fps_of}
+use Rattle.cloud_areas.proofs.UserDedup.Owned.{among_contains}
+use Rattle.cloud_areas.specs.UserDedup.command.Command.{Command}
+use Rattle.cloud_areas.specs.UserDedup.command.Command.TheVariants as commands
+use Rattle.cloud_areas.specs.UserDedup.Cloud.{user_view, named_in, strings_in}
+use Rattle.cloud_areas.specs.UserDedup.Spending.{SpentByUser, spent_of, files_of}
+use Rattle.cloud_areas.proofs.UserDedup.Deleting.{its_key}
+use Rattle.cloud_areas.proofs.UserDedup.Views.{own_adds, others_stay}
 use Rattle.cloud_areas.specs.Chains.{commit_of}
 use Rattle.cloud_memory.specs.Memory.{Memory, Remembers, as_spent, uses_of, times, summary, summary_of}
 use Rattle.cloud_memory.specs.Sharing.{AreOwned}
@@ -44,7 +44,7 @@ use Rattle.cloud_memory.proofs.Few.{few_named, all_named, times_few}
 use Rattle.cloud_memory.proofs.Lists.{strings_more, is_placed, placed_len_is, are_placed, and_more, spent_next, row_here, row_there}
 
 -- nothing is spent beside what was
-pub none_more : (list : List Command) (s : Spent) → and_more list [] s ≡ s
+pub none_more : (list : List Command) (s : SpentByUser) → and_more list [] s ≡ s
 none_more list s =
     let zero_more : (n : ℕ) → n + 0 ≡ n = λ n. omega arith in
     λ i. record { owners = zero_more s.owners i; shares = zero_more s.shares i; recipes = zero_more s.recipes i }

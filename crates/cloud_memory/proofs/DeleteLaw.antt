@@ -3,27 +3,27 @@ use Rattle.std.proofs.Common.{◌≡◌, ◌≢◌, ℕ, suc, ◌+◌, Bool, tru
 use Rattle.std.specs.Prelude.{◌&&◌, ◌==◌, not, bytes_eq, slice_get, option_map}
 use Rattle.std.specs.FinMap.{get}
 use Rattle.std.proofs.lemmas.Bool.{cases_eq, ne_eqb, false_from_ne_true}
-use Rattle.cd_base.specs.declared.ids.Fp.{Fp}
-use Rattle.cd_base.specs.declared.ids.Tag.{Tag}
-use Rattle.cd_base.specs.declared.ids.UserId.{UserId}
-use Rattle.cd_base.specs.declared.ids.Version.{Version}
-use Rattle.cd_base.specs.declared.shape.Shape.{Shape}
+use Rattle.spent_table.specs.CdBase.ids.Fp.{Fp}
+use Rattle.spent_table.specs.CdBase.ids.Tag.{Tag}
+use Rattle.spent_table.specs.CdBase.ids.UserId.{UserId}
+use Rattle.spent_table.specs.CdBase.ids.Version.{Version}
+use Rattle.spent_table.specs.CdBase.shape.Shape.{Shape}
 use Rattle.file_index.specs.Files.{key_of}
 use Rattle.share_index.specs.Order.{owner_of}
-use Rattle.user_dedup.specs.declared.file_list.FileEntry.{FileEntry}
-use Rattle.user_dedup.specs.declared.view.View.{View}
-use Rattle.user_dedup.specs.Owning.{is_among}
-use Rattle.user_dedup.specs.Pages.{is_at, entry_at, AreApart}
-use Rattle.user_dedup.specs.Requests.{fps_of}
-use Rattle.user_dedup.specs.declared.command.Command.{Command}
-use Rattle.user_dedup.specs.declared.command.Command.TheVariants as commands
-use Rattle.user_dedup.specs.Dedup.{IsSound}
-use Rattle.user_dedup.specs.Cloud.{user_view, named_by, named_in, without_key, still_owned, strings_in}
-use Rattle.user_dedup.specs.Cloud.{without_entry as view_without}
-use Rattle.user_dedup.proofs.Deleting.{its_key, at_its_key, entry_gone, entry_stays, deleted_view}
-use Rattle.user_dedup.proofs.Sound.{keys_apart}
-use Rattle.user_dedup.proofs.Spending.{deletes_nothing_spent}
-use Rattle.user_dedup.proofs.Views.{others_stay}
+use Rattle.cloud_areas.specs.UserDedup.file_list.FileEntry.{FileEntry}
+use Rattle.cloud_areas.specs.UserDedup.view.View.{View}
+use Rattle.cloud_areas.specs.UserDedup.Owning.{is_among}
+use Rattle.cloud_areas.specs.UserDedup.Pages.{is_at, entry_at, AreApart}
+use Rattle.cloud_areas.specs.UserDedup.Requests.{fps_of}
+use Rattle.cloud_areas.specs.UserDedup.command.Command.{Command}
+use Rattle.cloud_areas.specs.UserDedup.command.Command.TheVariants as commands
+use Rattle.cloud_areas.specs.UserDedup.Dedup.{IsSound}
+use Rattle.cloud_areas.specs.UserDedup.Cloud.{user_view, named_by, named_in, without_key, still_owned, strings_in}
+use Rattle.cloud_areas.specs.UserDedup.Cloud.{without_entry as view_without}
+use Rattle.cloud_areas.proofs.UserDedup.Deleting.{its_key, at_its_key, entry_gone, entry_stays, deleted_view}
+use Rattle.cloud_areas.proofs.UserDedup.Sound.{keys_apart}
+use Rattle.cloud_areas.proofs.UserDedup.Spending.{deletes_nothing_spent}
+use Rattle.cloud_areas.proofs.UserDedup.Views.{others_stay}
 use Rattle.cloud_memory.specs.Memory.{Memory, Remembers, uses_of, times, summary, summary_of}
 use Rattle.cloud_memory.specs.Steps.{without_entry}
 use Rattle.cloud_memory.proofs.Puts.{ArePlaced}

@@ -5,21 +5,21 @@ use Rattle.std.specs.FinMap.{get}
 use Rattle.std.proofs.lemmas.Grind.{flat_map-append}
 use Rattle.std.proofs.lemmas.List.{map-append}
 use Rattle.std.proofs.lemmas.List.Sums.{sum_by-cons}
-use Rattle.cd_base.specs.declared.ids.Fp.{Fp}
-use Rattle.cd_base.specs.declared.ids.Tag.{Tag}
-use Rattle.cd_base.specs.declared.ids.UserId.{UserId}
-use Rattle.cd_base.specs.declared.ids.Version.{Version}
-use Rattle.cd_base.specs.declared.shape.Shape.{Shape}
-use Rattle.container_log.specs.Places.{container_len, place_of}
+use Rattle.spent_table.specs.CdBase.ids.Fp.{Fp}
+use Rattle.spent_table.specs.CdBase.ids.Tag.{Tag}
+use Rattle.spent_table.specs.CdBase.ids.UserId.{UserId}
+use Rattle.spent_table.specs.CdBase.ids.Version.{Version}
+use Rattle.spent_table.specs.CdBase.shape.Shape.{Shape}
+use Rattle.cloud_areas.specs.ContainerLog.Places.{container_len, place_of}
 use Rattle.file_index.specs.Files.{key_of}
-use Rattle.record_body.specs.declared.body.PutItem.{PutItem}
-use Rattle.record_bodies.specs.Spelling as bodies
-use Rattle.record_bodies.specs.Spelling.{Body}
-use Rattle.cd_base.specs.declared.place.Place.{Place}
-use Rattle.user_dedup.specs.declared.command.Command.{Command}
-use Rattle.user_dedup.specs.declared.command.Command.TheVariants as commands
-use Rattle.user_dedup.specs.Dedup.{IsSound}
-use Rattle.user_dedup.specs.Spending.{Spent, held_len, spent_by_all}
+use Rattle.cloud_areas.specs.RecordBody.body.PutItem.{PutItem}
+use Rattle.cloud_areas.specs.RecordBodies.Spelling as bodies
+use Rattle.cloud_areas.specs.RecordBodies.Spelling.{Body}
+use Rattle.spent_table.specs.CdBase.place.Place.{Place}
+use Rattle.cloud_areas.specs.UserDedup.command.Command.{Command}
+use Rattle.cloud_areas.specs.UserDedup.command.Command.TheVariants as commands
+use Rattle.cloud_areas.specs.UserDedup.Dedup.{IsSound}
+use Rattle.cloud_areas.specs.UserDedup.Spending.{SpentByUser, held_len, spent_by_all}
 use Rattle.cloud_areas.specs.Placing.{shares_in, recipes_placed, recipes_in, places_given, places_of, region_start, end_of, greatest_end}
 use Rattle.cloud_areas.specs.Chains.{commit_of}
 use Rattle.cloud_memory.specs.declared.rooms.New.{New}
@@ -142,11 +142,11 @@ put_ends shape cloud list user strings news m region records sound r of new ends
     let near = put_near user m news in
     let bound = ends.shares_bound in
     let shares : (spent_by_all (list ++ commands.Put user strings ∷ [])).shares ≡ (spent_by_all list).shares + sum_by (held_len (list ++ commands.Put user strings ∷ [])) strings =
-    ap (λ (s : Spent). s.shares) all ∙ ap (λ (l : List (List ℕ)). (spent_by_all list).shares + sum_by (held_len (list ++ commands.Put user strings ∷ [])) l) (append-nil strings) in
+    ap (λ (s : SpentByUser). s.shares) all ∙ ap (λ (l : List (List ℕ)). (spent_by_all list).shares + sum_by (held_len (list ++ commands.Put user strings ∷ [])) l) (append-nil strings) in
     let stays = recipes_end_stays user m items in
     let had = ends.recipes in
     let had_bound = ends.recipes_bound in
-    let spent : (spent_by_all (list ++ commands.Put user strings ∷ [])).recipes ≡ (spent_by_all list).recipes + 0 = ap (λ (s : Spent). s.recipes) all in
+    let spent : (spent_by_all (list ++ commands.Put user strings ∷ [])).recipes ≡ (spent_by_all list).recipes + 0 = ap (λ (s : SpentByUser). s.recipes) all in
     record {
       shares =
           subst (λ (l : List Place). greatest_end (region_start region) l ≤ filled.shares_end) (sym listed)
@@ -171,10 +171,10 @@ commit_ends list user tag version recipe names m region records ends =
     let had = ends.shares in
     let had_bound = ends.shares_bound in
     let bound = ends.recipes_bound in
-    let shares : (spent_by_all (list ++ commands.Commit user tag version recipe ∷ [])).shares ≡ (spent_by_all list).shares + 0 = ap (λ (s : Spent). s.shares) all in
+    let shares : (spent_by_all (list ++ commands.Commit user tag version recipe ∷ [])).shares ≡ (spent_by_all list).shares + 0 = ap (λ (s : SpentByUser). s.shares) all in
     let one : sum_by (λ (r : List ℕ). length r) (recipe ∷ []) ≡ length recipe = omega arith in
     let spent : (spent_by_all (list ++ commands.Commit user tag version recipe ∷ [])).recipes ≡ (spent_by_all list).recipes + length recipe =
-    ap (λ (s : Spent). s.recipes) all ∙ ap (λ (n : ℕ). (spent_by_all list).recipes + n) one in
+    ap (λ (s : SpentByUser). s.recipes) all ∙ ap (λ (n : ℕ). (spent_by_all list).recipes + n) one in
     record {
       shares = subst (λ (l : List Place). greatest_end (region_start region) l ≤ m.shares_end) (sym listed) had;
       shares_bound = omega (arith, had_bound, shares);
@@ -196,8 +196,8 @@ delete_ends list user tag version names m region records ends =
     let recipes = recipes_more records body ∙ append-nil (recipes_in records) in
     let shares_bound = ends.shares_bound in
     let recipes_bound = ends.recipes_bound in
-    let shares : (spent_by_all (list ++ commands.Delete user tag version ∷ [])).shares ≡ (spent_by_all list).shares + 0 = ap (λ (s : Spent). s.shares) all in
-    let spent : (spent_by_all (list ++ commands.Delete user tag version ∷ [])).recipes ≡ (spent_by_all list).recipes + 0 = ap (λ (s : Spent). s.recipes) all in
+    let shares : (spent_by_all (list ++ commands.Delete user tag version ∷ [])).shares ≡ (spent_by_all list).shares + 0 = ap (λ (s : SpentByUser). s.shares) all in
+    let spent : (spent_by_all (list ++ commands.Delete user tag version ∷ [])).recipes ≡ (spent_by_all list).recipes + 0 = ap (λ (s : SpentByUser). s.recipes) all in
     record {
       shares = subst (λ (l : List Place). greatest_end (region_start region) l ≤ m.shares_end) (sym listed) ends.shares;
       shares_bound = omega (arith, shares_bound, shares);

@@ -2,25 +2,25 @@
 use Rattle.std.proofs.Common.{◌≡◌, ℕ, ◌+◌, ◌<◌, ◌≤◌, nat_lt, Bool, true, false, cond, List, fold, Option, Some, None, refl, sym, ap, ◌∙◌, arith, eq-eqb, ne_eqb, ltb-true}
 use Rattle.std.specs.Prelude.{◌≢◌, max, slice_set}
 use Rattle.std.specs.FinMap.{FinMap, insert}
-use Rattle.cd_base.specs.declared.ids.Fp.{Fp}
-use Rattle.cd_base.specs.declared.ids.UserId.{UserId}
-use Rattle.cd_base.specs.declared.rooms.Room.TheVariants as names
-use Rattle.cd_base.specs.declared.shape.Shape.{Shape}
+use Rattle.spent_table.specs.CdBase.ids.Fp.{Fp}
+use Rattle.spent_table.specs.CdBase.ids.UserId.{UserId}
+use Rattle.spent_table.specs.CdBase.rooms.Room.TheVariants as names
+use Rattle.spent_table.specs.CdBase.shape.Shape.{Shape}
 use Rattle.file_index.specs.declared.key.FileKey.{FileKey}
 use Rattle.file_index.specs.Files.{key_of}
 use Rattle.file_index.specs.Files.{used_by as files_used}
-use Rattle.pool_map.specs.declared.accounts.Accounts.{Accounts}
-use Rattle.pool_map.specs.Accounts.{limit_for, use_for, keys_of}
-use Rattle.journal_start.specs.declared.rooms.Rooms.{Rooms}
-use Rattle.record_body.specs.declared.body.CommitBody.{CommitBody}
+use Rattle.file_index.specs.PoolMap.accounts.Accounts.{Accounts}
+use Rattle.file_index.specs.PoolMap.Accounts.{limit_for, use_for, keys_of}
+use Rattle.cloud_areas.specs.JournalStart.rooms.UserRooms.{UserRooms}
+use Rattle.cloud_areas.specs.RecordBody.body.CommitBody.{CommitBody}
 use Rattle.share_index.specs.Order.{owner_cmp}
 use Rattle.spent_table.specs.declared.Spent.{Spent as Row}
 use Rattle.spent_table.specs.Spending.{spent_by, both, of_recipe}
-use Rattle.journal_start.specs.Ranges.{AreRooms}
-use Rattle.user_dedup.specs.declared.command.Command.{Command}
-use Rattle.user_dedup.specs.Spending.{Spent, nothing, refusal, limits_of, files_of, files_limit, IsWithin}
-use Rattle.user_dedup.proofs.Spending.{each_within}
-use Rattle.user_dedup.specs.Dedup.{FullRoom}
+use Rattle.cloud_areas.specs.JournalStart.Ranges.{AreRooms}
+use Rattle.cloud_areas.specs.UserDedup.command.Command.{Command}
+use Rattle.cloud_areas.specs.UserDedup.Spending.{SpentByUser, nothing, refusal, limits_of, files_of, files_limit, IsWithin}
+use Rattle.cloud_areas.proofs.UserDedup.Spending.{each_within}
+use Rattle.cloud_areas.specs.UserDedup.Dedup.{FullRoom}
 use Rattle.cloud_memory.specs.declared.cloud.CloudMemory.{CloudMemory}
 use Rattle.cloud_memory.specs.Memory.{Memory}
 use Rattle.cloud_memory.specs.Rooms.{memory_of, HasRooms, full_files, full_commit}
@@ -33,21 +33,21 @@ use Rattle.cloud_memory.proofs.Taking.{none_left, refusal_none, files_small}
 abbrev full_by : ℕ → ℕ → FullRoom
 full_by used limit = record { room = names.Files; used = used; need = 1; limit = limit }
 
-abbrev by_equal : Rooms → UserId → Memory → Bool → Option FullRoom
+abbrev by_equal : UserRooms → UserId → Memory → Bool → Option FullRoom
 by_equal rooms user m b = cond b (Some (full_by (keys_of (λ (k : FileKey). k.user) m.files user.0) (files_limit rooms user))) None
 
-pub crowded_is : (rooms : Rooms) (user : UserId) (m : Memory) (used limit : ℕ) → used ≡ keys_of (λ (k : FileKey). k.user) m.files user.0 → limit ≡ files_limit rooms user → used ≡ limit
+pub crowded_is : (rooms : UserRooms) (user : UserId) (m : Memory) (used limit : ℕ) → used ≡ keys_of (λ (k : FileKey). k.user) m.files user.0 → limit ≡ files_limit rooms user → used ≡ limit
     → Some (full_by used limit) ≡ full_files rooms user m
 crowded_is rooms user m used limit u l e =
     (λ i. Some (full_by (u i) (l i)))
     ∙ sym (ap (by_equal rooms user m) (eq-eqb (keys_of (λ (k : FileKey). k.user) m.files user.0) (files_limit rooms user) (sym u ∙ e ∙ l)))
 
-pub roomy_is : (rooms : Rooms) (user : UserId) (m : Memory) (used limit : ℕ) → used ≡ keys_of (λ (k : FileKey). k.user) m.files user.0 → limit ≡ files_limit rooms user → used ≢ limit
+pub roomy_is : (rooms : UserRooms) (user : UserId) (m : Memory) (used limit : ℕ) → used ≡ keys_of (λ (k : FileKey). k.user) m.files user.0 → limit ≡ files_limit rooms user → used ≢ limit
     → None ≡ full_files rooms user m
 roomy_is rooms user m used limit u l other =
     sym (ap (by_equal rooms user m) (ne_eqb (keys_of (λ (k : FileKey). k.user) m.files user.0) (files_limit rooms user) (λ e. other (u ∙ e ∙ sym l))))
 
-module _ (rooms : Rooms) (old : CloudMemory) (has : HasRooms rooms old) (user : UserId) where
+module _ (rooms : UserRooms) (old : CloudMemory) (has : HasRooms rooms old) (user : UserId) where
   used_is : files_used old.files user.0 ≡ keys_of (λ (k : FileKey). k.user) old.files.files user.0
   used_is = ap (λ (a : Accounts). use_for (λ (k : FileKey). k.user) a old.files.files user.0) has.files
 
@@ -82,18 +82,18 @@ commit_taken old mid c fps owners rows end entered o r e =
 -- ---- a Commit that fits
 
 -- where the recipe has some bytes, and its room isn't full
-pub record Roomy (rooms : Rooms) (old : CloudMemory) (user : UserId) (len : ℕ) : Type 0 where
+pub record Roomy (rooms : UserRooms) (old : CloudMemory) (user : UserId) (len : ℕ) : Type 0 where
   pub place : user.0 < rooms.users
   pub recipes : (spent_by old.spent user).recipes + len ≤ rooms.recipes
 
-pub roomy : (rooms : Rooms) (old : CloudMemory) (user : UserId) (len : ℕ) → 1 ≤ len → full_commit rooms user (memory_of old) len ≡ None → Roomy rooms old user len
+pub roomy : (rooms : UserRooms) (old : CloudMemory) (user : UserId) (len : ℕ) → 1 ≤ len → full_commit rooms user (memory_of old) len ≡ None → Roomy rooms old user len
 roomy rooms old user len some none =
     let left = none_left (full_files rooms user (memory_of old)) (refusal names.Recipes (spent_by old.spent user).recipes len (limits_of rooms user).recipes) none in
     let fits = refusal_none names.Recipes (spent_by old.spent user).recipes len (limits_of rooms user).recipes left.1 in
     by_limit (nat_lt user.0 rooms.users) refl fits
   where
     limit_by : Bool → ℕ
-    limit_by b = (cond {A = Spent} b (record { owners = rooms.owners; shares = rooms.shares; recipes = rooms.recipes }) nothing).recipes
+    limit_by b = (cond {A = SpentByUser} b (record { owners = rooms.owners; shares = rooms.shares; recipes = rooms.recipes }) nothing).recipes
 
     by_limit : (b : Bool) → nat_lt user.0 rooms.users ≡ b → (spent_by old.spent user).recipes + len ≤ (limits_of rooms user).recipes → Roomy rooms old user len
     by_limit true is fits =
@@ -104,7 +104,7 @@ roomy rooms old user len some none =
         absurd (omega (arith, fits, limit, some))
 
 -- a list within the rooms has few entries of a user
-pub few_files : (shape : Shape) (rooms : Rooms) (list : List Command) (user : UserId) → AreRooms rooms → IsWithin shape rooms list → files_of shape list user ≤ 16384
+pub few_files : (shape : Shape) (rooms : UserRooms) (list : List Command) (user : UserId) → AreRooms rooms → IsWithin shape rooms list → files_of shape list user ≤ 16384
 few_files shape rooms list user are within =
     let each = (each_within shape rooms list user within).files in
     let small = files_small rooms are in

@@ -3,19 +3,19 @@ use Rattle.std.proofs.Common.{◌≡◌, ℕ, zero, suc, ◌+◌, ◌*◌, ◌�
 use Rattle.std.specs.Prelude.{◌==◌, bytes_eq, Result, Ok, Err}
 use Rattle.std.proofs.lemmas.Bool.{and_parts, leb-true}
 use Rattle.std.proofs.lemmas.List.{length-map}
-use Rattle.cd_base.specs.declared.ids.Fp.{Fp}
-use Rattle.cd_base.specs.declared.shape.Shape.{Shape}
-use Rattle.cd_base.specs.Lengths.{share_len_of}
-use Rattle.grammar.specs.Readers.{◌>>=◌}
-use Rattle.grammar.specs.Fields.{number_at, bytes_at, checked}
+use Rattle.spent_table.specs.CdBase.ids.Fp.{Fp}
+use Rattle.spent_table.specs.CdBase.shape.Shape.{Shape}
+use Rattle.spent_table.specs.CdBase.Lengths.{share_len_of}
+use Rattle.recipe.specs.Grammar.Readers.{◌>>=◌}
+use Rattle.recipe.specs.Grammar.Fields.{number_at, bytes_at, checked}
 use Rattle.std.specs.Int.{w16, w32, w64}
 use Rattle.recipe.specs.declared.recipe.Recipe.{Recipe}
 use Rattle.recipe.specs.declared.items.Item.{Item}
 use Rattle.recipe.specs.Spelling.{is_name_len, is_file_len, is_count, total}
 use Rattle.recipe.specs.Reading.{item_at, items_at, file_at, ended, tail_at, recipe_left, placed, recipe_at}
-use Rattle.user_dedup.specs.declared.file_list.FileEntry.{FileEntry}
-use Rattle.user_dedup.specs.Requests.{fps_read, fps_of}
-use Rattle.user_dedup.specs.Cloud.{named_in}
+use Rattle.cloud_areas.specs.UserDedup.file_list.FileEntry.{FileEntry}
+use Rattle.cloud_areas.specs.UserDedup.Requests.{fps_read, fps_of}
+use Rattle.cloud_areas.specs.UserDedup.Cloud.{named_in}
 use Rattle.cloud_memory.specs.Memory.{times}
 use Rattle.cloud_memory.proofs.Naming.{times-cons}
 

@@ -7,22 +7,22 @@ use Rattle.std.specs.declared.cmp.Ordering.{Ordering}
 use Rattle.std.specs.declared.cmp.Ordering.TheVariants.{Less, Equal, Greater}
 use Rattle.std.specs.Ordering.{eq_by_cmp, is_eq}
 use Rattle.std.proofs.lemmas.List.Elements.{All-nil, All-cons, All-head, All-tail}
-use Rattle.cd_base.specs.declared.ids.Fp.{Fp}
-use Rattle.cd_base.specs.declared.ids.UserId.{UserId}
+use Rattle.spent_table.specs.CdBase.ids.Fp.{Fp}
+use Rattle.spent_table.specs.CdBase.ids.UserId.{UserId}
 use Rattle.file_index.specs.declared.key.Entry.{Entry}
 use Rattle.file_index.specs.declared.key.FileKey.{FileKey}
 use Rattle.file_index.specs.Order.{key_cmp}
 use Rattle.file_index.specs.Files.{key_of}
 use Rattle.file_index.proofs.Order.{key_total}
-use Rattle.message_fields.specs.Shares.{share_limit}
-use Rattle.record_body.specs.declared.body.CommitBody.{CommitBody}
-use Rattle.record_body.specs.declared.body.PutItem.{PutItem}
-use Rattle.record_bodies.specs.declared.body.KeptItem.{KeptItem}
-use Rattle.record_bodies.specs.Spelling.{FitsKept}
+use Rattle.cloud_areas.specs.MessageFields.Shares.{share_limit}
+use Rattle.cloud_areas.specs.RecordBody.body.CommitBody.{CommitBody}
+use Rattle.cloud_areas.specs.RecordBody.body.PutItem.{PutItem}
+use Rattle.cloud_areas.specs.RecordBodies.body.KeptItem.{KeptItem}
+use Rattle.cloud_areas.specs.RecordBodies.Spelling.{FitsKept}
 use Rattle.spent_table.specs.declared.Spent.{Spent}
-use Rattle.cd_base.specs.declared.place.Place.{Place}
-use Rattle.cd_base.specs.Order.{fp_cmp}
-use Rattle.cd_base.specs.Limits.{recipe_limit}
+use Rattle.spent_table.specs.CdBase.place.Place.{Place}
+use Rattle.spent_table.specs.CdBase.Order.{fp_cmp}
+use Rattle.spent_table.specs.CdBase.Limits.{recipe_limit}
 use Rattle.share_index.specs.declared.key.Owner.{Owner}
 use Rattle.share_index.specs.Order.{owner_cmp, owner_of, owner_exact}
 use Rattle.share_index.specs.Placed.{AreAllPlaced}

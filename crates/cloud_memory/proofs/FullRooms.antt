@@ -6,41 +6,41 @@ use Rattle.std.specs.Option.{option_or}
 use Rattle.std.specs.FinMap.{get, len}
 use Rattle.std.proofs.lemmas.Bool.{cases_eq, cases_lt, ne_eqb, eqb-true, false_from_ne_true}
 use Rattle.std.proofs.lemmas.List.{length-map}
-use Rattle.cd_base.specs.declared.ids.Fp.{Fp}
-use Rattle.cd_base.specs.declared.ids.Tag.{Tag}
-use Rattle.cd_base.specs.declared.ids.UserId.{UserId}
-use Rattle.cd_base.specs.declared.ids.Version.{Version}
-use Rattle.cd_base.specs.declared.rooms.Room.{Room}
-use Rattle.cd_base.specs.declared.rooms.Room.TheVariants as names
-use Rattle.cd_base.specs.declared.shape.Shape.{Shape}
-use Rattle.pool_map.specs.Accounts.{keys_of}
+use Rattle.spent_table.specs.CdBase.ids.Fp.{Fp}
+use Rattle.spent_table.specs.CdBase.ids.Tag.{Tag}
+use Rattle.spent_table.specs.CdBase.ids.UserId.{UserId}
+use Rattle.spent_table.specs.CdBase.ids.Version.{Version}
+use Rattle.spent_table.specs.CdBase.rooms.Room.{Room}
+use Rattle.spent_table.specs.CdBase.rooms.Room.TheVariants as names
+use Rattle.spent_table.specs.CdBase.shape.Shape.{Shape}
+use Rattle.file_index.specs.PoolMap.Accounts.{keys_of}
 use Rattle.file_index.specs.declared.key.FileKey.{FileKey}
 use Rattle.file_index.specs.Order.{key_exact}
 use Rattle.file_index.proofs.Order.{key_total}
-use Rattle.journal_start.specs.declared.rooms.Rooms.{Rooms}
+use Rattle.cloud_areas.specs.JournalStart.rooms.UserRooms.{UserRooms}
 use Rattle.share_index.specs.declared.key.Owner.{Owner}
 use Rattle.share_index.specs.Order.{owner_of, owner_exact}
-use Rattle.cd_base.specs.Order.{fp_exact}
+use Rattle.spent_table.specs.CdBase.Order.{fp_exact}
 use Rattle.share_index.proofs.Owning.{owner_total}
 use Rattle.share_index.proofs.Placing.{fp_total}
 use Rattle.spent_table.specs.Spending.{spent_by}
-use Rattle.user_dedup.specs.declared.file_list.FileEntry.{FileEntry}
-use Rattle.user_dedup.specs.declared.view.View.{View}
-use Rattle.user_dedup.specs.Cloud.{fingerprint, no_view}
-use Rattle.user_dedup.specs.Dedup.{FullRoom}
-use Rattle.user_dedup.specs.Owning.{is_among}
-use Rattle.user_dedup.specs.Pages.{entry_at, AreApart}
-use Rattle.user_dedup.specs.Pages.{key_of as file_key}
-use Rattle.user_dedup.proofs.Owned.{among_contains, contains_here, contains_later, contains_nothing, contains_cases}
-use Rattle.user_dedup.specs.declared.command.Command.{Command}
-use Rattle.user_dedup.specs.declared.command.Command.TheVariants as commands
-use Rattle.user_dedup.specs.Dedup.{IsSound}
-use Rattle.user_dedup.specs.Cloud.{user_of, commands_of, strings_of, strings_in, view_after, user_view, named_by, named_in, without_key}
-use Rattle.user_dedup.specs.Spending.{Spent, nothing, refusal, limits_of, spent_of, files_of, files_limit, full_for, UsesWithin, IsWithin}
-use Rattle.user_dedup.specs.Spending as spending
-use Rattle.user_dedup.proofs.Once.{Once}
-use Rattle.user_dedup.proofs.Sound.{keys_apart}
-use Rattle.user_dedup.proofs.Spending.{each_within}
+use Rattle.cloud_areas.specs.UserDedup.file_list.FileEntry.{FileEntry}
+use Rattle.cloud_areas.specs.UserDedup.view.View.{View}
+use Rattle.cloud_areas.specs.UserDedup.Cloud.{fingerprint, no_view}
+use Rattle.cloud_areas.specs.UserDedup.Dedup.{FullRoom}
+use Rattle.cloud_areas.specs.UserDedup.Owning.{is_among}
+use Rattle.cloud_areas.specs.UserDedup.Pages.{entry_at, AreApart}
+use Rattle.cloud_areas.specs.UserDedup.Pages.{key_of as file_key}
+use Rattle.cloud_areas.proofs.UserDedup.Owned.{among_contains, contains_here, contains_later, contains_nothing, contains_cases}
+use Rattle.cloud_areas.specs.UserDedup.command.Command.{Command}
+use Rattle.cloud_areas.specs.UserDedup.command.Command.TheVariants as commands
+use Rattle.cloud_areas.specs.UserDedup.Dedup.{IsSound}
+use Rattle.cloud_areas.specs.UserDedup.Cloud.{user_of, commands_of, strings_of, strings_in, view_after, user_view, named_by, named_in, without_key}
+use Rattle.cloud_areas.specs.UserDedup.Spending.{SpentByUser, nothing, refusal, limits_of, spent_of, files_of, files_limit, full_for, UsesWithin, IsWithin}
+use Rattle.cloud_areas.specs.UserDedup.Spending as spending
+use Rattle.cloud_areas.proofs.UserDedup.Once.{Once}
+use Rattle.cloud_areas.proofs.UserDedup.Sound.{keys_apart}
+use Rattle.cloud_areas.proofs.UserDedup.Spending.{each_within}
 use Rattle.cloud_memory.specs.declared.rooms.New.{New}
 use Rattle.cloud_memory.specs.Memory.{Memory, Remembers, uses_of}
 use Rattle.cloud_memory.specs.News.{AreOf, AreNewTo}
@@ -140,7 +140,7 @@ all_strings users most cs each none =
     omega (arith, all, same, few)
 
 -- where each user has put no more than it may
-pub strings_within : (rooms : Rooms) (list : List Command) → ((q : UserId) → (spent_of list q).owners ≤ (limits_of rooms q).owners)
+pub strings_within : (rooms : UserRooms) (list : List Command) → ((q : UserId) → (spent_of list q).owners ≤ (limits_of rooms q).owners)
     → length (strings_in list) ≤ rooms.users * rooms.owners
 strings_within rooms list each =
     all_strings rooms.users rooms.owners list
@@ -148,7 +148,7 @@ strings_within rooms list each =
     (λ u ge. let le = each (user_at u) in let limit : (limits_of rooms (user_at u)).owners ≡ 0 = ap by (not_below u rooms.users ge) in omega (arith, le, limit))
   where
     by : Bool → ℕ
-    by b = (cond {A = Spent} b (record { owners = rooms.owners; shares = rooms.shares; recipes = rooms.recipes }) nothing).owners
+    by b = (cond {A = SpentByUser} b (record { owners = rooms.owners; shares = rooms.shares; recipes = rooms.recipes }) nothing).owners
 
 -- ---- what a user owns
 
@@ -255,7 +255,7 @@ module _ (shape : Shape) (cloud : ℕ) (list : List Command) (user : UserId) (m 
 
 -- ---- a list within its rooms
 
-module _ (shape : Shape) (cloud : ℕ) (rooms : Rooms) (list : List Command) (user : UserId) (m : Memory)
+module _ (shape : Shape) (cloud : ℕ) (rooms : UserRooms) (list : List Command) (user : UserId) (m : Memory)
     (sound : IsSound shape cloud list) (r : Remembers shape list m) (within : IsWithin shape rooms list) where
   -- the indexes have no more of a user's than it has put
   pub owned_few : keys_of (λ (k : Owner). k.user) m.owners user.0 ≤ (spent_of list user).owners
@@ -307,7 +307,7 @@ module _ (shape : Shape) (cloud : ℕ) (rooms : Rooms) (list : List Command) (us
 
     owners_more : (q : UserId) → (spent_of grown q).owners ≡ (spent_of list q).owners + cond (user.0 == q.0) (length strings) 0
     owners_more q =
-        ap (λ (s : Spent). s.owners) (spent_next list put q) ∙ by_test (user.0 == q.0)
+        ap (λ (s : SpentByUser). s.owners) (spent_next list put q) ∙ by_test (user.0 == q.0)
       where
         by_test : (b : Bool) → (spent_of list q).owners + length (strings_in (cond b (put ∷ []) [])) ≡ (spent_of list q).owners + cond b (length strings) 0
         by_test true = ap (λ (l : List (List ℕ)). (spent_of list q).owners + length l) (append-nil strings)
@@ -328,7 +328,7 @@ module _ (shape : Shape) (cloud : ℕ) (rooms : Rooms) (list : List Command) (us
         let held = cost_held m user news new.apart in
         let cost = cost_is shape cloud list user strings news m sound r of_strings new in
         let more : (spent_of grown user).shares ≡ (spent_of list user).shares + sum_by (spending.held_len grown) strings =
-        ap (λ (s : Spent). s.shares) (spent_next list put user)
+        ap (λ (s : SpentByUser). s.shares) (spent_next list put user)
         ∙ ap (λ (b : Bool). (and_more grown (cond b (put ∷ []) []) (spent_of list user)).shares) (eq-eqb user.0 user.0 refl)
         ∙ ap (λ (l : List (List ℕ)). (spent_of list user).shares + sum_by (spending.held_len grown) l) (append-nil strings) in
         omega (arith, held, cost, more)
@@ -345,7 +345,7 @@ module _ (shape : Shape) (cloud : ℕ) (rooms : Rooms) (list : List Command) (us
         (refusal names.Owners (len m.places) (length news) (rooms.users * rooms.owners))
         (λ none.
         let spent = refusal_none names.Owners (spent_by m.spent user).owners (length news) limits.owners none in
-        let row : (spent_by m.spent user).owners ≡ (spent_of list user).owners = ap (λ (s : Spent). s.owners) used in
+        let row : (spent_by m.spent user).owners ≡ (spent_of list user).owners = ap (λ (s : SpentByUser). s.owners) used in
         let long = news_long in
         let owned = owned_few in
         let placed = placed_few in

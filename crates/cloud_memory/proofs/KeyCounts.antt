@@ -7,9 +7,9 @@ use Rattle.std.specs.Ordering.{eq_by_cmp, is_eq}
 use Rattle.std.specs.Cmp.{IsTotalOrder, tied_itself}
 use Rattle.std.specs.FinMap.{find, FinMap, get, remove, len, len-entries, entries, get-entries, get-remove, same_map, IsAntisymmetric}
 use Rattle.std.proofs.lemmas.List.Sums.{sum_by-cons}
-use Rattle.pool_map.specs.MapSums.{sum_by-remove}
-use Rattle.user_dedup.proofs.Owned.{contains_here, contains_later, contains_nothing, contains_cases}
-use Rattle.user_dedup.proofs.Once.{Once}
+use Rattle.file_index.specs.PoolMap.MapSums.{sum_by-remove}
+use Rattle.cloud_areas.proofs.UserDedup.Owned.{contains_here, contains_later, contains_nothing, contains_cases}
+use Rattle.cloud_areas.proofs.UserDedup.Once.{Once}
 use Rattle.cloud_memory.proofs.Keys.{is_eq-at}
 
 none_found : {X : Type 0} (t : Bool) (x : X) (o : Option X) → cond t (Some x) o ≡ None → (t ≡ false) × (o ≡ None)

@@ -14,9 +14,9 @@ use Rattle.file_index.specs.Files.{key_of}
 use Rattle.file_index.specs.Order.{key_cmp, key_exact}
 use Rattle.file_index.proofs.Order.{key_total}
 use Rattle.share_index.specs.declared.key.Owner.{Owner}
-use Rattle.cd_base.specs.declared.place.Place.{Place}
+use Rattle.spent_table.specs.CdBase.place.Place.{Place}
 use Rattle.share_index.specs.Order.{owner_cmp, owner_of, owner_exact}
-use Rattle.cd_base.specs.Order.{fp_cmp, fp_exact}
+use Rattle.spent_table.specs.CdBase.Order.{fp_cmp, fp_exact}
 use Rattle.share_index.proofs.Owning.{owner_total}
 use Rattle.share_index.proofs.Placing.{fp_total}
 

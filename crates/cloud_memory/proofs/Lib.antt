@@ -24,3 +24,11 @@ pub mod Recording
 pub mod Taking
 mod Unowned
 mod Walking
+pub mod UserDedup
+pub mod FileIndexLaws
+pub mod RecordBodies
+pub mod ShareIndexLaws
+pub mod RecordBody
+pub mod ContainerLog
+pub mod Recipe
+pub mod CdBase

@@ -7,19 +7,19 @@ use Rattle.std.proofs.lemmas.List.Elements.{filter-append}
 use Rattle.std.proofs.lemmas.Grind.{flat_map-append}
 use Rattle.std.proofs.Math.Seq.{get_or-set_same, get_or-set_other}
 use Rattle.std.specs.FinMap.{FinMap, get}
-use Rattle.cd_base.specs.declared.ids.Fp.{Fp}
-use Rattle.cd_base.specs.declared.ids.UserId.{UserId}
-use Rattle.cd_base.specs.declared.place.Place.{Place}
-use Rattle.cd_base.specs.Order.{fp_cmp}
+use Rattle.spent_table.specs.CdBase.ids.Fp.{Fp}
+use Rattle.spent_table.specs.CdBase.ids.UserId.{UserId}
+use Rattle.spent_table.specs.CdBase.place.Place.{Place}
+use Rattle.spent_table.specs.CdBase.Order.{fp_cmp}
 use Rattle.spent_table.specs.declared.Spent.{Spent as Row}
 use Rattle.spent_table.specs.Spending.{spent_by, nothing as no_row}
-use Rattle.user_dedup.specs.Cloud.{fingerprint, has_fingerprint}
-use Rattle.user_dedup.specs.Owning.{is_among}
-use Rattle.user_dedup.proofs.Owned.{among_contains, contains_among, contains_here, contains_later}
-use Rattle.user_dedup.specs.declared.command.Command.{Command}
-use Rattle.user_dedup.specs.Cloud.{is_of, commands_of, strings_of, strings_in, recipes_of, held_bytes}
-use Rattle.user_dedup.specs.Spending.{Spent, held_len, spent_in, spent_of, spent_by_all}
-use Rattle.user_dedup.proofs.Views.{strings_among, sent_is_held, held_more}
+use Rattle.cloud_areas.specs.UserDedup.Cloud.{fingerprint, has_fingerprint}
+use Rattle.cloud_areas.specs.UserDedup.Owning.{is_among}
+use Rattle.cloud_areas.proofs.UserDedup.Owned.{among_contains, contains_among, contains_here, contains_later}
+use Rattle.cloud_areas.specs.UserDedup.command.Command.{Command}
+use Rattle.cloud_areas.specs.UserDedup.Cloud.{is_of, commands_of, strings_of, strings_in, recipes_of, held_bytes}
+use Rattle.cloud_areas.specs.UserDedup.Spending.{SpentByUser, held_len, spent_in, spent_of, spent_by_all}
+use Rattle.cloud_areas.proofs.UserDedup.Views.{strings_among, sent_is_held, held_more}
 use Rattle.cloud_memory.proofs.Puts.{ArePlaced, len_at}
 
 -- ---- strings
@@ -92,7 +92,7 @@ held_still list more some among =
     ap (λ (l : List ℕ). length l) (there ∙ sym here))
 
 -- the spent numbers with what these commands spend too
-abbrev pub and_more : List Command → List Command → Spent → Spent
+abbrev pub and_more : List Command → List Command → SpentByUser → SpentByUser
 and_more list more s = record {
   owners = s.owners + length (strings_in more);
   shares = s.shares + sum_by (held_len list) (strings_in more);

@@ -3,8 +3,8 @@ use Rattle.std.proofs.Common.{◌≡◌, ℕ, ◌<◌, Bool, true, false, cond, 
 use Rattle.std.specs.FinMap.{FinMap, get}
 use Rattle.std.proofs.lemmas.Bool.{lt-ltb, ltb-true}
 use Rattle.std.proofs.lemmas.Option.{same_Some}
-use Rattle.pool_map.specs.Slots.{slot_of, IsListed}
-use Rattle.cd_base.specs.declared.place.Place.{Place}
+use Rattle.file_index.specs.PoolMap.Slots.{slot_of, IsListed}
+use Rattle.spent_table.specs.CdBase.place.Place.{Place}
 use Rattle.share_index.specs.Order.{owner_cmp}
 use Rattle.share_index.specs.Shares.{Shares, owners_of}
 use Rattle.cloud_memory.specs.Live.{owned_only, live_at, IsEachLive}

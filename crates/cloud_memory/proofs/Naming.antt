@@ -6,12 +6,12 @@ use Rattle.std.specs.FinMap.{FinMap, get}
 use Rattle.std.proofs.lemmas.Bool.{eqb-true}
 use Rattle.std.proofs.lemmas.List.Sums.{sum_by-cons}
 use Rattle.std.proofs.lemmas.Slice.Eq.{bytes_eq-Decides}
-use Rattle.cd_base.specs.declared.ids.Fp.{Fp}
-use Rattle.cd_base.specs.declared.ids.UserId.{UserId}
+use Rattle.spent_table.specs.CdBase.ids.Fp.{Fp}
+use Rattle.spent_table.specs.CdBase.ids.UserId.{UserId}
 use Rattle.share_index.specs.Order.{owner_cmp, owner_of}
 use Rattle.share_index.specs.Shares.{uses_at}
-use Rattle.user_dedup.specs.Owning.{is_among}
-use Rattle.user_dedup.specs.Cloud.{still_owned}
+use Rattle.cloud_areas.specs.UserDedup.Owning.{is_among}
+use Rattle.cloud_areas.specs.UserDedup.Cloud.{still_owned}
 use Rattle.cloud_memory.specs.Memory.{times}
 use Rattle.cloud_memory.specs.Steps.{raised, with_use, less_one, without_use}
 use Rattle.cloud_memory.proofs.Keys.{owner_in, owner_out}

@@ -11,24 +11,24 @@ use Rattle.std.specs.Cmp.Rules.{comparing}
 use Rattle.std.proofs.lemmas.Cmp.{tied_itself}
 use Rattle.std.specs.Cmp.Lexicographic.{slice_cmp}
 use Rattle.std.proofs.lemmas.List.Elements.{All-head}
-use Rattle.cd_base.specs.declared.ids.Tag.{Tag}
-use Rattle.cd_base.specs.declared.ids.UserId.{UserId}
-use Rattle.cd_base.specs.declared.ids.Version.{Version}
-use Rattle.cd_base.specs.declared.shape.Shape.{Shape}
+use Rattle.spent_table.specs.CdBase.ids.Tag.{Tag}
+use Rattle.spent_table.specs.CdBase.ids.UserId.{UserId}
+use Rattle.spent_table.specs.CdBase.ids.Version.{Version}
+use Rattle.spent_table.specs.CdBase.shape.Shape.{Shape}
 use Rattle.file_index.specs.declared.key.Entry.{Entry}
 use Rattle.file_index.specs.declared.key.FileKey.{FileKey}
 use Rattle.file_index.specs.Files.{key_of, IsAfter, IsNext, HasNoNext}
 use Rattle.file_index.specs.Order.{key_cmp, key_exact}
-use Rattle.message_fields.specs.Keys.{is_above, AreAbove}
-use Rattle.message_fields.specs.Keys.{key_cmp as cmp_keys}
-use Rattle.user_dedup.specs.declared.file_list.FileEntry.{FileEntry}
-use Rattle.user_dedup.specs.declared.command.Command.{Command}
-use Rattle.user_dedup.specs.Cloud.{user_view}
-use Rattle.user_dedup.specs.Pages.{page_of, entry_at, IsPage}
-use Rattle.user_dedup.specs.Pages.{key_of as file_key}
-use Rattle.user_dedup.proofs.Owned.{contains_here, contains_later, contains_nothing, contains_cases}
-use Rattle.user_dedup.proofs.Pages.{is_page}
-use Rattle.user_dedup.proofs.Sound.{found_entry, no_entry}
+use Rattle.cloud_areas.specs.MessageFields.Keys.{is_above, AreAbove}
+use Rattle.cloud_areas.specs.MessageFields.Keys.{key_cmp as cmp_keys}
+use Rattle.cloud_areas.specs.UserDedup.file_list.FileEntry.{FileEntry}
+use Rattle.cloud_areas.specs.UserDedup.command.Command.{Command}
+use Rattle.cloud_areas.specs.UserDedup.Cloud.{user_view}
+use Rattle.cloud_areas.specs.UserDedup.Pages.{page_of, entry_at, IsPage}
+use Rattle.cloud_areas.specs.UserDedup.Pages.{key_of as file_key}
+use Rattle.cloud_areas.proofs.UserDedup.Owned.{contains_here, contains_later, contains_nothing, contains_cases}
+use Rattle.cloud_areas.proofs.UserDedup.Pages.{is_page}
+use Rattle.cloud_areas.proofs.UserDedup.Sound.{found_entry, no_entry}
 use Rattle.cloud_memory.specs.Memory.{Memory, Remembers, summary, summary_of, keys_above}
 
 abbrev pub Key : Type 0

@@ -8,20 +8,20 @@ use Rattle.std.proofs.lemmas.Bool.{and_parts, eqb-true}
 use Rattle.std.proofs.lemmas.Grind.{flat_map-append}
 use Rattle.std.proofs.lemmas.List.Elements.{Contains-append_left, Contains-append_right, Contains-append_cases}
 use Rattle.std.proofs.lemmas.Slice.Eq.{bytes_eq-Decides}
-use Rattle.cd_base.specs.declared.ids.Fp.{Fp}
-use Rattle.cd_base.specs.declared.ids.Tag.{Tag}
-use Rattle.cd_base.specs.declared.ids.UserId.{UserId}
-use Rattle.cd_base.specs.declared.ids.Version.{Version}
+use Rattle.spent_table.specs.CdBase.ids.Fp.{Fp}
+use Rattle.spent_table.specs.CdBase.ids.Tag.{Tag}
+use Rattle.spent_table.specs.CdBase.ids.UserId.{UserId}
+use Rattle.spent_table.specs.CdBase.ids.Version.{Version}
 use Rattle.file_index.specs.declared.key.Entry.{Entry}
 use Rattle.file_index.specs.Files.{key_of}
-use Rattle.record_body.specs.declared.body.CommitBody.{CommitBody}
-use Rattle.record_body.specs.declared.body.PutItem.{PutItem}
-use Rattle.record_bodies.specs.declared.body.DeleteBody.{DeleteBody}
-use Rattle.record_bodies.specs.Spelling as bodies
-use Rattle.record_bodies.specs.Spelling.{Body}
-use Rattle.cd_base.specs.declared.place.Place.{Place}
-use Rattle.cd_base.specs.Order.{fp_cmp}
-use Rattle.user_dedup.proofs.Owned.{fp_same, contains_here, contains_nothing, contains_cases}
+use Rattle.cloud_areas.specs.RecordBody.body.CommitBody.{CommitBody}
+use Rattle.cloud_areas.specs.RecordBody.body.PutItem.{PutItem}
+use Rattle.cloud_areas.specs.RecordBodies.body.DeleteBody.{DeleteBody}
+use Rattle.cloud_areas.specs.RecordBodies.Spelling as bodies
+use Rattle.cloud_areas.specs.RecordBodies.Spelling.{Body}
+use Rattle.spent_table.specs.CdBase.place.Place.{Place}
+use Rattle.spent_table.specs.CdBase.Order.{fp_cmp}
+use Rattle.cloud_areas.proofs.UserDedup.Owned.{fp_same, contains_here, contains_nothing, contains_cases}
 use Rattle.cloud_areas.specs.Placing.{shares_placed, shares_in, places_given}
 use Rattle.cloud_memory.specs.declared.rooms.New.{New}
 use Rattle.cloud_memory.specs.Memory.{Memory, IsPlacedBy, commit_of}

@@ -7,32 +7,32 @@ use Rattle.std.proofs.lemmas.Bool.{cases_eq, ne_eqb}
 use Rattle.std.proofs.lemmas.List.Sums.{sum_by-cons}
 use Rattle.std.proofs.lemmas.List.Elements.{All-contains}
 use Rattle.std.proofs.lemmas.List.Folds.{list_any-append}
-use Rattle.cd_base.specs.declared.ids.Fp.{Fp}
-use Rattle.cd_base.specs.declared.ids.Tag.{Tag}
-use Rattle.cd_base.specs.declared.ids.UserId.{UserId}
-use Rattle.cd_base.specs.declared.ids.Version.{Version}
-use Rattle.cd_base.specs.declared.shape.Shape.{Shape}
+use Rattle.spent_table.specs.CdBase.ids.Fp.{Fp}
+use Rattle.spent_table.specs.CdBase.ids.Tag.{Tag}
+use Rattle.spent_table.specs.CdBase.ids.UserId.{UserId}
+use Rattle.spent_table.specs.CdBase.ids.Version.{Version}
+use Rattle.spent_table.specs.CdBase.shape.Shape.{Shape}
 use Rattle.file_index.specs.Files.{key_of}
-use Rattle.record_body.specs.declared.body.PutItem.{PutItem}
-use Rattle.cd_base.specs.declared.place.Place.{Place}
+use Rattle.cloud_areas.specs.RecordBody.body.PutItem.{PutItem}
+use Rattle.spent_table.specs.CdBase.place.Place.{Place}
 use Rattle.share_index.specs.Order.{owner_of}
 use Rattle.spent_table.specs.declared.Spent.{Spent as Row}
 use Rattle.spent_table.specs.Spending.{spent_by, both}
-use Rattle.user_dedup.specs.declared.file_list.FileEntry.{FileEntry}
-use Rattle.user_dedup.specs.declared.view.View.{View}
-use Rattle.user_dedup.specs.Cloud.{fingerprint, has_fingerprint}
-use Rattle.user_dedup.specs.Owning.{is_among}
-use Rattle.user_dedup.specs.Pages.{entry_at}
-use Rattle.user_dedup.specs.Requests.{fps_of}
-use Rattle.user_dedup.proofs.Owned.{among_contains, contains_among}
-use Rattle.user_dedup.specs.declared.command.Command.{Command}
-use Rattle.user_dedup.specs.declared.command.Command.TheVariants as commands
-use Rattle.user_dedup.specs.Dedup.{IsSound}
-use Rattle.user_dedup.specs.Cloud.{user_view, named_in, strings_in}
-use Rattle.user_dedup.specs.Spending.{Spent, held_len, spent_of}
-use Rattle.user_dedup.proofs.Filtered.{from_flat}
-use Rattle.user_dedup.proofs.Sound.{entries_owned}
-use Rattle.user_dedup.proofs.Views.{own_adds, others_stay}
+use Rattle.cloud_areas.specs.UserDedup.file_list.FileEntry.{FileEntry}
+use Rattle.cloud_areas.specs.UserDedup.view.View.{View}
+use Rattle.cloud_areas.specs.UserDedup.Cloud.{fingerprint, has_fingerprint}
+use Rattle.cloud_areas.specs.UserDedup.Owning.{is_among}
+use Rattle.cloud_areas.specs.UserDedup.Pages.{entry_at}
+use Rattle.cloud_areas.specs.UserDedup.Requests.{fps_of}
+use Rattle.cloud_areas.proofs.UserDedup.Owned.{among_contains, contains_among}
+use Rattle.cloud_areas.specs.UserDedup.command.Command.{Command}
+use Rattle.cloud_areas.specs.UserDedup.command.Command.TheVariants as commands
+use Rattle.cloud_areas.specs.UserDedup.Dedup.{IsSound}
+use Rattle.cloud_areas.specs.UserDedup.Cloud.{user_view, named_in, strings_in}
+use Rattle.cloud_areas.specs.UserDedup.Spending.{SpentByUser, held_len, spent_of}
+use Rattle.cloud_areas.proofs.UserDedup.Filtered.{from_flat}
+use Rattle.cloud_areas.proofs.UserDedup.Sound.{entries_owned}
+use Rattle.cloud_areas.proofs.UserDedup.Views.{own_adds, others_stay}
 use Rattle.cloud_memory.specs.declared.rooms.New.{New}
 use Rattle.cloud_memory.specs.Memory.{Memory, Remembers, as_spent, uses_of, summary, summary_of}
 use Rattle.cloud_memory.specs.News.{AreOf, AreNewTo}
@@ -217,7 +217,7 @@ module _ (shape : Shape) (cloud : ℕ) (list : List Command) (user : UserId) (st
   spent_other : (q : UserId) → user.0 ≢ q.0 → as_spent (spent_by (with_put user (parts_of user m news) m).spent q) ≡ spent_of after_list q
   spent_other q other =
       let rows = spent_stays user m (parts_of user m news) in
-      let none : (s : Spent) → and_more after_list [] s ≡ s = λ s. let zero_more : (n : ℕ) → n + 0 ≡ n = λ n. omega arith in
+      let none : (s : SpentByUser) → and_more after_list [] s ≡ s = λ s. let zero_more : (n : ℕ) → n + 0 ≡ n = λ n. omega arith in
       λ i. record { owners = zero_more s.owners i; shares = zero_more s.shares i; recipes = zero_more s.recipes i } in
       ap as_spent (row_there filled.spent user q (both (spent_by filled.spent user) more) (λ e. other (sym e)))
       ∙ ap (λ (l : List Row). as_spent (spent_by l q)) rows ∙ r.spent q

@@ -5,12 +5,12 @@ use Rattle.std.specs.List.{flat_map}
 use Rattle.std.specs.FinMap.{FinMap, get}
 use Rattle.std.proofs.lemmas.List.Concat.{flat_map-cons}
 use Rattle.std.proofs.lemmas.List.Sums.{sum_by-cons}
-use Rattle.cd_base.specs.declared.ids.UserId.{UserId}
-use Rattle.record_body.specs.Spelling.{placed_bytes, item_bytes}
-use Rattle.record_bodies.specs.Spelling as bodies
-use Rattle.record_bodies.specs.Spelling.{body_bytes}
-use Rattle.cd_base.specs.declared.place.Place.{Place}
-use Rattle.cd_base.specs.Order.{fp_cmp}
+use Rattle.spent_table.specs.CdBase.ids.UserId.{UserId}
+use Rattle.cloud_areas.specs.RecordBody.Spelling.{placed_bytes, item_bytes}
+use Rattle.cloud_areas.specs.RecordBodies.Spelling as bodies
+use Rattle.cloud_areas.specs.RecordBodies.Spelling.{body_bytes}
+use Rattle.spent_table.specs.CdBase.place.Place.{Place}
+use Rattle.spent_table.specs.CdBase.Order.{fp_cmp}
 use Rattle.cloud_memory.specs.declared.rooms.New.{New}
 use Rattle.cloud_memory.specs.Memory.{Memory}
 use Rattle.cloud_memory.specs.News.{AreApart}

@@ -5,17 +5,17 @@ use Rattle.std.specs.Option.{option_or}
 use Rattle.std.specs.FinMap.{FinMap, get}
 use Rattle.std.proofs.lemmas.List.Folds.{find-append}
 use Rattle.std.proofs.lemmas.List.Elements.{All-head, All-tail}
-use Rattle.cd_base.specs.declared.ids.Fp.{Fp}
-use Rattle.cd_base.specs.declared.ids.UserId.{UserId}
-use Rattle.container_log.specs.Laying.{lengths}
-use Rattle.record_body.specs.declared.body.PutItem.{PutItem}
-use Rattle.cd_base.specs.declared.place.Place.{Place}
+use Rattle.spent_table.specs.CdBase.ids.Fp.{Fp}
+use Rattle.spent_table.specs.CdBase.ids.UserId.{UserId}
+use Rattle.cloud_areas.specs.ContainerLog.Laying.{lengths}
+use Rattle.cloud_areas.specs.RecordBody.body.PutItem.{PutItem}
+use Rattle.spent_table.specs.CdBase.place.Place.{Place}
 use Rattle.share_index.specs.Order.{owner_cmp, owner_of}
-use Rattle.cd_base.specs.Order.{fp_cmp}
-use Rattle.user_dedup.specs.Cloud.{fingerprint, has_fingerprint}
-use Rattle.user_dedup.specs.Owning.{is_among}
-use Rattle.user_dedup.proofs.Owned.{fp_same}
-use Rattle.container_log.specs.Places.{place_of}
+use Rattle.spent_table.specs.CdBase.Order.{fp_cmp}
+use Rattle.cloud_areas.specs.UserDedup.Cloud.{fingerprint, has_fingerprint}
+use Rattle.cloud_areas.specs.UserDedup.Owning.{is_among}
+use Rattle.cloud_areas.proofs.UserDedup.Owned.{fp_same}
+use Rattle.cloud_areas.specs.ContainerLog.Places.{place_of}
 use Rattle.cloud_memory.specs.declared.rooms.New.{New}
 use Rattle.cloud_memory.specs.Memory.{Memory}
 use Rattle.cloud_memory.specs.Steps.{places_with, with_item, with_items, part_in, parts_of}

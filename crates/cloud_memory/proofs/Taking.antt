@@ -7,37 +7,37 @@ use Rattle.std.specs.Ordering.{is_eq}
 use Rattle.std.proofs.lemmas.Cmp.{tied_itself}
 use Rattle.std.proofs.lemmas.Nat.{mul-le}
 use Rattle.std.proofs.lemmas.List.{length-set}
-use Rattle.cd_base.specs.declared.ids.Fp.{Fp}
-use Rattle.cd_base.specs.declared.ids.UserId.{UserId}
-use Rattle.cd_base.specs.declared.rooms.Room.{Room}
-use Rattle.cd_base.specs.declared.rooms.Room.TheVariants as names
-use Rattle.container_log.specs.Places.{place_of}
-use Rattle.pool_map.specs.declared.accounts.Accounts.{Accounts}
-use Rattle.pool_map.specs.Accounts.{limit_for, use_for, keys_of}
-use Rattle.journal_start.specs.declared.rooms.Rooms.{Rooms}
-use Rattle.journal_start.specs.Ranges.{AreRooms}
-use Rattle.record_body.specs.declared.body.PutItem.{PutItem}
+use Rattle.spent_table.specs.CdBase.ids.Fp.{Fp}
+use Rattle.spent_table.specs.CdBase.ids.UserId.{UserId}
+use Rattle.spent_table.specs.CdBase.rooms.Room.{Room}
+use Rattle.spent_table.specs.CdBase.rooms.Room.TheVariants as names
+use Rattle.cloud_areas.specs.ContainerLog.Places.{place_of}
+use Rattle.file_index.specs.PoolMap.accounts.Accounts.{Accounts}
+use Rattle.file_index.specs.PoolMap.Accounts.{limit_for, use_for, keys_of}
+use Rattle.cloud_areas.specs.JournalStart.rooms.UserRooms.{UserRooms}
+use Rattle.cloud_areas.specs.JournalStart.Ranges.{AreRooms}
+use Rattle.cloud_areas.specs.RecordBody.body.PutItem.{PutItem}
 use Rattle.share_index.specs.declared.key.Owner.{Owner}
-use Rattle.cd_base.specs.declared.place.Place.{Place}
+use Rattle.spent_table.specs.CdBase.place.Place.{Place}
 use Rattle.share_index.specs.Order.{owner_cmp, owner_of}
-use Rattle.cd_base.specs.Order.{fp_cmp}
+use Rattle.spent_table.specs.CdBase.Order.{fp_cmp}
 use Rattle.share_index.proofs.Placing.{fp_total}
 use Rattle.spent_table.specs.declared.Spent.{Spent as Row}
 use Rattle.spent_table.specs.Spending.{spent_by, both}
-use Rattle.user_dedup.specs.Spending.{Spent, nothing, refusal, limits_of}
-use Rattle.user_dedup.specs.Dedup.{FullRoom}
+use Rattle.cloud_areas.specs.UserDedup.Spending.{SpentByUser, nothing, refusal, limits_of}
+use Rattle.cloud_areas.specs.UserDedup.Dedup.{FullRoom}
 use Rattle.cloud_memory.specs.declared.cloud.CloudMemory.{CloudMemory}
 use Rattle.cloud_memory.specs.declared.rooms.New.{New}
 use Rattle.cloud_memory.specs.Memory.{Memory}
 use Rattle.cloud_memory.specs.News.{AreApart, AreNewTo}
 use Rattle.cloud_memory.specs.Rooms.{memory_of, HasRooms, full_put}
 use Rattle.cloud_memory.specs.Steps.{with_items, part_in, spent_on, spends, held_len, with_put}
-use Rattle.cloud_memory.specs.Inner.{Placed, Owned, Adds, HasShareRoom, MayAdd, FitsPut}
+use Rattle.cloud_memory.specs.Inner.{HasPlacedShare, Owned, HasAddedShare, HasShareRoom, MayAdd, FitsPut}
 use Rattle.cloud_memory.proofs.Adding.{Added, limits_on, cost_held, parts_count}
 use Rattle.cloud_memory.proofs.Puts.{place_for, spent_stays}
 
 -- behind its place there is still room for its owner
-pub room_behind : (old mid : CloudMemory) (user : UserId) (fp : Fp) (place : Place) → HasShareRoom old user fp → Placed old mid fp place → HasShareRoom mid user fp
+pub room_behind : (old mid : CloudMemory) (user : UserId) (fp : Fp) (place : Place) → HasShareRoom old user fp → HasPlacedShare old mid fp place → HasShareRoom mid user fp
 room_behind old mid user fp place room placed = record {
   new = ap (λ (m : FinMap owner_cmp ℕ). get m (owner_of user.0 fp.0)) placed.owners ∙ room.new;
   owners =
@@ -52,7 +52,7 @@ room_behind old mid user fp place room placed = record {
 
 -- a share whose fingerprint has a place
 pub known_added : (old new : CloudMemory) (user : UserId) (n : New) → is_some (get old.shares.places n.fp.0) ≡ true → HasShareRoom old user n.fp → Owned old new user n.fp
-    → Adds old new user n (record { fp = n.fp; place = None })
+    → HasAddedShare old new user n (record { fp = n.fp; place = None })
 known_added old new user n known room owned =
     let part : record { fp = n.fp; place = None } ≡ part_in (memory_of old) n =
     ap (λ (b : Bool). record { fp = n.fp; place = cond b None (Some (place_for (memory_of old) n)) }) (sym known) in
@@ -74,8 +74,8 @@ known_added old new user n known room owned =
 -- one whose fingerprint has none
 pub fresh_added : (old mid new : CloudMemory) (user : UserId) (n : New) (at : ℕ) → get old.shares.places n.fp.0 ≡ None → HasShareRoom old user n.fp
     → at ≡ place_of old.shares_end n.len → at ≤ old.shares_end + 4194304 → n.len < 2 ^ 32
-    → Placed old mid n.fp (record { at = at; len = n.len }) → Owned mid new user n.fp
-    → Adds old new user n (record { fp = n.fp; place = Some (record { at = at; len = n.len }) })
+    → HasPlacedShare old mid n.fp (record { at = at; len = n.len }) → Owned mid new user n.fp
+    → HasAddedShare old new user n (record { fp = n.fp; place = Some (record { at = at; len = n.len }) })
 fresh_added old mid new user n at fresh room here near small placed owned =
     let part : record { fp = n.fp; place = Some (record { at = at; len = n.len }) } ≡ part_in (memory_of old) n =
     ap (λ (x : ℕ). record { fp = n.fp; place = Some (record { at = x; len = n.len }) }) here
@@ -108,27 +108,27 @@ pub none_left : (a b : Option FullRoom) → option_or a b ≡ None → (a ≡ No
 none_left None b e = (refl, e)
 none_left (Some x) b e = absurd (let never : Some x ≡ None = e in cc)
 
-pub record Limit (rooms : Rooms) (user : UserId) : Type 0 where
+pub record Limit (rooms : UserRooms) (user : UserId) : Type 0 where
   pub place : user.0 < rooms.users
   pub owners : (limits_of rooms user).owners ≡ rooms.owners
   pub shares : (limits_of rooms user).shares ≡ rooms.shares
 
 -- who may have something has the limits of the rooms
-pub limit_is : (rooms : Rooms) (user : UserId) → 1 ≤ (limits_of rooms user).owners → Limit rooms user
+pub limit_is : (rooms : UserRooms) (user : UserId) → 1 ≤ (limits_of rooms user).owners → Limit rooms user
 limit_is rooms user some = by_test (nat_lt user.0 rooms.users) refl
   where
     by_test : (b : Bool) → nat_lt user.0 rooms.users ≡ b → Limit rooms user
     by_test true is = record {
       place = ltb-true user.0 rooms.users is;
-      owners = ap (λ (b : Bool). (cond {A = Spent} b (record { owners = rooms.owners; shares = rooms.shares; recipes = rooms.recipes }) nothing).owners) is;
-      shares = ap (λ (b : Bool). (cond {A = Spent} b (record { owners = rooms.owners; shares = rooms.shares; recipes = rooms.recipes }) nothing).shares) is;
+      owners = ap (λ (b : Bool). (cond {A = SpentByUser} b (record { owners = rooms.owners; shares = rooms.shares; recipes = rooms.recipes }) nothing).owners) is;
+      shares = ap (λ (b : Bool). (cond {A = SpentByUser} b (record { owners = rooms.owners; shares = rooms.shares; recipes = rooms.recipes }) nothing).shares) is;
     }
     by_test false is =
         let zero_is : (limits_of rooms user).owners ≡ 0 =
-        ap (λ (b : Bool). (cond {A = Spent} b (record { owners = rooms.owners; shares = rooms.shares; recipes = rooms.recipes }) nothing).owners) is in
+        ap (λ (b : Bool). (cond {A = SpentByUser} b (record { owners = rooms.owners; shares = rooms.shares; recipes = rooms.recipes }) nothing).owners) is in
         absurd (omega (arith, zero_is, some))
 
-pub fits_put : (rooms : Rooms) (user : UserId) (m : Memory) (count more : ℕ) → 1 ≤ count → full_put rooms user m count more ≡ None → FitsPut rooms m user count more
+pub fits_put : (rooms : UserRooms) (user : UserId) (m : Memory) (count more : ℕ) → 1 ≤ count → full_put rooms user m count more ≡ None → FitsPut rooms m user count more
 fits_put rooms user m count more some none =
     let limits = limits_of rooms user in
     let a = none_left (refusal names.Owners (spent_by m.spent user).owners count limits.owners) _ none in
@@ -148,7 +148,7 @@ fits_put rooms user m count more some none =
       placed = placed;
     }
 
-pub may_add : (rooms : Rooms) (cloud : CloudMemory) (user : UserId) (news : List New) (more : ℕ) → HasRooms rooms cloud → AreNewTo (memory_of cloud) user news
+pub may_add : (rooms : UserRooms) (cloud : CloudMemory) (user : UserId) (news : List New) (more : ℕ) → HasRooms rooms cloud → AreNewTo (memory_of cloud) user news
     → FitsPut rooms (memory_of cloud) user (length news) more → length news ≤ 256 → cloud.shares_end < 2 ^ 62 → MayAdd cloud user news
 may_add rooms cloud user news more has apart fits few end = record {
   apart = apart;
@@ -162,16 +162,16 @@ may_add rooms cloud user news more has apart fits few end = record {
 }
 
 -- no user may have more than all together
-pub owners_small : (rooms : Rooms) → AreRooms rooms → rooms.owners ≤ 524288
+pub owners_small : (rooms : UserRooms) → AreRooms rooms → rooms.owners ≤ 524288
 owners_small rooms are = let least = mul-le 1 rooms.owners rooms.users rooms.owners are.some (omega arith) in let most = are.owners in omega (arith, least, most)
 
-pub shares_small : (rooms : Rooms) → AreRooms rooms → rooms.shares ≤ 8589934592
+pub shares_small : (rooms : UserRooms) → AreRooms rooms → rooms.shares ≤ 8589934592
 shares_small rooms are = let least = mul-le 1 rooms.shares rooms.users rooms.shares are.some (omega arith) in let most = are.shares in omega (arith, least, most)
 
-pub recipes_small : (rooms : Rooms) → AreRooms rooms → rooms.recipes ≤ 1073741824
+pub recipes_small : (rooms : UserRooms) → AreRooms rooms → rooms.recipes ≤ 1073741824
 recipes_small rooms are = let least = mul-le 1 rooms.recipes rooms.users rooms.recipes are.some (omega arith) in let most = are.recipes in omega (arith, least, most)
 
-pub files_small : (rooms : Rooms) → AreRooms rooms → rooms.files ≤ 16384
+pub files_small : (rooms : UserRooms) → AreRooms rooms → rooms.files ≤ 16384
 files_small rooms are = let least = mul-le 1 rooms.files rooms.users rooms.files are.some (omega arith) in let most = are.files in omega (arith, least, most)
 
 -- ---- what a Put leaves

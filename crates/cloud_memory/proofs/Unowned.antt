@@ -4,14 +4,14 @@ use Rattle.std.specs.Prelude.{◌↔◌, not, All, is_some, is_none, IsSome, IsT
 use Rattle.std.specs.List.{Contains}
 use Rattle.std.specs.FinMap.{FinMap, get}
 use Rattle.std.proofs.lemmas.List.Elements.{All-nil, All-head, All-tail, All-push, All-weaker}
-use Rattle.cd_base.specs.declared.ids.Fp.{Fp}
-use Rattle.cd_base.specs.declared.ids.UserId.{UserId}
-use Rattle.cd_base.specs.declared.shape.Shape.{Shape}
+use Rattle.spent_table.specs.CdBase.ids.Fp.{Fp}
+use Rattle.spent_table.specs.CdBase.ids.UserId.{UserId}
+use Rattle.spent_table.specs.CdBase.shape.Shape.{Shape}
 use Rattle.share_index.specs.Order.{owner_cmp, owner_of}
-use Rattle.user_dedup.specs.Owning.{is_among, lacking_from, first_lacking}
-use Rattle.user_dedup.proofs.Owned.{among_contains, contains_among}
-use Rattle.user_dedup.specs.declared.command.Command.{Command}
-use Rattle.user_dedup.specs.Cloud.{user_view}
+use Rattle.cloud_areas.specs.UserDedup.Owning.{is_among, lacking_from, first_lacking}
+use Rattle.cloud_areas.proofs.UserDedup.Owned.{among_contains, contains_among}
+use Rattle.cloud_areas.specs.UserDedup.command.Command.{Command}
+use Rattle.cloud_areas.specs.UserDedup.Cloud.{user_view}
 use Rattle.cloud_memory.specs.Memory.{Memory, Remembers, uses_of}
 use Rattle.cloud_memory.specs.Sharing.{AreOwned, IsFirstUnowned, FindsUnowned}
 use Rattle.cloud_memory.proofs.Walking.{take_next, take_whole}

@@ -4,9 +4,9 @@ use Rattle.std.specs.Prelude.{◌&&◌, ◌==◌, bytes_eq, unwrap_or, slice_get
 use Rattle.std.specs.FinMap.{FinMap, get, insert}
 use Rattle.std.proofs.lemmas.Grind.{fold-append}
 use Rattle.std.proofs.lemmas.List.Elements.{All-weaker}
-use Rattle.cd_base.specs.declared.ids.Fp.{Fp}
-use Rattle.cd_base.specs.declared.ids.UserId.{UserId}
-use Rattle.pool_map.specs.MapSums.{insert-same}
+use Rattle.spent_table.specs.CdBase.ids.Fp.{Fp}
+use Rattle.spent_table.specs.CdBase.ids.UserId.{UserId}
+use Rattle.file_index.specs.PoolMap.MapSums.{insert-same}
 use Rattle.share_index.specs.Order.{owner_cmp, owner_of, owner_exact}
 use Rattle.share_index.specs.Shares.{Shares, uses_at, with_fewer_uses, released}
 use Rattle.share_index.proofs.Owning.{owner_total}

@@ -1,14 +1,14 @@
 -- A memory whose shares and recipes fit records.
 use Rattle.std.specs.Prelude.{◌≡◌, ℕ, ◌≤◌, List, [], ◌∷◌, Some, IsSome}
 use Rattle.std.specs.FinMap.{FinMap, get}
-use Rattle.cd_base.specs.Limits.{recipe_limit}
+use Rattle.spent_table.specs.CdBase.Limits.{recipe_limit}
 use Rattle.file_index.specs.declared.key.Entry.{Entry}
 use Rattle.file_index.specs.declared.key.FileKey.{FileKey}
 use Rattle.file_index.specs.Order.{key_cmp}
-use Rattle.message_fields.specs.Shares.{share_limit}
-use Rattle.record_body.specs.declared.body.PutItem.{PutItem}
-use Rattle.cd_base.specs.declared.place.Place.{Place}
-use Rattle.cd_base.specs.Order.{fp_cmp}
+use Rattle.cloud_areas.specs.MessageFields.Shares.{share_limit}
+use Rattle.cloud_areas.specs.RecordBody.body.PutItem.{PutItem}
+use Rattle.spent_table.specs.CdBase.place.Place.{Place}
+use Rattle.spent_table.specs.CdBase.Order.{fp_cmp}
 use Rattle.share_index.specs.Placed.{AreAllPlaced}
 use Rattle.cloud_memory.specs.Memory.{Memory}
 use Rattle.cloud_memory.specs.Steps.{places_with}

@@ -1,6 +1,6 @@
 -- The limits of a memory whose users share one account.
 use Rattle.std.specs.Prelude.{◌≡◌, ℕ, length}
-use Rattle.pool_map.specs.declared.accounts.Accounts.TheVariants.{Shared}
+use Rattle.file_index.specs.PoolMap.accounts.Accounts.TheVariants.{Shared}
 use Rattle.cloud_memory.specs.declared.cloud.CloudMemory.{CloudMemory}
 
 -- Its limits are these, for all users together: so many placed shares, owners and entries. It has a slot for the place of each share,

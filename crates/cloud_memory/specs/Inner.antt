@@ -1,18 +1,18 @@
 -- What the steps of a call need and leave. No public clause cites this module.
 use Rattle.std.specs.Prelude.{◌≡◌, ℕ, ◌+◌, ◌*◌, ◌^◌, ◌<◌, ◌≤◌, max, List, [], ◌∷◌, length, Option, None, Result, MatchResult, is_some, if◌then◌else◌}
 use Rattle.std.specs.FinMap.{FinMap, get, insert, len}
-use Rattle.cd_base.specs.declared.ids.Fp.{Fp}
-use Rattle.cd_base.specs.declared.ids.UserId.{UserId}
+use Rattle.spent_table.specs.CdBase.ids.Fp.{Fp}
+use Rattle.spent_table.specs.CdBase.ids.UserId.{UserId}
 use Rattle.file_index.specs.declared.key.Entry.{Entry}
 use Rattle.file_index.specs.Order.{key_cmp}
-use Rattle.pool_map.specs.declared.accounts.Accounts.TheVariants.{PerUser}
+use Rattle.file_index.specs.PoolMap.accounts.Accounts.TheVariants.{PerUser}
 use Rattle.file_index.specs.Files.{key_of}
 use Rattle.file_index.specs.Files.{used_by as files_used}
-use Rattle.pool_map.specs.Accounts.{limit_for, keys_of}
-use Rattle.journal_start.specs.declared.rooms.Rooms.{Rooms}
-use Rattle.record_body.specs.declared.body.CommitBody.{CommitBody}
-use Rattle.record_body.specs.declared.body.PutItem.{PutItem}
-use Rattle.cd_base.specs.declared.place.Place.{Place}
+use Rattle.file_index.specs.PoolMap.Accounts.{limit_for, keys_of}
+use Rattle.cloud_areas.specs.JournalStart.rooms.UserRooms.{UserRooms}
+use Rattle.cloud_areas.specs.RecordBody.body.CommitBody.{CommitBody}
+use Rattle.cloud_areas.specs.RecordBody.body.PutItem.{PutItem}
+use Rattle.spent_table.specs.CdBase.place.Place.{Place}
 use Rattle.share_index.specs.Order.{owner_of}
 use Rattle.share_index.specs.Shares.{used_by as owners_used}
 use Rattle.spent_table.specs.Spending.{spent_by}
@@ -35,7 +35,7 @@ pub record KeepsLimits (old new : CloudMemory) : Type 0 where
   pub entries : length new.files.slots ≡ length old.files.slots
 
 -- A fingerprint got this place.
-pub record Placed (old new : CloudMemory) (fp : Fp) (place : Place) : Type 0 where
+pub record HasPlacedShare (old new : CloudMemory) (fp : Fp) (place : Place) : Type 0 where
   pub places : new.shares.places ≡ insert old.shares.places fp.0 place
   pub owners : new.shares.owners ≡ old.shares.owners
   pub files : new.files ≡ old.files
@@ -61,7 +61,7 @@ pub record HasShareRoom (cloud : CloudMemory) (user : UserId) (fp : Fp) : Type 0
   pub fps : get cloud.shares.places fp.0 ≡ None → len cloud.shares.places < cloud.shares.fps
 
 -- The share is added with its part of the record.
-pub record Adds (old new : CloudMemory) (user : UserId) (n : New) (item : PutItem) : Type 0 where
+pub record HasAddedShare (old new : CloudMemory) (user : UserId) (n : New) (item : PutItem) : Type 0 where
   pub part : item ≡ part_in (memory_of old) n
   pub taken : memory_of new ≡ with_item user (memory_of old) item
   pub lacks : get old.shares.owners (owner_of user.0 n.fp.0) ≡ None
@@ -73,7 +73,7 @@ abbrev pub AddsAll : CloudMemory → CloudMemory → UserId → List New → Lis
 AddsAll old new user [] [] = new ≡ old
 AddsAll old new user [] (item ∷ items) = ⊥
 AddsAll old new user (n ∷ news) [] = ⊥
-AddsAll old new user (n ∷ news) (item ∷ items) = (mid : CloudMemory) × Adds old mid user n item × AddsAll mid new user news items
+AddsAll old new user (n ∷ news) (item ∷ items) = (mid : CloudMemory) × HasAddedShare old mid user n item × AddsAll mid new user news items
 
 -- These shares are new to the user, and the indexes have room for all of them.
 pub record MayAdd (cloud : CloudMemory) (user : UserId) (news : List New) : Type 0 where
@@ -87,7 +87,7 @@ pub record MayAdd (cloud : CloudMemory) (user : UserId) (news : List New) : Type
   pub end : cloud.shares_end + 8589934592 * length news < 2 ^ 63
 
 -- The user's rooms are wide enough for a Put of so many shares with so many bytes, and the indexes have room for it.
-pub record FitsPut (rooms : Rooms) (m : Memory) (user : UserId) (count more : ℕ) : Type 0 where
+pub record FitsPut (rooms : UserRooms) (m : Memory) (user : UserId) (count more : ℕ) : Type 0 where
   pub place : user.0 < rooms.users
   pub owners : (spent_by m.spent user).owners + count ≤ rooms.owners
   pub shares : (spent_by m.spent user).shares + more ≤ rooms.shares

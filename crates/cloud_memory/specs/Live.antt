@@ -1,8 +1,8 @@
 -- The slots of a memory's tables that have something alive.
 use Rattle.std.specs.Prelude.{◌≡◌, ℕ, ◌<◌, List, length, Option, Some, None, nat_lt, if◌then◌else◌}
 use Rattle.std.specs.FinMap.{FinMap, get}
-use Rattle.cd_base.specs.declared.place.Place.{Place}
-use Rattle.pool_map.specs.Slots.{slot_of}
+use Rattle.spent_table.specs.CdBase.place.Place.{Place}
+use Rattle.file_index.specs.PoolMap.Slots.{slot_of}
 use Rattle.share_index.specs.Order.{owner_cmp}
 use Rattle.share_index.specs.Shares.{Shares, owners_of}
 

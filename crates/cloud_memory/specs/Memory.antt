@@ -2,31 +2,31 @@
 use Rattle.std.specs.Prelude.{◌≡◌, ◌↔◌, ℕ, ◌+◌, ◌*◌, ◌≤◌, List, length, map, filter, count_by, bytes_eq, Option, Some, None, option_map, IsSome, if◌then◌else◌}
 use Rattle.std.specs.List.{Contains}
 use Rattle.std.specs.FinMap.{FinMap, get}
-use Rattle.cd_base.specs.declared.ids.Fp.{Fp}
-use Rattle.cd_base.specs.declared.ids.Tag.{Tag}
-use Rattle.cd_base.specs.declared.ids.UserId.{UserId}
-use Rattle.cd_base.specs.declared.ids.Version.{Version}
-use Rattle.cd_base.specs.declared.shape.Shape.{Shape}
-use Rattle.container_log.specs.Laying.{IsAt}
-use Rattle.message_fields.specs.Keys.{is_above}
-use Rattle.record_body.specs.declared.body.CommitBody.{CommitBody}
-use Rattle.cd_base.specs.declared.place.Place.{Place}
+use Rattle.spent_table.specs.CdBase.ids.Fp.{Fp}
+use Rattle.spent_table.specs.CdBase.ids.Tag.{Tag}
+use Rattle.spent_table.specs.CdBase.ids.UserId.{UserId}
+use Rattle.spent_table.specs.CdBase.ids.Version.{Version}
+use Rattle.spent_table.specs.CdBase.shape.Shape.{Shape}
+use Rattle.cloud_areas.specs.ContainerLog.Laying.{IsAt}
+use Rattle.cloud_areas.specs.MessageFields.Keys.{is_above}
+use Rattle.cloud_areas.specs.RecordBody.body.CommitBody.{CommitBody}
+use Rattle.spent_table.specs.CdBase.place.Place.{Place}
 use Rattle.share_index.specs.Order.{owner_cmp, owner_of}
-use Rattle.cd_base.specs.Order.{fp_cmp}
+use Rattle.spent_table.specs.CdBase.Order.{fp_cmp}
 use Rattle.file_index.specs.declared.key.Entry.{Entry}
 use Rattle.file_index.specs.Files.{key_of}
 use Rattle.file_index.specs.Order.{key_cmp}
 use Rattle.spent_table.specs.declared.Spent.{Spent as Row}
 use Rattle.spent_table.specs.Spending.{spent_by}
-use Rattle.user_dedup.specs.declared.file_list.FileEntry.{FileEntry}
-use Rattle.user_dedup.specs.Cloud.{fingerprint}
-use Rattle.user_dedup.specs.Owning.{is_among}
-use Rattle.user_dedup.specs.Pages.{entry_at, sorted_keys}
-use Rattle.user_dedup.specs.Pages.{key_of as file_key}
-use Rattle.user_dedup.specs.declared.command.Command.{Command}
-use Rattle.user_dedup.specs.Cloud.{user_view, named_in, strings_in, held_bytes}
-use Rattle.user_dedup.specs.Spending.{Spent, spent_of, spent_by_all}
-use Rattle.record_bodies.specs.Spelling.{Body, Commit}
+use Rattle.cloud_areas.specs.UserDedup.file_list.FileEntry.{FileEntry}
+use Rattle.cloud_areas.specs.UserDedup.Cloud.{fingerprint}
+use Rattle.cloud_areas.specs.UserDedup.Owning.{is_among}
+use Rattle.cloud_areas.specs.UserDedup.Pages.{entry_at, sorted_keys}
+use Rattle.cloud_areas.specs.UserDedup.Pages.{key_of as file_key}
+use Rattle.cloud_areas.specs.UserDedup.command.Command.{Command}
+use Rattle.cloud_areas.specs.UserDedup.Cloud.{user_view, named_in, strings_in, held_bytes}
+use Rattle.cloud_areas.specs.UserDedup.Spending.{SpentByUser, spent_of, spent_by_all}
+use Rattle.cloud_areas.specs.RecordBodies.Spelling.{Body, Commit}
 use Rattle.cloud_areas.specs.Placing.{shares_in, recipes_in, region_start, places_of, greatest_end}
 use Rattle.cloud_areas.specs.Chains.{least_shares, least_recipes}
 
@@ -41,7 +41,7 @@ pub record Memory : Type 0 where
   pub recipes_end : ℕ
 
 -- a row of the table as what a list has spent
-abbrev pub as_spent : Row → Spent
+abbrev pub as_spent : Row → SpentByUser
 as_spent row = record { owners = row.owners; shares = row.shares; recipes = row.recipes }
 
 -- how many of these names are the fingerprint

@@ -1,8 +1,8 @@
 -- What is left in a memory whose blobs move, and which forgets what was spent.
 use Rattle.std.specs.Prelude.{ℕ, length, replicate, Option, Some, None}
 use Rattle.std.specs.FinMap.{FinMap, get, insert, remove}
-use Rattle.cd_base.specs.declared.ids.Fp.{Fp}
-use Rattle.cd_base.specs.declared.place.Place.{Place}
+use Rattle.spent_table.specs.CdBase.ids.Fp.{Fp}
+use Rattle.spent_table.specs.CdBase.place.Place.{Place}
 use Rattle.file_index.specs.declared.key.Entry.{Entry}
 use Rattle.file_index.specs.declared.key.FileKey.{FileKey}
 use Rattle.file_index.specs.Order.{key_cmp}

@@ -1,12 +1,12 @@
 -- Shares that are new to their user.
 use Rattle.std.specs.Prelude.{◌≡◌, ℕ, List, map, slice_get, Some, None, All}
 use Rattle.std.specs.FinMap.{get}
-use Rattle.cd_base.specs.declared.ids.Fp.{Fp}
-use Rattle.cd_base.specs.declared.ids.UserId.{UserId}
-use Rattle.container_log.specs.Laying.{lengths}
+use Rattle.spent_table.specs.CdBase.ids.Fp.{Fp}
+use Rattle.spent_table.specs.CdBase.ids.UserId.{UserId}
+use Rattle.cloud_areas.specs.ContainerLog.Laying.{lengths}
 use Rattle.share_index.specs.Order.{owner_of}
-use Rattle.user_dedup.specs.Cloud.{fingerprint}
-use Rattle.user_dedup.specs.Dedup.{FullRoom}
+use Rattle.cloud_areas.specs.UserDedup.Cloud.{fingerprint}
+use Rattle.cloud_areas.specs.UserDedup.Dedup.{FullRoom}
 use Rattle.cloud_memory.specs.declared.rooms.Full.{Full}
 use Rattle.cloud_memory.specs.declared.rooms.New.{New}
 use Rattle.cloud_memory.specs.Memory.{Memory}

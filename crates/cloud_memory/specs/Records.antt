@@ -1,13 +1,13 @@
 -- What the records of a journal need of a memory that takes them.
 use Rattle.std.specs.Prelude.{◌≡◌, ◌<◌, ◌^◌, None, IfSome}
 use Rattle.std.specs.FinMap.{get, len}
-use Rattle.cd_base.specs.declared.ids.Fp.{Fp}
-use Rattle.cd_base.specs.declared.ids.UserId.{UserId}
-use Rattle.cd_base.specs.declared.rooms.Room.TheVariants.{Files}
+use Rattle.spent_table.specs.CdBase.ids.Fp.{Fp}
+use Rattle.spent_table.specs.CdBase.ids.UserId.{UserId}
+use Rattle.spent_table.specs.CdBase.rooms.Room.TheVariants.{Files}
 use Rattle.file_index.specs.Files.{used_by as files_used}
-use Rattle.pool_map.specs.Accounts.{limit_for}
-use Rattle.record_body.specs.declared.body.PutItem.{PutItem}
-use Rattle.cd_base.specs.declared.place.Place.{Place}
+use Rattle.file_index.specs.PoolMap.Accounts.{limit_for}
+use Rattle.cloud_areas.specs.RecordBody.body.PutItem.{PutItem}
+use Rattle.spent_table.specs.CdBase.place.Place.{Place}
 use Rattle.share_index.specs.Order.{owner_of}
 use Rattle.share_index.specs.Shares.{used_by as owners_used}
 use Rattle.cloud_areas.specs.Placing.{end_of}

@@ -1,8 +1,8 @@
 -- What uses leave in an index of shares, and what a user owns.
 use Rattle.std.specs.Prelude.{◌≡◌, ℕ, List, length, take, slice_get, All, Option, Some, None, IsSome, MatchOption}
 use Rattle.std.specs.FinMap.{FinMap, get}
-use Rattle.cd_base.specs.declared.ids.Fp.{Fp}
-use Rattle.cd_base.specs.declared.ids.UserId.{UserId}
+use Rattle.spent_table.specs.CdBase.ids.Fp.{Fp}
+use Rattle.spent_table.specs.CdBase.ids.UserId.{UserId}
 use Rattle.share_index.specs.Order.{owner_cmp, owner_of}
 use Rattle.share_index.specs.Shares.{Shares}
 

@@ -2,17 +2,17 @@
 use Rattle.std.specs.Prelude.{ℕ, zero, suc, ◌+◌, ◌-◌, ◌^◌, min, max, List, [], ◌∷◌, length, fold, slice_set, replicate, Option, Some, None, is_some, if◌then◌else◌}
 use Rattle.std.specs.List.{sum_by}
 use Rattle.std.specs.FinMap.{FinMap, empty, get, insert, remove}
-use Rattle.cd_base.specs.declared.ids.Fp.{Fp}
-use Rattle.cd_base.specs.declared.ids.UserId.{UserId}
-use Rattle.container_log.specs.Places.{place_of}
+use Rattle.spent_table.specs.CdBase.ids.Fp.{Fp}
+use Rattle.spent_table.specs.CdBase.ids.UserId.{UserId}
+use Rattle.cloud_areas.specs.ContainerLog.Places.{place_of}
 use Rattle.file_index.specs.declared.key.FileKey.{FileKey}
 use Rattle.file_index.specs.Files.{key_of}
-use Rattle.record_body.specs.declared.body.CommitBody.{CommitBody}
-use Rattle.record_body.specs.declared.body.PutItem.{PutItem}
-use Rattle.record_bodies.specs.declared.body.KeptItem.{KeptItem}
-use Rattle.cd_base.specs.declared.place.Place.{Place}
+use Rattle.cloud_areas.specs.RecordBody.body.CommitBody.{CommitBody}
+use Rattle.cloud_areas.specs.RecordBody.body.PutItem.{PutItem}
+use Rattle.cloud_areas.specs.RecordBodies.body.KeptItem.{KeptItem}
+use Rattle.spent_table.specs.CdBase.place.Place.{Place}
 use Rattle.share_index.specs.Order.{owner_cmp, owner_of}
-use Rattle.cd_base.specs.Order.{fp_cmp}
+use Rattle.spent_table.specs.CdBase.Order.{fp_cmp}
 use Rattle.share_index.specs.Shares.{uses_at}
 use Rattle.spent_table.specs.declared.Spent.{Spent}
 use Rattle.spent_table.specs.Spending.{nothing, spent_by, both}

@@ -2,14 +2,14 @@
 
 ghost use Rattle.std.specs.Prelude.{◌≡◌, ◌<◌, ◌≤◌, ◌+◌, ◌*◌, ◌^◌, ℕ, List, length, sum_by, option_map};
 ghost use Rattle.std.specs.FinMap as maps;
-ghost use Rattle.cd_base.specs.declared.shape.Shape.{Shape};
-ghost use Rattle.pool_map.specs.Accounts.{keys_of};
-ghost use Rattle.journal_start.specs.Ranges.{AreRooms};
-ghost use Rattle.record_bodies.specs.Spelling as bodies;
-ghost use Rattle.record_bodies.specs.Spelling.{body_bytes};
-ghost use Rattle.user_dedup.specs.declared.command.Command.{Command};
-ghost use Rattle.user_dedup.specs.Spending.{files_of};
-ghost use Rattle.user_dedup.specs.Dedup.{IsSound};
+ghost use Rattle.spent_table.specs.CdBase.shape.Shape.{Shape};
+ghost use Rattle.file_index.specs.PoolMap.Accounts.{keys_of};
+ghost use Rattle.cloud_areas.specs.JournalStart.Ranges.{AreRooms};
+ghost use Rattle.cloud_areas.specs.RecordBodies.Spelling as bodies;
+ghost use Rattle.cloud_areas.specs.RecordBodies.Spelling.{body_bytes};
+ghost use Rattle.cloud_areas.specs.UserDedup.command.Command.{Command};
+ghost use Rattle.cloud_areas.specs.UserDedup.Spending.{files_of};
+ghost use Rattle.cloud_areas.specs.UserDedup.Dedup.{IsSound};
 ghost use Rattle.cloud_memory.specs.Memory.{Remembers};
 ghost use Rattle.cloud_memory.specs.News.{AreNewTo, seen};
 ghost use Rattle.cloud_memory.specs.Rooms.{memory_of, HasRooms, full_put, full_news, full_files, full_commit};
@@ -18,15 +18,15 @@ ghost use Rattle.cloud_memory.specs.Inner.{part_len};
 
 use crate::rooms::{either, entries_limit, full_room, owners_limit, recipes_limit, shares_limit};
 use crate::{CloudMemory, Full, New};
-use cd_base::{Room, UserId};
-use journal_start::Rooms;
+use cloud_areas::UserRooms;
+use spent_table::{Room, UserId};
 
 impl CloudMemory {
     /// How many entries the user has.
     pub fn files_of(&self, user: UserId) -> u32
-        ensures kept { (rooms : Rooms) → HasRooms rooms self.now
+        ensures kept { (rooms : UserRooms) → HasRooms rooms self.now
             → result ≡ keys_of (λ k. k.user) self.now.files.files user.0 }
-        ensures meaning { (shape : Shape) (cloud : ℕ) (rooms : Rooms) (list : List Command)
+        ensures meaning { (shape : Shape) (cloud : ℕ) (rooms : UserRooms) (list : List Command)
             → IsSound shape cloud list → Remembers shape list (memory_of self.now) → HasRooms rooms self.now
             → result ≡ files_of shape list user }
     {
@@ -60,7 +60,7 @@ impl CloudMemory {
     // The first of the user's rooms that a Put of so many shares, with so many bytes, would pass.
     pub(crate) fn room_for_put(
         &self,
-        rooms: &Rooms,
+        rooms: &UserRooms,
         user: UserId,
         count: u32,
         more: u64,
@@ -89,7 +89,7 @@ impl CloudMemory {
 
     /// The first of the user's rooms that a Put of these shares would pass, of owners and shares, as `add_put` names it.
     /// None comes exactly where it would pass none.
-    pub fn full_for_put(&self, rooms: &Rooms, user: UserId, news: &[New]) -> Option<Full>
+    pub fn full_for_put(&self, rooms: &UserRooms, user: UserId, news: &[New]) -> Option<Full>
         requires few { length news.now ≤ 256 }
         requires allowed { AreRooms rooms.now }
         ensures { option_map seen result ≡ full_news rooms.now user (memory_of self.now) news.now }
@@ -100,7 +100,7 @@ impl CloudMemory {
     }
 
     // The room of files, where the user has as many entries as it may.
-    fn room_for_entry(&self, rooms: &Rooms, user: UserId) -> Option<Full>
+    fn room_for_entry(&self, rooms: &UserRooms, user: UserId) -> Option<Full>
         requires { HasRooms rooms.now self.now }
         ensures { option_map seen result ≡ full_files rooms.now user (memory_of self.now) }
     {
@@ -120,7 +120,7 @@ impl CloudMemory {
 
     /// The first of the user's rooms that a Commit with a recipe of so many bytes would pass, of files and recipes, as
     /// `add_commit` names it. None comes exactly where it would pass none.
-    pub fn full_for_commit(&self, rooms: &Rooms, user: UserId, len: u32) -> Option<Full>
+    pub fn full_for_commit(&self, rooms: &UserRooms, user: UserId, len: u32) -> Option<Full>
         requires allowed { AreRooms rooms.now }
         requires rooms { HasRooms rooms.now self.now }
         ensures { option_map seen result ≡ full_commit rooms.now user (memory_of self.now) len }

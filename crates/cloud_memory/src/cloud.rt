@@ -5,26 +5,26 @@ ghost use Rattle.std.specs.Prelude.{option_map, IfOk, OnOk, OnErr, MatchResult, 
 ghost use Rattle.std.specs.Prelude.{slice_get, if◌then◌else◌};
 ghost use Rattle.std.specs.FinMap as maps;
 ghost use Rattle.std.specs.List.{Contains};
-ghost use Rattle.cd_base.specs.declared.shape.Shape.{Shape};
-ghost use Rattle.container_log.specs.Places.{place_of};
-ghost use Rattle.journal_start.specs.Ranges.{AreRooms};
+ghost use Rattle.spent_table.specs.CdBase.shape.Shape.{Shape};
+ghost use Rattle.cloud_areas.specs.ContainerLog.Places.{place_of};
+ghost use Rattle.cloud_areas.specs.JournalStart.Ranges.{AreRooms};
 ghost use Rattle.file_index.specs.Files.{key_of};
 ghost use Rattle.file_index.specs.Files.{used_by as files_used};
-ghost use Rattle.pool_map.specs.Accounts.{limit_for};
-ghost use Rattle.record_bodies.specs.Spelling as bodies;
-ghost use Rattle.record_bodies.specs.Spelling.{Body};
+ghost use Rattle.file_index.specs.PoolMap.Accounts.{limit_for};
+ghost use Rattle.cloud_areas.specs.RecordBodies.Spelling as bodies;
+ghost use Rattle.cloud_areas.specs.RecordBodies.Spelling.{Body};
 ghost use Rattle.share_index.specs.Order.{owner_of};
 ghost use Rattle.spent_table.specs.Spending.{spent_by};
-ghost use Rattle.user_dedup.specs.declared.file_list.FileEntry.{FileEntry};
-ghost use Rattle.user_dedup.specs.Cloud.{fingerprint};
-ghost use Rattle.user_dedup.specs.Owning.{is_among, fps_in};
-ghost use Rattle.user_dedup.specs.Pages.{entry_at};
-ghost use Rattle.user_dedup.specs.Requests.{fps_of};
-ghost use Rattle.user_dedup.specs.declared.command.Command.{Command};
-ghost use Rattle.user_dedup.specs.declared.command.Command.TheVariants as commands;
-ghost use Rattle.user_dedup.specs.Cloud.{user_view, strings_in, held_bytes};
-ghost use Rattle.user_dedup.specs.Spending.{spent_of, limits_of, full_for, IsWithin};
-ghost use Rattle.user_dedup.specs.Dedup.{IsSound};
+ghost use Rattle.cloud_areas.specs.UserDedup.file_list.FileEntry.{FileEntry};
+ghost use Rattle.cloud_areas.specs.UserDedup.Cloud.{fingerprint};
+ghost use Rattle.cloud_areas.specs.UserDedup.Owning.{is_among, fps_in};
+ghost use Rattle.cloud_areas.specs.UserDedup.Pages.{entry_at};
+ghost use Rattle.cloud_areas.specs.UserDedup.Requests.{fps_of};
+ghost use Rattle.cloud_areas.specs.UserDedup.command.Command.{Command};
+ghost use Rattle.cloud_areas.specs.UserDedup.command.Command.TheVariants as commands;
+ghost use Rattle.cloud_areas.specs.UserDedup.Cloud.{user_view, strings_in, held_bytes};
+ghost use Rattle.cloud_areas.specs.UserDedup.Spending.{spent_of, limits_of, full_for, IsWithin};
+ghost use Rattle.cloud_areas.specs.UserDedup.Dedup.{IsSound};
 ghost use Rattle.cloud_areas.specs.Chains.{IsRecord};
 ghost use Rattle.cloud_areas.specs.Laid.{AreLaid};
 ghost use Rattle.cloud_areas.specs.Placing.{places_given, places_of};
@@ -34,18 +34,17 @@ ghost use Rattle.cloud_memory.specs.News.{AreOf, AreNewTo, seen};
 ghost use Rattle.cloud_memory.specs.Rooms.{memory_of, HasRooms, full_news, full_commit};
 ghost use Rattle.cloud_memory.specs.Sharing.{AreOwned};
 ghost use Rattle.cloud_memory.specs.Steps.{begun, with_put, parts_of, with_commit, without_entry};
-ghost use Rattle.cloud_memory.specs.Inner.{Placed, Owned, Adds, AddsAll, HasShareRoom, MayAdd, Enters, Entered};
+ghost use Rattle.cloud_memory.specs.Inner.{HasPlacedShare, Owned, HasAddedShare, AddsAll, HasShareRoom, MayAdd, Enters};
+ghost use Rattle.cloud_memory.specs.Inner.{Entered};
 
 use crate::places::{farther, place_behind};
 use crate::uses::{lower_all, raise_all};
 use crate::{Full, New};
-use cd_base::{Fp, NoMemory, Place, Room, Tag, UserId, Version};
+use cloud_areas::{CommitBody, PutItem, UserRooms};
 use file_index::{Entry, FileIndex, IndexErr};
-use journal_start::Rooms;
 use recipe::RecipeView;
-use record_body::{CommitBody, PutItem};
 use share_index::ShareIndex;
-use spent_table::{Spent, SpentTable};
+use spent_table::{Fp, NoMemory, Place, Room, Spent, SpentTable, Tag, UserId, Version};
 use std::alloc::Global;
 
 // The bytes of a region of an area of blobs.
@@ -65,7 +64,7 @@ pub struct CloudMemory {
 impl CloudMemory {
     /// The memory of no commands, for the users of these rooms, with the blobs in the first region. It takes all its
     /// memory here.
-    pub fn make(alloc: Global, rooms: &Rooms) -> Result<CloudMemory, NoMemory>
+    pub fn make(alloc: Global, rooms: &UserRooms) -> Result<CloudMemory, NoMemory>
         requires { AreRooms rooms.now }
         ensures value { IfOk result (λ cloud. memory_of cloud ≡ begun rooms.now.users 0) }
         ensures remembers { IfOk result (λ cloud. (shape : Shape) → Remembers shape [] (memory_of cloud)) }
@@ -92,7 +91,7 @@ impl CloudMemory {
         ensures remembers { (shape : Shape) → Remembers shape [] (memory_of self.new) }
         ensures placed { IsPlacedBy [] (memory_of self.new) }
         ensures ends { HasEnds region [] [] (memory_of self.new) }
-        ensures rooms { (rooms : Rooms) → HasRooms rooms self.old → HasRooms rooms self.new }
+        ensures rooms { (rooms : UserRooms) → HasRooms rooms self.old → HasRooms rooms self.new }
         ensures greatest { KeepsGreatest self.old self.new }
     {
         self.shares.clear();
@@ -180,7 +179,7 @@ impl CloudMemory {
         requires new { maps.get self.old.shares.places fp.0 ≡ None }
         requires fps { maps.len self.old.shares.places < self.old.shares.fps }
         requires end { place.at + place.len < 2 ^ 64 }
-        ensures { Placed self.old self.new fp place }
+        ensures { HasPlacedShare self.old self.new fp place }
     {
         match self.shares.set_place(fp, place) {
             Ok(()) => {}
@@ -204,7 +203,7 @@ impl CloudMemory {
     fn add_known(&mut self, user: UserId, new: New) -> PutItem
         requires known { IsSome (maps.get self.old.shares.places new.fp.0) }
         requires room { HasShareRoom self.old user new.fp }
-        ensures { Adds self.old self.new user new result }
+        ensures { HasAddedShare self.old self.new user new result }
     {
         self.own(user, new.fp);
         PutItem {
@@ -218,7 +217,7 @@ impl CloudMemory {
         requires fresh { maps.get self.old.shares.places new.fp.0 ≡ None }
         requires room { HasShareRoom self.old user new.fp }
         requires end { self.old.shares_end < 2 ^ 63 }
-        ensures { Adds self.old self.new user new result }
+        ensures { HasAddedShare self.old self.new user new result }
     {
         let at = place_behind(self.shares_end, new.len);
         let place = Place { at, len: new.len };
@@ -235,7 +234,7 @@ impl CloudMemory {
     fn add_share(&mut self, user: UserId, new: New) -> PutItem
         requires room { HasShareRoom self.old user new.fp }
         requires end { self.old.shares_end < 2 ^ 63 }
-        ensures { Adds self.old self.new user new result }
+        ensures { HasAddedShare self.old self.new user new result }
     {
         if self.shares.place_of(&new.fp).is_some() {
             self.add_known(user, new)
@@ -261,7 +260,7 @@ impl CloudMemory {
     /// `Full` names the first room that the Put would pass, of owners and shares; nothing changes then.
     pub fn add_put(
         &mut self,
-        rooms: &Rooms,
+        rooms: &UserRooms,
         user: UserId,
         news: &[New],
         items: &mut [PutItem],
@@ -351,7 +350,7 @@ impl CloudMemory {
     /// Commit would pass, of files and recipes; nothing that is remembered changes then.
     pub fn add_commit(
         &mut self,
-        rooms: &Rooms,
+        rooms: &UserRooms,
         user: UserId,
         tag: Tag,
         version: Version,
@@ -434,7 +433,7 @@ impl CloudMemory {
             → Remembers shape (list ++ commands.Delete user tag.now version ∷ []) (memory_of self.new) }
         ensures taken { memory_of self.new
             ≡ without_entry (fps_in recipe.now.items) user (key_of user.0 tag.now.0 version.0) (memory_of self.old) }
-        ensures rooms { (rooms : Rooms) → HasRooms rooms self.old → HasRooms rooms self.new }
+        ensures rooms { (rooms : UserRooms) → HasRooms rooms self.old → HasRooms rooms self.new }
         ensures greatest { KeepsGreatest self.old self.new }
     {
         self.files.remove(user, tag, version);
@@ -453,7 +452,7 @@ impl CloudMemory {
             → Remembers shape (list ++ commands.Delete user tag.now version ∷ []) (memory_of self.new) }
         ensures taken { memory_of self.new ≡ without_entry [] user (key_of user.0 tag.now.0 version.0)
             (memory_of self.old) }
-        ensures rooms { (rooms : Rooms) → HasRooms rooms self.old → HasRooms rooms self.new }
+        ensures rooms { (rooms : UserRooms) → HasRooms rooms self.old → HasRooms rooms self.new }
         ensures greatest { KeepsGreatest self.old self.new }
     {
         self.files.remove(user, tag, version);

@@ -2,35 +2,35 @@
 
 ghost use Rattle.std.specs.Prelude.{◌≡◌, ◌<◌, ◌≤◌, ℕ, List, [], ◌∷◌, ◌++◌, length, All, Some, None};
 ghost use Rattle.std.specs.FinMap.{get};
-ghost use Rattle.cd_base.specs.Limits.{recipe_limit};
-ghost use Rattle.cd_base.specs.declared.ids.Tag.{Tag};
-ghost use Rattle.cd_base.specs.declared.ids.UserId.{UserId};
-ghost use Rattle.cd_base.specs.declared.ids.Version.{Version};
-ghost use Rattle.cd_base.specs.declared.shape.Shape.{Shape};
-ghost use Rattle.cd_base.specs.declared.ids.Fp.{Fp};
-ghost use Rattle.container_log.specs.Places.{place_of};
+ghost use Rattle.spent_table.specs.CdBase.Limits.{recipe_limit};
+ghost use Rattle.spent_table.specs.CdBase.ids.Tag.{Tag};
+ghost use Rattle.spent_table.specs.CdBase.ids.UserId.{UserId};
+ghost use Rattle.spent_table.specs.CdBase.ids.Version.{Version};
+ghost use Rattle.spent_table.specs.CdBase.shape.Shape.{Shape};
+ghost use Rattle.spent_table.specs.CdBase.ids.Fp.{Fp};
+ghost use Rattle.cloud_areas.specs.ContainerLog.Places.{place_of};
 ghost use Rattle.file_index.specs.declared.key.FileKey.{FileKey};
 ghost use Rattle.file_index.specs.Files.{key_of};
-ghost use Rattle.journal_start.specs.declared.rooms.Rooms.{Rooms};
-ghost use Rattle.message_fields.specs.Shares.{share_limit};
-ghost use Rattle.record_body.specs.declared.body.CommitBody.{CommitBody};
-ghost use Rattle.record_body.specs.declared.body.PutItem.{PutItem};
-ghost use Rattle.record_bodies.specs.declared.body.DeleteBody.{DeleteBody};
-ghost use Rattle.record_bodies.specs.declared.body.KeptItem.{KeptItem};
-ghost use Rattle.record_bodies.specs.Spelling as bodies;
-ghost use Rattle.record_bodies.specs.Spelling.{Body, FitsKept};
+ghost use Rattle.cloud_areas.specs.JournalStart.rooms.UserRooms.{UserRooms};
+ghost use Rattle.cloud_areas.specs.MessageFields.Shares.{share_limit};
+ghost use Rattle.cloud_areas.specs.RecordBody.body.CommitBody.{CommitBody};
+ghost use Rattle.cloud_areas.specs.RecordBody.body.PutItem.{PutItem};
+ghost use Rattle.cloud_areas.specs.RecordBodies.body.DeleteBody.{DeleteBody};
+ghost use Rattle.cloud_areas.specs.RecordBodies.body.KeptItem.{KeptItem};
+ghost use Rattle.cloud_areas.specs.RecordBodies.Spelling as bodies;
+ghost use Rattle.cloud_areas.specs.RecordBodies.Spelling.{Body, FitsKept};
 ghost use Rattle.spent_table.specs.declared.Spent.{Spent};
-ghost use Rattle.user_dedup.specs.declared.file_list.FileEntry.{FileEntry};
-ghost use Rattle.user_dedup.specs.Pages.{entry_at};
-ghost use Rattle.user_dedup.specs.Requests.{fps_of};
-ghost use Rattle.user_dedup.specs.declared.command.Command.{Command};
-ghost use Rattle.user_dedup.specs.declared.command.Command.TheVariants as commands;
-ghost use Rattle.user_dedup.specs.Cloud.{user_view};
-ghost use Rattle.user_dedup.specs.Dedup.{IsSound};
+ghost use Rattle.cloud_areas.specs.UserDedup.file_list.FileEntry.{FileEntry};
+ghost use Rattle.cloud_areas.specs.UserDedup.Pages.{entry_at};
+ghost use Rattle.cloud_areas.specs.UserDedup.Requests.{fps_of};
+ghost use Rattle.cloud_areas.specs.UserDedup.command.Command.{Command};
+ghost use Rattle.cloud_areas.specs.UserDedup.command.Command.TheVariants as commands;
+ghost use Rattle.cloud_areas.specs.UserDedup.Cloud.{user_view};
+ghost use Rattle.cloud_areas.specs.UserDedup.Dedup.{IsSound};
 ghost use Rattle.cloud_memory.specs.declared.rooms.New.{New};
 ghost use Rattle.cloud_memory.specs.Memory.{Memory, Remembers, IsPlacedBy, HasEnds};
 ghost use Rattle.cloud_memory.specs.News.{AreOf, AreNewTo};
-ghost use Rattle.user_dedup.specs.Spending.{files_of, full_for, IsWithin};
+ghost use Rattle.cloud_areas.specs.UserDedup.Spending.{files_of, full_for, IsWithin};
 ghost use Rattle.cloud_areas.specs.Chains.{commit_of, IsRecord};
 ghost use Rattle.cloud_areas.specs.Laid.{AreLaid};
 ghost use Rattle.cloud_areas.specs.Placing.{places_given, places_of};
@@ -111,12 +111,12 @@ pub fn law_of_ends()
 /// The room that is full by a memory is the one that is full by its list, which is sound and within its rooms: the
 /// indexes' own numbers are never the first that is passed there.
 pub fn law_of_full_rooms()
-    ensures puts { (shape : Shape) (cloud : ℕ) (rooms : Rooms) (list : List Command) (user : UserId) (m : Memory)
+    ensures puts { (shape : Shape) (cloud : ℕ) (rooms : UserRooms) (list : List Command) (user : UserId) (m : Memory)
         (strings : List (List ℕ)) (news : List New)
         → IsSound shape cloud list → Remembers shape list m → IsWithin shape rooms list
         → AreOf news strings → AreNewTo m user news
         → full_news rooms user m news ≡ full_for shape rooms list (commands.Put user strings) }
-    ensures commits { (shape : Shape) (cloud : ℕ) (rooms : Rooms) (list : List Command) (user : UserId) (m : Memory)
+    ensures commits { (shape : Shape) (cloud : ℕ) (rooms : UserRooms) (list : List Command) (user : UserId) (m : Memory)
         (tag : Tag) (version : Version) (recipe : List ℕ)
         → IsSound shape cloud list → Remembers shape list m → IsWithin shape rooms list
         → full_commit rooms user m (length recipe)

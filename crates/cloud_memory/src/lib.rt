@@ -18,4 +18,15 @@ mod tables;
 mod uses;
 
 pub use cloud::CloudMemory;
+pub use cloud_areas::{
+    BodyBuf, BodyErr, BodyView, CONTAINER, CommitBody, DeleteBody, FoundItem, FoundKept, KeptItem,
+    KeptItems, Link, Log, LogFull, Lost, PutItem, PutItems, SpentBody, UserRooms,
+};
+pub use file_index::{Entry, FileIndex, FileKey};
+pub use recipe::RecipeView;
 pub use rooms::{Full, New};
+pub use share_index::ShareIndex;
+pub use spent_table::{
+    Bytes, CloudNo, Fp, NoMemory, Place, RECIPE_LIMIT, Room, Shape, Spent, SpentTable, Tag, UserId,
+    Version, sha256,
+};

@@ -1,14 +1,14 @@
 //! What is alive, slot by slot.
 
 ghost use Rattle.std.specs.Prelude.{◌≡◌, option_map};
-ghost use Rattle.pool_map.specs.Slots.{slot_of, IsListed};
+ghost use Rattle.file_index.specs.PoolMap.Slots.{slot_of, IsListed};
 ghost use Rattle.file_index.specs.Files.{entry_with};
 ghost use Rattle.share_index.specs.Shares.{place_with};
 ghost use Rattle.cloud_memory.specs.Live.{live_at, IsEachLive};
 
 use crate::CloudMemory;
-use cd_base::{Fp, Place, Tag, UserId, Version};
 use file_index::Entry;
+use spent_table::{Fp, Place, Tag, UserId, Version};
 
 impl CloudMemory {
     /// The share in a slot of the tables that some user owns, and its place. None exactly for a slot without one; the

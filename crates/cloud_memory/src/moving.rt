@@ -5,16 +5,16 @@ ghost use Rattle.std.specs.Prelude.{◌≡◌, ◌<◌, ◌^◌, IsSome, Some};
 ghost use Rattle.std.specs.FinMap as maps;
 ghost use Rattle.file_index.specs.declared.key.Entry.{Entry};
 ghost use Rattle.file_index.specs.Files.{key_of};
-ghost use Rattle.journal_start.specs.declared.rooms.Rooms.{Rooms};
-ghost use Rattle.pool_map.specs.Slots.{IsRewritten};
+ghost use Rattle.cloud_areas.specs.JournalStart.rooms.UserRooms.{UserRooms};
+ghost use Rattle.file_index.specs.PoolMap.Slots.{IsRewritten};
 ghost use Rattle.share_index.specs.Emptied.{IsEmptied};
 ghost use Rattle.cloud_memory.specs.Greatest.{KeepsGreatest};
 ghost use Rattle.cloud_memory.specs.Moving.{with_place, without_place, lying_at, with_recipe_at, with_ends, unspent};
 ghost use Rattle.cloud_memory.specs.Rooms.{memory_of, HasRooms};
 
 use crate::CloudMemory;
-use cd_base::{Fp, Place, Tag, UserId, Version};
 use file_index::Entry;
+use spent_table::{Fp, Place, Tag, UserId, Version};
 
 impl CloudMemory {
     /// The share with the fingerprint, which has a place, lies at this one from now on. It stays in its slot, and the
@@ -25,7 +25,7 @@ impl CloudMemory {
         ensures moved { IsRewritten self.old.shares.place_slots self.new.shares.place_slots fp.now.0 place }
         ensures owner_slots { self.new.shares.owner_slots ≡ self.old.shares.owner_slots }
         ensures files { self.new.files ≡ self.old.files }
-        ensures rooms { (rooms : Rooms) → HasRooms rooms self.old → HasRooms rooms self.new }
+        ensures rooms { (rooms : UserRooms) → HasRooms rooms self.old → HasRooms rooms self.new }
         ensures greatest { KeepsGreatest self.old self.new }
     {
         self.shares.move_place(fp, place);
@@ -39,7 +39,7 @@ impl CloudMemory {
         ensures emptied { IsEmptied self.old.shares.place_slots self.new.shares.place_slots fp.now.0 }
         ensures owner_slots { self.new.shares.owner_slots ≡ self.old.shares.owner_slots }
         ensures files { self.new.files ≡ self.old.files }
-        ensures rooms { (rooms : Rooms) → HasRooms rooms self.old → HasRooms rooms self.new }
+        ensures rooms { (rooms : UserRooms) → HasRooms rooms self.old → HasRooms rooms self.new }
         ensures greatest { KeepsGreatest self.old self.new }
     {
         self.shares.drop_place(fp);
@@ -55,7 +55,7 @@ impl CloudMemory {
             → IsRewritten self.old.files.slots self.new.files.slots (key_of user.0 tag.now.0 version.0)
             (lying_at at e) }
         ensures shares { self.new.shares ≡ self.old.shares }
-        ensures rooms { (rooms : Rooms) → HasRooms rooms self.old → HasRooms rooms self.new }
+        ensures rooms { (rooms : UserRooms) → HasRooms rooms self.old → HasRooms rooms self.new }
         ensures greatest { KeepsGreatest self.old self.new }
     {
         match self.files.get(user, tag, version) {
@@ -76,7 +76,7 @@ impl CloudMemory {
         ensures taken { memory_of self.new ≡ with_ends shares recipes (memory_of self.old) }
         ensures shares { self.new.shares ≡ self.old.shares }
         ensures files { self.new.files ≡ self.old.files }
-        ensures rooms { (rooms : Rooms) → HasRooms rooms self.old → HasRooms rooms self.new }
+        ensures rooms { (rooms : UserRooms) → HasRooms rooms self.old → HasRooms rooms self.new }
         ensures greatest { KeepsGreatest self.old self.new }
     {
         self.shares_end = shares;
@@ -88,7 +88,7 @@ impl CloudMemory {
         ensures taken { memory_of self.new ≡ unspent (memory_of self.old) }
         ensures shares { self.new.shares ≡ self.old.shares }
         ensures files { self.new.files ≡ self.old.files }
-        ensures rooms { (rooms : Rooms) → HasRooms rooms self.old → HasRooms rooms self.new }
+        ensures rooms { (rooms : UserRooms) → HasRooms rooms self.old → HasRooms rooms self.new }
         ensures greatest { KeepsGreatest self.old self.new }
     {
         self.spent.clear();

@@ -2,19 +2,19 @@
 
 ghost use Rattle.std.specs.Prelude.{◌≡◌, ◌↔◌, ◌<◌, ◌≤◌, List, length, All, IfSome, IsTrue};
 ghost use Rattle.std.specs.List.{Contains};
-ghost use Rattle.cd_base.specs.declared.shape.Shape.{Shape};
+ghost use Rattle.spent_table.specs.CdBase.shape.Shape.{Shape};
 ghost use Rattle.recipe.specs.Spelling.{item_limit};
-ghost use Rattle.user_dedup.specs.Owning.{fps_in, first_lacking};
-ghost use Rattle.user_dedup.specs.declared.command.Command.{Command};
-ghost use Rattle.user_dedup.specs.Cloud.{user_view};
+ghost use Rattle.cloud_areas.specs.UserDedup.Owning.{fps_in, first_lacking};
+ghost use Rattle.cloud_areas.specs.UserDedup.command.Command.{Command};
+ghost use Rattle.cloud_areas.specs.UserDedup.Cloud.{user_view};
 ghost use Rattle.cloud_memory.specs.Memory.{Remembers};
 ghost use Rattle.cloud_memory.specs.Rooms.{memory_of};
 ghost use Rattle.cloud_memory.specs.Sharing.{AreOwned, FindsUnowned};
 
 use crate::CloudMemory;
 use crate::uses::fp_at;
-use cd_base::UserId;
 use recipe::RecipeView;
+use spent_table::UserId;
 
 impl CloudMemory {
     // The place of the first item whose fingerprint the user doesn't own.

@@ -1,9 +1,9 @@
 //! The places of blobs behind an end.
 
 ghost use Rattle.std.specs.Prelude.{◌≡◌, ◌+◌, ◌<◌, ◌≤◌, ◌^◌, max};
-ghost use Rattle.container_log.specs.Places.{container_len, place_of};
+ghost use Rattle.cloud_areas.specs.ContainerLog.Places.{container_len, place_of};
 
-use container_log::CONTAINER;
+use cloud_areas::CONTAINER;
 
 // The place of a blob of this length behind an end.
 pub(crate) fn place_behind(end: u64, len: u32) -> u64

@@ -2,14 +2,14 @@
 
 ghost use Rattle.std.specs.Prelude.{◌≡◌, ◌↔◌, ◌<◌, ◌+◌, ◌^◌, length, None, IsErr, IfErr, OnOk, OnErr};
 ghost use Rattle.std.specs.FinMap as maps;
-ghost use Rattle.pool_map.specs.Accounts.{keys_of, limit_for};
-ghost use Rattle.journal_start.specs.declared.rooms.Rooms.{Rooms};
+ghost use Rattle.file_index.specs.PoolMap.Accounts.{keys_of, limit_for};
+ghost use Rattle.cloud_areas.specs.JournalStart.rooms.UserRooms.{UserRooms};
 ghost use Rattle.share_index.specs.Order.{owner_of};
 ghost use Rattle.share_index.specs.Shares.{used_by as owners_used};
 ghost use Rattle.file_index.specs.Files.{key_of};
 ghost use Rattle.file_index.specs.Files.{used_by as files_used};
 ghost use Rattle.spent_table.specs.Spending.{spent_by};
-ghost use Rattle.user_dedup.specs.Owning.{fps_in};
+ghost use Rattle.cloud_areas.specs.UserDedup.Owning.{fps_in};
 ghost use Rattle.cloud_memory.specs.Greatest.{KeepsGreatest};
 ghost use Rattle.cloud_memory.specs.Inner.{Owned};
 ghost use Rattle.cloud_memory.specs.Records.{HasPlaceRoom, HasItemRoom, full_entries};
@@ -20,11 +20,9 @@ ghost use Rattle.cloud_memory.specs.Steps.{with_item, with_kept, with_entry, wit
 use crate::places::farther;
 use crate::uses::raise_all;
 use crate::{CloudMemory, Full};
-use cd_base::{Fp, UserId};
+use cloud_areas::{CommitBody, KeptItem, PutItem};
 use recipe::RecipeView;
-use record_bodies::KeptItem;
-use record_body::{CommitBody, PutItem};
-use spent_table::Spent;
+use spent_table::{Fp, Spent, UserId};
 
 impl CloudMemory {
     /// How many fingerprints the user owns.
@@ -58,7 +56,7 @@ impl CloudMemory {
     pub fn take_item(&mut self, user: UserId, item: &PutItem)
         requires { HasItemRoom self.old user item.now }
         ensures taken { memory_of self.new ≡ with_item user (memory_of self.old) item.now }
-        ensures rooms { (rooms : Rooms) → HasRooms rooms self.old → HasRooms rooms self.new }
+        ensures rooms { (rooms : UserRooms) → HasRooms rooms self.old → HasRooms rooms self.new }
         ensures greatest { KeepsGreatest self.old self.new }
     {
         match item.place {
@@ -75,7 +73,7 @@ impl CloudMemory {
     pub fn take_kept(&mut self, item: &KeptItem)
         requires { HasPlaceRoom self.old item.now.fp item.now.place }
         ensures taken { memory_of self.new ≡ with_kept (memory_of self.old) item.now }
-        ensures rooms { (rooms : Rooms) → HasRooms rooms self.old → HasRooms rooms self.new }
+        ensures rooms { (rooms : UserRooms) → HasRooms rooms self.old → HasRooms rooms self.new }
         ensures greatest { KeepsGreatest self.old self.new }
     {
         self.lay(item.fp, item.place);
@@ -94,7 +92,7 @@ impl CloudMemory {
         ensures numbers { IfErr result (λ full. full ≡ full_entries self.old commit.now.user) }
         ensures taken { OnOk result (memory_of self.new
             ≡ with_entry (fps_in recipe.now.items) commit.now (memory_of self.old)) }
-        ensures rooms { (rooms : Rooms) → HasRooms rooms self.old → HasRooms rooms self.new }
+        ensures rooms { (rooms : UserRooms) → HasRooms rooms self.old → HasRooms rooms self.new }
         ensures greatest { KeepsGreatest self.old self.new }
         ensures err { OnErr result (self.new ≡ self.old) }
     {
@@ -117,7 +115,7 @@ impl CloudMemory {
         ensures taken { memory_of self.new ≡ spends user more (memory_of self.old) }
         ensures shares { self.new.shares ≡ self.old.shares }
         ensures files { self.new.files ≡ self.old.files }
-        ensures rooms { (rooms : Rooms) → HasRooms rooms self.old → HasRooms rooms self.new }
+        ensures rooms { (rooms : UserRooms) → HasRooms rooms self.old → HasRooms rooms self.new }
         ensures greatest { KeepsGreatest self.old self.new }
     {
         let spent = self.spent.of(user);
@@ -134,7 +132,7 @@ impl CloudMemory {
         ensures taken { memory_of self.new ≡ with_spent user spent (memory_of self.old) }
         ensures shares { self.new.shares ≡ self.old.shares }
         ensures files { self.new.files ≡ self.old.files }
-        ensures rooms { (rooms : Rooms) → HasRooms rooms self.old → HasRooms rooms self.new }
+        ensures rooms { (rooms : UserRooms) → HasRooms rooms self.old → HasRooms rooms self.new }
         ensures greatest { KeepsGreatest self.old self.new }
     {
         if (user.0 as usize) < self.spent.users() {

@@ -2,11 +2,11 @@
 
 ghost use Rattle.std.specs.Prelude.{◌≡◌, option_map};
 ghost use Rattle.std.specs.Option.{option_or};
-ghost use Rattle.user_dedup.specs.Spending.{refusal, limits_of, files_limit};
+ghost use Rattle.cloud_areas.specs.UserDedup.Spending.{refusal, limits_of, files_limit};
 ghost use Rattle.cloud_memory.specs.News.{seen};
 
-use cd_base::{Fp, Room, UserId};
-use journal_start::Rooms;
+use cloud_areas::UserRooms;
+use spent_table::{Fp, Room, UserId};
 
 /// A share that is new to its user: its fingerprint, and its length in bytes.
 #[derive(Clone, Copy, Debug, PartialEq, Eq)]
@@ -52,7 +52,7 @@ pub(crate) fn either(first: Option<Full>, second: Option<Full>) -> Option<Full>
 }
 
 // How many shares the user may put.
-pub(crate) fn owners_limit(rooms: &Rooms, user: UserId) -> u64
+pub(crate) fn owners_limit(rooms: &UserRooms, user: UserId) -> u64
     ensures { result ≡ (limits_of rooms.now user).owners }
 {
     if user.0 < rooms.users {
@@ -63,7 +63,7 @@ pub(crate) fn owners_limit(rooms: &Rooms, user: UserId) -> u64
 }
 
 // How many bytes of shares the user may put.
-pub(crate) fn shares_limit(rooms: &Rooms, user: UserId) -> u64
+pub(crate) fn shares_limit(rooms: &UserRooms, user: UserId) -> u64
     ensures { result ≡ (limits_of rooms.now user).shares }
 {
     if user.0 < rooms.users {
@@ -74,7 +74,7 @@ pub(crate) fn shares_limit(rooms: &Rooms, user: UserId) -> u64
 }
 
 // How many bytes of recipes the user may commit.
-pub(crate) fn recipes_limit(rooms: &Rooms, user: UserId) -> u64
+pub(crate) fn recipes_limit(rooms: &UserRooms, user: UserId) -> u64
     ensures { result ≡ (limits_of rooms.now user).recipes }
 {
     if user.0 < rooms.users {
@@ -85,7 +85,7 @@ pub(crate) fn recipes_limit(rooms: &Rooms, user: UserId) -> u64
 }
 
 // How many entries the user may have.
-pub(crate) fn entries_limit(rooms: &Rooms, user: UserId) -> u64
+pub(crate) fn entries_limit(rooms: &UserRooms, user: UserId) -> u64
     ensures { result ≡ files_limit rooms.now user }
 {
     if user.0 < rooms.users {

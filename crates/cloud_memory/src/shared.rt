@@ -1,8 +1,8 @@
 //! A memory whose users share one account, for a journal in which no user has rooms of its own.
 
 ghost use Rattle.std.specs.Prelude.{◌≡◌, ◌≤◌, ℕ, IfOk, List, [], length};
-ghost use Rattle.cd_base.specs.declared.shape.Shape.{Shape};
-ghost use Rattle.journal_start.specs.declared.rooms.Rooms.{Rooms};
+ghost use Rattle.spent_table.specs.CdBase.shape.Shape.{Shape};
+ghost use Rattle.cloud_areas.specs.JournalStart.rooms.UserRooms.{UserRooms};
 ghost use Rattle.cloud_memory.specs.Greatest.{HasGreatest, KeepsGreatest};
 ghost use Rattle.cloud_memory.specs.Memory.{Remembers, IsPlacedBy, HasEnds};
 ghost use Rattle.cloud_memory.specs.Moving.{with_ends};
@@ -10,10 +10,9 @@ ghost use Rattle.cloud_memory.specs.Rooms.{memory_of, HasRooms};
 ghost use Rattle.cloud_memory.specs.Steps.{begun};
 
 use crate::CloudMemory;
-use cd_base::NoMemory;
 use file_index::FileIndex;
 use share_index::ShareIndex;
-use spent_table::SpentTable;
+use spent_table::{NoMemory, SpentTable};
 use std::alloc::Global;
 
 impl CloudMemory {
@@ -50,7 +49,7 @@ impl CloudMemory {
         ensures value { memory_of self.new ≡ with_ends 0 recipes_end (begun (length self.old.spent) 0) }
         ensures remembers { (shape : Shape) → Remembers shape [] (memory_of self.new) }
         ensures placed { IsPlacedBy [] (memory_of self.new) }
-        ensures rooms { (rooms : Rooms) → HasRooms rooms self.old → HasRooms rooms self.new }
+        ensures rooms { (rooms : UserRooms) → HasRooms rooms self.old → HasRooms rooms self.new }
         ensures greatest { KeepsGreatest self.old self.new }
     {
         self.clear(0);

@@ -3,13 +3,13 @@
 ghost use Rattle.std.specs.Prelude.{◌≡◌, ◌<◌, length, slice_get, fold, All, Some, IsSome};
 ghost use Rattle.std.specs.FinMap.{get};
 ghost use Rattle.share_index.specs.Order.{owner_of};
-ghost use Rattle.user_dedup.specs.Owning.{fps_in};
+ghost use Rattle.cloud_areas.specs.UserDedup.Owning.{fps_in};
 ghost use Rattle.cloud_memory.specs.Steps.{with_use, without_use};
 ghost use Rattle.cloud_memory.specs.Sharing.{AreOwned, KeepsPlaces};
 
-use cd_base::{Fp, UserId};
 use recipe::RecipeView;
 use share_index::ShareIndex;
+use spent_table::{Fp, UserId};
 
 /// The fingerprint of the item at a place that there is.
 pub(crate) fn fp_at(recipe: &RecipeView<'_>, place: usize) -> Fp

@@ -1,24 +1,24 @@
 -- Where nothing fails, the cloud is opened unless memory runs out, and what is due is written: each other way has a cause that isn't there.
 use Rattle.std.proofs.Common.{◌≡◌, ◌⊎◌, inl, inr, ℕ, ◌-◌, ◌^◌, ◌+◌, ◌≤◌, List, Ok, ◌∙◌, arith}
-use Rattle.backup_command.specs.Writing.{Output, Writes, InFull, InPart, NotAtAll}
-use Rattle.cd_edges.specs.Causes.{Rose}
-use Rattle.cd_edges.specs.declared.area.Area.TheVariants.{Journal}
-use Rattle.cd_edges.specs.Disk.{Image, reads}
-use Rattle.cd_edges.specs.Shelf.{HasFailed, KeepsCounts}
-use Rattle.cloud_areas.specs.Standing.{StandsFor}
+use Rattle.backup_command.specs.Writing.{Output, HasWrittenOrCause, InFull, InPart, NotAtAll}
+use Rattle.backup_command.specs.CdEdges.Causes.{Rose}
+use Rattle.backup_command.specs.CdEdges.area.Area.TheVariants.{Journal}
+use Rattle.backup_command.specs.CdEdges.Disk.{Image, reads}
+use Rattle.backup_command.specs.CdEdges.Shelf.{HasFailed, KeepsCounts}
+use Rattle.store_opening.specs.CloudAreas.Standing.{StandsFor}
 use Rattle.serve_command.specs.CloudServer.Serving.{an_error}
 use Rattle.serve_command.specs.StoreOpening.Spared.{IsOkOrFault}
 use Rattle.serve_command.proofs.StoreOpening.OneStart.{current_whole}
-use Rattle.half_journal.specs.declared.errors.OpenErr.{OpenErr}
-use Rattle.half_journal.specs.declared.errors.OpenErr.TheVariants as errors
-use Rattle.half_journal.specs.Openings.{OnFault}
-use Rattle.journal_halves.specs.Beginnings.{IsUnbegun}
-use Rattle.journal_halves.specs.Findings.{IsFoundDamage}
-use Rattle.journal_start.specs.declared.start.Header.{Header}
+use Rattle.store_opening.specs.HalfJournal.errors.OpenErr.{OpenErr}
+use Rattle.store_opening.specs.HalfJournal.errors.OpenErr.TheVariants as errors
+use Rattle.store_opening.specs.HalfJournal.Openings.{OnFault}
+use Rattle.store_opening.specs.JournalHalves.Beginnings.{IsUnbegun}
+use Rattle.store_opening.specs.JournalHalves.Findings.{IsFoundDamage}
+use Rattle.store_opening.specs.JournalStart.start.Header.{Header}
 use Rattle.serve_command.specs.Complete.{IsStill}
-use Rattle.user_dedup.specs.declared.command.Command.{Command}
+use Rattle.store_opening.specs.UserDedup.command.Command.{Command}
 use Rattle.cloud_opening.specs.Opened.{CloudCall, IsNotOpened, NoRooms, InRooms, header_within}
-use Rattle.cloud_opening.specs.Unhindered.{IsUnhindered}
+use Rattle.cloud_opening.specs.Unhindered.{IsOpeningUnhindered}
 
 pub not_risen : (before now : ℕ) → IsStill before now → Rose before now → ⊥
 not_risen before now still rose = omega (arith, still.0, still.1, rose)
@@ -42,7 +42,7 @@ not_other call (errors.NotBegun len) may counts still = may
 not_other call (errors.Damaged at byte) may counts still = may
 not_other call (errors.OtherStore found asked at) may counts still = may
 
-module _ (call : CloudCall) (out : Output) (well : IsUnhindered call out) where
+module _ (call : CloudCall) (out : Output) (well : IsOpeningUnhindered call out) where
   pub opens : (error : OpenErr) → IsNotOpened call error → ⊥
   opens errors.Fault (NoRooms unreadable stays counts) =
       not_risen call.old.faults call.new.faults well.cloud counts.cloud
@@ -54,7 +54,7 @@ module _ (call : CloudCall) (out : Output) (well : IsUnhindered call out) where
       not_other call error (shut.whole well.rooms well.list well.stands) shut.counts well.cloud
 
   -- a text that is due with 0 or 6
-  pub status_of : (text : List ℕ) (due status : ℕ) → (due ≡ 0) ⊎ (due ≡ 6) → Writes text due out status → (status ≡ 0) ⊎ (status ≡ 6)
+  pub status_of : (text : List ℕ) (due status : ℕ) → (due ≡ 0) ⊎ (due ≡ 6) → HasWrittenOrCause text due out status → (status ≡ 0) ⊎ (status ≡ 6)
   status_of text due status (inl is) (InFull same appends still) = inl (same ∙ is)
   status_of text due status (inr is) (InFull same appends still) = inr (same ∙ is)
   status_of text due status is (InPart front rest same parts appends rose) =

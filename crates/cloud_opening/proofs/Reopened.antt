@@ -1,12 +1,12 @@
 -- A cloud that is opened in rooms, and what comes of it.
 use Rattle.std.proofs.Common.{◌≡◌, ◌⊎◌, inl, inr, ℕ, true, false, IsTrue, List, Result, Ok, Err, sym, ◌∙◌, ap, subst}
 use Rattle.std.specs.Prelude.{IfOk, OnOk}
-use Rattle.cd_base.specs.declared.ids.CloudNo.{CloudNo}
-use Rattle.cd_base.specs.declared.shape.Shape.{Shape}
-use Rattle.cd_edges.specs.declared.area.Area.TheVariants.{Journal}
-use Rattle.cd_edges.specs.Disk.{Cloud, Image, reads}
-use Rattle.cd_edges.specs.Shelf.{IsCall, HasFailed, KeepsCounts, Stays}
-use Rattle.cloud_areas.specs.Standing.{StandsFor}
+use Rattle.backup_command.specs.CdBase.ids.CloudNo.{CloudNo}
+use Rattle.backup_command.specs.CdBase.shape.Shape.{Shape}
+use Rattle.backup_command.specs.CdEdges.area.Area.TheVariants.{Journal}
+use Rattle.backup_command.specs.CdEdges.Disk.{Cloud, Image, reads}
+use Rattle.backup_command.specs.CdEdges.Shelf.{IsCall, HasFailed, KeepsCounts, Stays}
+use Rattle.store_opening.specs.CloudAreas.Standing.{StandsFor}
 use Rattle.serve_command.specs.CloudMemory.Memory.{Remembers}
 use Rattle.serve_command.specs.CloudMemory.Rooms.{memory_of}
 use Rattle.serve_command.specs.OpenStore.Store.{IsOpen}
@@ -15,20 +15,20 @@ use Rattle.serve_command.specs.CloudServer.Serving.{IsServing, an_error, settled
 use Rattle.serve_command.specs.StoreOpening.Exact.{Opens}
 use Rattle.serve_command.specs.StoreOpening.Spared.{IsOkOrFault, MayBegin, Spares}
 use Rattle.serve_command.specs.CloudServer.server.Server.{Server}
-use Rattle.half_journal.specs.declared.errors.OpenErr.{OpenErr}
-use Rattle.half_journal.specs.declared.errors.OpenErr.TheVariants as errors
-use Rattle.half_journal.specs.Openings.{OnFault}
-use Rattle.journal_halves.specs.Beginnings.{IsUnbegun}
-use Rattle.journal_halves.specs.Halves.{IsCurrent}
-use Rattle.journal_start.specs.declared.rooms.Rooms.{Rooms}
-use Rattle.journal_start.specs.declared.start.Header.{Header}
-use Rattle.journal_start.specs.declared.start.Start.{Start}
-use Rattle.journal_start.specs.Ranges.{AreRooms}
+use Rattle.store_opening.specs.HalfJournal.errors.OpenErr.{OpenErr}
+use Rattle.store_opening.specs.HalfJournal.errors.OpenErr.TheVariants as errors
+use Rattle.store_opening.specs.HalfJournal.Openings.{OnFault}
+use Rattle.store_opening.specs.JournalHalves.Beginnings.{IsUnbegun}
+use Rattle.store_opening.specs.JournalHalves.Halves.{IsCurrent}
+use Rattle.store_opening.specs.JournalStart.rooms.UserRooms.{UserRooms}
+use Rattle.store_opening.specs.JournalStart.start.Header.{Header}
+use Rattle.store_opening.specs.JournalStart.start.Start.{Start}
+use Rattle.store_opening.specs.JournalStart.Ranges.{AreRooms}
 use Rattle.serve_command.specs.Served.{HasRooms, IsUnreadable}
 use Rattle.serve_command.proofs.Openings.{comes_to}
-use Rattle.user_dedup.specs.declared.command.Command.{Command}
-use Rattle.user_dedup.specs.Cloud.{counted}
-use Rattle.user_dedup.specs.Spending.{IsWithin}
+use Rattle.store_opening.specs.UserDedup.command.Command.{Command}
+use Rattle.store_opening.specs.UserDedup.Cloud.{counted}
+use Rattle.store_opening.specs.UserDedup.Spending.{IsWithin}
 use Rattle.cloud_opening.specs.declared.opening.Unopened.{Unopened}
 use Rattle.cloud_opening.specs.declared.opening.Unopened.TheVariants as unopened
 use Rattle.cloud_opening.specs.Opened.{CloudCall, IsShut, IsNotOpened, NoRooms, InRooms, StandsWithin, cloud_call, header_within}
@@ -67,35 +67,35 @@ reopened made header server old new before now result answer of is raw =
     subst (λ (r : Result ℕ OpenErr). Reopened header server old new before now r) is
     (subst (λ (h : Header). Reopened h server old new before now result) of raw)
 
-module _ (one : OneHeader) (shape : Shape) (rooms : Rooms) (cloud : CloudNo) (server : Server) (old new : ℕ → Cloud) (before now : ℕ)
+module _ (one : OneHeader) (shape : Shape) (rooms : UserRooms) (cloud : CloudNo) (server : Server) (old new : ℕ → Cloud) (before now : ℕ)
     (allowed : AreRooms rooms)
     (found : IsTrue (old cloud.0).told → HasRooms ((old cloud.0).now Journal).read rooms) where
   abbrev asked : CloudCall
   asked = cloud_call shape cloud (old cloud.0) (new cloud.0) before now
 
   -- rooms in which the areas stand for a list are those that the journal has
-  same_rooms : (own : Rooms) (list : List Command) → StandsWithin asked own list → own ≡ rooms
+  same_rooms : (own : UserRooms) (list : List Command) → StandsWithin asked own list → own ≡ rooms
   same_rooms own list s = elim (found s.told) [
     | inl none ↦ absurd (s.begun none.0)
     | inr has ↦ sym (has.3 ∙ ap (λ (h : Header). h.rooms)
         (one (reads (old cloud.0).now) (header_within own asked) list has.0 has.1 s.stands s.begun has.2))
   ]
 
-  stands_in : (own : Rooms) (list : List Command) → StandsWithin asked own list
+  stands_in : (own : UserRooms) (list : List Command) → StandsWithin asked own list
       → StandsFor (reads (old cloud.0).now) (header_within rooms asked) list
-  stands_in own list s = subst (λ (r : Rooms). StandsFor (reads (old cloud.0).now) (header_within r asked) list) (same_rooms own list s) s.stands
+  stands_in own list s = subst (λ (r : UserRooms). StandsFor (reads (old cloud.0).now) (header_within r asked) list) (same_rooms own list s) s.stands
 
-  within_in : (own : Rooms) (list : List Command) → StandsWithin asked own list → IsWithin shape rooms list
-  within_in own list s = subst (λ (r : Rooms). IsWithin shape r list) (same_rooms own list s) s.within
+  within_in : (own : UserRooms) (list : List Command) → StandsWithin asked own list → IsWithin shape rooms list
+  within_in own list s = subst (λ (r : UserRooms). IsWithin shape r list) (same_rooms own list s) s.within
 
   -- ---- it is opened
 
   module _ (commands : ℕ) (r : Reopened (header_within rooms asked) server old new before now (Ok commands)) where
-    serving : (own : Rooms) (list : List Command) → StandsWithin asked own list
+    serving : (own : UserRooms) (list : List Command) → StandsWithin asked own list
         → IsServing server (new cloud.0) (settled_with list (new cloud.0))
     serving own list s = (r.loaded s.told list (stands_in own list s) (within_in own list s)).1
 
-    remembers : (own : Rooms) (list : List Command) → StandsWithin asked own list
+    remembers : (own : UserRooms) (list : List Command) → StandsWithin asked own list
         → Remembers shape list (memory_of server.store.memory)
     remembers own list s = subst (λ (h : Header). Remembers h.shape list (memory_of server.store.memory)) r.header_is
         ((serving own list s).ready r.at_end).serves.known.remembers
@@ -150,13 +150,13 @@ unchanged old new number before now call stays counts = λ i. record {
   now = stays.now i;
 }
 
-in_cloud : (rooms : Rooms) (call : CloudCall) (result : Result Server Unopened) → OpensIn rooms call result → OpensCloud call result
+in_cloud : (rooms : UserRooms) (call : CloudCall) (result : Result Server Unopened) → OpensIn rooms call result → OpensCloud call result
 in_cloud rooms call (Ok server) opens = (rooms, opens)
 in_cloud rooms call (Err unopened.NoMemory) opens = opens
 in_cloud rooms call (Err (unopened.Refused error)) opens = InRooms rooms opens
 
 -- the opening behind a search that left the cloud as it was
-pub behind_search : (rooms : Rooms) (shape : Shape) (cloud : CloudNo) (old mid new : Cloud) (before middle now : ℕ)
+pub behind_search : (rooms : UserRooms) (shape : Shape) (cloud : CloudNo) (old mid new : Cloud) (before middle now : ℕ)
     (result : Result Server Unopened) → mid ≡ old → middle ≡ before
     → OpensIn rooms (cloud_call shape cloud mid new middle now) result → OpensCloud (cloud_call shape cloud old new before now) result
 behind_search rooms shape cloud old mid new before middle now result same still opens =
@@ -165,7 +165,7 @@ behind_search rooms shape cloud old mid new before middle now result same still 
     (subst (λ (k : Cloud). OpensIn rooms (cloud_call shape cloud k new middle now) result) same opens))
 
 -- a search that ended with this error
-abbrev pub no_rooms : OpenErr → Result Rooms OpenErr
+abbrev pub no_rooms : OpenErr → Result UserRooms OpenErr
 no_rooms error = Err error
 
 counts_by : (error : OpenErr) (failed kept : Type 0) → OnFault (no_rooms error) failed kept → OnFault (an_error error) failed kept

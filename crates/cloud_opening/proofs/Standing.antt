@@ -1,21 +1,21 @@
 -- What an opening says of a cloud that stays from then on.
 use Rattle.std.proofs.Common.{◌≡◌, ℕ, false, List, [], ◌∷◌, ◌++◌, sym, ap, ◌∙◌, subst}
-use Rattle.cd_base.specs.declared.ids.CloudNo.{CloudNo}
-use Rattle.cd_base.specs.declared.shape.Shape.{Shape}
-use Rattle.cd_edges.specs.Causes.{Rose}
-use Rattle.cd_edges.specs.declared.area.Area.TheVariants.{Recipes}
-use Rattle.cd_edges.specs.Disk.{Areas, Cloud, Image, LeavesOnly, SomeLeaves, reads}
-use Rattle.cd_edges.specs.Shelf.{IsCall, HasFailed, KeepsCounts, Stays}
+use Rattle.backup_command.specs.CdBase.ids.CloudNo.{CloudNo}
+use Rattle.backup_command.specs.CdBase.shape.Shape.{Shape}
+use Rattle.backup_command.specs.CdEdges.Causes.{Rose}
+use Rattle.backup_command.specs.CdEdges.area.Area.TheVariants.{Recipes}
+use Rattle.backup_command.specs.CdEdges.Disk.{Areas, Cloud, Image, LeavesOnly, SomeLeaves, reads}
+use Rattle.backup_command.specs.CdEdges.Shelf.{IsCall, HasFailed, KeepsCounts, Stays}
 use Rattle.serve_command.specs.CloudMemory.Memory.{Memory}
 use Rattle.serve_command.specs.CloudServer.Names.{header_of}
 use Rattle.serve_command.specs.CloudServer.Serving.{number_of, some_commands}
 use Rattle.serve_command.specs.CloudServer.server.Server.{Server}
 use Rattle.serve_command.specs.StoreOpening.Spared.{Spares}
 use Rattle.store_opening.specs.Synced.{AreSynced, BeginsSynced, IsSynced}
-use Rattle.half_journal.specs.Openings.{MayBecome}
-use Rattle.journal_start.specs.declared.rooms.Rooms.{Rooms}
-use Rattle.journal_start.specs.declared.start.Header.{Header}
-use Rattle.user_dedup.specs.declared.command.Command.{Command}
+use Rattle.store_opening.specs.HalfJournal.Openings.{MayBecome}
+use Rattle.store_opening.specs.JournalStart.rooms.UserRooms.{UserRooms}
+use Rattle.store_opening.specs.JournalStart.start.Header.{Header}
+use Rattle.store_opening.specs.UserDedup.command.Command.{Command}
 use Rattle.cloud_opening.specs.Opened.{CloudCall, IsOpenedIn, IsUnchanged, StandsWithin, cloud_call}
 
 module _ (old mid new : Cloud) (stays : Stays mid new) where
@@ -51,7 +51,7 @@ module _ (old mid new : Cloud) (stays : Stays mid new) where
   }
 
 -- the same cloud before, whatever comes behind
-pub stands_still : (shape : Shape) (cloud : CloudNo) (old mid new : Cloud) (before middle now : ℕ) (own : Rooms) (list : List Command)
+pub stands_still : (shape : Shape) (cloud : CloudNo) (old mid new : Cloud) (before middle now : ℕ) (own : UserRooms) (list : List Command)
     → StandsWithin (cloud_call shape cloud old new before now) own list → StandsWithin (cloud_call shape cloud old mid before middle) own list
 stands_still shape cloud old mid new before middle now own list s = record {
   told = s.told;
@@ -60,7 +60,7 @@ stands_still shape cloud old mid new before middle now own list s = record {
   within = s.within;
 }
 
-pub opened_still : (shape : Shape) (cloud : CloudNo) (old mid new : Cloud) (before middle now : ℕ) (rooms : Rooms) (memory : Memory)
+pub opened_still : (shape : Shape) (cloud : CloudNo) (old mid new : Cloud) (before middle now : ℕ) (rooms : UserRooms) (memory : Memory)
     → Stays mid new → IsOpenedIn rooms memory (cloud_call shape cloud old mid before middle)
     → IsOpenedIn rooms memory (cloud_call shape cloud old new before now)
 opened_still shape cloud old mid new before middle now rooms memory stays o = record {
@@ -96,6 +96,6 @@ untouched_stays call u = record {
 }
 
 -- the same by the number of the cloud that the server has
-pub call_at : (rooms : Rooms) (server : Server) (shape : Shape) (cloud : CloudNo) (old new : ℕ → Cloud) (before now : ℕ)
+pub call_at : (rooms : UserRooms) (server : Server) (shape : Shape) (cloud : CloudNo) (old new : ℕ → Cloud) (before now : ℕ)
     → server.store.header ≡ header_of shape rooms cloud.0 → IsCall old new (number_of server) before now → IsCall old new cloud.0 before now
 call_at rooms server shape cloud old new before now is call = subst (λ (h : Header). IsCall old new h.cloud.0 before now) is call

@@ -1,7 +1,15 @@
+pub mod BackupCommand
+pub mod CdEdges
+pub mod CloudAreas
 pub mod CloudMemory
 pub mod CloudServer
+pub mod HalfJournal
+pub mod JournalStart
 pub mod OpenStore
 pub mod Opened
 pub mod Opens
 pub mod Said
+pub mod ServeCommand
+pub mod Transcript
 pub mod Unhindered
+pub mod UserDedup

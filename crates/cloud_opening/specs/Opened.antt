@@ -1,26 +1,26 @@
 -- A cloud that is opened in the rooms that its journal has, with nothing begun.
 use Rattle.std.specs.Prelude.{◌≡◌, ℕ, false, IsTrue, List, Ok}
-use Rattle.cd_base.specs.declared.ids.CloudNo.{CloudNo}
-use Rattle.cd_base.specs.declared.shape.Shape.{Shape}
-use Rattle.cd_edges.specs.declared.area.Area.TheVariants.{Journal}
-use Rattle.cd_edges.specs.Disk.{Cloud, reads}
-use Rattle.cd_edges.specs.Shelf.{HasFailed, KeepsCounts, Stays}
-use Rattle.cloud_areas.specs.Standing.{StandsFor}
+use Rattle.backup_command.specs.CdBase.ids.CloudNo.{CloudNo}
+use Rattle.backup_command.specs.CdBase.shape.Shape.{Shape}
+use Rattle.backup_command.specs.CdEdges.area.Area.TheVariants.{Journal}
+use Rattle.backup_command.specs.CdEdges.Disk.{Cloud, reads}
+use Rattle.backup_command.specs.CdEdges.Shelf.{HasFailed, KeepsCounts, Stays}
+use Rattle.store_opening.specs.CloudAreas.Standing.{StandsFor}
 use Rattle.serve_command.specs.CloudMemory.Memory.{Memory, Remembers}
 use Rattle.serve_command.specs.CloudServer.Names.{header_of}
 use Rattle.serve_command.specs.CloudServer.Openings.{NotBegunIs, OpensTo, OtherStoreIs}
 use Rattle.serve_command.specs.CloudServer.Serving.{an_error, some_commands}
 use Rattle.serve_command.specs.StoreOpening.Exact.{Opens}
 use Rattle.serve_command.specs.StoreOpening.Spared.{IsOkOrFault, Spares}
-use Rattle.half_journal.specs.declared.errors.OpenErr.{OpenErr}
-use Rattle.half_journal.specs.Openings.{OnFault}
-use Rattle.journal_halves.specs.Beginnings.{IsUnbegun}
-use Rattle.journal_start.specs.declared.rooms.Rooms.{Rooms}
-use Rattle.journal_start.specs.declared.start.Header.{Header}
-use Rattle.journal_start.specs.Ranges.{AreRooms}
+use Rattle.store_opening.specs.HalfJournal.errors.OpenErr.{OpenErr}
+use Rattle.store_opening.specs.HalfJournal.Openings.{OnFault}
+use Rattle.store_opening.specs.JournalHalves.Beginnings.{IsUnbegun}
+use Rattle.store_opening.specs.JournalStart.rooms.UserRooms.{UserRooms}
+use Rattle.store_opening.specs.JournalStart.start.Header.{Header}
+use Rattle.store_opening.specs.JournalStart.Ranges.{AreRooms}
 use Rattle.serve_command.specs.Served.{HasRooms, IsUnreadable}
-use Rattle.user_dedup.specs.declared.command.Command.{Command}
-use Rattle.user_dedup.specs.Spending.{IsWithin}
+use Rattle.store_opening.specs.UserDedup.command.Command.{Command}
+use Rattle.store_opening.specs.UserDedup.Spending.{IsWithin}
 
 -- a cloud of a store, before and after, with the shelf's count of faults in all
 pub record CloudCall : Type 0 where
@@ -42,7 +42,7 @@ cloud_call shape cloud old new total total_after = record {
 }
 
 -- the header of the cloud's journal in these rooms
-abbrev pub header_within : Rooms → CloudCall → Header
+abbrev pub header_within : UserRooms → CloudCall → Header
 header_within rooms call = header_of call.shape rooms call.cloud.0
 
 -- what the cloud's journal reads before
@@ -63,7 +63,7 @@ pub record IsUnchanged (call : CloudCall) : Type 0 where
   pub total : call.total_after ≡ call.total_before
 
 -- The cloud is told and begun, and stands for a list within these rooms, which are its own.
-pub record StandsWithin (call : CloudCall) (rooms : Rooms) (list : List Command) : Type 0 where
+pub record StandsWithin (call : CloudCall) (rooms : UserRooms) (list : List Command) : Type 0 where
   pub told : IsTrue call.old.told
   pub begun : ¬ (IsUnbegun (journal_of call))
   pub stands : StandsFor (reads call.old.now) (header_within rooms call) list
@@ -73,14 +73,14 @@ pub record StandsWithin (call : CloudCall) (rooms : Rooms) (list : List Command)
 
 -- In allowed rooms, which are those that a told cloud's journal has, the opening ended with this error. On a told cloud it is what
 -- the bytes of the areas come to, record by record, unless a device call failed; and the areas are spared, whatever they hold.
-pub record IsShut (rooms : Rooms) (call : CloudCall) (error : OpenErr) : Type 0 where
+pub record IsShut (rooms : UserRooms) (call : CloudCall) (error : OpenErr) : Type 0 where
   pub allowed : AreRooms rooms
   pub found : IsTrue call.old.told → HasRooms (journal_of call) rooms
   pub exact : IsTrue call.old.told → OnFault (an_error error) (Unit {0})
       (OpensTo (header_within rooms call) false (reads call.old.now) (an_error error))
   pub not_begun : IsTrue call.old.told → NotBegunIs call.old call.new false (an_error error)
   pub other_store : IsTrue call.old.told → OtherStoreIs (journal_of call) (header_within rooms call) (an_error error)
-  pub whole : (own : Rooms) (list : List Command) → StandsWithin call own list → IsOkOrFault (an_error error)
+  pub whole : (own : UserRooms) (list : List Command) → StandsWithin call own list → IsOkOrFault (an_error error)
   pub spared : IsTrue call.old.told → Spares (header_within rooms call) false call.old call.new (an_error error)
   pub counts : OnFault (an_error error) (CloudFails call) (IsUnfailing call)
 
@@ -89,19 +89,19 @@ pub data IsNotOpened (call : CloudCall) (error : OpenErr) : Type 0 where
   NoRooms : IsUnreadable call.old error → Stays call.old call.new
       → OnFault (an_error error) (CloudFails call) (IsUnfailing call)
       → IsNotOpened call error
-  InRooms : (rooms : Rooms) → IsShut rooms call error → IsNotOpened call error
+  InRooms : (rooms : UserRooms) → IsShut rooms call error → IsNotOpened call error
 
 -- ---- a cloud that is opened
 
 -- In allowed rooms, which are those that a told cloud's journal has, the cloud was opened, and then only read: this is what its
 -- records leave in memory. A told cloud is spared: its areas are synced, and read as before. Where it stands for a list within rooms, these
 -- are the rooms, and the memory is the list's.
-pub record IsOpenedIn (rooms : Rooms) (memory : Memory) (call : CloudCall) : Type 0 where
+pub record IsOpenedIn (rooms : UserRooms) (memory : Memory) (call : CloudCall) : Type 0 where
   pub allowed : AreRooms rooms
   pub found : IsTrue call.old.told → HasRooms (journal_of call) rooms
   pub commands : ℕ
   pub exact : IsTrue call.old.told → Opens (header_within rooms call) false (reads call.old.now) memory (Ok commands)
   pub begun : IsTrue call.old.told → ¬ (IsUnbegun (journal_of call))
   pub spared : IsTrue call.old.told → Spares (header_within rooms call) false call.old call.new (some_commands commands)
-  pub own_rooms : (own : Rooms) (list : List Command) → StandsWithin call own list → own ≡ rooms
-  pub of_list : (own : Rooms) (list : List Command) → StandsWithin call own list → Remembers call.shape list memory
+  pub own_rooms : (own : UserRooms) (list : List Command) → StandsWithin call own list → own ≡ rooms
+  pub of_list : (own : UserRooms) (list : List Command) → StandsWithin call own list → Remembers call.shape list memory

@@ -1,11 +1,11 @@
 -- What is written of a cloud that isn't opened, and the status that is due with it.
 use Rattle.std.specs.Prelude.{◌≡◌, ℕ, List}
-use Rattle.backup_command.specs.Writing.{IsSilent, Output, Writes}
-use Rattle.cd_base.specs.declared.ids.CloudNo.{CloudNo}
-use Rattle.half_journal.specs.declared.errors.OpenErr.{OpenErr}
-use Rattle.half_journal.specs.declared.errors.OpenErr.TheVariants as errors
-use Rattle.transcript.specs.declared.ending.Ending.TheVariants as endings
-use Rattle.transcript.specs.Endings.{ending_text}
+use Rattle.backup_command.specs.Writing.{IsSilent, Output, HasWrittenOrCause}
+use Rattle.backup_command.specs.CdBase.ids.CloudNo.{CloudNo}
+use Rattle.store_opening.specs.HalfJournal.errors.OpenErr.{OpenErr}
+use Rattle.store_opening.specs.HalfJournal.errors.OpenErr.TheVariants as errors
+use Rattle.backup_command.specs.Transcript.ending.Ending.TheVariants as endings
+use Rattle.backup_command.specs.Transcript.Endings.{ending_text}
 use Rattle.cloud_opening.specs.declared.opening.Unopened.{Unopened}
 use Rattle.cloud_opening.specs.declared.opening.Unopened.TheVariants as unopened
 
@@ -25,4 +25,4 @@ opening_text cloud (errors.OtherStore found asked at) =
 -- what is said of a cloud that isn't opened
 abbrev pub SaysUnopened : CloudNo → Unopened → Output → ℕ → Type 0
 SaysUnopened cloud unopened.NoMemory out status = (status ≡ 6) × IsSilent out
-SaysUnopened cloud (unopened.Refused error) out status = Writes (opening_text cloud error) (opening_status error) out status
+SaysUnopened cloud (unopened.Refused error) out status = HasWrittenOrCause (opening_text cloud error) (opening_status error) out status

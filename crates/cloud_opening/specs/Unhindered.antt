@@ -1,14 +1,14 @@
 -- A call over one cloud in which nothing fails.
 use Rattle.std.specs.Prelude.{◌≡◌, List}
 use Rattle.backup_command.specs.Writing.{Output}
-use Rattle.journal_start.specs.declared.rooms.Rooms.{Rooms}
+use Rattle.store_opening.specs.JournalStart.rooms.UserRooms.{UserRooms}
 use Rattle.serve_command.specs.Complete.{IsStill}
-use Rattle.user_dedup.specs.declared.command.Command.{Command}
+use Rattle.store_opening.specs.UserDedup.command.Command.{Command}
 use Rattle.cloud_opening.specs.Opened.{CloudCall, StandsWithin}
 
 -- Nothing fails in the call: the cloud stands for a list within rooms of its own, and no count rises.
-pub record IsUnhindered (call : CloudCall) (out : Output) : Type 0 where
-  pub rooms : Rooms
+pub record IsOpeningUnhindered (call : CloudCall) (out : Output) : Type 0 where
+  pub rooms : UserRooms
   pub list : List Command
   pub stands : StandsWithin call rooms list
   pub cloud : IsStill call.old.faults call.new.faults

@@ -1,21 +1,18 @@
 //! What is written of a cloud that isn't opened, with the status.
 
 ghost use Rattle.std.specs.Prelude.{◌≡◌};
-ghost use Rattle.transcript.specs.Endings.{ending_text};
-ghost use Rattle.backup_command.specs.Writing.{Writes, output_of};
+ghost use Rattle.backup_command.specs.Transcript.Endings.{ending_text};
+ghost use Rattle.backup_command.specs.Writing.{HasWrittenOrCause, output_of};
 ghost use Rattle.cloud_opening.specs.Said.{SaysUnopened, opening_status, opening_text};
 
 use crate::opening::Unopened;
-use backup_command::write_text;
-use cd_base::{Bytes, CloudNo, NoMemory};
-use cd_edges::Sink;
+use backup_command::{Bytes, CloudNo, Ending, NoMemory, Sink, write_ending, write_text};
 use serve_command::OpenErr;
 use std::alloc::Global;
-use transcript::{Ending, write_ending};
 
 /// Writes an ending, and answers the status that is due with it.
 pub fn write_last<K: Sink>(alloc: Global, sink: &mut K, ending: &Ending, due: u8) -> u8
-    ensures { Writes (ending_text ending.now) due
+    ensures { HasWrittenOrCause (ending_text ending.now) due
         (output_of (K.written sink.old) (K.written sink.new) (K.faults sink.old) (K.faults sink.new)) result }
 {
     let mut line = Bytes::new(alloc);
@@ -51,7 +48,7 @@ fn ending_of(cloud: CloudNo, error: OpenErr) -> (u8, Ending)
 
 // Writes the last line of a cloud that isn't opened for this error, and answers the status.
 fn write_shut<K: Sink>(alloc: Global, sink: &mut K, cloud: CloudNo, error: OpenErr) -> u8
-    ensures { Writes (opening_text cloud error) (opening_status error)
+    ensures { HasWrittenOrCause (opening_text cloud error) (opening_status error)
         (output_of (K.written sink.old) (K.written sink.new) (K.faults sink.old) (K.faults sink.new)) result }
 {
     let (due, last) = ending_of(cloud, error);

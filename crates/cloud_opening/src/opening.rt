@@ -1,20 +1,17 @@
 //! Opening a cloud in the rooms that its journal has.
 
 ghost use Rattle.std.specs.Prelude.{◌≡◌, ◌<◌, IsTrue, IfOk, vec_len};
-ghost use Rattle.cd_edges.specs.declared.area.Area.TheVariants.{Journal};
-ghost use Rattle.cd_edges.specs.Shelf.{IsCall};
-ghost use Rattle.journal_start.specs.Ranges.{AreRooms};
+ghost use Rattle.backup_command.specs.CdEdges.area.Area.TheVariants.{Journal};
+ghost use Rattle.backup_command.specs.CdEdges.Shelf.{IsCall};
+ghost use Rattle.store_opening.specs.JournalStart.Ranges.{AreRooms};
 ghost use Rattle.serve_command.specs.Served.{HasRooms};
 ghost use Rattle.cloud_opening.specs.Opened.{cloud_call};
 ghost use Rattle.cloud_opening.specs.Opens.{OpensCloud, OpensIn};
 
-use cd_base::{CloudNo, NoMemory, Shape};
-use cd_edges::Shelf;
-use cloud_areas::laws::law_of_headers;
-use journal_halves::WINDOW;
-use journal_start::Rooms;
+use backup_command::{CloudNo, NoMemory, Shape, Shelf};
 use serve_command::{OpenErr, Server, rooms_of};
 use std::alloc::Global;
+use store_opening::{UserRooms, WINDOW, law_of_headers};
 
 /// Why a cloud isn't opened.
 #[derive(Clone, Copy, Debug, PartialEq, Eq)]
@@ -30,7 +27,7 @@ fn open_in<V: Shelf>(
     alloc: Global,
     shape: Shape,
     cloud: CloudNo,
-    rooms: Rooms,
+    rooms: UserRooms,
     shelf: &mut V,
 ) -> Result<Server, Unopened>
     requires cloud { cloud.0 < shape.n }

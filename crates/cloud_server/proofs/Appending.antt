@@ -3,10 +3,10 @@ use Rattle.std.proofs.Common.{◌≡◌, inl, inr, ℕ, ◌+◌, ◌-◌, ◌≤
 use Rattle.std.specs.Prelude.{◌==◌, min, if◌then◌else◌, Result, Ok, Err}
 use Rattle.std.proofs.lemmas.Bool.{cases_lt, eqb-true, eqb-false}
 use Rattle.std.proofs.lemmas.List.{take_at, take_all, take-take, take-append-drop, length-append, length-replicate, length-take, length-drop, drop-take, take_min}
-use Rattle.cd_base.specs.declared.place.Place.{Place}
-use Rattle.cd_base.specs.Lending.{with_bytes}
-use Rattle.cd_base.proofs.Lent.{with_bytes_whole}
-use Rattle.cd_edges.specs.Shelf.{ReadsFrom}
+use Rattle.server_requests.specs.CdBase.place.Place.{Place}
+use Rattle.server_requests.specs.CdBase.Lending.{with_bytes}
+use Rattle.server_requests.proofs.CdBase.Lent.{with_bytes_whole}
+use Rattle.server_requests.specs.CdEdges.Shelf.{ReadsFrom}
 use Rattle.cloud_server.specs.declared.blobs.BlobErr.{BlobErr}
 use Rattle.cloud_server.specs.declared.blobs.BlobErr.TheVariants.{Short}
 use Rattle.cloud_server.specs.Blobs.{blob_at, BlobIs, Appends}

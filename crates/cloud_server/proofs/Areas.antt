@@ -1,8 +1,8 @@
 -- Areas that stay stand for what they stood for.
 use Rattle.std.proofs.Common.{◌≡◌, refl, sym, subst}
-use Rattle.cd_edges.specs.Disk.{Areas, Cloud, Image, IsImage}
-use Rattle.user_dedup.specs.Exec.{Peer, MaySettleAs}
-use Rattle.cloud_areas.specs.Peers.{StandsForSome}
+use Rattle.server_requests.specs.CdEdges.Disk.{Areas, Cloud, Image, IsImage}
+use Rattle.server_requests.specs.UserDedup.Exec.{Peer, MaySettleAs}
+use Rattle.blob_copy.specs.CloudAreas.Peers.{StandsForSome}
 use Rattle.server_requests.specs.OpenStore.store.OpenStore.{OpenStore}
 use Rattle.server_requests.proofs.OfOpenStore.Keeping.{areas_serve}
 use Rattle.cloud_server.specs.Serving.{ServesAs}

@@ -6,37 +6,37 @@ use Rattle.std.specs.Option.{option_or}
 use Rattle.std.proofs.lemmas.List.Elements.{All-append, All-contains, Contains-get_or}
 use Rattle.std.proofs.lemmas.List.Sums.{sum_by-cons}
 use Rattle.std.proofs.lemmas.Grind.{flat_map-append}
-use Rattle.cd_base.specs.declared.ids.Fp.{Fp}
-use Rattle.cd_base.specs.declared.ids.Tag.{Tag}
-use Rattle.cd_base.specs.declared.ids.UserId.{UserId}
-use Rattle.cd_base.specs.declared.ids.Version.{Version}
-use Rattle.cd_base.specs.declared.rooms.Room.{Room}
-use Rattle.cd_base.specs.declared.rooms.Room.TheVariants as names
-use Rattle.cd_base.specs.declared.shape.Shape.{Shape}
-use Rattle.journal_start.specs.declared.rooms.Rooms.{Rooms}
-use Rattle.journal_start.specs.Ranges.{AreRooms}
-use Rattle.message_fields.specs.Shares.{IsShare}
-use Rattle.messages.specs.declared.request.Request.{Request}
-use Rattle.messages.specs.declared.request.Request.TheVariants as requests
-use Rattle.messages.specs.Replies.{FitsReply}
-use Rattle.messages.specs.Requests.{FitsRequest}
-use Rattle.recipe.specs.declared.recipe.Recipe.{Recipe}
-use Rattle.recipe.specs.Spelling.{IsRecipe}
-use Rattle.recipe.proofs.Written.{longest}
-use Rattle.user_dedup.specs.declared.command.Command.{Command}
-use Rattle.user_dedup.specs.declared.command.Command.TheVariants as commands
-use Rattle.user_dedup.specs.Cloud.{fingerprint, user_view, is_of, commands_of, strings_of, strings_in, held_string, held_bytes}
-use Rattle.user_dedup.specs.Dedup.{FullRoom, room_for, by_room, answer_over, IsSound}
-use Rattle.user_dedup.specs.Owning.{is_among, first_lacking, new_strings}
-use Rattle.user_dedup.specs.Pages.{entry_at}
-use Rattle.user_dedup.specs.Requests.{fps_of, HasRecipe}
-use Rattle.user_dedup.specs.Served.{served_by}
-use Rattle.user_dedup.specs.Spending.{Spent, nothing, held_len, spent_of, limits_of, files_limit, files_of, refusal, full_for, IsWithin}
-use Rattle.user_dedup.proofs.New.{are_new}
-use Rattle.user_dedup.proofs.Sound.{put_adds, commit_adds, deletes_from}
-use Rattle.user_dedup.proofs.Spending.{commands_more, each_within}
-use Rattle.user_dedup.proofs.Suiting.{suits}
-use Rattle.user_dedup.proofs.Views.{held_is}
+use Rattle.server_requests.specs.CdBase.ids.Fp.{Fp}
+use Rattle.server_requests.specs.CdBase.ids.Tag.{Tag}
+use Rattle.server_requests.specs.CdBase.ids.UserId.{UserId}
+use Rattle.server_requests.specs.CdBase.ids.Version.{Version}
+use Rattle.server_requests.specs.CdBase.rooms.Room.{Room}
+use Rattle.server_requests.specs.CdBase.rooms.Room.TheVariants as names
+use Rattle.server_requests.specs.CdBase.shape.Shape.{Shape}
+use Rattle.server_requests.specs.JournalStart.rooms.UserRooms.{UserRooms}
+use Rattle.server_requests.specs.JournalStart.Ranges.{AreRooms}
+use Rattle.server_requests.specs.MessageFields.Shares.{IsShare}
+use Rattle.server_requests.specs.Messages.request.Request.{Request}
+use Rattle.server_requests.specs.Messages.request.Request.TheVariants as requests
+use Rattle.server_requests.specs.Messages.Replies.{FitsReply}
+use Rattle.server_requests.specs.Messages.Requests.{FitsRequest}
+use Rattle.server_requests.specs.Recipe.recipe.Recipe.{Recipe}
+use Rattle.server_requests.specs.Recipe.Spelling.{IsRecipe}
+use Rattle.server_requests.proofs.Recipe.Written.{longest}
+use Rattle.server_requests.specs.UserDedup.command.Command.{Command}
+use Rattle.server_requests.specs.UserDedup.command.Command.TheVariants as commands
+use Rattle.server_requests.specs.UserDedup.Cloud.{fingerprint, user_view, is_of, commands_of, strings_of, strings_in, held_string, held_bytes}
+use Rattle.server_requests.specs.UserDedup.Dedup.{FullRoom, room_for, by_room, answer_over, IsSound}
+use Rattle.server_requests.specs.UserDedup.Owning.{is_among, first_lacking, new_strings}
+use Rattle.server_requests.specs.UserDedup.Pages.{entry_at}
+use Rattle.server_requests.specs.UserDedup.Requests.{fps_of, HasRecipe}
+use Rattle.server_requests.specs.UserDedup.Served.{served_by}
+use Rattle.server_requests.specs.UserDedup.Spending.{SpentByUser, nothing, held_len, spent_of, limits_of, files_limit, files_of, refusal, full_for, IsWithin}
+use Rattle.server_requests.proofs.UserDedup.New.{are_new}
+use Rattle.server_requests.proofs.UserDedup.Sound.{put_adds, commit_adds, deletes_from}
+use Rattle.server_requests.proofs.UserDedup.Spending.{commands_more, each_within}
+use Rattle.server_requests.proofs.UserDedup.Suiting.{suits}
+use Rattle.server_requests.proofs.UserDedup.Views.{held_is}
 use Rattle.server_requests.proofs.ServerReads.Sound.{strings_fit}
 
 -- ---- the parts of a command that a request adds
@@ -88,19 +88,19 @@ each_most zero each most some le = absurd (omega arith)
 each_most (suc users) each most some le = omega (arith, le)
 
 -- no limit is above what all users may hold together
-record AreLimits (limits : Spent) : Type 0 where
+record AreLimits (limits : SpentByUser) : Type 0 where
   owners : limits.owners ≤ 524288
   shares : limits.shares ≤ 8589934592
   recipes : limits.recipes ≤ 1073741824
 
-limits_are : (rooms : Rooms) (user : UserId) → AreRooms rooms → AreLimits (limits_of rooms user)
+limits_are : (rooms : UserRooms) (user : UserId) → AreRooms rooms → AreLimits (limits_of rooms user)
 limits_are rooms user a = by_test (nat_lt user.0 rooms.users)
   where
     by_test : (b : Bool) → AreLimits (cond b (record { owners = rooms.owners; shares = rooms.shares; recipes = rooms.recipes }) nothing)
     by_test true = record { owners = each_most rooms.users rooms.owners _ a.some a.owners; shares = each_most rooms.users rooms.shares _ a.some a.shares; recipes = each_most rooms.users rooms.recipes _ a.some a.recipes }
     by_test false = record { owners = omega arith; shares = omega arith; recipes = omega arith }
 
-files_are : (rooms : Rooms) (user : UserId) → AreRooms rooms → files_limit rooms user ≤ 16384
+files_are : (rooms : UserRooms) (user : UserId) → AreRooms rooms → files_limit rooms user ≤ 16384
 files_are rooms user a = by_test (nat_lt user.0 rooms.users)
   where
     by_test : (b : Bool) → cond b rooms.files 0 ≤ 16384
@@ -159,7 +159,7 @@ either : (a b : Option FullRoom) (full : FullRoom) → (a ≡ Some full → IsSm
 either None b full one two e = two e
 either (Some x) b full one two e = one e
 
-module _ (shape : Shape) (rooms : Rooms) (list : List Command) (within : IsWithin shape rooms list) (allowed : AreRooms rooms) where
+module _ (shape : Shape) (rooms : UserRooms) (list : List Command) (within : IsWithin shape rooms list) (allowed : AreRooms rooms) where
   put_small : (user : UserId) (shares : List (List ℕ)) (full : FullRoom) → All IsShare (strings_in list) → length shares ≤ 256 → All IsShare shares
       → full_for shape rooms list (commands.Put user shares) ≡ Some full → IsSmall full
   unfolding full_for

@@ -2,20 +2,20 @@
 use Rattle.std.proofs.Common.{◌≡◌, ℕ, Bool, true, false, List, [], Result, Ok, Err, refl, sym, ap, ◌∙◌, subst, append-nil}
 use Rattle.std.specs.Prelude.{OnOk}
 use Rattle.std.proofs.lemmas.List.Elements.{All-nil}
-use Rattle.cd_edges.specs.declared.area.Area.TheVariants.{Shares, Recipes}
-use Rattle.cd_edges.specs.Disk.{Cloud, Image}
-use Rattle.container_log.specs.Caches.{Kept, container_of}
-use Rattle.container_log.specs.Laying.{IsAt}
-use Rattle.half_journal.specs.States.{State}
-use Rattle.user_dedup.specs.declared.command.Command.{Command}
-use Rattle.cloud_areas.specs.Standing.{Chain}
+use Rattle.server_requests.specs.CdEdges.area.Area.TheVariants.{Shares, Recipes}
+use Rattle.server_requests.specs.CdEdges.Disk.{Cloud, Image}
+use Rattle.server_requests.specs.ContainerLog.Caches.{Kept, container_of}
+use Rattle.server_requests.specs.ContainerLog.Laying.{IsAt}
+use Rattle.server_requests.specs.HalfJournal.States.{JournalState}
+use Rattle.server_requests.specs.UserDedup.command.Command.{Command}
+use Rattle.blob_copy.specs.CloudAreas.Standing.{Chain}
 use Rattle.blob_copy.specs.CloudDisk.Disk.{IsRead}
 use Rattle.blob_copy.specs.declared.copying.Copying.{Copying}
 use Rattle.blob_copy.specs.declared.copying.CopyErr.{CopyErr}
 use Rattle.blob_copy.specs.declared.copying.CopyErr.TheVariants as copy
 use Rattle.blob_copy.specs.Answers.{MatchStep, IfRotten, MatchFault, NeverWrong}
 use Rattle.blob_copy.specs.Copies.{IsRight, HasCopied}
-use Rattle.blob_copy.specs.Copying.{IsLaid, IsCopying, shares_so_far, entries_so_far}
+use Rattle.blob_copy.specs.Copying.{IsCopyLaid, IsCopying, shares_so_far, entries_so_far}
 use Rattle.server_requests.specs.OpenStore.store.OpenStore.{OpenStore}
 use Rattle.server_requests.specs.OpenStore.Store.{ServesSome}
 use Rattle.cloud_server.specs.declared.copies.Copies.{Copies}
@@ -34,7 +34,7 @@ moved_to old new = record old { disk = new.disk }
 
 module _ (list : List Command) (c : Chain) (old new : OpenStore) (copying : Copying) (cloud : Cloud) (is : IsCopying list c old copying cloud)
     (shares : new.disk.shares.area ≡ Shares) (recipes : new.disk.recipes.area ≡ Recipes) where
-  laid_again : IsLaid (at_copies (moved_to old new) (ended old copying)) copying
+  laid_again : IsCopyLaid (at_copies (moved_to old new) (ended old copying)) copying
   laid_again = record {
     shares_end = is.laid.shares_end;
     recipes_end = is.laid.recipes_end;
@@ -45,7 +45,7 @@ module _ (list : List Command) (c : Chain) (old new : OpenStore) (copying : Copy
   copies_again : new.disk.journal ≡ old.disk.journal → IsCopying list c (at_copies (moved_to old new) (ended old copying)) copying cloud
   copies_again journal = record {
     knows = record {
-      read = subst (λ (j : State). IsRead old.header list c j cloud) (sym journal) is.knows.read;
+      read = subst (λ (j : JournalState). IsRead old.header list c j cloud) (sym journal) is.knows.read;
       remembers = is.knows.remembers;
       placed = is.knows.placed;
       stand = is.knows.stand;

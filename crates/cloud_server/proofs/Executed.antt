@@ -1,28 +1,28 @@
 -- What executing a request makes of a peer.
 use Rattle.std.proofs.Common.{◌≡◌, ⊎_elim, inl, inr, ℕ, ◌≤◌, List, [], ◌∷◌, ◌++◌, Option, Some, None, Err, refl, sym, ◌∙◌, subst, arith}
 use Rattle.std.specs.Prelude.{IsSomeAnd, option_to_list}
-use Rattle.cd_edges.specs.Causes.{Rose}
-use Rattle.cd_edges.specs.Disk.{Cloud, Image, LeavesOnly}
-use Rattle.cd_edges.proofs.Moments.{weaker, at_end, joined}
-use Rattle.journal_start.specs.declared.start.Header.{Header}
-use Rattle.half_journal.specs.declared.errors.OpenErr.{OpenErr}
-use Rattle.half_journal.specs.declared.errors.OpenErr.TheVariants as errors
-use Rattle.messages.specs.declared.request.Request.{Request}
-use Rattle.messages.specs.declared.reply.Reply.{Reply}
-use Rattle.messages.specs.declared.reply.Reply.TheVariants as replies
-use Rattle.messages.specs.Replies.{IsReply, FitsReply}
-use Rattle.user_dedup.specs.declared.command.Command.{Command}
-use Rattle.user_dedup.specs.Dedup.{Outcome}
-use Rattle.user_dedup.specs.Exec.{Peer, MaySettleAs, Settles, CountsOn, Answers, FailsTold}
-use Rattle.user_dedup.specs.Spending.{IsWithin}
-use Rattle.user_dedup.specs.Served.{served_by}
-use Rattle.cloud_areas.specs.Peers.{StandsForSome, ImagesSince, MayBecome}
+use Rattle.server_requests.specs.CdEdges.Causes.{Rose}
+use Rattle.server_requests.specs.CdEdges.Disk.{Cloud, Image, LeavesOnly}
+use Rattle.server_requests.proofs.CdEdges.Moments.{weaker, at_end, joined}
+use Rattle.server_requests.specs.JournalStart.start.Header.{Header}
+use Rattle.server_requests.specs.HalfJournal.errors.OpenErr.{OpenErr}
+use Rattle.server_requests.specs.HalfJournal.errors.OpenErr.TheVariants as errors
+use Rattle.server_requests.specs.Messages.request.Request.{Request}
+use Rattle.server_requests.specs.Messages.reply.Reply.{Reply}
+use Rattle.server_requests.specs.Messages.reply.Reply.TheVariants as replies
+use Rattle.server_requests.specs.Messages.Replies.{IsReply, FitsReply}
+use Rattle.server_requests.specs.UserDedup.command.Command.{Command}
+use Rattle.server_requests.specs.UserDedup.Dedup.{Outcome}
+use Rattle.server_requests.specs.UserDedup.Exec.{Peer, MaySettleAs, Settles, CountsOn, Answers, FailsTold}
+use Rattle.server_requests.specs.UserDedup.Spending.{IsWithin}
+use Rattle.server_requests.specs.UserDedup.Served.{served_by}
+use Rattle.blob_copy.specs.CloudAreas.Peers.{StandsForSome, ImagesSince, MayBecome}
 use Rattle.server_requests.specs.OpenStore.store.OpenStore.{OpenStore}
 use Rattle.server_requests.specs.OpenStore.Store.{IsOpen}
-use Rattle.server_requests.specs.ServerCommands.Serving.{serves, Served, IsServedOrNot}
-use Rattle.cloud_server.specs.Refusals.{Refuses}
+use Rattle.server_requests.specs.ServerCommands.Serving.{serves, IsServedByList, IsServedOrNot}
+use Rattle.cloud_server.specs.Refusals.{IsErrorReply}
 use Rattle.cloud_server.specs.Serving.{ServesAs, ExecutesAs, settled_with}
-use Rattle.cloud_server.specs.Steps.{OpensAs, Cuts, Does}
+use Rattle.cloud_server.specs.Steps.{OpensAs, Cuts, HasDoneRequest}
 use Rattle.cloud_server.proofs.Peers.{within_more, open_serves, closed_serves}
 
 -- ---- an open server
@@ -39,7 +39,7 @@ module _ (old new : OpenStore) (before after : Cloud) (p : Peer) (r : Request) (
     armings = armed ∙ armings ∙ sym serving.stands.armings;
   }
 
-  pub served_does : IsOpen new → FitsReply (serves old p.list r).reply → Served old new after p.list r content → Does old new after p r content
+  pub served_does : IsOpen new → FitsReply (serves old p.list r).reply → IsServedByList old new after p.list r content → HasDoneRequest old new after p r content
   served_does opened fits served =
       let list = p.list ++ option_to_list (serves old p.list r).adds in
       record {
@@ -69,7 +69,7 @@ module _ (old new : OpenStore) (before after : Cloud) (p : Peer) (r : Request) (
   cut_within other (inr some) = cut_within_by other (serves old p.list r).adds refl some
 
   pub cut_does : ¬ (IsOpen new) → Rose before.faults after.faults → LeavesOnly before after (StandsForSome old.header (IsServedOrNot old p.list r))
-      → IsReply content replies.Fault → Does old new after p r content
+      → IsReply content replies.Fault → HasDoneRequest old new after p r content
   unfolding cut_peer
   cut_does shut rose run is = record {
     left = cut_peer old after p.list r;
@@ -114,7 +114,7 @@ module _ (old mid new : OpenStore) (between after : Cloud) (p q : Peer) (r : Req
     left = inr (record { list = settles_through left.list cuts.cut.list; pending = cuts.cut.pending });
   }
 
-  pub opened_executes : q.faults ≡ p.faults → q.armings ≡ p.armings → Does mid new after q r content → ExecutesAs old new after p r content
+  pub opened_executes : q.faults ≡ p.faults → q.armings ≡ p.armings → HasDoneRequest mid new after q r content → ExecutesAs old new after p r content
   opened_executes faults armings d = (
     d.left,
     d.answer,
@@ -151,7 +151,7 @@ shut_images old new header serve p r kept =
 -- ---- a server that isn't opened
 
 pub refused_executes : (error : OpenErr) (old new : OpenStore) (before after : Cloud) (p q : Peer) (r : Request) (content : List ℕ) → ServesAs old before p
-    → before.faults ≤ after.faults → ServesAs new after q → OpensAs p q (Err error) → Refuses error content → ExecutesAs old new after p r content
+    → before.faults ≤ after.faults → ServesAs new after q → OpensAs p q (Err error) → IsErrorReply error content → ExecutesAs old new after p r content
 refused_executes errors.Fault old new before after p q r content stood later serving opens refuses = (
   q,
   replies.Fault,

@@ -1,12 +1,12 @@
 -- The first byte at which two headers differ.
 use Rattle.std.proofs.Common.{◌≡◌, ◌≢◌, inl, inr, ℕ, Bool, true, false, cond, List, [], ◌∷◌, ◌++◌, length, take, get_or, None, refl, sym, ap, ◌∙◌, subst, append-nil, arith}
 use Rattle.std.specs.Prelude.{◌==◌}
-use Rattle.journal_start.specs.declared.start.Header.{Header}
-use Rattle.journal_start.specs.declared.start.Start.{Start}
-use Rattle.journal_start.specs.Ranges.{IsHeader}
-use Rattle.journal_start.specs.Spelling.{front_bytes, rooms_bytes, header_bytes, start_bytes}
-use Rattle.journal_start.proofs.Lengths.{plain_first, plain_second}
-use Rattle.journal_start.proofs.Whole.{one}
+use Rattle.server_requests.specs.JournalStart.start.Header.{Header}
+use Rattle.server_requests.specs.JournalStart.start.Start.{Start}
+use Rattle.server_requests.specs.JournalStart.Ranges.{IsHeader}
+use Rattle.server_requests.specs.JournalStart.Spelling.{front_bytes, rooms_bytes, header_bytes, start_bytes}
+use Rattle.server_requests.proofs.JournalStart.Lengths.{plain_first, plain_second}
+use Rattle.server_requests.proofs.JournalStart.Whole.{one}
 use Rattle.cloud_server.specs.Refusals.{DiffersAt, AreAlike}
 
 -- ---- lists

@@ -1,7 +1,7 @@
 mod Appending
 mod Areas
 mod Bounds
-mod Bytes
+mod ByteLaws
 mod Copied
 mod Executed
 mod Headers
@@ -10,3 +10,7 @@ mod Openings
 mod Peers
 mod Refusing
 pub mod StoreOpening
+pub mod UserDedup
+pub mod Messages
+pub mod Recipe
+pub mod CdEdges

@@ -1,36 +1,36 @@
 -- What an opening makes of a peer.
 use Rattle.std.proofs.Common.{◌≡◌, inl, ℕ, Bool, true, false, List, Result, Ok, Err, IsTrue, refl, sym, ◌∙◌, subst}
 use Rattle.std.specs.Prelude.{IfOk, OnOk, OnErr}
-use Rattle.cd_edges.specs.Causes.{Rose}
-use Rattle.cd_edges.specs.declared.area.Area.TheVariants.{Journal}
-use Rattle.cd_edges.specs.Disk.{Cloud, Image, IsImage, reads}
-use Rattle.cd_edges.specs.Shelf.{HasFailed, KeepsCounts}
-use Rattle.cd_edges.proofs.Moments.{at_end, started}
-use Rattle.half_journal.specs.declared.errors.OpenErr.{OpenErr}
-use Rattle.half_journal.specs.declared.errors.OpenErr.TheVariants as errors
-use Rattle.half_journal.specs.declared.journal.Stage.TheVariants.{AtEnd}
-use Rattle.half_journal.specs.Openings.{OnFault, HasBegun}
-use Rattle.half_journal.specs.Outcomes.{stage_after}
-use Rattle.journal_halves.specs.Beginnings.{IsUnbegun}
-use Rattle.journal_start.specs.declared.start.Header.{Header}
-use Rattle.journal_start.specs.Ranges.{AreRooms}
-use Rattle.user_dedup.specs.declared.command.Command.{Command}
-use Rattle.user_dedup.specs.Cloud.{counted}
-use Rattle.user_dedup.specs.Exec.{Peer, MaySettleAs}
-use Rattle.user_dedup.specs.Spending.{IsWithin}
-use Rattle.cloud_areas.specs.Peers.{StandsForSome, ImagesNow, ImagesSince}
-use Rattle.cloud_areas.specs.Standing.{StandsFor}
-use Rattle.store_opening.specs.CloudMemory.Rooms.{memory_of}
-use Rattle.store_opening.specs.RecordLaws.Leaving.{MayHold}
-use Rattle.store_opening.specs.Exact.{Opens}
-use Rattle.store_opening.specs.Spared.{IsOkOrFault, MayBegin, Spares}
+use Rattle.server_requests.specs.CdEdges.Causes.{Rose}
+use Rattle.server_requests.specs.CdEdges.area.Area.TheVariants.{Journal}
+use Rattle.server_requests.specs.CdEdges.Disk.{Cloud, Image, IsImage, reads}
+use Rattle.server_requests.specs.CdEdges.Shelf.{HasFailed, KeepsCounts}
+use Rattle.server_requests.proofs.CdEdges.Moments.{at_end, started}
+use Rattle.server_requests.specs.HalfJournal.errors.OpenErr.{OpenErr}
+use Rattle.server_requests.specs.HalfJournal.errors.OpenErr.TheVariants as errors
+use Rattle.server_requests.specs.HalfJournal.journal.Stage.TheVariants.{AtEnd}
+use Rattle.server_requests.specs.HalfJournal.Openings.{OnFault, HasBegun}
+use Rattle.server_requests.specs.HalfJournal.Outcomes.{stage_after}
+use Rattle.blob_copy.specs.JournalHalves.Beginnings.{IsUnbegun}
+use Rattle.server_requests.specs.JournalStart.start.Header.{Header}
+use Rattle.server_requests.specs.JournalStart.Ranges.{AreRooms}
+use Rattle.server_requests.specs.UserDedup.command.Command.{Command}
+use Rattle.server_requests.specs.UserDedup.Cloud.{counted}
+use Rattle.server_requests.specs.UserDedup.Exec.{Peer, MaySettleAs}
+use Rattle.server_requests.specs.UserDedup.Spending.{IsWithin}
+use Rattle.blob_copy.specs.CloudAreas.Peers.{StandsForSome, ImagesNow, ImagesSince}
+use Rattle.blob_copy.specs.CloudAreas.Standing.{StandsFor}
+use Rattle.blob_copy.specs.StoreOpening.CloudMemory.Rooms.{memory_of}
+use Rattle.blob_copy.specs.StoreOpening.RecordLaws.Leaving.{MayHold}
+use Rattle.blob_copy.specs.StoreOpening.Exact.{Opens}
+use Rattle.blob_copy.specs.StoreOpening.Spared.{IsOkOrFault, MayBegin, Spares}
 use Rattle.server_requests.specs.OpenStore.store.OpenStore.{OpenStore}
 use Rattle.server_requests.specs.OpenStore.Store.{IsOpen, ServesSome}
 use Rattle.cloud_server.specs.Openings.{OpensTo, NotBegunIs}
 use Rattle.cloud_server.specs.Refusals.{MayCome}
 use Rattle.cloud_server.specs.Serving.{ServesAs, ReopensAs, IsUnopened, an_error, settled_with}
 use Rattle.cloud_server.specs.Steps.{OpensAs}
-use Rattle.cloud_server.proofs.Bytes.{other_store_is}
+use Rattle.cloud_server.proofs.ByteLaws.{other_store_is}
 use Rattle.cloud_server.proofs.Peers.{open_serves, closed_serves, shut_closed, read_stands, may_hold, none_unbegun}
 
 -- the same list and pending command, and the counts of the cloud

@@ -1,25 +1,25 @@
 -- A store that serves a list, and one that is shut, as a peer.
 use Rattle.std.proofs.Common.{◌≡◌, ⊎_elim, inl, ℕ, List, ◌∷◌, ◌++◌, [], Option, Some, None, refl, sym, ◌∙◌, subst}
-use Rattle.cd_base.specs.declared.shape.Shape.{Shape}
-use Rattle.cd_edges.specs.declared.area.Area.TheVariants.{Journal}
-use Rattle.cd_edges.specs.Disk.{Cloud, Image, IsImage, reads}
-use Rattle.half_journal.specs.declared.journal.Stage.TheVariants.{AtEnd, Shut}
-use Rattle.journal_halves.specs.Beginnings.{IsUnbegun}
-use Rattle.journal_start.specs.declared.rooms.Rooms.{Rooms}
-use Rattle.journal_start.specs.declared.start.Header.{Header}
-use Rattle.journal_start.specs.Ranges.{AreRooms}
-use Rattle.messages.specs.declared.request.Request.{Request}
-use Rattle.user_dedup.specs.declared.command.Command.{Command}
-use Rattle.user_dedup.specs.Dedup.{Outcome, FullRoom, answer_over, room_for, by_room, unless_full}
-use Rattle.user_dedup.specs.Exec.{Peer, MaySettleAs}
-use Rattle.user_dedup.specs.Served.{served_by}
-use Rattle.user_dedup.specs.Spending.{full_for, IsWithin}
-use Rattle.user_dedup.proofs.Within.{next_within}
-use Rattle.cloud_areas.specs.Peers.{ImagesNow}
-use Rattle.cloud_areas.specs.Standing.{StandsFor}
-use Rattle.store_opening.proofs.DiskProofs.Standing.{images_on}
-use Rattle.store_opening.specs.RecordLaws.Leaving.{MayHold}
-use Rattle.store_opening.proofs.Current.{not_unbegun}
+use Rattle.server_requests.specs.CdBase.shape.Shape.{Shape}
+use Rattle.server_requests.specs.CdEdges.area.Area.TheVariants.{Journal}
+use Rattle.server_requests.specs.CdEdges.Disk.{Cloud, Image, IsImage, reads}
+use Rattle.server_requests.specs.HalfJournal.journal.Stage.TheVariants.{AtEnd, Shut}
+use Rattle.blob_copy.specs.JournalHalves.Beginnings.{IsUnbegun}
+use Rattle.server_requests.specs.JournalStart.rooms.UserRooms.{UserRooms}
+use Rattle.server_requests.specs.JournalStart.start.Header.{Header}
+use Rattle.server_requests.specs.JournalStart.Ranges.{AreRooms}
+use Rattle.server_requests.specs.Messages.request.Request.{Request}
+use Rattle.server_requests.specs.UserDedup.command.Command.{Command}
+use Rattle.server_requests.specs.UserDedup.Dedup.{Outcome, FullRoom, answer_over, room_for, by_room, unless_full}
+use Rattle.server_requests.specs.UserDedup.Exec.{Peer, MaySettleAs}
+use Rattle.server_requests.specs.UserDedup.Served.{served_by}
+use Rattle.server_requests.specs.UserDedup.Spending.{full_for, IsWithin}
+use Rattle.server_requests.proofs.UserDedup.Within.{next_within}
+use Rattle.blob_copy.specs.CloudAreas.Peers.{ImagesNow}
+use Rattle.blob_copy.specs.CloudAreas.Standing.{StandsFor}
+use Rattle.blob_copy.proofs.StoreOpening.DiskProofs.Standing.{images_on}
+use Rattle.blob_copy.specs.StoreOpening.RecordLaws.Leaving.{MayHold}
+use Rattle.blob_copy.proofs.StoreOpening.Current.{not_unbegun}
 use Rattle.server_requests.specs.OpenStore.store.OpenStore.{OpenStore}
 use Rattle.server_requests.specs.OpenStore.Store.{IsOpen, ServesSome}
 use Rattle.cloud_server.specs.Serving.{ServesAs, settled_with}
@@ -94,7 +94,7 @@ by_added full outcome command (Some c) is e = by_answer full outcome c command (
 has_room : (full : Command → Option FullRoom) (outcome : Outcome) (command : Command) → (unless_full full outcome).adds ≡ Some command → full command ≡ None
 has_room full outcome command e = by_added full outcome command outcome.adds refl e
 
-pub within_more : (rooms : Rooms) (shape : Shape) (cloud : ℕ) (list : List Command) (request : Request) (command : Command) → IsWithin shape rooms list
+pub within_more : (rooms : UserRooms) (shape : Shape) (cloud : ℕ) (list : List Command) (request : Request) (command : Command) → IsWithin shape rooms list
     → (served_by rooms shape cloud list request).adds ≡ Some command → IsWithin shape rooms (list ++ command ∷ [])
 within_more rooms shape cloud list request command within e =
     next_within shape rooms list command within (has_room (full_for shape rooms list) (answer_over shape cloud list request) command e)

@@ -1,23 +1,23 @@
 -- What the replies aren't that say that a server isn't opened, or that a device failed.
 use Rattle.std.proofs.Common.{◌≡◌, ℕ, List, ◌∷◌, get_or, refl, sym, ap, ◌∙◌, subst, arith}
 use Rattle.std.specs.Prelude.{◌≢◌}
-use Rattle.cd_base.specs.declared.ids.Fp.{Fp}
-use Rattle.cd_base.specs.declared.shape.Shape.{Shape}
-use Rattle.cd_edges.specs.Causes.{Rose}
-use Rattle.cd_edges.specs.Disk.{Cloud}
-use Rattle.cd_edges.specs.Shelf.{HasFailed, KeepsCounts}
-use Rattle.half_journal.specs.declared.errors.OpenErr.{OpenErr}
-use Rattle.half_journal.specs.declared.errors.OpenErr.TheVariants as errors
-use Rattle.half_journal.specs.Openings.{OnFault}
-use Rattle.messages.specs.declared.request.Request.{Request}
-use Rattle.messages.specs.declared.request.Request.TheVariants as requests
-use Rattle.messages.specs.declared.reply.Reply.{Reply}
-use Rattle.messages.specs.declared.reply.Reply.TheVariants as replies
-use Rattle.messages.specs.Replies.{IsReply, reply_bytes}
+use Rattle.server_requests.specs.CdBase.ids.Fp.{Fp}
+use Rattle.server_requests.specs.CdBase.shape.Shape.{Shape}
+use Rattle.server_requests.specs.CdEdges.Causes.{Rose}
+use Rattle.server_requests.specs.CdEdges.Disk.{Cloud}
+use Rattle.server_requests.specs.CdEdges.Shelf.{HasFailed, KeepsCounts}
+use Rattle.server_requests.specs.HalfJournal.errors.OpenErr.{OpenErr}
+use Rattle.server_requests.specs.HalfJournal.errors.OpenErr.TheVariants as errors
+use Rattle.server_requests.specs.HalfJournal.Openings.{OnFault}
+use Rattle.server_requests.specs.Messages.request.Request.{Request}
+use Rattle.server_requests.specs.Messages.request.Request.TheVariants as requests
+use Rattle.server_requests.specs.Messages.reply.Reply.{Reply}
+use Rattle.server_requests.specs.Messages.reply.Reply.TheVariants as replies
+use Rattle.server_requests.specs.Messages.Replies.{IsReply, reply_bytes}
 use Rattle.server_requests.specs.ServerCommands.Leaving.{StoresNothing, EntersNothing, FindsNone, FindsForeign, LeavesAll}
 use Rattle.server_requests.specs.OpenStore.store.OpenStore.{OpenStore}
 use Rattle.server_requests.specs.OpenStore.Store.{IsOpen}
-use Rattle.cloud_server.specs.Refusals.{IsRefusal, Refuses, MayCome}
+use Rattle.cloud_server.specs.Refusals.{IsRefusal, IsErrorReply, MayCome}
 use Rattle.cloud_server.specs.Serving.{Answered, an_error}
 
 kinds : (content : List ℕ) (a b : ℕ) (xs ys : List ℕ) → content ≡ a ∷ xs → content ≡ b ∷ ys → a ≡ b
@@ -37,7 +37,7 @@ refusal_kind (errors.OtherStore other asked at) content reply named found is e r
     omega (arith, kinds content 142 143 _ _ (rotten_or content reply (replies.Damaged e.0 e.1) named found is e.2 rotten) rotten.spelled)
 refusal_kind (errors.NotBegun len) content reply named found is e rotten = e
 
-pub not_rotten : (error : OpenErr) (content : List ℕ) (named found : Fp) → Refuses error content → IsReply content (replies.Rotten named found) → ⊥
+pub not_rotten : (error : OpenErr) (content : List ℕ) (named found : Fp) → IsErrorReply error content → IsReply content (replies.Rotten named found) → ⊥
 not_rotten error content named found refuses rotten = refusal_kind error content refuses.reply named found refuses.is refuses.refusal rotten
 
 -- Fault isn't Damaged
@@ -111,7 +111,7 @@ fault_answered shape r s old new before now content is failed shut = (
 )
 
 pub refused_answered : (shape : Shape) (r : Request) (error : OpenErr) (s : OpenStore) (old new : Cloud) (before now : ℕ) (content : List ℕ) → MayCome error → ¬ (IsOpen s)
-    → OnFault (an_error error) (HasFailed old new before now) (KeepsCounts old new before now) → Refuses error content → Answered shape r s old new before now content
+    → OnFault (an_error error) (HasFailed old new before now) (KeepsCounts old new before now) → IsErrorReply error content → Answered shape r s old new before now content
 refused_answered shape r errors.Fault s old new before now content may shut counts refuses =
     fault_answered shape r s old new before now content (subst (IsReply content) refuses.refusal refuses.is) counts shut
 refused_answered shape r (errors.Damaged at byte) s old new before now content may shut counts refuses = (

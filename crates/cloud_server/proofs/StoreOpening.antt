@@ -1,3 +1,3 @@
 -- What store_opening has proved, for callers.
-pub use Rattle.store_opening.proofs.Current
-pub use Rattle.store_opening.proofs.OneStart
+pub use Rattle.blob_copy.proofs.StoreOpening.Current
+pub use Rattle.blob_copy.proofs.StoreOpening.OneStart

@@ -1,6 +1,6 @@
 -- What a read of a blob answers.
 use Rattle.std.specs.Prelude.{◌≡◌, ℕ, ◌<◌, List, ◌++◌, length, take, drop, Result, Ok, Err}
-use Rattle.cd_base.specs.declared.place.Place.{Place}
+use Rattle.server_requests.specs.CdBase.place.Place.{Place}
 use Rattle.cloud_server.specs.declared.blobs.BlobErr.{BlobErr}
 use Rattle.cloud_server.specs.declared.blobs.BlobErr.TheVariants.{Fault, Short, NoMemory}
 

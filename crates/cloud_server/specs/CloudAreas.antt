@@ -1,3 +1,3 @@
 -- What cloud_areas says, for callers.
-pub use Rattle.cloud_areas.specs.Peers
-pub use Rattle.cloud_areas.specs.Standing
+pub use Rattle.blob_copy.specs.CloudAreas.Peers
+pub use Rattle.blob_copy.specs.CloudAreas.Standing

@@ -1,3 +1,3 @@
 -- What cloud_memory says, for callers.
-pub use Rattle.store_opening.specs.CloudMemory.Memory
-pub use Rattle.store_opening.specs.CloudMemory.Rooms
+pub use Rattle.blob_copy.specs.StoreOpening.CloudMemory.Memory
+pub use Rattle.blob_copy.specs.StoreOpening.CloudMemory.Rooms

@@ -1,12 +1,12 @@
 -- A server that copies what is alive to the other region, and what its steps answer.
 use Rattle.std.specs.Prelude.{◌≡◌, ℕ, ◌+◌, ◌<◌, Bool, true, false, List, [], length, IsTrue, Result, Ok, Err, OnOk, OnErr}
-use Rattle.cd_base.specs.declared.ids.Fp.{Fp}
-use Rattle.cd_edges.specs.Disk.{Cloud, LeavesOnly, reads}
-use Rattle.cd_edges.specs.Shelf.{IsCall, HasFailed, KeepsCounts}
-use Rattle.half_journal.specs.Leaving.{OthersStay}
-use Rattle.user_dedup.specs.declared.command.Command.{Command}
-use Rattle.user_dedup.specs.Compact.{compact}
-use Rattle.cloud_areas.specs.Standing.{Chain, StandsFor}
+use Rattle.server_requests.specs.CdBase.ids.Fp.{Fp}
+use Rattle.server_requests.specs.CdEdges.Disk.{Cloud, LeavesOnly, reads}
+use Rattle.server_requests.specs.CdEdges.Shelf.{IsCall, HasFailed, KeepsCounts}
+use Rattle.server_requests.specs.HalfJournal.Leaving.{OthersStay}
+use Rattle.server_requests.specs.UserDedup.command.Command.{Command}
+use Rattle.server_requests.specs.UserDedup.Compact.{compact}
+use Rattle.blob_copy.specs.CloudAreas.Standing.{Chain, StandsFor}
 use Rattle.blob_copy.specs.declared.copying.CopyErr.{CopyErr}
 use Rattle.blob_copy.specs.declared.copying.CopyErr.TheVariants as copy
 use Rattle.blob_copy.specs.declared.copying.Copying.{Copying}
@@ -14,11 +14,11 @@ use Rattle.blob_copy.specs.Answers.{SomeRotten}
 use Rattle.blob_copy.specs.CompactMemories.Kept.{commands_in}
 use Rattle.blob_copy.specs.CompactMemories.Moved.{IsMoved, other_region}
 use Rattle.blob_copy.specs.Copies.{HasCopied, KeepsBeside}
-use Rattle.blob_copy.specs.Copying.{IsLaid, IsCopying, AreAllCopied, StandsForKept, shares_so_far, entries_so_far}
+use Rattle.blob_copy.specs.Copying.{IsCopyLaid, IsCopying, AreAllCopied, StandsForKept, shares_so_far, entries_so_far}
 use Rattle.server_requests.specs.OpenStore.store.OpenStore.{OpenStore}
-use Rattle.store_opening.specs.CloudMemory.Rooms.{memory_of}
+use Rattle.blob_copy.specs.StoreOpening.CloudMemory.Rooms.{memory_of}
 use Rattle.server_requests.specs.OpenStore.Store.{IsOpen, IsSettled, Serves, ServesSome}
-use Rattle.server_requests.specs.ServerCommands.Executing.{IsReady}
+use Rattle.server_requests.specs.ServerCommands.Executing.{IsStoreReady}
 use Rattle.cloud_server.specs.declared.copies.Copies.{Copies}
 use Rattle.cloud_server.specs.declared.copies.ReclaimErr.{ReclaimErr}
 use Rattle.cloud_server.specs.declared.copies.ReclaimErr.TheVariants as why
@@ -76,7 +76,7 @@ at_copies store copies = record store {
 
 -- The copies end where they should, by what is alive in the slots that were gone over.
 abbrev pub AreLaid : OpenStore → Copies → Type 0
-AreLaid store copies = IsLaid (at_copies store copies) copies.copying
+AreLaid store copies = IsCopyLaid (at_copies store copies) copies.copying
 
 -- The store serves the list, and the copies so far lie in the other region.
 pub record KeepsCopies (list : List Command) (c : Chain) (store : OpenStore) (copies : Copies) (cloud : Cloud) : Type 0 where
@@ -92,7 +92,7 @@ abbrev pub KeepsAllBut : OpenStore → OpenStore → Type 0
 KeepsAllBut old new = new ≡ record old { disk = new.disk }
 
 -- A step of a store whose logs are where the copies end.
-pub record GoesOn (Same : Type 0) (old : OpenStore) (copying : Copying) (new : OpenStore) (copies : Copies) (before after : ℕ → Cloud) (faults_before faults_after : ℕ) (result : Result Bool ReclaimErr) : Type 0 where
+pub record HasGoneOn (Same : Type 0) (old : OpenStore) (copying : Copying) (new : OpenStore) (copies : Copies) (before after : ℕ → Cloud) (faults_before faults_after : ℕ) (result : Result Bool ReclaimErr) : Type 0 where
   pub any_moment : (list : List Command) (c : Chain) → IsCopying list c old copying (before old.header.cloud.0)
       → LeavesOnly (before old.header.cloud.0) (after old.header.cloud.0) (λ image. StandsFor image old.header list)
   pub copied : (list : List Command) (c : Chain) → IsCopying list c old copying (before old.header.cloud.0)
@@ -105,7 +105,7 @@ pub record GoesOn (Same : Type 0) (old : OpenStore) (copying : Copying) (new : O
   pub beside : IsTrue (before old.header.cloud.0).told → OnReclaimFault result (Unit {0}) (KeepsBeside old (before old.header.cloud.0) (after old.header.cloud.0))
   pub same : KeepsAllBut old new
   pub settled : IsSettled new
-  pub ready : OnReclaimFault result (¬ (IsOpen new)) (IsReady new)
+  pub ready : OnReclaimFault result (¬ (IsOpen new)) (IsStoreReady new)
   pub call : IsCall before after old.header.cloud.0 faults_before faults_after
   pub counts : OnReclaimFault result (HasFailed (before old.header.cloud.0) (after old.header.cloud.0) faults_before faults_after)
       (KeepsCounts (before old.header.cloud.0) (after old.header.cloud.0) faults_before faults_after)
@@ -124,7 +124,7 @@ pub record SwitchesOver (old : OpenStore) (copying : Copying) (new : OpenStore) 
   pub others : OthersStay (before old.header.cloud.0) (after old.header.cloud.0) result
   pub header : new.header ≡ old.header
   pub settled : IsSettled new
-  pub ready : OnOk result (IsReady new)
+  pub ready : OnOk result (IsStoreReady new)
   pub shut : OnErr result (¬ (IsOpen new))
   pub call : IsCall before after old.header.cloud.0 faults_before faults_after
   pub counts : OnReclaimFault result (HasFailed (before old.header.cloud.0) (after old.header.cloud.0) faults_before faults_after)

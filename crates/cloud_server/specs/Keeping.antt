@@ -2,15 +2,15 @@
 use Rattle.std.specs.Prelude.{◌≡◌, ◌⊎◌, ℕ, ◌≤◌}
 use Rattle.std.proofs.Common.{inl, inr, sym, ap, ◌∙◌}
 use Rattle.std.proofs.Props.{props}
-use Rattle.cd_base.specs.Limits.{recipe_limit}
+use Rattle.server_requests.specs.CdBase.Limits.{recipe_limit}
 use Rattle.server_requests.specs.OpenStore.store.OpenStore.{OpenStore}
 use Rattle.server_requests.specs.OpenStore.Store.{IsOpen, IsSettled}
-use Rattle.server_requests.specs.ServerCommands.Executing.{IsReady}
+use Rattle.server_requests.specs.ServerCommands.Executing.{IsStoreReady}
 
 -- The store is settled, and ready for requests where it is open; and the buffer has place for the longest recipe.
-pub record IsKept (store : OpenStore) (buffer : ℕ) : Type 0 where
+pub record IsStoreKept (store : OpenStore) (buffer : ℕ) : Type 0 where
   pub settled : IsSettled store
-  pub ready : IsOpen store → IsReady store
+  pub ready : IsOpen store → IsStoreReady store
   pub room : recipe_limit ≤ buffer
 
 -- ---- it is a fact: it has one proof at most
@@ -30,5 +30,5 @@ one_format n = one
     one (inr x) (inl y) = absurd (let f : 1 ≡ 2 = sym y ∙ x in cc)
     one (inr x) (inr y) = ap inr (second x y)
 
-pub kept_prop : (store : OpenStore) (buffer : ℕ) → IsProp (IsKept store buffer)
+pub kept_prop : (store : OpenStore) (buffer : ℕ) → IsProp (IsStoreKept store buffer)
 kept_prop store buffer = hlevel (props, one_format)

@@ -1,17 +1,17 @@
 -- What an opening answers by the bytes of the areas.
 use Rattle.std.specs.Prelude.{◌≡◌, ◌≢◌, ℕ, ◌+◌, ◌*◌, Bool, false, List, length, Result, Ok, Err}
-use Rattle.cd_edges.specs.declared.area.Area.TheVariants.{Journal}
-use Rattle.cd_edges.specs.Disk.{Cloud, Image}
-use Rattle.half_journal.specs.declared.errors.OpenErr.{OpenErr}
-use Rattle.half_journal.specs.declared.errors.OpenErr.TheVariants.{Fault, NotBegun, Damaged, OtherStore}
-use Rattle.half_journal.specs.Openings.{HasHeader}
-use Rattle.journal_halves.specs.Beginnings.{IsUnbegun}
-use Rattle.journal_halves.specs.Halves.{half_len}
-use Rattle.journal_start.specs.declared.start.Header.{Header}
-use Rattle.store_opening.specs.CloudMemory.Memory.{Memory}
-use Rattle.store_opening.specs.Exact.{Opens}
-use Rattle.store_opening.specs.Spared.{MayBegin}
-use Rattle.store_opening.specs.Synced.{AreSynced}
+use Rattle.server_requests.specs.CdEdges.area.Area.TheVariants.{Journal}
+use Rattle.server_requests.specs.CdEdges.Disk.{Cloud, Image}
+use Rattle.server_requests.specs.HalfJournal.errors.OpenErr.{OpenErr}
+use Rattle.server_requests.specs.HalfJournal.errors.OpenErr.TheVariants.{Fault, NotBegun, Damaged, OtherStore}
+use Rattle.server_requests.specs.HalfJournal.Openings.{HasHeader}
+use Rattle.blob_copy.specs.JournalHalves.Beginnings.{IsUnbegun}
+use Rattle.blob_copy.specs.JournalHalves.Halves.{half_len}
+use Rattle.server_requests.specs.JournalStart.start.Header.{Header}
+use Rattle.blob_copy.specs.StoreOpening.CloudMemory.Memory.{Memory}
+use Rattle.blob_copy.specs.StoreOpening.Exact.{Opens}
+use Rattle.blob_copy.specs.StoreOpening.Spared.{MayBegin}
+use Rattle.blob_copy.specs.StoreOpening.Synced.{AreSynced}
 
 -- What the bytes of a cloud's areas come to, record by record, with some memory.
 abbrev pub OpensTo : Header → Bool → Image → Result ℕ OpenErr → Type 0

@@ -1,12 +1,12 @@
 -- By which place and byte an opening's error is named, and the replies of a server whose cloud isn't opened.
 use Rattle.std.specs.Prelude.{◌≡◌, ◌≢◌, ℕ, ◌+◌, ◌<◌, ◌^◌, List, length, take, slice_index}
-use Rattle.half_journal.specs.declared.errors.OpenErr.{OpenErr}
-use Rattle.half_journal.specs.declared.errors.OpenErr.TheVariants as errors
-use Rattle.journal_start.specs.Ranges.{IsHeader}
-use Rattle.journal_start.specs.Spelling.{header_bytes}
-use Rattle.messages.specs.declared.reply.Reply.{Reply}
-use Rattle.messages.specs.declared.reply.Reply.TheVariants as replies
-use Rattle.messages.specs.Replies.{IsReply}
+use Rattle.server_requests.specs.HalfJournal.errors.OpenErr.{OpenErr}
+use Rattle.server_requests.specs.HalfJournal.errors.OpenErr.TheVariants as errors
+use Rattle.server_requests.specs.JournalStart.Ranges.{IsHeader}
+use Rattle.server_requests.specs.JournalStart.Spelling.{header_bytes}
+use Rattle.server_requests.specs.Messages.reply.Reply.{Reply}
+use Rattle.server_requests.specs.Messages.reply.Reply.TheVariants as replies
+use Rattle.server_requests.specs.Messages.Replies.{IsReply}
 
 -- the first place at which bytes that were found aren't those that were asked, and the byte that was found there
 pub record DiffersAt (found asked : List ℕ) (place byte : ℕ) : Type 0 where
@@ -37,7 +37,7 @@ IsRefusal (errors.OtherStore found asked at) reply =
 IsRefusal (errors.NotBegun len) reply = ⊥
 
 -- The content is the reply to this error.
-pub record Refuses (error : OpenErr) (content : List ℕ) : Type 0 where
+pub record IsErrorReply (error : OpenErr) (content : List ℕ) : Type 0 where
   pub reply : Reply
   pub is : IsReply content reply
   pub refusal : IsRefusal error reply

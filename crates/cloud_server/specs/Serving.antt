@@ -1,29 +1,29 @@
 -- A server over its cloud, as a peer that users ask.
 use Rattle.std.specs.Prelude.{◌≡◌, ◌≢◌, ◌⊎◌, ℕ, Bool, IsTrue, true, false, List, [], None, Result, Ok, Err}
-use Rattle.cd_base.specs.declared.shape.Shape.{Shape}
-use Rattle.cd_edges.specs.Causes.{Rose}
-use Rattle.cd_edges.specs.declared.area.Area.TheVariants.{Journal}
-use Rattle.cd_edges.specs.Disk.{Cloud, reads}
-use Rattle.cd_edges.specs.Shelf.{HasFailed, KeepsCounts}
-use Rattle.cd_edges.specs.Shelf.{Stays as StaysIn}
-use Rattle.half_journal.specs.declared.errors.OpenErr.{OpenErr}
-use Rattle.half_journal.specs.declared.errors.OpenErr.TheVariants as errors
-use Rattle.half_journal.specs.Openings.{OnFault}
-use Rattle.messages.specs.declared.request.Request.{Request}
-use Rattle.messages.specs.declared.reply.Reply.{Reply}
-use Rattle.messages.specs.declared.reply.Reply.TheVariants as replies
-use Rattle.messages.specs.Answering.{IsReplyTo}
-use Rattle.messages.specs.Replies.{IsReply}
-use Rattle.user_dedup.specs.declared.command.Command.{Command}
-use Rattle.user_dedup.specs.Cloud.{counted}
-use Rattle.user_dedup.specs.Dedup.{Outcome}
-use Rattle.user_dedup.specs.Exec.{Peer, MaySettleAs, Settles, Stays, Exec, items_of}
-use Rattle.user_dedup.specs.Spending.{IsWithin}
-use Rattle.cloud_areas.specs.Peers.{StandsAs}
-use Rattle.cloud_areas.specs.Standing.{StandsFor}
-use Rattle.store_opening.specs.CloudMemory.Rooms.{memory_of}
-use Rattle.store_opening.specs.Exact.{Opens}
-use Rattle.store_opening.specs.Spared.{IsOkOrFault, Spares}
+use Rattle.server_requests.specs.CdBase.shape.Shape.{Shape}
+use Rattle.server_requests.specs.CdEdges.Causes.{Rose}
+use Rattle.server_requests.specs.CdEdges.area.Area.TheVariants.{Journal}
+use Rattle.server_requests.specs.CdEdges.Disk.{Cloud, reads}
+use Rattle.server_requests.specs.CdEdges.Shelf.{HasFailed, KeepsCounts}
+use Rattle.server_requests.specs.CdEdges.Shelf.{Stays as StaysIn}
+use Rattle.server_requests.specs.HalfJournal.errors.OpenErr.{OpenErr}
+use Rattle.server_requests.specs.HalfJournal.errors.OpenErr.TheVariants as errors
+use Rattle.server_requests.specs.HalfJournal.Openings.{OnFault}
+use Rattle.server_requests.specs.Messages.request.Request.{Request}
+use Rattle.server_requests.specs.Messages.reply.Reply.{Reply}
+use Rattle.server_requests.specs.Messages.reply.Reply.TheVariants as replies
+use Rattle.server_requests.specs.Messages.Answering.{IsReplyTo}
+use Rattle.server_requests.specs.Messages.Replies.{IsReply}
+use Rattle.server_requests.specs.UserDedup.command.Command.{Command}
+use Rattle.server_requests.specs.UserDedup.Cloud.{counted}
+use Rattle.server_requests.specs.UserDedup.Dedup.{Outcome}
+use Rattle.server_requests.specs.UserDedup.Exec.{Peer, MaySettleAs, Settles, KeepsPeer, Exec, items_of}
+use Rattle.server_requests.specs.UserDedup.Spending.{IsWithin}
+use Rattle.blob_copy.specs.CloudAreas.Peers.{StandsAs}
+use Rattle.blob_copy.specs.CloudAreas.Standing.{StandsFor}
+use Rattle.blob_copy.specs.StoreOpening.CloudMemory.Rooms.{memory_of}
+use Rattle.blob_copy.specs.StoreOpening.Exact.{Opens}
+use Rattle.blob_copy.specs.StoreOpening.Spared.{IsOkOrFault, Spares}
 use Rattle.server_requests.specs.OpenStore.store.OpenStore.{OpenStore}
 use Rattle.server_requests.specs.OpenStore.Store.{IsOpen, ServesSome}
 use Rattle.server_requests.specs.ServerCommands.Entering.{Enters}
@@ -31,7 +31,7 @@ use Rattle.server_requests.specs.ServerCommands.Executing.{GrowsBehind, LeavesBo
 use Rattle.server_requests.specs.ServerCommands.Leaving.{IsSteady}
 use Rattle.server_requests.specs.ServerCommands.Serving.{serves}
 use Rattle.cloud_server.specs.Openings.{OpensTo, OtherStoreIs}
-use Rattle.cloud_server.specs.Refusals.{Refuses}
+use Rattle.cloud_server.specs.Refusals.{IsErrorReply}
 use Rattle.cloud_server.specs.declared.server.Server.{Server}
 
 -- ---- peers
@@ -63,7 +63,8 @@ server_serves server = serves server.store
 -- its count rose, and where the store isn't begun and isn't to be begun the peer may stand for no commands.
 abbrev pub ReopensAs : Bool → Peer → Peer → Result ℕ OpenErr → Type 0
 ReopensAs begin old new (Ok commands) = Settles old new × (new.faults ≡ old.faults) × (new.armings ≡ old.armings) × (commands ≡ counted new.list)
-ReopensAs begin old new (Err errors.Fault) = Stays old new × Rose old.faults new.faults × (new.armings ≡ old.armings)
+ReopensAs begin old new (Err errors.Fault) = KeepsPeer old new × Rose old.faults new.faults
+    × (new.armings ≡ old.armings)
 ReopensAs begin old new (Err (errors.NotBegun len)) = (new ≡ old) × (begin ≡ false) × MaySettleAs old []
 ReopensAs begin old new (Err (errors.OtherStore found asked at)) = ⊥
 ReopensAs begin old new (Err (errors.Damaged at byte)) = ⊥
@@ -103,10 +104,10 @@ pub record IsUnopened (store : OpenStore) (old new : Cloud) (error : OpenErr) : 
   pub areas : IsTrue old.told → Spares store.header true old new (an_error error)
 
 -- The content is the reply to the error for which the cloud isn't opened.
-pub record Refused (store : OpenStore) (old new : Cloud) (content : List ℕ) : Type 0 where
+pub record IsUnopenedReply (store : OpenStore) (old new : Cloud) (content : List ℕ) : Type 0 where
   pub error : OpenErr
   pub unopened : IsUnopened store old new error
-  pub refuses : Refuses error content
+  pub refuses : IsErrorReply error content
 
 -- The bytes of the cloud's areas come to a list that the store takes, and it has so many commands.
 abbrev pub CanOpen : OpenStore → Cloud → Type 0

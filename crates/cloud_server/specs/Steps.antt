@@ -1,19 +1,19 @@
 -- What the steps of a request leave. No public clause cites this module.
 use Rattle.std.specs.Prelude.{◌≡◌, ◌≢◌, ◌⊎◌, ℕ, true, List, Result, Ok, Err}
-use Rattle.cd_edges.specs.Causes.{Rose}
-use Rattle.cd_edges.specs.Disk.{Cloud, reads}
-use Rattle.half_journal.specs.declared.errors.OpenErr.{OpenErr}
-use Rattle.half_journal.specs.declared.errors.OpenErr.TheVariants as errors
-use Rattle.messages.specs.declared.request.Request.{Request}
-use Rattle.messages.specs.declared.reply.Reply.{Reply}
-use Rattle.messages.specs.declared.reply.Reply.TheVariants as replies
-use Rattle.messages.specs.Replies.{IsReply}
-use Rattle.user_dedup.specs.declared.command.Command.{Command}
-use Rattle.user_dedup.specs.Dedup.{Outcome}
-use Rattle.user_dedup.specs.Exec.{Peer, Settles, Stays, CountsOn, Answers, IsCut}
-use Rattle.store_opening.specs.CloudMemory.Rooms.{memory_of}
-use Rattle.store_opening.specs.Exact.{Opens}
-use Rattle.store_opening.specs.Spared.{Spares}
+use Rattle.server_requests.specs.CdEdges.Causes.{Rose}
+use Rattle.server_requests.specs.CdEdges.Disk.{Cloud, reads}
+use Rattle.server_requests.specs.HalfJournal.errors.OpenErr.{OpenErr}
+use Rattle.server_requests.specs.HalfJournal.errors.OpenErr.TheVariants as errors
+use Rattle.server_requests.specs.Messages.request.Request.{Request}
+use Rattle.server_requests.specs.Messages.reply.Reply.{Reply}
+use Rattle.server_requests.specs.Messages.reply.Reply.TheVariants as replies
+use Rattle.server_requests.specs.Messages.Replies.{IsReply}
+use Rattle.server_requests.specs.UserDedup.command.Command.{Command}
+use Rattle.server_requests.specs.UserDedup.Dedup.{Outcome}
+use Rattle.server_requests.specs.UserDedup.Exec.{Peer, Settles, KeepsPeer, CountsOn, Answers, IsCut}
+use Rattle.blob_copy.specs.StoreOpening.CloudMemory.Rooms.{memory_of}
+use Rattle.blob_copy.specs.StoreOpening.Exact.{Opens}
+use Rattle.blob_copy.specs.StoreOpening.Spared.{Spares}
 use Rattle.server_requests.specs.OpenStore.store.OpenStore.{OpenStore}
 use Rattle.server_requests.specs.OpenStore.Store.{IsOpen}
 use Rattle.server_requests.specs.ServerCommands.Serving.{serves}
@@ -22,7 +22,7 @@ use Rattle.cloud_server.specs.Serving.{ServesAs, some_commands}
 -- What becomes of a peer whose server is open then, or isn't where a device failed.
 abbrev pub OpensAs : Peer → Peer → Result (Unit {0}) OpenErr → Type 0
 OpensAs old new (Ok value) = Settles old new × (new.faults ≡ old.faults) × (new.armings ≡ old.armings)
-OpensAs old new (Err errors.Fault) = Stays old new × Rose old.faults new.faults × (new.armings ≡ old.armings)
+OpensAs old new (Err errors.Fault) = KeepsPeer old new × Rose old.faults new.faults × (new.armings ≡ old.armings)
 OpensAs old new (Err (errors.NotBegun len)) = ⊥
 OpensAs old new (Err (errors.OtherStore found asked at)) = ⊥
 OpensAs old new (Err (errors.Damaged at byte)) = ⊥
@@ -34,7 +34,8 @@ pub record Cuts (serve : List Command → Request → Outcome) (old : Peer) (req
   pub cut : IsCut serve old request new
 
 -- What an open server does with a request, whose content is this.
-pub record Does (old new : OpenStore) (cloud : Cloud) (p : Peer) (request : Request) (content : List ℕ) : Type 0 where
+pub record HasDoneRequest (old new : OpenStore) (cloud : Cloud) (p : Peer) (request : Request)
+    (content : List ℕ) : Type 0 where
   pub left : Peer
   pub answer : Reply
   pub stands : ServesAs new cloud left

@@ -1,3 +1,3 @@
 -- What store_opening says, for callers.
-pub use Rattle.store_opening.specs.Exact
-pub use Rattle.store_opening.specs.Spared
+pub use Rattle.blob_copy.specs.StoreOpening.Exact
+pub use Rattle.blob_copy.specs.StoreOpening.Spared

@@ -3,28 +3,28 @@
 ghost use Rattle.std.specs.Prelude.{◌≡◌, ◌↔◌, ◌+◌, ◌≤◌, ◌==◌, List, length, take, drop, option_map};
 ghost use Rattle.std.specs.Prelude.{if◌then◌else◌, IsTrue, IsSome, IfOk, OnOk, OnErr, Ok, Err};
 ghost use Rattle.std.specs.FinMap as maps;
-ghost use Rattle.cd_base.specs.declared.shape.Shape.{Shape};
-ghost use Rattle.cd_edges.specs.Shelf.{IsCall, HasFailed, KeepsCounts, Stays, ReadsFrom};
-ghost use Rattle.cloud_memory.specs.Live.{live_at, IsEachLive};
-ghost use Rattle.cloud_memory.specs.Memory.{Remembers};
-ghost use Rattle.cloud_memory.specs.Rooms.{memory_of};
-ghost use Rattle.file_index.specs.Files.{entry_with};
-ghost use Rattle.pool_map.specs.Slots.{slot_of, IsListed};
+ghost use Rattle.server_requests.specs.CdBase.shape.Shape.{Shape};
+ghost use Rattle.server_requests.specs.CdEdges.Shelf.{IsCall, HasFailed, KeepsCounts, Stays, ReadsFrom};
+ghost use Rattle.blob_copy.specs.CloudMemory.Live.{live_at, IsEachLive};
+ghost use Rattle.blob_copy.specs.CloudMemory.Memory.{Remembers};
+ghost use Rattle.blob_copy.specs.CloudMemory.Rooms.{memory_of};
+ghost use Rattle.server_requests.specs.FileIndex.Files.{entry_with};
+ghost use Rattle.blob_copy.specs.PoolMap.Slots.{slot_of, IsListed};
 ghost use Rattle.server_requests.specs.OpenStore.Store.{IsOpen};
-ghost use Rattle.share_index.specs.Order.{owner_of};
-ghost use Rattle.share_index.specs.Placed.{AreAllPlaced};
-ghost use Rattle.share_index.specs.Shares.{place_with};
-ghost use Rattle.user_dedup.specs.Cloud.{user_view};
-ghost use Rattle.user_dedup.specs.Owning.{is_among};
-ghost use Rattle.user_dedup.specs.declared.command.Command.{Command};
+ghost use Rattle.blob_copy.specs.ShareIndex.Order.{owner_of};
+ghost use Rattle.blob_copy.specs.ShareIndex.Placed.{AreAllPlaced};
+ghost use Rattle.blob_copy.specs.ShareIndex.Shares.{place_with};
+ghost use Rattle.server_requests.specs.UserDedup.Cloud.{user_view};
+ghost use Rattle.server_requests.specs.UserDedup.Owning.{is_among};
+ghost use Rattle.server_requests.specs.UserDedup.command.Command.{Command};
 ghost use Rattle.cloud_server.specs.Blobs.{BlobIs, Appends, OnBlobFault};
 ghost use Rattle.cloud_server.specs.Serving.{number_of};
 ghost use Rattle.cloud_server.specs.declared.blobs.BlobErr.TheVariants.{Short};
 
 use crate::Server;
-use cd_base::{Bytes, CloudNo, Fp, NoMemory, Place, Tag, UserId, Version};
-use cd_edges::{Area, Failed, Shelf};
-use file_index::Entry;
+use server_requests::{
+    Area, Bytes, CloudNo, Entry, Failed, Fp, NoMemory, Place, Shelf, Tag, UserId, Version,
+};
 
 /// Why a blob isn't read whole.
 #[derive(Clone, Copy, Debug, PartialEq, Eq)]

@@ -2,32 +2,29 @@
 //! steps the server is as it was: it alone knows where the copies end.
 
 ghost use Rattle.std.specs.Prelude.{◌≡◌, ◌≤◌, ◌<◌, List, length, IsTrue, OnOk, OnErr};
-ghost use Rattle.cd_base.specs.Limits.{recipe_limit};
-ghost use Rattle.cd_edges.specs.Disk.{Cloud, LeavesOnly, reads};
-ghost use Rattle.cd_edges.specs.Shelf.{IsCall, HasFailed, KeepsCounts};
-ghost use Rattle.half_journal.specs.Leaving.{OthersStay};
-ghost use Rattle.user_dedup.specs.declared.command.Command.{Command};
-ghost use Rattle.user_dedup.specs.Compact.{compact};
-ghost use Rattle.cloud_areas.specs.Standing.{Chain, StandsFor};
-ghost use Rattle.store_opening.specs.CloudMemory.Rooms.{memory_of};
+ghost use Rattle.server_requests.specs.CdBase.Limits.{recipe_limit};
+ghost use Rattle.server_requests.specs.CdEdges.Disk.{Cloud, LeavesOnly, reads};
+ghost use Rattle.server_requests.specs.CdEdges.Shelf.{IsCall, HasFailed, KeepsCounts};
+ghost use Rattle.server_requests.specs.HalfJournal.Leaving.{OthersStay};
+ghost use Rattle.server_requests.specs.UserDedup.command.Command.{Command};
+ghost use Rattle.server_requests.specs.UserDedup.Compact.{compact};
+ghost use Rattle.blob_copy.specs.CloudAreas.Standing.{Chain, StandsFor};
+ghost use Rattle.blob_copy.specs.StoreOpening.CloudMemory.Rooms.{memory_of};
 ghost use Rattle.server_requests.specs.OpenStore.Store.{IsOpen, IsSettled, Serves, ServesSome};
-ghost use Rattle.server_requests.specs.ServerCommands.Executing.{IsReady};
+ghost use Rattle.server_requests.specs.ServerCommands.Executing.{IsStoreReady};
 ghost use Rattle.blob_copy.specs.Answers.{SomeRotten};
 ghost use Rattle.blob_copy.specs.CompactMemories.Kept.{live_sum, commands_in};
 ghost use Rattle.blob_copy.specs.CompactMemories.Moved.{IsMoved, other_region};
 ghost use Rattle.blob_copy.specs.Copies.{HasCopied, KeepsBeside};
-ghost use Rattle.blob_copy.specs.Copying.{IsLaid, IsCopying, AreAllCopied, StandsForKept};
+ghost use Rattle.blob_copy.specs.Copying.{IsCopyLaid, IsCopying, AreAllCopied, StandsForKept};
 ghost use Rattle.cloud_server.specs.Copies.{reclaim_error, OnReclaimFault, IfRottenThere, IsDoneOrFault, MatchCopied};
 ghost use Rattle.cloud_server.specs.Copies.{no_copies, at_copies, AreLaid, KeepsCopies, copied_so_far, KeepsAllBut};
-ghost use Rattle.cloud_server.specs.Copies.{GoesOn, SwitchesOver};
+ghost use Rattle.cloud_server.specs.Copies.{HasGoneOn, SwitchesOver};
 ghost use Rattle.cloud_server.specs.Serving.{IsServing, number_of, settled_with};
 
 use crate::Server;
 use blob_copy::{CopyErr, Copying, Reclaimed, forget, start, step, sum, switch};
-use cd_base::Fp;
-use cd_edges::Shelf;
-use container_log::Log;
-use server_requests::OpenStore;
+use server_requests::{Fp, Log, OpenStore, Shelf};
 
 /// Why what is alive isn't copied, or the copies aren't switched to.
 #[derive(Clone, Copy, Debug, PartialEq, Eq)]
@@ -111,9 +108,9 @@ fn pause(store: &mut OpenStore, copies: &mut Copies)
     ensures copying { copies.new.copying ≡ copies.old.copying }
     ensures copied { (list : List Command) (c : Chain) (cloud : Cloud)
         → IsCopying list c store.old copies.old.copying cloud → KeepsCopies list c store.new copies.new cloud }
-    ensures laid { IsLaid store.old copies.old.copying → AreLaid store.new copies.new }
+    ensures laid { IsCopyLaid store.old copies.old.copying → AreLaid store.new copies.new }
     ensures same { KeepsAllBut store.old store.new }
-    ensures ready { IsReady store.new }
+    ensures ready { IsStoreReady store.new }
 {
     keep_ends(store, copies);
     forget(store);
@@ -128,7 +125,7 @@ fn begin_copies(store: &mut OpenStore, copies: &mut Copies)
     ensures none { (copies.new.copying.place_slot ≡ 0) × (copies.new.copying.file_slot ≡ 0) }
     ensures laid { AreLaid store.new copies.new }
     ensures same { KeepsAllBut store.old store.new }
-    ensures ready { IsReady store.new }
+    ensures ready { IsStoreReady store.new }
 {
     copies.copying = start(store);
     pause(store, copies);
@@ -143,9 +140,9 @@ fn go_on<V: Shelf>(
 ) -> Result<bool, ReclaimErr>
     requires settled { IsSettled store.old }
     requires open { IsOpen store.old }
-    requires laid { IsLaid store.old copies.old.copying }
+    requires laid { IsCopyLaid store.old copies.old.copying }
     requires buffer { recipe_limit ≤ length buffer.old }
-    ensures goes { GoesOn (shelf.new ≡ shelf.old) store.old copies.old.copying store.new copies.new
+    ensures goes { HasGoneOn (shelf.new ≡ shelf.old) store.old copies.old.copying store.new copies.new
         (V.cloud_at shelf.old) (V.cloud_at shelf.new) (V.faults shelf.old) (V.faults shelf.new) result }
     ensures buffer { length buffer.new ≡ length buffer.old }
 {
@@ -174,7 +171,7 @@ fn switch_over<V: Shelf>(
 ) -> Result<(), ReclaimErr>
     requires settled { IsSettled store.old }
     requires open { IsOpen store.old }
-    requires laid { IsLaid store.old copies.now.copying }
+    requires laid { IsCopyLaid store.old copies.now.copying }
     requires all { AreAllCopied store.old copies.now.copying }
     ensures { SwitchesOver store.old copies.now.copying store.new
         (V.cloud_at shelf.old) (V.cloud_at shelf.new) (V.faults shelf.old) (V.faults shelf.new) result }

@@ -1,14 +1,11 @@
 //! The damage that an opening names, and the reply to it.
 
 ghost use Rattle.std.specs.Prelude.{◌≢◌};
-ghost use Rattle.journal_start.specs.Ranges.{IsHeader};
-ghost use Rattle.journal_start.specs.Spelling.{header_bytes};
-ghost use Rattle.cloud_server.specs.Refusals.{DiffersAt, AreAlike, IsDamage, Refuses, MayCome};
+ghost use Rattle.server_requests.specs.JournalStart.Ranges.{IsHeader};
+ghost use Rattle.server_requests.specs.JournalStart.Spelling.{header_bytes};
+ghost use Rattle.cloud_server.specs.Refusals.{DiffersAt, AreAlike, IsDamage, IsErrorReply, MayCome};
 
-use frames::ReplyBuf;
-use half_journal::OpenErr;
-use journal_start::{Header, Start};
-use messages::{write_damaged, write_fault};
+use server_requests::{Header, OpenErr, ReplyBuf, Start, write_damaged, write_fault};
 
 // The first place of both at which found bytes differ from the asked ones, and the byte there; or 0 and 0 where there is none.
 fn first_difference(found: &[u8], asked: &[u8]) -> (usize, u8)
@@ -60,7 +57,7 @@ pub fn damage_of(error: OpenErr) -> (u64, u8)
 /// The reply to an opening's error becomes the content.
 pub(crate) fn put_refusal(reply: &mut ReplyBuf, error: OpenErr)
     requires { MayCome error }
-    ensures { Refuses error reply.new }
+    ensures { IsErrorReply error reply.new }
 {
     match error {
         OpenErr::Fault => write_fault(reply),

@@ -1,14 +1,14 @@
 //! The laws of what stands above a server names. The calls do nothing.
 
 ghost use Rattle.std.specs.Prelude.{◌≡◌, []};
-ghost use Rattle.cd_base.specs.declared.shape.Shape.{Shape};
-ghost use Rattle.cd_edges.specs.declared.area.Area.{Area};
-ghost use Rattle.cd_edges.specs.Disk.{Cloud, Image};
-ghost use Rattle.journal_start.specs.declared.rooms.Rooms.{Rooms};
-ghost use Rattle.journal_start.specs.declared.start.Header.{Header};
-ghost use Rattle.user_dedup.specs.Exec.{Peer};
-ghost use Rattle.user_dedup.specs.Spending.{IsWithin};
-ghost use Rattle.cloud_areas.specs.Standing.{StandsFor};
+ghost use Rattle.server_requests.specs.CdBase.shape.Shape.{Shape};
+ghost use Rattle.server_requests.specs.CdEdges.area.Area.{Area};
+ghost use Rattle.server_requests.specs.CdEdges.Disk.{Cloud, Image};
+ghost use Rattle.server_requests.specs.JournalStart.rooms.UserRooms.{UserRooms};
+ghost use Rattle.server_requests.specs.JournalStart.start.Header.{Header};
+ghost use Rattle.server_requests.specs.UserDedup.Exec.{Peer};
+ghost use Rattle.server_requests.specs.UserDedup.Spending.{IsWithin};
+ghost use Rattle.blob_copy.specs.CloudAreas.Standing.{StandsFor};
 ghost use Rattle.cloud_server.specs.Names.{HasNoJournal};
 ghost use Rattle.cloud_server.specs.Serving.{IsServing};
 ghost use Rattle.cloud_server.specs.declared.server.Server.{Server};
@@ -18,7 +18,7 @@ ghost use Rattle.cloud_server.specs.declared.server.Server.{Server};
 pub fn law_of_no_commands()
     ensures unbegun { (image : Image) → ((area : Area) → image area ≡ []) → HasNoJournal image }
     ensures stands { (image : Image) (header : Header) → HasNoJournal image → StandsFor image header [] }
-    ensures within { (shape : Shape) (rooms : Rooms) → IsWithin shape rooms [] }
+    ensures within { (shape : Shape) (rooms : UserRooms) → IsWithin shape rooms [] }
 {}
 
 /// Areas that stay keep a server's conditions: over a cloud whose areas are as they were, with each image that a crash

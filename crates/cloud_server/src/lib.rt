@@ -9,9 +9,12 @@ pub mod laws;
 mod server;
 mod serving;
 
-pub use blob_copy::Reclaimed;
+pub use blob_copy::{FindErr, Found, Reclaimed, WINDOW, find, law_of_headers};
 pub use blobs::BlobErr;
 pub use copies::ReclaimErr;
 pub use damage::damage_of;
-pub use half_journal::OpenErr;
 pub use server::Server;
+pub use server_requests::{
+    Area, Bytes, CloudNo, Failed, Fp, Link, Lost, NoMemory, OpenErr, Ports, ReplyBuf, Shape, Shelf,
+    Sink, Source, UserRooms, sha256, write_all,
+};

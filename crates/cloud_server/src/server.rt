@@ -1,18 +1,15 @@
 //! The server.
 
 ghost use Rattle.std.specs.Prelude.{vec_len};
-ghost use Rattle.cloud_server.specs.Keeping.{IsKept, kept_prop};
+ghost use Rattle.cloud_server.specs.Keeping.{IsStoreKept, kept_prop};
 
 use crate::copies::Copies;
 use crate::serving::answer;
-use cd_base::{CloudNo, NoMemory, RECIPE_LIMIT, Shape};
-use cd_edges::Shelf;
-use cloud_areas::peers::law_of_peers;
-use frames::ReplyBuf;
-use half_journal::OpenErr;
-use journal_start::{Header, Rooms};
-use messages::write_malformed;
-use server_requests::{Asked, OpenStore};
+use blob_copy::law_of_peers;
+use server_requests::{
+    CloudNo, Header, NoMemory, OpenErr, OpenStore, RECIPE_LIMIT, ReplyBuf, Shape, Shelf,
+    StoreRequest, UserRooms, write_malformed,
+};
 use std::alloc::Global;
 
 /// The server of one cloud: it keeps a memory of the list of commands that lies on the cloud's disk, and adds to both.
@@ -23,41 +20,41 @@ pub struct Server {
     pub(crate) store: OpenStore,
     pub(crate) buffer: Vec<u8>,
     pub(crate) copies: Copies,
-    ghost kept: { IsKept store (vec_len buffer) } by { kept_prop store (vec_len buffer) },
+    ghost kept: { IsStoreKept store (vec_len buffer) } by { kept_prop store (vec_len buffer) },
 }
 
 impl Server {
     ghost use Rattle.std.specs.Prelude.{◌≡◌, ◌⊎◌, ◌↔◌, ℕ, ◌<◌, ◌^◌, List, length, None};
     ghost use Rattle.std.specs.Prelude.{IsTrue, IfOk, OnOk, OnErr, Ok, Err};
     ghost use Rattle.std.specs.List.{Contains};
-    ghost use Rattle.cd_base.specs.declared.ids.Fp.{Fp};
-    ghost use Rattle.cd_edges.specs.declared.area.Area.TheVariants.{Journal};
-    ghost use Rattle.cd_edges.specs.Disk.{reads};
-    ghost use Rattle.cd_edges.specs.Shelf.{IsCall, HasFailed, KeepsCounts, Stays};
-    ghost use Rattle.half_journal.specs.Openings.{OnFault, HasBegun};
-    ghost use Rattle.journal_start.specs.Ranges.{AreRooms};
-    ghost use Rattle.messages.specs.declared.request.Request.{Request};
-    ghost use Rattle.messages.specs.declared.reply.Reply.{Reply};
-    ghost use Rattle.messages.specs.declared.reply.Reply.TheVariants as replies;
-    ghost use Rattle.messages.specs.Replies.{IsReply, reply_bytes};
-    ghost use Rattle.user_dedup.specs.declared.command.Command.{Command};
-    ghost use Rattle.user_dedup.specs.Cloud.{counted};
-    ghost use Rattle.user_dedup.specs.Exec.{Peer};
-    ghost use Rattle.user_dedup.specs.Requests.{asked_at};
-    ghost use Rattle.user_dedup.specs.Spending.{IsWithin};
-    ghost use Rattle.cloud_areas.specs.Peers.{ImagesNow, ImagesSince, MayBecome};
-    ghost use Rattle.cloud_areas.specs.Standing.{StandsFor};
-    ghost use Rattle.store_opening.specs.CloudMemory.Rooms.{memory_of};
-    ghost use Rattle.store_opening.specs.Exact.{Opens};
-    ghost use Rattle.store_opening.specs.Spared.{IsOkOrFault, MayBegin, Spares};
-    ghost use Rattle.store_opening.specs.Synced.{BeginsSynced};
+    ghost use Rattle.server_requests.specs.CdBase.ids.Fp.{Fp};
+    ghost use Rattle.server_requests.specs.CdEdges.area.Area.TheVariants.{Journal};
+    ghost use Rattle.server_requests.specs.CdEdges.Disk.{reads};
+    ghost use Rattle.server_requests.specs.CdEdges.Shelf.{IsCall, HasFailed, KeepsCounts, Stays};
+    ghost use Rattle.server_requests.specs.HalfJournal.Openings.{OnFault, HasBegun};
+    ghost use Rattle.server_requests.specs.JournalStart.Ranges.{AreRooms};
+    ghost use Rattle.server_requests.specs.Messages.request.Request.{Request};
+    ghost use Rattle.server_requests.specs.Messages.reply.Reply.{Reply};
+    ghost use Rattle.server_requests.specs.Messages.reply.Reply.TheVariants as replies;
+    ghost use Rattle.server_requests.specs.Messages.Replies.{IsReply, reply_bytes};
+    ghost use Rattle.server_requests.specs.UserDedup.command.Command.{Command};
+    ghost use Rattle.server_requests.specs.UserDedup.Cloud.{counted};
+    ghost use Rattle.server_requests.specs.UserDedup.Exec.{Peer};
+    ghost use Rattle.server_requests.specs.UserDedup.Requests.{asked_at};
+    ghost use Rattle.server_requests.specs.UserDedup.Spending.{IsWithin};
+    ghost use Rattle.blob_copy.specs.CloudAreas.Peers.{ImagesNow, ImagesSince, MayBecome};
+    ghost use Rattle.blob_copy.specs.CloudAreas.Standing.{StandsFor};
+    ghost use Rattle.blob_copy.specs.StoreOpening.CloudMemory.Rooms.{memory_of};
+    ghost use Rattle.blob_copy.specs.StoreOpening.Exact.{Opens};
+    ghost use Rattle.blob_copy.specs.StoreOpening.Spared.{IsOkOrFault, MayBegin, Spares};
+    ghost use Rattle.blob_copy.specs.StoreOpening.Synced.{BeginsSynced};
     ghost use Rattle.server_requests.specs.OpenStore.Store.{IsOpen, IsSettled, ServesSome, closed};
     ghost use Rattle.server_requests.specs.ServerCommands.Leaving.{IsFound, LeavesAll};
     ghost use Rattle.server_requests.specs.Asking.{IsForMemory};
     ghost use Rattle.cloud_server.specs.Names.{header_of};
     ghost use Rattle.cloud_server.specs.Openings.{NotBegunIs, OtherStoreIs};
     ghost use Rattle.cloud_server.specs.Serving.{number_of, IsServing, server_serves, settled_with, ReopensAs};
-    ghost use Rattle.cloud_server.specs.Serving.{ExecutesAs, Answered, Refused, CanOpen};
+    ghost use Rattle.cloud_server.specs.Serving.{ExecutesAs, Answered, IsUnopenedReply, CanOpen};
     ghost use Rattle.cloud_server.specs.Serving.{ChangesBehind, EntersBy, OpensFirst};
 
     /// A closed server of this cloud of a store of this shape, in these rooms. It takes all its memory here; the only
@@ -66,7 +63,7 @@ impl Server {
         alloc: Global,
         cloud: CloudNo,
         shape: Shape,
-        rooms: Rooms,
+        rooms: UserRooms,
     ) -> Result<Server, NoMemory>
         requires cloud { cloud.0 < shape.n }
         requires rooms { AreRooms rooms }
@@ -255,23 +252,23 @@ impl Server {
             → (shelf.new ≡ shelf.old) × (self.new.store ≡ self.old.store) }
         ensures refusals { (r : Request) → asked_at self.old.store.header.shape request.now ≡ Ok r
             → IsOpen self.new.store ⊎ ((reply.new ≡ reply_bytes replies.Fault)
-            ⊎ Refused self.old.store (V.cloud_at shelf.old (number_of self.old))
+            ⊎ IsUnopenedReply self.old.store (V.cloud_at shelf.old (number_of self.old))
             (V.cloud_at shelf.new (number_of self.old)) reply.new) }
         ensures closed { (r : Request) → IsTrue (V.cloud_at shelf.old (number_of self.old)).told
             → ¬ (IsOpen self.old.store) → asked_at self.old.store.header.shape request.now ≡ Ok r
             → CanOpen self.old.store (V.cloud_at shelf.old (number_of self.old))
-            ⊎ Refused self.old.store (V.cloud_at shelf.old (number_of self.old))
+            ⊎ IsUnopenedReply self.old.store (V.cloud_at shelf.old (number_of self.old))
             (V.cloud_at shelf.new (number_of self.old)) reply.new }
         ensures first { (r : Request) → IsTrue (V.cloud_at shelf.old (number_of self.old)).told
             → ¬ (IsOpen self.old.store) → asked_at self.old.store.header.shape request.now ≡ Ok r
             → OpensFirst self.old.store self.new.store (V.cloud_at shelf.old (number_of self.old))
             (V.cloud_at shelf.new (number_of self.old)) r reply.new
-            ⊎ Refused self.old.store (V.cloud_at shelf.old (number_of self.old))
+            ⊎ IsUnopenedReply self.old.store (V.cloud_at shelf.old (number_of self.old))
             (V.cloud_at shelf.new (number_of self.old)) reply.new }
         ensures call { IsCall (V.cloud_at shelf.old) (V.cloud_at shelf.new) (number_of self.old) (V.faults shelf.old)
             (V.faults shelf.new) }
     {
-        match Asked::read(self.store.header.shape, request) {
+        match StoreRequest::read(self.store.header.shape, request) {
             Ok(asked) => answer(&mut self.store, shelf, &asked, &mut self.buffer, reply),
             Err(at) => write_malformed(reply, at),
         }

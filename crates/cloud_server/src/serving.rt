@@ -1,53 +1,52 @@
 //! A request that was read, from an opening on where the server is closed.
 
 ghost use Rattle.std.specs.Prelude.{◌≡◌, ◌⊎◌, ℕ, List, None, length, IsTrue, OnOk, OnErr, IfErr, Ok};
-ghost use Rattle.cd_base.specs.declared.ids.Fp.{Fp};
-ghost use Rattle.cd_edges.specs.Shelf.{IsCall, HasFailed, KeepsCounts, Stays};
-ghost use Rattle.half_journal.specs.Openings.{OnFault};
-ghost use Rattle.messages.specs.declared.reply.Reply.{Reply};
-ghost use Rattle.messages.specs.declared.reply.Reply.TheVariants as replies;
-ghost use Rattle.messages.specs.Replies.{IsReply, reply_bytes};
-ghost use Rattle.messages.specs.Requests.{FitsRequest};
-ghost use Rattle.user_dedup.specs.declared.command.Command.{Command};
-ghost use Rattle.user_dedup.specs.Exec.{Peer, MaySettleAs};
-ghost use Rattle.user_dedup.specs.Requests.{HasRecipe};
-ghost use Rattle.cloud_areas.specs.Peers.{ImagesSince, MayBecome};
-ghost use Rattle.store_opening.specs.CloudMemory.Rooms.{memory_of};
+ghost use Rattle.server_requests.specs.CdBase.ids.Fp.{Fp};
+ghost use Rattle.server_requests.specs.CdEdges.Shelf.{IsCall, HasFailed, KeepsCounts, Stays};
+ghost use Rattle.server_requests.specs.HalfJournal.Openings.{OnFault};
+ghost use Rattle.server_requests.specs.Messages.reply.Reply.{Reply};
+ghost use Rattle.server_requests.specs.Messages.reply.Reply.TheVariants as replies;
+ghost use Rattle.server_requests.specs.Messages.Replies.{IsReply, reply_bytes};
+ghost use Rattle.server_requests.specs.Messages.Requests.{FitsRequest};
+ghost use Rattle.server_requests.specs.UserDedup.command.Command.{Command};
+ghost use Rattle.server_requests.specs.UserDedup.Exec.{Peer, MaySettleAs};
+ghost use Rattle.server_requests.specs.UserDedup.Requests.{HasRecipe};
+ghost use Rattle.blob_copy.specs.CloudAreas.Peers.{ImagesSince, MayBecome};
+ghost use Rattle.blob_copy.specs.StoreOpening.CloudMemory.Rooms.{memory_of};
 ghost use Rattle.server_requests.specs.OpenStore.Store.{IsOpen, ServesSome};
 ghost use Rattle.server_requests.specs.ServerCommands.Leaving.{IsFound, LeavesAll};
 ghost use Rattle.server_requests.specs.ServerCommands.Serving.{serves};
 ghost use Rattle.server_requests.specs.Asking.{request_of, IsOfShape, IsForMemory};
-ghost use Rattle.cloud_server.specs.Keeping.{IsKept};
+ghost use Rattle.cloud_server.specs.Keeping.{IsStoreKept};
 ghost use Rattle.cloud_server.specs.Refusals.{MayCome};
-ghost use Rattle.cloud_server.specs.Serving.{ServesAs, ExecutesAs, Answered, IsUnopened, Refused, CanOpen};
+ghost use Rattle.cloud_server.specs.Serving.{ServesAs, ExecutesAs, Answered, IsUnopened, IsUnopenedReply, CanOpen};
 ghost use Rattle.cloud_server.specs.Serving.{ChangesBehind, EntersBy, OpensFirst};
-ghost use Rattle.cloud_server.specs.Steps.{OpensAs, Does, IsOpenedBy};
+ghost use Rattle.cloud_server.specs.Steps.{OpensAs, HasDoneRequest, IsOpenedBy};
 
 use crate::damage::put_refusal;
-use cd_edges::{Failed, Shelf};
-use cloud_areas::peers::law_of_peers;
-use frames::ReplyBuf;
-use half_journal::OpenErr;
-use messages::write_fault;
-use server_requests::{Asked, OpenStore, dispatch};
+use blob_copy::law_of_peers;
+use server_requests::{
+    Failed, OpenErr, OpenStore, ReplyBuf, Shelf, StoreRequest, dispatch, write_fault,
+};
 
 // The reply to a request becomes the content, by an open store.
 fn serve<V: Shelf>(
     store: &mut OpenStore,
     shelf: &mut V,
-    asked: &Asked<'_>,
+    asked: &StoreRequest<'_>,
     buffer: &mut [u8],
     reply: &mut ReplyBuf,
 )
-    requires kept { IsKept store.old (length buffer.old) }
+    requires kept { IsStoreKept store.old (length buffer.old) }
     requires open { IsOpen store.old }
     requires fits { FitsRequest (request_of asked.now) }
     requires recipe { IsOfShape store.old.header.shape asked.now }
     requires has { HasRecipe store.old.header.shape (request_of asked.now) }
-    ensures kept { IsKept store.new (length buffer.new) }
+    ensures kept { IsStoreKept store.new (length buffer.new) }
     ensures header { store.new.header ≡ store.old.header }
     ensures does { (p : Peer) → ServesAs store.old (V.cloud_at shelf.old store.old.header.cloud.0) p
-        → Does store.old store.new (V.cloud_at shelf.new store.old.header.cloud.0) p (request_of asked.now) reply.new }
+        → HasDoneRequest store.old store.new (V.cloud_at shelf.new store.old.header.cloud.0) p
+        (request_of asked.now) reply.new }
     ensures images { (p : Peer) → ServesAs store.old (V.cloud_at shelf.old store.old.header.cloud.0) p
         → ImagesSince (V.cloud_at shelf.old store.old.header.cloud.0)
         (V.cloud_at shelf.new store.old.header.cloud.0) store.old.header
@@ -88,8 +87,8 @@ fn ensure_open<V: Shelf>(
     shelf: &mut V,
     buffer: &mut [u8],
 ) -> Result<(), OpenErr>
-    requires kept { IsKept store.old (length buffer.old) }
-    ensures kept { IsKept store.new (length buffer.new) }
+    requires kept { IsStoreKept store.old (length buffer.old) }
+    ensures kept { IsStoreKept store.new (length buffer.new) }
     ensures header { store.new.header ≡ store.old.header }
     ensures open { OnOk result (IsOpen store.new) }
     ensures shut { OnErr result (¬ (IsOpen store.new)) }
@@ -129,15 +128,15 @@ fn ensure_open<V: Shelf>(
 pub(crate) fn answer<V: Shelf>(
     store: &mut OpenStore,
     shelf: &mut V,
-    asked: &Asked<'_>,
+    asked: &StoreRequest<'_>,
     buffer: &mut [u8],
     reply: &mut ReplyBuf,
 )
-    requires kept { IsKept store.old (length buffer.old) }
+    requires kept { IsStoreKept store.old (length buffer.old) }
     requires fits { FitsRequest (request_of asked.now) }
     requires recipe { IsOfShape store.old.header.shape asked.now }
     requires has { HasRecipe store.old.header.shape (request_of asked.now) }
-    ensures kept { IsKept store.new (length buffer.new) }
+    ensures kept { IsStoreKept store.new (length buffer.new) }
     ensures header { store.new.header ≡ store.old.header }
     ensures exec { (p : Peer) → IsTrue (V.cloud_at shelf.old store.old.header.cloud.0).told
         → ServesAs store.old (V.cloud_at shelf.old store.old.header.cloud.0) p
@@ -173,16 +172,16 @@ pub(crate) fn answer<V: Shelf>(
         → (shelf.new ≡ shelf.old) × (store.new ≡ store.old) }
     ensures refusals { IsOpen store.new
         ⊎ ((reply.new ≡ reply_bytes replies.Fault)
-        ⊎ Refused store.old (V.cloud_at shelf.old store.old.header.cloud.0)
+        ⊎ IsUnopenedReply store.old (V.cloud_at shelf.old store.old.header.cloud.0)
         (V.cloud_at shelf.new store.old.header.cloud.0) reply.new) }
     ensures closed { IsTrue (V.cloud_at shelf.old store.old.header.cloud.0).told → ¬ (IsOpen store.old)
         → CanOpen store.old (V.cloud_at shelf.old store.old.header.cloud.0)
-        ⊎ Refused store.old (V.cloud_at shelf.old store.old.header.cloud.0)
+        ⊎ IsUnopenedReply store.old (V.cloud_at shelf.old store.old.header.cloud.0)
         (V.cloud_at shelf.new store.old.header.cloud.0) reply.new }
     ensures first { IsTrue (V.cloud_at shelf.old store.old.header.cloud.0).told → ¬ (IsOpen store.old)
         → OpensFirst store.old store.new (V.cloud_at shelf.old store.old.header.cloud.0)
         (V.cloud_at shelf.new store.old.header.cloud.0) (request_of asked.now) reply.new
-        ⊎ Refused store.old (V.cloud_at shelf.old store.old.header.cloud.0)
+        ⊎ IsUnopenedReply store.old (V.cloud_at shelf.old store.old.header.cloud.0)
         (V.cloud_at shelf.new store.old.header.cloud.0) reply.new }
     ensures call { IsCall (V.cloud_at shelf.old) (V.cloud_at shelf.new) store.old.header.cloud.0 (V.faults shelf.old)
         (V.faults shelf.new) }

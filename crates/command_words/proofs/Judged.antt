@@ -6,12 +6,12 @@ use Rattle.std.specs.List.{position_or_len}
 use Rattle.std.specs.List.Sorted.{IsStrictlyIncreasing}
 use Rattle.std.proofs.lemmas.Bool.{cases_lt}
 use Rattle.std.proofs.lemmas.List.{get_or_append_left, length-append}
-use Rattle.cd_base.specs.declared.shape.Shape.{Shape}
+use Rattle.session.specs.CdBase.shape.Shape.{Shape}
 use Rattle.session.specs.Reading.{is_comma, listed, sources}
 use Rattle.session.proofs.CloudTexts.{goes_by, are_so, front, full_by, no_number_by, no_rise_by, last_number_by, next_number_by}
-use Rattle.grammar.specs.Numerals.{number}
-use Rattle.grammar.specs.Words.{keep}
-use Rattle.grammar.proofs.WordLaws.{prepend}
+use Rattle.session.specs.Grammar.Numerals.{number}
+use Rattle.session.specs.Grammar.Words.{keep}
+use Rattle.session.proofs.Grammar.WordLaws.{prepend}
 
 -- So many clouds came, and rise; the next one may be this or more.
 pub record SoFar (shape : Shape) (word rest : List ℕ) (count least : ℕ) : Type 0 where

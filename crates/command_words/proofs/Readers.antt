@@ -2,7 +2,7 @@
 use Rattle.std.proofs.Common.{◌≡◌, ℕ, List, [], ◌∷◌, ◌++◌, Option, Some, None, refl, sym, ap, subst, ◌∙◌, append_assoc}
 use Rattle.std.proofs.lemmas.List.{append-nil}
 use Rattle.std.proofs.lemmas.Option.{same_Some}
-use Rattle.grammar.proofs.WordLaws.{Reads}
+use Rattle.session.proofs.Grammar.WordLaws.{Reads}
 use Rattle.command_words.specs.Reading.{◌>>=◌, ◌▷◌, ◌▷▷◌, with_rest, word_at, done_at, whole}
 
 -- a kind of words: what is read is spelled so, and what is spelled so is read

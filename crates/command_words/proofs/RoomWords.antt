@@ -3,10 +3,10 @@ use Rattle.std.proofs.Common.{◌≡◌, ℕ, zero, suc, ◌*◌, ◌/◌, ◌^�
 use Rattle.std.specs.Prelude.{decimal}
 use Rattle.std.proofs.lemmas.Nat.{div-add-mod', le-div, mul-le}
 use Rattle.std.proofs.lemmas.Option.{same_Some}
-use Rattle.journal_start.specs.Ranges.{AreRooms, most_shares, most_recipes, most_owners, most_files}
-use Rattle.journal_start.specs.declared.rooms.Rooms.{Rooms}
-use Rattle.grammar.specs.Numerals.{number}
-use Rattle.grammar.proofs.NumeralLaws.{number_reads}
+use Rattle.session.specs.JournalStart.Ranges.{AreRooms, most_shares, most_recipes, most_owners, most_files}
+use Rattle.session.specs.JournalStart.rooms.UserRooms.{UserRooms}
+use Rattle.session.specs.Grammar.Numerals.{number}
+use Rattle.session.proofs.Grammar.NumeralLaws.{number_reads}
 use Rattle.session.specs.Reading.{make_rooms, each_room}
 use Rattle.command_words.specs.Commands.{rooms_words}
 use Rattle.command_words.specs.Reading.{◌>>=◌, ◌▷◌, ◌▷▷◌, word_at, rooms_at}
@@ -35,7 +35,7 @@ each_spells most users small =
     let le = part_le most users in
     spells_by (number_reads 0 (most / users) (omega arith))
 
-abbrev numbers : Rooms → ℕ × (ℕ × (ℕ × (ℕ × ℕ)))
+abbrev numbers : UserRooms → ℕ × (ℕ × (ℕ × (ℕ × ℕ)))
 numbers r = (r.users, (r.shares, (r.recipes, (r.owners, r.files))))
 
 abbrev number_words : ℕ × (ℕ × (ℕ × (ℕ × ℕ))) → List (List ℕ)
@@ -74,7 +74,7 @@ are_rooms x h = record {
   files = parts_le most_files x.0 x.1.1.1.1 h.1.1.1.1.1;
 }
 
-in_rooms : (r : Rooms) → AreRooms r → InRooms (numbers r)
+in_rooms : (r : UserRooms) → AreRooms r → InRooms (numbers r)
 in_rooms r h = (
   (h.some, h.few),
   (
@@ -86,16 +86,16 @@ in_rooms r h = (
   ),
 )
 
-rooms_take : (words : List (List ℕ)) (r : Rooms) (rest : List (List ℕ)) → rooms_at words ≡ Some (r, rest)
+rooms_take : (words : List (List ℕ)) (r : UserRooms) (rest : List (List ℕ)) → rooms_at words ≡ Some (r, rest)
     → (words ≡ rooms_words r ++ rest) × AreRooms r
 unfolding rooms_at
 rooms_take words r rest e =
     let a = bind_some (numbers_at words) (λ x. Some (make_rooms x.0, x.1)) (r, rest) e in
     let t = lawful_numbers.takes words a.0.0 a.0.1 a.1 in
-    subst (λ (p : Rooms × List (List ℕ)). (words ≡ rooms_words p.0 ++ p.1) × AreRooms p.0)
+    subst (λ (p : UserRooms × List (List ℕ)). (words ≡ rooms_words p.0 ++ p.1) × AreRooms p.0)
     (same_Some (make_rooms a.0.0, a.0.1) (r, rest) a.2) (t.0, are_rooms a.0.0 t.1)
 
-rooms_again : (r : Rooms) (rest : List (List ℕ)) → AreRooms r → rooms_at (rooms_words r ++ rest) ≡ Some (r, rest)
+rooms_again : (r : UserRooms) (rest : List (List ℕ)) → AreRooms r → rooms_at (rooms_words r ++ rest) ≡ Some (r, rest)
 unfolding rooms_at
 rooms_again r rest h = rw (lawful_numbers.again (numbers r) rest (in_rooms r h)) refl
 

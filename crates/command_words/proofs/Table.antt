@@ -7,14 +7,14 @@ use Rattle.std.specs.List.{find}
 use Rattle.std.proofs.lemmas.Slice.Eq.{bytes_eq-Decides}
 use Rattle.std.proofs.lemmas.Bool.{and_from, and_parts, ltb-true, lt-ltb, leb-true, le-leb}
 use Rattle.std.proofs.lemmas.Option.{same_Some}
-use Rattle.cd_base.specs.Limits.{IsPath}
-use Rattle.cd_base.specs.declared.shape.Shape.{Shape}
-use Rattle.journal_start.specs.Ranges.{AreRooms}
-use Rattle.grammar.specs.Numerals.{number}
-use Rattle.grammar.proofs.WordLaws.{keep_some, keep_again}
-use Rattle.grammar.proofs.NumeralLaws.{number_reads}
-use Rattle.grammar.proofs.HexadecimalLaws.{chosen}
-use Rattle.transcript.proofs.Shapes.{shape_of_is}
+use Rattle.session.specs.CdBase.Limits.{IsPath}
+use Rattle.session.specs.CdBase.shape.Shape.{Shape}
+use Rattle.session.specs.JournalStart.Ranges.{AreRooms}
+use Rattle.session.specs.Grammar.Numerals.{number}
+use Rattle.session.proofs.Grammar.WordLaws.{keep_some, keep_again}
+use Rattle.session.proofs.Grammar.NumeralLaws.{number_reads}
+use Rattle.session.proofs.Grammar.HexadecimalLaws.{chosen}
+use Rattle.session.proofs.Transcript.Shapes.{shape_of_is}
 use Rattle.session.specs.Spelling.{cloud_list, AreSources}
 use Rattle.session.specs.Reading.{names_file, needed, shape_with, sources}
 use Rattle.session.proofs.Shapes.{shape_with_some}

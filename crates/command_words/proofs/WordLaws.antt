@@ -3,8 +3,8 @@ use Rattle.std.proofs.Common.{◌≡◌, ◌≤◌, ℕ, true, false, List, [], 
 use Rattle.std.proofs.Common.{inl, inr}
 use Rattle.std.specs.Prelude.{is_some}
 use Rattle.std.proofs.lemmas.Bool.{cases_Bool}
-use Rattle.cd_base.specs.Limits.{IsPath}
-use Rattle.cd_base.specs.declared.shape.Shape.{Shape}
+use Rattle.session.specs.CdBase.Limits.{IsPath}
+use Rattle.session.specs.CdBase.shape.Shape.{Shape}
 use Rattle.session.specs.Reading.{names_file, sources}
 use Rattle.session.proofs.Texts.{names_file_true, names_file_from}
 use Rattle.command_words.specs.Reading.{path}

@@ -1,10 +1,10 @@
 -- What the words of a command ask for, without where they lie in memory.
 use Rattle.std.specs.Prelude.{ℕ, List}
-use Rattle.cd_base.specs.declared.ids.CloudNo.{CloudNo}
-use Rattle.cd_base.specs.declared.ids.UserId.{UserId}
-use Rattle.cd_base.specs.declared.ids.Version.{Version}
-use Rattle.cd_base.specs.declared.shape.Shape.{Shape}
-use Rattle.journal_start.specs.declared.rooms.Rooms.{Rooms}
+use Rattle.session.specs.CdBase.ids.CloudNo.{CloudNo}
+use Rattle.session.specs.CdBase.ids.UserId.{UserId}
+use Rattle.session.specs.CdBase.ids.Version.{Version}
+use Rattle.session.specs.CdBase.shape.Shape.{Shape}
+use Rattle.session.specs.JournalStart.rooms.UserRooms.{UserRooms}
 
 -- a version of a file from the disks of these clouds
 pub record AskedRead : Type 0 where
@@ -49,7 +49,7 @@ pub record AskedCloud : Type 0 where
 -- one cloud of a store in this directory, in these rooms from then on
 pub record AskedMigrate : Type 0 where
   pub place : AskedCloud
-  pub rooms : Rooms
+  pub rooms : UserRooms
 
 -- the session of so many files of so many pieces that this number gives
 pub record AskedSession : Type 0 where

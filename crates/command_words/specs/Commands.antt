@@ -1,10 +1,10 @@
 -- The table of the program's words: a row for each command, its one spelling, and the ranges of what it names.
 use Rattle.std.specs.Prelude.{ℕ, ◌≡◌, ◌<◌, ◌≤◌, ◌*◌, ◌^◌, List, [], ◌∷◌, length, codes, decimal}
-use Rattle.cd_base.specs.Limits.{IsPath}
-use Rattle.cd_base.specs.declared.ids.UserId.{UserId}
-use Rattle.cd_base.specs.declared.ids.Version.{Version}
-use Rattle.journal_start.specs.declared.rooms.Rooms.{Rooms}
-use Rattle.journal_start.specs.Ranges.{AreRooms}
+use Rattle.session.specs.CdBase.Limits.{IsPath}
+use Rattle.session.specs.CdBase.ids.UserId.{UserId}
+use Rattle.session.specs.CdBase.ids.Version.{Version}
+use Rattle.session.specs.JournalStart.rooms.UserRooms.{UserRooms}
+use Rattle.session.specs.JournalStart.Ranges.{AreRooms}
 use Rattle.session.specs.Spelling.{cloud_list, AreSources}
 use Rattle.command_words.specs.Asked.{AskedRead, AskedServe, AskedFile, AskedSpool, AskedResume, AskedCloud, AskedMigrate, AskedSession, Asked}
 use Rattle.command_words.specs.Asked.{ForReplay, ForRead, ForServe, ForBackup, ForRestore, ForDelete, ForSpool, ForResume}
@@ -40,7 +40,7 @@ abbrev pub cloud_words : AskedCloud → List (List ℕ)
 cloud_words c = c.directory ∷ decimal c.cloud.0 ∷ decimal c.shape.n ∷ decimal c.shape.k ∷ []
 
 -- USERS SHARES RECIPES OWNERS FILES
-abbrev pub rooms_words : Rooms → List (List ℕ)
+abbrev pub rooms_words : UserRooms → List (List ℕ)
 rooms_words r = decimal r.users ∷ decimal r.shares ∷ decimal r.recipes ∷ decimal r.owners ∷ decimal r.files ∷ []
 
 -- DIR CLOUD N K USERS SHARES RECIPES OWNERS FILES

@@ -2,11 +2,11 @@
 use Rattle.std.specs.Prelude.{ℕ, ◌≡◌, ◌*◌, Bool, ◌&&◌, List, [], ◌∷◌, length, Option, Some, None, codes, nat_lt, nat_le}
 use Rattle.std.specs.List.{find}
 use Rattle.std.specs.Str.{bytes_eq}
-use Rattle.cd_base.specs.declared.shape.Shape.{Shape}
-use Rattle.grammar.specs.Words.{keep}
-use Rattle.grammar.specs.Numerals.{number}
-use Rattle.journal_start.specs.declared.rooms.Rooms.{Rooms}
-use Rattle.journal_start.specs.Ranges.{most_shares, most_recipes, most_owners, most_files}
+use Rattle.session.specs.CdBase.shape.Shape.{Shape}
+use Rattle.session.specs.Grammar.Words.{keep}
+use Rattle.session.specs.Grammar.Numerals.{number}
+use Rattle.session.specs.JournalStart.rooms.UserRooms.{UserRooms}
+use Rattle.session.specs.JournalStart.Ranges.{most_shares, most_recipes, most_owners, most_files}
 use Rattle.session.specs.Reading.{names_file, needed, sources, make_rooms, each_room}
 use Rattle.command_words.specs.Asked.{AskedRead, AskedServe, AskedFile, AskedSpool, AskedResume, AskedCloud, AskedMigrate, AskedSession, Asked}
 use Rattle.command_words.specs.Asked.{ForReplay, ForRead, ForServe, ForBackup, ForRestore, ForDelete, ForSpool, ForResume}
@@ -77,7 +77,7 @@ unfoldable pub shape_at : List (List ℕ) → Option (Shape × List (List ℕ))
 shape_at words = word_at (number 0 255) words >>= λ n. word_at (needed n.0) n.1
 
 -- USERS SHARES RECIPES OWNERS FILES: how many users there are bounds what each of them holds
-unfoldable pub rooms_at : List (List ℕ) → Option (Rooms × List (List ℕ))
+unfoldable pub rooms_at : List (List ℕ) → Option (UserRooms × List (List ℕ))
 rooms_at words = (word_at (number 1 256) ▷▷ λ users. word_at (each_room most_shares users) ▷ word_at (each_room most_recipes users)
     ▷ word_at (each_room most_owners users) ▷ word_at (each_room most_files users)) words >>= λ x. Some (make_rooms x.0, x.1)
 
@@ -162,7 +162,7 @@ is_of_shape c = nat_lt c.cloud.0 c.shape.n
 unfoldable pub cloud_at : List (List ℕ) → Option AskedCloud
 cloud_at words = keep is_of_shape (whole make_cloud (word_at any ▷ word_at (number 0 255) ▷ shape_at) words)
 
-abbrev pub make_migrate : List ℕ × (ℕ × (Shape × Rooms)) → AskedMigrate
+abbrev pub make_migrate : List ℕ × (ℕ × (Shape × UserRooms)) → AskedMigrate
 make_migrate x = record { place = make_cloud (x.0, (x.1.0, x.1.1.0)); rooms = x.1.1.1 }
 
 abbrev pub is_placed : AskedMigrate → Bool

@@ -1,7 +1,7 @@
 -- What the words that were read ask for.
 use Rattle.std.specs.Prelude.{map, string_bytes}
-use Rattle.command_words.specs.declared.command.Command.{Command}
-use Rattle.command_words.specs.declared.command.Command.TheVariants as commands
+use Rattle.command_words.specs.declared.command.AskedCommand.{AskedCommand}
+use Rattle.command_words.specs.declared.command.AskedCommand.TheVariants as commands
 use Rattle.command_words.specs.declared.command.ReadWords.{ReadWords}
 use Rattle.command_words.specs.declared.command.ServeWords.{ServeWords}
 use Rattle.command_words.specs.declared.command.BackupWords.{BackupWords}
@@ -74,7 +74,7 @@ asked_migrate m = record { place = asked_cloud m.place; rooms = m.rooms }
 abbrev pub asked_session : GenerateWords → AskedSession
 asked_session g = record { seed = g.seed; files = g.files; pieces = g.pieces; directory = g.directory.now }
 
-abbrev pub asked_of : Command → Asked
+abbrev pub asked_of : AskedCommand → Asked
 asked_of (commands.Replay directory) = ForReplay directory.now
 asked_of (commands.Read words) = ForRead (asked_read words)
 asked_of (commands.Serve words) = ForServe (asked_serve words)

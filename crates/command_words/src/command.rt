@@ -1,11 +1,10 @@
 //! What the words of a command ask for.
 
-use cd_base::{CloudNo, Clouds, Shape, UserId, Version};
-use journal_start::Rooms;
+use session::{CloudNo, Clouds, Shape, UserId, UserRooms, Version};
 
 /// What the words ask for.
 #[derive(Debug, Drop)]
-pub enum Command<'a> {
+pub enum AskedCommand<'a> {
     /// The script in the source, over empty clouds in the directory.
     Replay { directory: &'a str },
     /// A version of a file from the disks of k clouds or more.
@@ -140,7 +139,7 @@ pub struct MigrateWords<'a> {
     /// Where the cloud lies, and which one of which shape it is.
     pub place: CloudWords<'a>,
     /// The rooms that it has from then on: 1 to 256 users, who hold no more together than a cloud may.
-    pub rooms: Rooms,
+    pub rooms: UserRooms,
 }
 
 /// `gen SEED FILES PIECES DIR`.

@@ -2,13 +2,13 @@
 
 ghost use Rattle.std.specs.Prelude.{◌≡◌, ◌≤◌, ℕ, List, [], ◌∷◌, Some, None, IfSome, IfOk, MatchOption, is_some, map};
 ghost use Rattle.std.specs.Prelude.{string_bytes, length, if◌then◌else◌, nat_le};
-ghost use Rattle.grammar.specs.Numerals.{number};
+ghost use Rattle.session.specs.Grammar.Numerals.{number};
 ghost use Rattle.session.specs.Reading.{each_room, needed, sources};
 ghost use Rattle.command_words.specs.Reading.{Gives, any, path, rooms_at, shape_at, word_at};
 
-use cd_base::{CloudNo, Clouds, NoMemory, Shape, is_path};
-use grammar::{after, before, len_to, number_of};
-use journal_start::Rooms;
+use session::{
+    CloudNo, Clouds, NoMemory, Shape, UserRooms, after, before, is_path, len_to, number_of,
+};
 use std::alloc::Global;
 
 /// Nothing, where no word is left.
@@ -137,7 +137,7 @@ fn each_word(words: &[String], most: u64, users: u64) -> Option<(u64, &[String])
 
 /// USERS, SHARES, RECIPES, OWNERS and FILES.
 #[tactic(auto, unfolding(crate::specs::Reading::rooms_at))]
-pub fn rooms_words(words: &[String]) -> Option<(Rooms, &[String])>
+pub fn rooms_words(words: &[String]) -> Option<(UserRooms, &[String])>
     ensures { Gives (λ x. (x.0, map string_bytes x.1.now)) result (rooms_at (map string_bytes words.now)) }
 {
     let (users, words) = users_word(words)?;
@@ -145,7 +145,7 @@ pub fn rooms_words(words: &[String]) -> Option<(Rooms, &[String])>
     let (recipes, words) = each_word(words, MOST_RECIPES, users)?;
     let (owners, words) = each_word(words, MOST_OWNERS, users)?;
     let (files, words) = each_word(words, MOST_FILES, users)?;
-    let rooms = Rooms {
+    let rooms = UserRooms {
         users: users as u32,
         shares,
         recipes,

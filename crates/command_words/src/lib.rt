@@ -7,8 +7,12 @@ mod laws;
 mod rows;
 
 pub use command::{
-    BackupWords, CloudWords, Command, DeleteWords, GenerateWords, MigrateWords, ReadWords,
+    AskedCommand, BackupWords, CloudWords, DeleteWords, GenerateWords, MigrateWords, ReadWords,
     RestoreWords, ResumeWords, ServeWords, SpoolWords,
 };
 pub use laws::law_of_words;
 pub use rows::read_words;
+pub use session::{
+    Answer, Bytes, CloudNo, Ending, Line, News, NoMemory, Refusal, SkipWord, TargetWhy, UserId,
+    UserRooms, write_ending, write_line,
+};

@@ -12,13 +12,13 @@ ghost use Rattle.command_words.specs.Views.{asked_read, asked_serve, asked_backu
 ghost use Rattle.command_words.specs.Views.{asked_spool, asked_resume, asked_cloud, asked_migrate, asked_session, asked_of};
 
 use crate::command::{
-    BackupWords, CloudWords, Command, DeleteWords, GenerateWords, MigrateWords, ReadWords,
+    AskedCommand, BackupWords, CloudWords, DeleteWords, GenerateWords, MigrateWords, ReadWords,
     RestoreWords, ResumeWords, ServeWords, SpoolWords,
 };
 use crate::fields::{
     any_word, clouds_of, clouds_word, no_word, number_word, path_word, rooms_words, shape_words,
 };
-use cd_base::{CloudNo, NoMemory, Shape, UserId, Version};
+use session::{CloudNo, NoMemory, Shape, UserId, Version};
 use std::alloc::Global;
 
 // A row of the table.
@@ -316,28 +316,28 @@ fn row_word(words: &[String]) -> Option<(Row, &[String])>
 }
 
 // What the words of a row ask for.
-fn row_of(alloc: Global, row: Row, words: &[String]) -> Result<Option<Command<'_>>, NoMemory>
+fn row_of(alloc: Global, row: Row, words: &[String]) -> Result<Option<AskedCommand<'_>>, NoMemory>
     ensures value { IfOk result (λ o. Gives asked_of o (row_at row (map string_bytes words.now))) }
     ensures memory { OnErr result ((asked : AskedRead)
         × (row_at row (map string_bytes words.now) ≡ Some (ForRead asked))) }
 {
     match row {
-        Row::Replay => Ok(replay_of(words).map(|directory| Command::Replay { directory })),
+        Row::Replay => Ok(replay_of(words).map(|directory| AskedCommand::Replay { directory })),
         Row::Read => match read_of(alloc, words) {
-            Ok(words) => Ok(words.map(Command::Read)),
+            Ok(words) => Ok(words.map(AskedCommand::Read)),
             Err(NoMemory) => Err(NoMemory),
         },
-        Row::Serve => Ok(serve_of(words).map(Command::Serve)),
-        Row::Backup => Ok(file_of(words, 3).map(Command::Backup)),
-        Row::Restore => Ok(restore_of(words).map(Command::Restore)),
-        Row::Delete => Ok(delete_of(words).map(Command::Delete)),
-        Row::Spool => Ok(spool_of(words).map(Command::Spool)),
-        Row::Resume => Ok(resume_of(words).map(Command::Resume)),
-        Row::Audit => Ok(cloud_of(words).map(Command::Audit)),
-        Row::Check => Ok(cloud_of(words).map(Command::Check)),
-        Row::Reclaim => Ok(cloud_of(words).map(Command::Reclaim)),
-        Row::Migrate => Ok(migrate_of(words).map(Command::Migrate)),
-        Row::Generate => Ok(session_of(words).map(Command::Generate)),
+        Row::Serve => Ok(serve_of(words).map(AskedCommand::Serve)),
+        Row::Backup => Ok(file_of(words, 3).map(AskedCommand::Backup)),
+        Row::Restore => Ok(restore_of(words).map(AskedCommand::Restore)),
+        Row::Delete => Ok(delete_of(words).map(AskedCommand::Delete)),
+        Row::Spool => Ok(spool_of(words).map(AskedCommand::Spool)),
+        Row::Resume => Ok(resume_of(words).map(AskedCommand::Resume)),
+        Row::Audit => Ok(cloud_of(words).map(AskedCommand::Audit)),
+        Row::Check => Ok(cloud_of(words).map(AskedCommand::Check)),
+        Row::Reclaim => Ok(cloud_of(words).map(AskedCommand::Reclaim)),
+        Row::Migrate => Ok(migrate_of(words).map(AskedCommand::Migrate)),
+        Row::Generate => Ok(session_of(words).map(AskedCommand::Generate)),
     }
 }
 
@@ -365,7 +365,7 @@ fn row_of(alloc: Global, row: Row, words: &[String]) -> Result<Option<Command<'_
 /// USERS times OWNERS 524,288 and USERS times FILES 16,384.
 ///
 /// `NoMemory`: memory ran out for the clouds of a read. Words that are none of the table are never answered so.
-pub fn read_words(alloc: Global, words: &[String]) -> Result<Option<Command<'_>>, NoMemory>
+pub fn read_words(alloc: Global, words: &[String]) -> Result<Option<AskedCommand<'_>>, NoMemory>
     // What is answered is what the words ask for, and None comes only where they ask for nothing.
     ensures some { IfOk result (λ o. IfSome o (λ c. IsCommand (map string_bytes words.now) (asked_of c))) }
     ensures none { IfOk result (λ o. IfNone o ((asked : Asked) → ¬ IsCommand (map string_bytes words.now) asked)) }

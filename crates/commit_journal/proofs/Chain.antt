@@ -5,7 +5,7 @@ use Rattle.std.proofs.lemmas.Bool.{cases_eq}
 use Rattle.std.proofs.lemmas.List.{take_at, drop_at, drop_more, append-nil}
 use Rattle.cd_edges.specs.Disk.{overwritten}
 use Rattle.cd_edges.proofs.Torn.{Torn}
-use Rattle.commit_journal.specs.Records.{IsBody, sized, framed, chain, AreBodies, IsJournal}
+use Rattle.commit_journal.specs.Records.{IsJournalBody, sized, framed, chain, AreBodies, IsJournal}
 
 pub chain-push : (bodies : List (List ℕ)) (body rest : List ℕ) → chain (bodies ++ body ∷ []) ++ rest ≡ chain bodies ++ 1 ∷ (sized body ++ rest)
 chain-push [] body rest = ap (λ (l : List ℕ). 1 ∷ l) (ap (λ (l : List ℕ). l ++ rest) (append-nil (sized body)))
@@ -16,7 +16,7 @@ pub length-chain-push : (bodies : List (List ℕ)) (body : List ℕ) → length 
 length-chain-push bodies body =
     omega (arith, ap length (chain-push bodies body []), length-append (chain (bodies ++ body ∷ [])) [], length-append (chain bodies) (1 ∷ (sized body ++ [])), length-append body [])
 
-pub bodies_more : (bodies : List (List ℕ)) (body : List ℕ) → AreBodies bodies → IsBody body → AreBodies (bodies ++ body ∷ [])
+pub bodies_more : (bodies : List (List ℕ)) (body : List ℕ) → AreBodies bodies → IsJournalBody body → AreBodies (bodies ++ body ∷ [])
 bodies_more [] body all one = (one, tt)
 bodies_more (b ∷ bodies) body all one = (all.0, bodies_more bodies body all.1 one)
 
@@ -54,7 +54,7 @@ module _ (bodies : List (List ℕ)) (sizes : AreBodies bodies) (place : ℕ) (at
   }
 
   -- a whole record behind a gate counts or it doesn't
-  pub at_gate : (gate : ℕ) (body behind image : List ℕ) → IsBody body → Torn (chain bodies ++ gate ∷ (framed body ++ behind)) place (place + 1) image → IsJournal bodies image ⊎ IsJournal (bodies ++ body ∷ []) image
+  pub at_gate : (gate : ℕ) (body behind image : List ℕ) → IsJournalBody body → Torn (chain bodies ++ gate ∷ (framed body ++ behind)) place (place + 1) image → IsJournal bodies image ⊎ IsJournal (bodies ++ body ∷ []) image
   at_gate gate body behind image one torn =
       let new_gate = get_or image place 0 in
       let rest : drop place image ≡ new_gate ∷ (framed body ++ behind) =

@@ -4,3 +4,4 @@ pub mod FrameRecord
 pub mod Headed
 pub mod Taken
 pub mod Unique
+pub mod CdEdges

@@ -3,7 +3,7 @@ use Rattle.std.proofs.Common.{◌≡◌, ◌≢◌, ℕ, ◌≤◌, List, [], �
 use Rattle.std.proofs.lemmas.List.{take_at, drop_at}
 use Rattle.std.proofs.lemmas.Nat.{from_be_bytes-to_be_bytes_4}
 use Rattle.std.specs.Int.{w32, from_be_bytes}
-use Rattle.commit_journal.specs.Records.{IsBody, sized, chain, AreBodies, IsJournal, IsDamage, LastGate, BadLength}
+use Rattle.commit_journal.specs.Records.{IsJournalBody, sized, chain, AreBodies, IsJournal, IsDamage, LastGate, BadLength}
 use Rattle.commit_journal.specs.Frames.{IsRecord}
 
 same_length : (a b one two : List ℕ) → length a ≤ 65535 → length b ≤ 65535 → sized a ++ one ≡ sized b ++ two → length a ≡ length b
@@ -51,7 +51,7 @@ first_of (a ∷ one) (b ∷ two) s t rest h ys closed e =
 
 -- ---- whole records
 
-pub whole_record : (b : List ℕ) (more : List (List ℕ)) (gate : ℕ) (behind rest : List ℕ) → IsBody b → rest ≡ chain (b ∷ more) ++ gate ∷ behind → IsRecord rest b
+pub whole_record : (b : List ℕ) (more : List (List ℕ)) (gate : ℕ) (behind rest : List ℕ) → IsJournalBody b → rest ≡ chain (b ∷ more) ++ gate ∷ behind → IsRecord rest b
 whole_record b [] gate behind rest one e = record { gate = gate; behind = behind; is_body = one; spelled = e ∙ ap (λ (l : List ℕ). 1 ∷ l) (append_assoc (sized b) [] (gate ∷ behind)) }
 whole_record b (next ∷ more) gate behind rest one e = record {
   gate = 1;

@@ -2,7 +2,7 @@
 use Rattle.std.specs.Prelude.{◌≡◌, ◌≢◌, ℕ, ◌<◌, List, ◌∷◌, ◌++◌, length}
 use Rattle.commit_journal.specs.declared.frame.Frame.{Frame}
 use Rattle.commit_journal.specs.declared.frame.Frame.TheVariants.{Closed, Record, BadLength, Short}
-use Rattle.commit_journal.specs.Records.{IsBody, sized, NoRecord}
+use Rattle.commit_journal.specs.Records.{IsJournalBody, sized, NoRecord}
 
 -- a gate that is closed
 pub record IsClosed (ahead : List ℕ) : Type 0 where
@@ -15,7 +15,7 @@ pub record IsClosed (ahead : List ℕ) : Type 0 where
 pub record IsRecord (ahead body : List ℕ) : Type 0 where
   pub gate : ℕ
   pub behind : List ℕ
-  pub is_body : IsBody body
+  pub is_body : IsJournalBody body
   pub spelled : ahead ≡ 1 ∷ sized body ++ gate ∷ behind
 
 -- an open gate before no length of a body, whatever comes behind

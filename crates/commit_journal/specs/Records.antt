@@ -3,7 +3,7 @@ use Rattle.std.specs.Prelude.{◌≡◌, ◌≢◌, ◌⊎◌, ℕ, ◌+◌, ◌
 use Rattle.std.specs.Int.{w32, to_be_bytes}
 
 -- A body has 1 to 65,535 bytes.
-pub record IsBody (body : List ℕ) : Type 0 where
+pub record IsJournalBody (body : List ℕ) : Type 0 where
   pub some : 1 ≤ length body
   pub few : length body ≤ 65535
 
@@ -23,7 +23,7 @@ chain (body ∷ bodies) = 1 ∷ sized body ++ chain bodies
 -- each of them is a body
 abbrev pub AreBodies : List (List ℕ) → Type 0
 AreBodies [] = Unit {0}
-AreBodies (body ∷ bodies) = IsBody body × AreBodies bodies
+AreBodies (body ∷ bodies) = IsJournalBody body × AreBodies bodies
 
 -- The open records are those of these bodies. Behind them stands the first closed gate, which is any byte but 1, and
 -- behind that anything.
@@ -46,7 +46,8 @@ is_begun (gate ∷ next ∷ rest) = gate == 1
 
 -- What stands at a gate is no open record with its next gate, whatever its body.
 abbrev pub NoRecord : List ℕ → Type 0
-NoRecord rest = (body : List ℕ) (gate : ℕ) (behind : List ℕ) → IsBody body → rest ≡ 1 ∷ sized body ++ gate ∷ behind → ⊥
+NoRecord rest = (body : List ℕ) (gate : ℕ) (behind : List ℕ) → IsJournalBody body
+    → rest ≡ 1 ∷ sized body ++ gate ∷ behind → ⊥
 
 -- The damage of an open record whose gate stands at `gate`, before `rest`: the gate is the last byte, or else no length
 -- and no body with a next gate follow it. It is the gate's place, or the first place of the length.

@@ -6,6 +6,10 @@ mod errors;
 mod frame;
 mod laws;
 
+pub use cd_edges::{
+    Area, Bytes, CloudNo, Clouds, Failed, NoMemory, Place, Ports, RECIPE_LIMIT, Room, Rooms, Shape,
+    Shelf, Sink, Source, UserId, Version, write_all, write_synced,
+};
 pub use errors::JournalErr;
 pub use frame::{Frame, GREATEST, WINDOW, frame_of};
 pub use laws::law_of_journals;

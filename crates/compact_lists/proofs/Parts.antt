@@ -6,10 +6,10 @@ use Rattle.std.specs.List.{Contains, flat_map, sum_by}
 use Rattle.std.proofs.lemmas.Bool.{cases_eq}
 use Rattle.std.proofs.lemmas.List.Concat.{length-flat_map}
 use Rattle.std.proofs.lemmas.List.Elements.{Contains-append_cases}
-use Rattle.cd_base.specs.declared.ids.Fp.{Fp}
-use Rattle.cd_base.specs.declared.ids.UserId.{UserId}
-use Rattle.cd_base.specs.declared.shape.Shape.{Shape}
-use Rattle.messages.specs.declared.request.Request.TheVariants as requests
+use Rattle.user_dedup.specs.CdBase.ids.Fp.{Fp}
+use Rattle.user_dedup.specs.CdBase.ids.UserId.{UserId}
+use Rattle.user_dedup.specs.CdBase.shape.Shape.{Shape}
+use Rattle.user_dedup.specs.Messages.request.Request.TheVariants as requests
 use Rattle.user_dedup.specs.declared.file_list.FileEntry.{FileEntry}
 use Rattle.user_dedup.specs.declared.view.View.{View}
 use Rattle.user_dedup.specs.Strings.{fingerprint}
@@ -17,7 +17,7 @@ use Rattle.user_dedup.specs.Cloud.{user_of, user_view, view_after}
 use Rattle.user_dedup.specs.Dedup.{answer_over, IsSound, Begun, Added}
 use Rattle.user_dedup.specs.Owning.{new_strings, first_lacking}
 use Rattle.user_dedup.specs.Pages.{key_of, entry_at, AreApart}
-use Rattle.messages.specs.declared.request.Request.{Request}
+use Rattle.user_dedup.specs.Messages.request.Request.{Request}
 use Rattle.user_dedup.specs.Requests.{fps_of, asker}
 use Rattle.user_dedup.proofs.New.{are_new}
 use Rattle.user_dedup.proofs.Owned.{contains_here, contains_later, contains_nothing, contains_cases}

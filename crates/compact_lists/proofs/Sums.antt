@@ -8,14 +8,14 @@ use Rattle.std.specs.Ordering.{nat_cmp, ordering_then, match_ordering}
 use Rattle.std.specs.Cmp.Lexicographic.{slice_cmp}
 use Rattle.std.specs.FinMap.{nat_cmp-IsAntisymmetric, slice_cmp-IsAntisymmetric}
 use Rattle.std.proofs.lemmas.List.Sums.{sum_by-cons, sum_by-append}
-use Rattle.cd_base.specs.declared.ids.Fp.{Fp}
-use Rattle.message_fields.specs.Keys.{key_cmp}
-use Rattle.cd_base.specs.Order.{fp_cmp, fp_exact}
+use Rattle.user_dedup.specs.CdBase.ids.Fp.{Fp}
+use Rattle.user_dedup.specs.MessageFields.Keys.{key_cmp}
+use Rattle.user_dedup.specs.CdBase.Order.{fp_cmp, fp_exact}
 use Rattle.user_dedup.specs.declared.file_list.FileEntry.{FileEntry}
 use Rattle.user_dedup.specs.Pages.{key_of, is_at, entry_at, AreApart, with_key, sorted_keys}
 use Rattle.user_dedup.proofs.Owned.{contains_here, contains_later, contains_nothing, contains_cases}
 use Rattle.user_dedup.specs.Compact.{with_fp, sorted_fps}
-use Rattle.user_dedup.proofs.Entries.{at_its_key, its_key}
+use Rattle.user_dedup.proofs.EntryLists.{at_its_key, its_key}
 use Rattle.user_dedup.proofs.Once.{Once}
 use Rattle.user_dedup.proofs.Sorting.{Key, fps_from}
 

@@ -1,20 +1,20 @@
 -- What of a list is alive: what its users own and have.
 use Rattle.std.specs.Prelude.{ℕ, ◌+◌, ◌/◌, List, length}
 use Rattle.std.specs.List.{sum_by, Contains}
-use Rattle.cd_base.specs.declared.ids.Fp.{Fp}
-use Rattle.cd_base.specs.declared.ids.UserId.{UserId}
-use Rattle.cd_base.specs.declared.shape.Shape.{Shape}
+use Rattle.user_dedup.specs.CdBase.ids.Fp.{Fp}
+use Rattle.user_dedup.specs.CdBase.ids.UserId.{UserId}
+use Rattle.user_dedup.specs.CdBase.shape.Shape.{Shape}
 use Rattle.user_dedup.specs.declared.file_list.FileEntry.{FileEntry}
 use Rattle.user_dedup.specs.declared.command.Command.{Command}
 use Rattle.user_dedup.specs.Cloud.{user_view, held_bytes}
-use Rattle.user_dedup.specs.Spending.{Spent}
+use Rattle.user_dedup.specs.Spending.{SpentByUser}
 
 -- how many bytes are held under a fingerprint
 abbrev pub bytes_held : List Command → Fp → ℕ
 bytes_held list fp = length (held_bytes list fp)
 
 -- what a user keeps: what it owns, the bytes held under that, and the bytes of its entries' recipes
-abbrev pub live_of : Shape → List Command → UserId → Spent
+abbrev pub live_of : Shape → List Command → UserId → SpentByUser
 live_of shape list user = record {
   owners = length (user_view shape list user).own;
   shares = sum_by (bytes_held list) (user_view shape list user).own;

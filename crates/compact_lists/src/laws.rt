@@ -2,10 +2,10 @@
 
 ghost use Rattle.std.specs.Prelude.{◌≡◌, ◌≤◌, ◌+◌, ◌↔◌, ℕ, List, length, map, count_by, bytes_eq, slice_get, Some};
 ghost use Rattle.std.specs.List.{Contains, sum_by};
-ghost use Rattle.cd_base.specs.declared.ids.Fp.{Fp};
-ghost use Rattle.cd_base.specs.declared.ids.UserId.{UserId};
-ghost use Rattle.cd_base.specs.declared.shape.Shape.{Shape};
-ghost use Rattle.journal_start.specs.declared.rooms.Rooms.{Rooms};
+ghost use Rattle.user_dedup.specs.CdBase.ids.Fp.{Fp};
+ghost use Rattle.user_dedup.specs.CdBase.ids.UserId.{UserId};
+ghost use Rattle.user_dedup.specs.CdBase.shape.Shape.{Shape};
+ghost use Rattle.user_dedup.specs.JournalStart.rooms.UserRooms.{UserRooms};
 ghost use Rattle.user_dedup.specs.Strings.{fingerprint};
 ghost use Rattle.user_dedup.specs.declared.command.Command.{Command};
 ghost use Rattle.user_dedup.specs.Dedup.{IsSound};
@@ -39,10 +39,10 @@ pub fn law_of_spent_compact()
 
 /// A compact list is within some rooms where each user is at its end, and where the list was.
 pub fn law_of_compact_rooms()
-    ensures by_end { (shape : Shape) (rooms : Rooms) (list : List Command)
+    ensures by_end { (shape : Shape) (rooms : UserRooms) (list : List Command)
         → ((user : UserId) → UsesWithin shape rooms (compact shape list) user)
         → IsWithin shape rooms (compact shape list) }
-    ensures stays { (shape : Shape) (cloud : ℕ) (rooms : Rooms) (list : List Command) → IsSound shape cloud list
+    ensures stays { (shape : Shape) (cloud : ℕ) (rooms : UserRooms) (list : List Command) → IsSound shape cloud list
         → IsWithin shape rooms list → IsWithin shape rooms (compact shape list) }
 {}
 

@@ -2,3 +2,5 @@
 #![tactic(auto)]
 
 pub mod laws;
+
+pub use user_dedup::{CloudNo, Fp, Place, UserId, UserRooms, sha256};

@@ -3,21 +3,21 @@ use Rattle.std.proofs.Common.{◌≡◌, ℕ, ◌<◌, ◌≤◌, List, length, 
 use Rattle.std.specs.Prelude.{◌↔◌}
 use Rattle.std.specs.FinMap.{get}
 use Rattle.std.specs.List.{Contains}
-use Rattle.cd_base.specs.declared.ids.Fp.{Fp}
-use Rattle.cd_base.specs.declared.ids.UserId.{UserId}
-use Rattle.cd_base.specs.declared.place.Place.{Place}
-use Rattle.container_log.specs.Places.{end_of_laid}
-use Rattle.file_index.specs.declared.key.Entry.{Entry}
-use Rattle.file_index.specs.declared.key.FileKey.{FileKey}
-use Rattle.file_index.specs.Files.{Files}
-use Rattle.pool_map.specs.Slots.{IsListed}
-use Rattle.share_index.specs.Shares.{Shares}
-use Rattle.spent_table.specs.declared.Spent.{Spent}
-use Rattle.cloud_areas.specs.Placing.{region_start}
-use Rattle.cloud_memory.specs.declared.cloud.CloudMemory.{CloudMemory}
-use Rattle.cloud_memory.specs.Memory.{Memory, as_spent}
-use Rattle.cloud_memory.specs.Moving.{with_ends}
-use Rattle.cloud_memory.specs.Rooms.{memory_of}
+use Rattle.compact_lists.specs.CdBase.ids.Fp.{Fp}
+use Rattle.compact_lists.specs.CdBase.ids.UserId.{UserId}
+use Rattle.compact_lists.specs.CdBase.place.Place.{Place}
+use Rattle.checkpoints.specs.ContainerLog.Places.{end_of_laid}
+use Rattle.checkpoints.specs.FileIndex.key.Entry.{Entry}
+use Rattle.checkpoints.specs.FileIndex.key.FileKey.{FileKey}
+use Rattle.checkpoints.specs.FileIndex.Files.{Files}
+use Rattle.checkpoints.specs.PoolMap.Slots.{IsListed}
+use Rattle.checkpoints.specs.ShareIndex.Shares.{Shares}
+use Rattle.checkpoints.specs.SpentTable.Spent.{Spent}
+use Rattle.checkpoints.specs.CloudAreas.Placing.{region_start}
+use Rattle.checkpoints.specs.CloudMemory.cloud.CloudMemory.{CloudMemory}
+use Rattle.checkpoints.specs.CloudMemory.Memory.{Memory, as_spent}
+use Rattle.checkpoints.specs.CloudMemory.Moving.{with_ends}
+use Rattle.checkpoints.specs.CloudMemory.Rooms.{memory_of}
 use Rattle.compact_memories.specs.Kept.{live_in, live_places, entries_in, live_entries, kept_in}
 use Rattle.compact_memories.specs.Moved.{new_places, new_entries, lens_of, entry_lens, IsMoved}
 use Rattle.compact_memories.specs.Passes.{row_of, DroppedSoFar, SetSoFar}

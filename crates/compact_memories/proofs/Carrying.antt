@@ -4,22 +4,22 @@ use Rattle.std.specs.Prelude.{◌↔◌, option_map}
 use Rattle.std.specs.FinMap.{FinMap, get}
 use Rattle.std.specs.List.{Contains}
 use Rattle.std.proofs.lemmas.Bool.{lt-ltb}
-use Rattle.cd_base.specs.declared.ids.Fp.{Fp}
-use Rattle.cd_base.specs.declared.ids.UserId.{UserId}
-use Rattle.cd_base.specs.declared.place.Place.{Place}
-use Rattle.container_log.specs.Places.{place_of, end_after, end_of_laid}
-use Rattle.file_index.specs.declared.key.Entry.{Entry}
-use Rattle.file_index.specs.declared.key.FileKey.{FileKey}
-use Rattle.file_index.specs.Files.{Files}
-use Rattle.pool_map.specs.Slots.{slot_of, IsListed, IsRewritten}
-use Rattle.share_index.specs.Order.{owner_cmp}
-use Rattle.share_index.specs.Shares.{Shares, owners_of}
-use Rattle.cloud_memory.specs.declared.cloud.CloudMemory.{CloudMemory}
-use Rattle.cloud_memory.specs.Live as slots
-use Rattle.cloud_memory.specs.Live.{owned_only, IsEachLive}
-use Rattle.cloud_memory.specs.Memory.{Memory}
-use Rattle.cloud_memory.specs.Moving.{with_place, with_recipe_at, lying_at}
-use Rattle.cloud_memory.specs.Rooms.{memory_of}
+use Rattle.compact_lists.specs.CdBase.ids.Fp.{Fp}
+use Rattle.compact_lists.specs.CdBase.ids.UserId.{UserId}
+use Rattle.compact_lists.specs.CdBase.place.Place.{Place}
+use Rattle.checkpoints.specs.ContainerLog.Places.{place_of, end_after, end_of_laid}
+use Rattle.checkpoints.specs.FileIndex.key.Entry.{Entry}
+use Rattle.checkpoints.specs.FileIndex.key.FileKey.{FileKey}
+use Rattle.checkpoints.specs.FileIndex.Files.{Files}
+use Rattle.checkpoints.specs.PoolMap.Slots.{slot_of, IsListed, IsRewritten}
+use Rattle.checkpoints.specs.ShareIndex.Order.{owner_cmp}
+use Rattle.checkpoints.specs.ShareIndex.Shares.{Shares, owners_of}
+use Rattle.checkpoints.specs.CloudMemory.cloud.CloudMemory.{CloudMemory}
+use Rattle.checkpoints.specs.CloudMemory.Live as slots
+use Rattle.checkpoints.specs.CloudMemory.Live.{owned_only, IsEachLive}
+use Rattle.checkpoints.specs.CloudMemory.Memory.{Memory}
+use Rattle.checkpoints.specs.CloudMemory.Moving.{with_place, with_recipe_at, lying_at}
+use Rattle.checkpoints.specs.CloudMemory.Rooms.{memory_of}
 use Rattle.checkpoints.specs.Picking.{picked}
 use Rattle.checkpoints.proofs.Sought.{from_picked, in_picked}
 use Rattle.compact_memories.specs.Kept.{live_at, live_in, live_places, entries_in, live_entries}

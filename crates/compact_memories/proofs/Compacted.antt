@@ -3,33 +3,33 @@ use Rattle.std.proofs.Common.{◌≡◌, ℕ, Bool, true, false, cond, List, [],
 use Rattle.std.specs.Prelude.{◌↔◌, is_some, IsSome, option_map, unwrap_or, bytes_eq}
 use Rattle.std.specs.FinMap.{get}
 use Rattle.std.specs.List.{Contains}
-use Rattle.cd_base.specs.declared.ids.Fp.{Fp}
-use Rattle.cd_base.specs.declared.ids.Tag.{Tag}
-use Rattle.cd_base.specs.declared.ids.UserId.{UserId}
-use Rattle.cd_base.specs.declared.ids.Version.{Version}
-use Rattle.cd_base.specs.declared.shape.Shape.{Shape}
-use Rattle.file_index.specs.declared.key.FileKey.{FileKey}
-use Rattle.file_index.specs.Files.{key_of}
-use Rattle.cd_base.specs.declared.place.Place.{Place}
-use Rattle.share_index.specs.Order.{owner_of}
-use Rattle.share_index.proofs.Owning.{value-of}
-use Rattle.spent_table.specs.Spending.{spent_by}
-use Rattle.user_dedup.specs.Strings.{fingerprint}
-use Rattle.user_dedup.specs.Owning.{is_among}
-use Rattle.user_dedup.specs.Pages.{entry_at}
-use Rattle.user_dedup.proofs.Owned.{among_contains, contains_among, contains_here, contains_later, contains_nothing, contains_cases}
-use Rattle.user_dedup.specs.declared.command.Command.{Command}
-use Rattle.user_dedup.specs.Dedup.{IsSound}
-use Rattle.user_dedup.specs.Cloud.{user_view, strings_in, held_string, held_bytes}
-use Rattle.user_dedup.specs.Compact.{compact}
-use Rattle.user_dedup.proofs.Compacting.{same_own, same_entries, same_held}
-use Rattle.user_dedup.proofs.Views.{owned_is_held, held_is}
-use Rattle.cloud_memory.specs.declared.cloud.CloudMemory.{CloudMemory}
-use Rattle.cloud_memory.specs.Memory.{Memory, Remembers, as_spent, uses_of, summary, summary_of}
-use Rattle.cloud_memory.specs.Rooms.{memory_of}
+use Rattle.compact_lists.specs.CdBase.ids.Fp.{Fp}
+use Rattle.compact_lists.specs.CdBase.ids.Tag.{Tag}
+use Rattle.compact_lists.specs.CdBase.ids.UserId.{UserId}
+use Rattle.compact_lists.specs.CdBase.ids.Version.{Version}
+use Rattle.compact_lists.specs.CdBase.shape.Shape.{Shape}
+use Rattle.checkpoints.specs.FileIndex.key.FileKey.{FileKey}
+use Rattle.checkpoints.specs.FileIndex.Files.{key_of}
+use Rattle.compact_lists.specs.CdBase.place.Place.{Place}
+use Rattle.checkpoints.specs.ShareIndex.Order.{owner_of}
+use Rattle.checkpoints.proofs.ShareIndexLaws.Owning.{value-of}
+use Rattle.checkpoints.specs.SpentTable.Spending.{spent_by}
+use Rattle.compact_lists.specs.UserDedup.Strings.{fingerprint}
+use Rattle.compact_lists.specs.UserDedup.Owning.{is_among}
+use Rattle.compact_lists.specs.UserDedup.Pages.{entry_at}
+use Rattle.compact_lists.proofs.UserDedup.Owned.{among_contains, contains_among, contains_here, contains_later, contains_nothing, contains_cases}
+use Rattle.compact_lists.specs.UserDedup.command.Command.{Command}
+use Rattle.compact_lists.specs.UserDedup.Dedup.{IsSound}
+use Rattle.compact_lists.specs.UserDedup.Cloud.{user_view, strings_in, held_string, held_bytes}
+use Rattle.compact_lists.specs.UserDedup.Compact.{compact}
+use Rattle.compact_lists.proofs.UserDedup.Compacting.{same_own, same_entries, same_held}
+use Rattle.compact_lists.proofs.UserDedup.Views.{owned_is_held, held_is}
+use Rattle.checkpoints.specs.CloudMemory.cloud.CloudMemory.{CloudMemory}
+use Rattle.checkpoints.specs.CloudMemory.Memory.{Memory, Remembers, as_spent, uses_of, summary, summary_of}
+use Rattle.checkpoints.specs.CloudMemory.Rooms.{memory_of}
 use Rattle.checkpoints.specs.Known.{AreListed}
 use Rattle.compact_lists.specs.Live.{live_of}
-use Rattle.compact_lists.proofs.Rooms.{strings_kept}
+use Rattle.compact_lists.proofs.RoomLaws.{strings_kept}
 use Rattle.compact_lists.proofs.Spent.{spent_kept, uses_kept}
 use Rattle.compact_memories.specs.Kept.{live_places, IsCompacted, RemembersCompact}
 use Rattle.compact_memories.proofs.Live.{live_from, live_to}

@@ -4,13 +4,13 @@ use Rattle.std.specs.Prelude.{All}
 use Rattle.std.specs.List.{sum_by}
 use Rattle.std.proofs.lemmas.List.Elements.{All-nil, All-cons, All-head, All-tail}
 use Rattle.std.proofs.lemmas.List.Sums.{sum_by-cons}
-use Rattle.cd_base.specs.declared.ids.Fp.{Fp}
-use Rattle.container_log.specs.Places.{container_len, place_of, end_after, end_of_laid}
-use Rattle.container_log.proofs.Least.{place_cases, place_behind, least_place}
-use Rattle.cd_base.specs.declared.place.Place.{Place}
-use Rattle.cloud_areas.specs.Placing.{region_start, end_of, AreBehind, places_of}
-use Rattle.cloud_areas.specs.Chains.{LiesIn, DontOverlap}
-use Rattle.cloud_areas.proofs.Ends.{apart_more}
+use Rattle.compact_lists.specs.CdBase.ids.Fp.{Fp}
+use Rattle.checkpoints.specs.ContainerLog.Places.{container_len, place_of, end_after, end_of_laid}
+use Rattle.checkpoints.proofs.ContainerLog.Least.{place_cases, place_behind, least_place}
+use Rattle.compact_lists.specs.CdBase.place.Place.{Place}
+use Rattle.checkpoints.specs.CloudAreas.Placing.{region_start, end_of, AreBehind, places_of}
+use Rattle.checkpoints.specs.CloudAreas.Chains.{LiesIn, DontOverlap}
+use Rattle.checkpoints.proofs.CloudAreas.Ends.{apart_more}
 use Rattle.compact_memories.specs.Moved.{new_places, lens_of}
 
 abbrev Share : Type 0

@@ -5,17 +5,17 @@ use Rattle.std.specs.List.{Contains}
 use Rattle.std.specs.FinMap.{FinMap, get}
 use Rattle.std.proofs.lemmas.Bool.{cases_eq, cases_lt}
 use Rattle.std.proofs.lemmas.List.{get_or_past}
-use Rattle.cd_base.specs.declared.ids.Fp.{Fp}
-use Rattle.cd_base.specs.declared.place.Place.{Place}
-use Rattle.pool_map.specs.Slots.{slot_of, IsListed}
-use Rattle.share_index.specs.Emptied.{IsEmptied}
-use Rattle.share_index.specs.Order.{owner_cmp}
-use Rattle.share_index.specs.Shares.{owners_of}
-use Rattle.cloud_memory.specs.declared.cloud.CloudMemory.{CloudMemory}
-use Rattle.cloud_memory.specs.Live.{owned_only}
-use Rattle.cloud_memory.specs.Memory.{Memory}
-use Rattle.cloud_memory.specs.Moving.{without_place}
-use Rattle.cloud_memory.specs.Rooms.{memory_of}
+use Rattle.compact_lists.specs.CdBase.ids.Fp.{Fp}
+use Rattle.compact_lists.specs.CdBase.place.Place.{Place}
+use Rattle.checkpoints.specs.PoolMap.Slots.{slot_of, IsListed}
+use Rattle.checkpoints.specs.ShareIndex.Emptied.{IsEmptied}
+use Rattle.checkpoints.specs.ShareIndex.Order.{owner_cmp}
+use Rattle.checkpoints.specs.ShareIndex.Shares.{owners_of}
+use Rattle.checkpoints.specs.CloudMemory.cloud.CloudMemory.{CloudMemory}
+use Rattle.checkpoints.specs.CloudMemory.Live.{owned_only}
+use Rattle.checkpoints.specs.CloudMemory.Memory.{Memory}
+use Rattle.checkpoints.specs.CloudMemory.Moving.{without_place}
+use Rattle.checkpoints.specs.CloudMemory.Rooms.{memory_of}
 use Rattle.checkpoints.proofs.Sought.{from_picked, in_picked}
 use Rattle.compact_memories.specs.Kept.{live_at, live_places}
 use Rattle.compact_memories.specs.Passes.{dead_in, DroppedSoFar}

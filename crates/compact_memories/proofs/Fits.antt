@@ -3,16 +3,16 @@ use Rattle.std.proofs.Common.{◌≡◌, ℕ, ◌≤◌, Option, Some, None, ref
 use Rattle.std.specs.Prelude.{is_some, IsSome, option_map}
 use Rattle.std.specs.FinMap.{get}
 use Rattle.std.specs.List.{Contains}
-use Rattle.cd_base.specs.declared.ids.Fp.{Fp}
-use Rattle.cd_base.specs.declared.place.Place.{Place}
-use Rattle.file_index.specs.declared.key.Entry.{Entry}
-use Rattle.file_index.specs.declared.key.FileKey.{FileKey}
-use Rattle.share_index.specs.Order.{owner_of}
-use Rattle.share_index.proofs.Owning.{value-of}
-use Rattle.cloud_memory.specs.declared.cloud.CloudMemory.{CloudMemory}
-use Rattle.cloud_memory.specs.Fitting.{FitsRecords}
-use Rattle.cloud_memory.specs.Memory.{Memory, summary}
-use Rattle.cloud_memory.specs.Rooms.{memory_of}
+use Rattle.compact_lists.specs.CdBase.ids.Fp.{Fp}
+use Rattle.compact_lists.specs.CdBase.place.Place.{Place}
+use Rattle.checkpoints.specs.FileIndex.key.Entry.{Entry}
+use Rattle.checkpoints.specs.FileIndex.key.FileKey.{FileKey}
+use Rattle.checkpoints.specs.ShareIndex.Order.{owner_of}
+use Rattle.checkpoints.proofs.ShareIndexLaws.Owning.{value-of}
+use Rattle.checkpoints.specs.CloudMemory.cloud.CloudMemory.{CloudMemory}
+use Rattle.checkpoints.specs.CloudMemory.Fitting.{FitsRecords}
+use Rattle.checkpoints.specs.CloudMemory.Memory.{Memory, summary}
+use Rattle.checkpoints.specs.CloudMemory.Rooms.{memory_of}
 use Rattle.checkpoints.specs.Known.{AreListed}
 use Rattle.checkpoints.proofs.Holders.{owners_some}
 use Rattle.checkpoints.proofs.Sought.{from_picked, in_picked}

@@ -5,35 +5,35 @@ use Rattle.std.specs.List.{Contains}
 use Rattle.std.specs.FinMap.{get}
 use Rattle.std.proofs.lemmas.Bool.{eqb-true, cases_lt}
 use Rattle.std.proofs.lemmas.List.{get_or_past}
-use Rattle.cd_base.specs.declared.ids.Fp.{Fp}
-use Rattle.cd_base.specs.declared.ids.UserId.{UserId}
-use Rattle.cd_base.specs.declared.shape.Shape.{Shape}
-use Rattle.pool_map.specs.Accounts.{keys_of}
-use Rattle.file_index.specs.declared.key.Entry.{Entry}
-use Rattle.file_index.specs.declared.key.FileKey.{FileKey}
-use Rattle.file_index.specs.Order.{key_exact}
-use Rattle.file_index.proofs.Order.{key_total}
-use Rattle.share_index.specs.declared.key.Owner.{Owner}
-use Rattle.share_index.specs.Order.{owner_of, owner_exact}
-use Rattle.share_index.proofs.Owning.{owner_total, value-of}
-use Rattle.spent_table.specs.declared.Spent.{Spent as Row}
-use Rattle.spent_table.specs.Spending.{spent_by}
-use Rattle.user_dedup.specs.declared.file_list.FileEntry.{FileEntry}
-use Rattle.user_dedup.specs.Strings.{fingerprint}
-use Rattle.user_dedup.specs.Owning.{is_among}
-use Rattle.user_dedup.specs.Pages.{entry_at, key_of as file_key}
-use Rattle.user_dedup.proofs.Owned.{among_contains, contains_among}
-use Rattle.user_dedup.specs.declared.command.Command.{Command}
-use Rattle.user_dedup.specs.Dedup.{IsSound}
-use Rattle.user_dedup.specs.Cloud.{user_view, strings_in}
-use Rattle.user_dedup.specs.Spending.{Spent, nothing, spent_of}
-use Rattle.user_dedup.proofs.Once.{Once}
-use Rattle.user_dedup.proofs.Sound.{keys_apart}
-use Rattle.user_dedup.proofs.Views.{owned_is_held, held_is}
-use Rattle.cloud_memory.specs.declared.cloud.CloudMemory.{CloudMemory}
-use Rattle.cloud_memory.specs.Memory.{Memory, Remembers, as_spent, uses_of, summary, summary_of}
-use Rattle.cloud_memory.specs.Rooms.{memory_of}
-use Rattle.cloud_memory.specs.Steps.{placed_len}
+use Rattle.compact_lists.specs.CdBase.ids.Fp.{Fp}
+use Rattle.compact_lists.specs.CdBase.ids.UserId.{UserId}
+use Rattle.compact_lists.specs.CdBase.shape.Shape.{Shape}
+use Rattle.checkpoints.specs.PoolMap.Accounts.{keys_of}
+use Rattle.checkpoints.specs.FileIndex.key.Entry.{Entry}
+use Rattle.checkpoints.specs.FileIndex.key.FileKey.{FileKey}
+use Rattle.checkpoints.specs.FileIndex.Order.{key_exact}
+use Rattle.checkpoints.proofs.FileIndexLaws.Order.{key_total}
+use Rattle.checkpoints.specs.ShareIndex.key.Owner.{Owner}
+use Rattle.checkpoints.specs.ShareIndex.Order.{owner_of, owner_exact}
+use Rattle.checkpoints.proofs.ShareIndexLaws.Owning.{owner_total, value-of}
+use Rattle.checkpoints.specs.SpentTable.Spent.{Spent as Row}
+use Rattle.checkpoints.specs.SpentTable.Spending.{spent_by}
+use Rattle.compact_lists.specs.UserDedup.file_list.FileEntry.{FileEntry}
+use Rattle.compact_lists.specs.UserDedup.Strings.{fingerprint}
+use Rattle.compact_lists.specs.UserDedup.Owning.{is_among}
+use Rattle.compact_lists.specs.UserDedup.Pages.{entry_at, key_of as file_key}
+use Rattle.compact_lists.proofs.UserDedup.Owned.{among_contains, contains_among}
+use Rattle.compact_lists.specs.UserDedup.command.Command.{Command}
+use Rattle.compact_lists.specs.UserDedup.Dedup.{IsSound}
+use Rattle.compact_lists.specs.UserDedup.Cloud.{user_view, strings_in}
+use Rattle.compact_lists.specs.UserDedup.Spending.{SpentByUser, nothing, spent_of}
+use Rattle.compact_lists.proofs.UserDedup.Once.{Once}
+use Rattle.compact_lists.proofs.UserDedup.Sound.{keys_apart}
+use Rattle.compact_lists.proofs.UserDedup.Views.{owned_is_held, held_is}
+use Rattle.checkpoints.specs.CloudMemory.cloud.CloudMemory.{CloudMemory}
+use Rattle.checkpoints.specs.CloudMemory.Memory.{Memory, Remembers, as_spent, uses_of, summary, summary_of}
+use Rattle.checkpoints.specs.CloudMemory.Rooms.{memory_of}
+use Rattle.checkpoints.specs.CloudMemory.Steps.{placed_len}
 use Rattle.compact_memories.proofs.Entries.{Key, of, Holds, holds_of}
 use Rattle.checkpoints.specs.Known.{AreListed}
 use Rattle.checkpoints.proofs.Apartness.{in_map, from_map}
@@ -186,9 +186,9 @@ kept shape cloud list m user sound r = kept_is shape cloud list m user sound r
 pub past : (shape : Shape) (list : List Command) (m : Memory) (user : UserId) → Remembers shape list m → length m.spent ≤ user.0 → live_of shape list user ≡ nothing
 past shape list m user r le =
     λ i. record {
-      owners = none (live_of shape list user).owners (spent_of list user).owners (owners_less shape list user) (ap (λ (s : Spent). s.owners) spent) i;
-      shares = none (live_of shape list user).shares (spent_of list user).shares (shares_less shape list user) (ap (λ (s : Spent). s.shares) spent) i;
-      recipes = none (live_of shape list user).recipes (spent_of list user).recipes (recipes_less shape list user) (ap (λ (s : Spent). s.recipes) spent) i;
+      owners = none (live_of shape list user).owners (spent_of list user).owners (owners_less shape list user) (ap (λ (s : SpentByUser). s.owners) spent) i;
+      shares = none (live_of shape list user).shares (spent_of list user).shares (shares_less shape list user) (ap (λ (s : SpentByUser). s.shares) spent) i;
+      recipes = none (live_of shape list user).recipes (spent_of list user).recipes (recipes_less shape list user) (ap (λ (s : SpentByUser). s.recipes) spent) i;
     }
   where
     spent : spent_of list user ≡ nothing

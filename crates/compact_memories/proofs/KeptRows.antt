@@ -4,22 +4,22 @@ use Rattle.std.specs.Prelude.{◌==◌, is_some, IsSome, option_map}
 use Rattle.std.specs.List.{Contains}
 use Rattle.std.specs.FinMap.{get}
 use Rattle.std.proofs.lemmas.Bool.{eqb-true}
-use Rattle.cd_base.specs.declared.ids.Fp.{Fp}
-use Rattle.cd_base.specs.declared.ids.UserId.{UserId}
-use Rattle.pool_map.specs.Slots.{IsListed}
-use Rattle.file_index.specs.declared.key.Entry.{Entry}
-use Rattle.file_index.specs.declared.key.FileKey.{FileKey}
-use Rattle.file_index.specs.Order.{key_exact}
-use Rattle.file_index.proofs.Order.{key_total}
-use Rattle.share_index.specs.declared.key.Owner.{Owner}
-use Rattle.share_index.specs.Order.{owner_of, owner_exact}
-use Rattle.share_index.proofs.Owning.{owner_total, value-of}
-use Rattle.spent_table.specs.declared.Spent.{Spent}
-use Rattle.user_dedup.proofs.Once.{Once}
-use Rattle.cloud_memory.specs.declared.cloud.CloudMemory.{CloudMemory}
-use Rattle.cloud_memory.specs.Memory.{as_spent}
-use Rattle.cloud_memory.specs.Rooms.{memory_of}
-use Rattle.cloud_memory.specs.Steps.{placed_len}
+use Rattle.compact_lists.specs.CdBase.ids.Fp.{Fp}
+use Rattle.compact_lists.specs.CdBase.ids.UserId.{UserId}
+use Rattle.checkpoints.specs.PoolMap.Slots.{IsListed}
+use Rattle.checkpoints.specs.FileIndex.key.Entry.{Entry}
+use Rattle.checkpoints.specs.FileIndex.key.FileKey.{FileKey}
+use Rattle.checkpoints.specs.FileIndex.Order.{key_exact}
+use Rattle.checkpoints.proofs.FileIndexLaws.Order.{key_total}
+use Rattle.checkpoints.specs.ShareIndex.key.Owner.{Owner}
+use Rattle.checkpoints.specs.ShareIndex.Order.{owner_of, owner_exact}
+use Rattle.checkpoints.proofs.ShareIndexLaws.Owning.{owner_total, value-of}
+use Rattle.checkpoints.specs.SpentTable.Spent.{Spent}
+use Rattle.compact_lists.proofs.UserDedup.Once.{Once}
+use Rattle.checkpoints.specs.CloudMemory.cloud.CloudMemory.{CloudMemory}
+use Rattle.checkpoints.specs.CloudMemory.Memory.{as_spent}
+use Rattle.checkpoints.specs.CloudMemory.Rooms.{memory_of}
+use Rattle.checkpoints.specs.CloudMemory.Steps.{placed_len}
 use Rattle.checkpoints.specs.Records.{owned_at, owned_in}
 use Rattle.checkpoints.proofs.Apartness.{Apart, in_map, from_map}
 use Rattle.checkpoints.proofs.OwnLaw.{owned_gives}

@@ -17,3 +17,10 @@ pub mod Relaying
 pub mod Carrying
 pub mod Carried
 pub mod Fits
+pub mod Checkpoints
+pub mod CloudMemoryLaws
+pub mod FileIndexLaws
+pub mod CloudAreas
+pub mod CompactLists
+pub mod UserDedup
+pub mod ShareIndexLaws

@@ -5,17 +5,17 @@ use Rattle.std.specs.FinMap.{FinMap, get}
 use Rattle.std.specs.List.{Contains}
 use Rattle.std.proofs.lemmas.Bool.{ne_eqb}
 use Rattle.std.proofs.lemmas.Slice.Eq.{bytes_eq-Decides}
-use Rattle.cd_base.specs.declared.ids.Fp.{Fp}
-use Rattle.cd_base.specs.declared.ids.UserId.{UserId}
-use Rattle.cd_base.specs.declared.shape.Shape.{Shape}
-use Rattle.share_index.specs.declared.key.Owner.{Owner}
-use Rattle.cd_base.specs.declared.place.Place.{Place}
-use Rattle.share_index.specs.Order.{owner_cmp, owner_of}
-use Rattle.share_index.specs.Shares.{owners_of}
-use Rattle.user_dedup.specs.declared.command.Command.{Command}
-use Rattle.cloud_memory.specs.declared.cloud.CloudMemory.{CloudMemory}
-use Rattle.cloud_memory.specs.Memory.{Remembers}
-use Rattle.cloud_memory.specs.Rooms.{memory_of}
+use Rattle.compact_lists.specs.CdBase.ids.Fp.{Fp}
+use Rattle.compact_lists.specs.CdBase.ids.UserId.{UserId}
+use Rattle.compact_lists.specs.CdBase.shape.Shape.{Shape}
+use Rattle.checkpoints.specs.ShareIndex.key.Owner.{Owner}
+use Rattle.compact_lists.specs.CdBase.place.Place.{Place}
+use Rattle.checkpoints.specs.ShareIndex.Order.{owner_cmp, owner_of}
+use Rattle.checkpoints.specs.ShareIndex.Shares.{owners_of}
+use Rattle.compact_lists.specs.UserDedup.command.Command.{Command}
+use Rattle.checkpoints.specs.CloudMemory.cloud.CloudMemory.{CloudMemory}
+use Rattle.checkpoints.specs.CloudMemory.Memory.{Remembers}
+use Rattle.checkpoints.specs.CloudMemory.Rooms.{memory_of}
 use Rattle.checkpoints.specs.Known.{AreListed}
 use Rattle.checkpoints.proofs.Holders.{owners_some, owners_none}
 use Rattle.checkpoints.proofs.OwnLaw.{own_of, owner_of_own}

@@ -4,16 +4,16 @@ use Rattle.std.specs.Prelude.{All, slice_get}
 use Rattle.std.specs.FinMap.{get}
 use Rattle.std.specs.List.{Contains, sum_by}
 use Rattle.std.proofs.lemmas.List.Elements.{All-head, All-tail}
-use Rattle.cd_base.specs.declared.ids.Fp.{Fp}
-use Rattle.container_log.specs.Places.{container_len, place_of, end_after, end_of_laid}
-use Rattle.file_index.specs.declared.key.Entry.{Entry}
-use Rattle.file_index.specs.declared.key.FileKey.{FileKey}
-use Rattle.cd_base.specs.declared.place.Place.{Place}
-use Rattle.user_dedup.proofs.Owned.{contains_nothing, contains_cases}
-use Rattle.cloud_areas.specs.Placing.{region_start, end_of}
-use Rattle.cloud_areas.specs.Chains.{LiesIn}
-use Rattle.cloud_memory.specs.declared.cloud.CloudMemory.{CloudMemory}
-use Rattle.cloud_memory.specs.Memory.{Memory}
+use Rattle.compact_lists.specs.CdBase.ids.Fp.{Fp}
+use Rattle.checkpoints.specs.ContainerLog.Places.{container_len, place_of, end_after, end_of_laid}
+use Rattle.checkpoints.specs.FileIndex.key.Entry.{Entry}
+use Rattle.checkpoints.specs.FileIndex.key.FileKey.{FileKey}
+use Rattle.compact_lists.specs.CdBase.place.Place.{Place}
+use Rattle.compact_lists.proofs.UserDedup.Owned.{contains_nothing, contains_cases}
+use Rattle.checkpoints.specs.CloudAreas.Placing.{region_start, end_of}
+use Rattle.checkpoints.specs.CloudAreas.Chains.{LiesIn}
+use Rattle.checkpoints.specs.CloudMemory.cloud.CloudMemory.{CloudMemory}
+use Rattle.checkpoints.specs.CloudMemory.Memory.{Memory}
 use Rattle.checkpoints.proofs.Apartness.{in_map, from_map, contained, contains_get}
 use Rattle.compact_lists.proofs.Sums.{sum_mapped}
 use Rattle.compact_memories.specs.Kept.{live_places, live_entries}

@@ -3,15 +3,15 @@ use Rattle.std.proofs.Common.{◌≡◌, ℕ, List, [], ◌∷◌, Option, Some,
 use Rattle.std.specs.Prelude.{option_map}
 use Rattle.std.specs.FinMap.{get}
 use Rattle.std.specs.List.{Contains}
-use Rattle.cd_base.specs.declared.ids.Fp.{Fp}
-use Rattle.container_log.specs.Places.{place_of, end_after}
-use Rattle.file_index.specs.declared.key.Entry.{Entry}
-use Rattle.file_index.specs.declared.key.FileKey.{FileKey}
-use Rattle.cd_base.specs.declared.place.Place.{Place}
-use Rattle.user_dedup.proofs.Owned.{contains_here, contains_later, contains_nothing, contains_cases}
-use Rattle.cloud_areas.specs.Placing.{region_start}
-use Rattle.cloud_memory.specs.declared.cloud.CloudMemory.{CloudMemory}
-use Rattle.cloud_memory.specs.Memory.{Memory, summary}
+use Rattle.compact_lists.specs.CdBase.ids.Fp.{Fp}
+use Rattle.checkpoints.specs.ContainerLog.Places.{place_of, end_after}
+use Rattle.checkpoints.specs.FileIndex.key.Entry.{Entry}
+use Rattle.checkpoints.specs.FileIndex.key.FileKey.{FileKey}
+use Rattle.compact_lists.specs.CdBase.place.Place.{Place}
+use Rattle.compact_lists.proofs.UserDedup.Owned.{contains_here, contains_later, contains_nothing, contains_cases}
+use Rattle.checkpoints.specs.CloudAreas.Placing.{region_start}
+use Rattle.checkpoints.specs.CloudMemory.cloud.CloudMemory.{CloudMemory}
+use Rattle.checkpoints.specs.CloudMemory.Memory.{Memory, summary}
 use Rattle.checkpoints.specs.Known.{AreListed}
 use Rattle.checkpoints.proofs.Sought.{from_picked, in_picked}
 use Rattle.compact_memories.specs.Kept.{live_places, live_entries}

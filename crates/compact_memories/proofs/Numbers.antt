@@ -7,31 +7,31 @@ use Rattle.std.proofs.lemmas.Bool.{cases_eq, ne_eqb}
 use Rattle.std.proofs.lemmas.List.Concat.{flat_map-cons}
 use Rattle.std.proofs.lemmas.List.Elements.{Contains-append_cases}
 use Rattle.std.proofs.lemmas.List.Sums.{sum_by-cons}
-use Rattle.cd_base.specs.declared.shape.Shape.{Shape}
-use Rattle.pool_map.specs.Accounts.{keys_of}
-use Rattle.file_index.specs.declared.key.Entry.{Entry}
-use Rattle.file_index.specs.declared.key.FileKey.{FileKey}
-use Rattle.file_index.specs.Order.{key_exact}
-use Rattle.file_index.proofs.Order.{key_total}
-use Rattle.share_index.specs.declared.key.Owner.{Owner}
-use Rattle.share_index.specs.Counts.{begun, sum_below}
-use Rattle.share_index.specs.Shares.{batches_of}
-use Rattle.share_index.specs.SumBelow.{sum_below-change, sum_below-zeros}
-use Rattle.user_dedup.specs.declared.view.View.{View}
-use Rattle.user_dedup.specs.Cloud.{no_view, user_of, commands_of, user_view, view_after}
-use Rattle.user_dedup.specs.Pages.{key_of as file_key}
-use Rattle.user_dedup.proofs.Owned.{contains_here, contains_later, contains_nothing, contains_cases}
-use Rattle.user_dedup.specs.declared.command.Command.{Command}
-use Rattle.user_dedup.specs.Dedup.{IsSound}
-use Rattle.user_dedup.specs.Compact.{compact, users_in, user_at}
-use Rattle.user_dedup.specs.Spending.{files_of}
-use Rattle.user_dedup.proofs.Compacting.{users_rise}
-use Rattle.user_dedup.proofs.CompactSound.{all_fit}
-use Rattle.user_dedup.proofs.Filtered.{in_flat, from_flat}
-use Rattle.user_dedup.proofs.Once.{Once}
-use Rattle.user_dedup.proofs.Sorting.{Rises, has_number, number_later, number_cases}
-use Rattle.cloud_memory.specs.Memory.{Memory, Remembers}
-use Rattle.cloud_memory.proofs.KeyCounts.{all_keys}
+use Rattle.compact_lists.specs.CdBase.shape.Shape.{Shape}
+use Rattle.checkpoints.specs.PoolMap.Accounts.{keys_of}
+use Rattle.checkpoints.specs.FileIndex.key.Entry.{Entry}
+use Rattle.checkpoints.specs.FileIndex.key.FileKey.{FileKey}
+use Rattle.checkpoints.specs.FileIndex.Order.{key_exact}
+use Rattle.checkpoints.proofs.FileIndexLaws.Order.{key_total}
+use Rattle.checkpoints.specs.ShareIndex.key.Owner.{Owner}
+use Rattle.checkpoints.specs.ShareIndex.Counts.{begun, sum_below}
+use Rattle.checkpoints.specs.ShareIndex.Shares.{batches_of}
+use Rattle.checkpoints.specs.ShareIndex.SumBelow.{sum_below-change, sum_below-zeros}
+use Rattle.compact_lists.specs.UserDedup.view.View.{View}
+use Rattle.compact_lists.specs.UserDedup.Cloud.{no_view, user_of, commands_of, user_view, view_after}
+use Rattle.compact_lists.specs.UserDedup.Pages.{key_of as file_key}
+use Rattle.compact_lists.proofs.UserDedup.Owned.{contains_here, contains_later, contains_nothing, contains_cases}
+use Rattle.compact_lists.specs.UserDedup.command.Command.{Command}
+use Rattle.compact_lists.specs.UserDedup.Dedup.{IsSound}
+use Rattle.compact_lists.specs.UserDedup.Compact.{compact, users_in, user_at}
+use Rattle.compact_lists.specs.UserDedup.Spending.{files_of}
+use Rattle.compact_lists.proofs.UserDedup.Compacting.{users_rise}
+use Rattle.compact_lists.proofs.UserDedup.CompactSound.{all_fit}
+use Rattle.compact_lists.proofs.UserDedup.Filtered.{in_flat, from_flat}
+use Rattle.compact_lists.proofs.UserDedup.Once.{Once}
+use Rattle.compact_lists.proofs.UserDedup.Sorting.{Rises, has_number, number_later, number_cases}
+use Rattle.checkpoints.specs.CloudMemory.Memory.{Memory, Remembers}
+use Rattle.checkpoints.proofs.CloudMemoryLaws.KeyCounts.{all_keys}
 use Rattle.checkpoints.proofs.Apartness.{in_map, from_map}
 use Rattle.compact_lists.specs.Live.{begun_in}
 use Rattle.compact_lists.proofs.Sums.{sum_alike, sum_ones, sum_mapped, sum_flat}

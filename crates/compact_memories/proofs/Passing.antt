@@ -6,18 +6,18 @@ use Rattle.std.specs.List.{sum_by}
 use Rattle.std.proofs.lemmas.Bool.{cases_eq, cases_lt, ne_eqb}
 use Rattle.std.proofs.lemmas.List.{take_all, take_more, get_or-set_same, get_or-set_other, get_or_past, get_or-replicate, length-replicate}
 use Rattle.std.proofs.lemmas.List.Sums.{sum_by-append}
-use Rattle.cd_base.specs.declared.ids.Fp.{Fp}
-use Rattle.cd_base.specs.declared.place.Place.{Place}
-use Rattle.cd_base.specs.Order.{fp_cmp}
-use Rattle.file_index.specs.declared.key.Entry.{Entry}
-use Rattle.file_index.specs.declared.key.FileKey.{FileKey}
-use Rattle.file_index.specs.Files.{Files}
-use Rattle.share_index.specs.declared.key.Owner.{Owner}
-use Rattle.share_index.specs.Order.{owner_of}
-use Rattle.share_index.specs.Shares.{Shares}
-use Rattle.spent_table.specs.declared.Spent.{Spent}
-use Rattle.spent_table.specs.Spending.{nothing, both, of_shares, of_recipe}
-use Rattle.cloud_memory.specs.Steps.{placed_len}
+use Rattle.compact_lists.specs.CdBase.ids.Fp.{Fp}
+use Rattle.compact_lists.specs.CdBase.place.Place.{Place}
+use Rattle.compact_lists.specs.CdBase.Order.{fp_cmp}
+use Rattle.checkpoints.specs.FileIndex.key.Entry.{Entry}
+use Rattle.checkpoints.specs.FileIndex.key.FileKey.{FileKey}
+use Rattle.checkpoints.specs.FileIndex.Files.{Files}
+use Rattle.checkpoints.specs.ShareIndex.key.Owner.{Owner}
+use Rattle.checkpoints.specs.ShareIndex.Order.{owner_of}
+use Rattle.checkpoints.specs.ShareIndex.Shares.{Shares}
+use Rattle.checkpoints.specs.SpentTable.Spent.{Spent}
+use Rattle.checkpoints.specs.SpentTable.Spending.{nothing, both, of_shares, of_recipe}
+use Rattle.checkpoints.specs.CloudMemory.Steps.{placed_len}
 use Rattle.checkpoints.specs.Picking.{onto, picked}
 use Rattle.checkpoints.specs.Records.{owned_at, owned_in}
 use Rattle.checkpoints.proofs.Picks.{picked-append}

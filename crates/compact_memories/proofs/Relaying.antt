@@ -1,8 +1,8 @@
 -- What is moved slot by slot, one behind another.
 use Rattle.std.proofs.Common.{◌≡◌, ℕ, zero, suc, ◌+◌, ◌<◌, ◌≤◌, List, [], ◌∷◌, ◌++◌, length, map, set, take, drop, Option, Some, None, get_or, refl, sym, ap, ◌∙◌, arith, append-nil, append_assoc, length-set}
 use Rattle.std.proofs.lemmas.List.{take_more, take_more_set, take_all, drop_more, drop_all, drop-drop}
-use Rattle.container_log.specs.Places.{place_of, end_after, end_of_laid}
-use Rattle.container_log.proofs.Least.{place_behind}
+use Rattle.checkpoints.specs.ContainerLog.Places.{place_of, end_after, end_of_laid}
+use Rattle.checkpoints.proofs.ContainerLog.Least.{place_behind}
 use Rattle.checkpoints.specs.Picking.{onto, picked}
 use Rattle.checkpoints.proofs.Picks.{picked-append}
 use Rattle.compact_memories.specs.Relaid.{relaid, RelaidSoFar}

@@ -5,14 +5,14 @@ use Rattle.std.specs.List.{Contains}
 use Rattle.std.specs.FinMap.{get}
 use Rattle.std.proofs.lemmas.Bool.{cases_eq}
 use Rattle.std.proofs.lemmas.List.{get_or-set_same, get_or-set_other}
-use Rattle.cd_base.specs.declared.ids.UserId.{UserId}
-use Rattle.pool_map.specs.Slots.{IsListed}
-use Rattle.spent_table.specs.declared.Spent.{Spent}
-use Rattle.spent_table.specs.Spending.{nothing}
-use Rattle.cloud_memory.specs.declared.cloud.CloudMemory.{CloudMemory}
-use Rattle.cloud_memory.specs.Memory.{Memory, as_spent}
-use Rattle.cloud_memory.specs.Rooms.{memory_of}
-use Rattle.cloud_memory.specs.Steps.{with_spent}
+use Rattle.compact_lists.specs.CdBase.ids.UserId.{UserId}
+use Rattle.checkpoints.specs.PoolMap.Slots.{IsListed}
+use Rattle.checkpoints.specs.SpentTable.Spent.{Spent}
+use Rattle.checkpoints.specs.SpentTable.Spending.{nothing}
+use Rattle.checkpoints.specs.CloudMemory.cloud.CloudMemory.{CloudMemory}
+use Rattle.checkpoints.specs.CloudMemory.Memory.{Memory, as_spent}
+use Rattle.checkpoints.specs.CloudMemory.Rooms.{memory_of}
+use Rattle.checkpoints.specs.CloudMemory.Steps.{with_spent}
 use Rattle.compact_memories.specs.Kept.{IsCompacted, kept_in, live_places}
 use Rattle.compact_memories.specs.Passes.{row_of, DroppedSoFar, SetSoFar}
 use Rattle.compact_memories.proofs.Emptying.{left_alive}

@@ -6,12 +6,12 @@ use Rattle.std.specs.FinMap.{FinMap}
 use Rattle.std.proofs.lemmas.Bool.{ne_eqb, lt-ltb}
 use Rattle.std.proofs.lemmas.List.{take_all, take_more}
 use Rattle.std.proofs.lemmas.List.Sums.{sum_by-append}
-use Rattle.cd_base.specs.declared.ids.Fp.{Fp}
-use Rattle.cd_base.specs.declared.place.Place.{Place}
-use Rattle.pool_map.specs.Slots.{slot_of}
-use Rattle.share_index.specs.Order.{owner_cmp}
-use Rattle.share_index.specs.Shares.{Shares, owners_of, place_with}
-use Rattle.cloud_memory.specs.Live as slots
+use Rattle.compact_lists.specs.CdBase.ids.Fp.{Fp}
+use Rattle.compact_lists.specs.CdBase.place.Place.{Place}
+use Rattle.checkpoints.specs.PoolMap.Slots.{slot_of}
+use Rattle.checkpoints.specs.ShareIndex.Order.{owner_cmp}
+use Rattle.checkpoints.specs.ShareIndex.Shares.{Shares, owners_of, place_with}
+use Rattle.checkpoints.specs.CloudMemory.Live as slots
 use Rattle.checkpoints.specs.Picking.{onto, picked}
 use Rattle.checkpoints.proofs.Picks.{picked-append}
 use Rattle.compact_memories.specs.Kept.{live_at}

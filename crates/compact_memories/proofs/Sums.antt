@@ -6,37 +6,37 @@ use Rattle.std.specs.List.{Contains, sum_by, flat_map}
 use Rattle.std.proofs.lemmas.Bool.{cases_eq, ne_eqb}
 use Rattle.std.proofs.lemmas.List.Elements.{Contains-append_right}
 use Rattle.std.proofs.lemmas.List.Sums.{sum_by-cons, sum_by-append}
-use Rattle.cd_base.specs.declared.ids.Fp.{Fp}
-use Rattle.cd_base.specs.declared.ids.Tag.{Tag}
-use Rattle.cd_base.specs.declared.ids.Version.{Version}
-use Rattle.cd_base.specs.declared.shape.Shape.{Shape}
-use Rattle.file_index.specs.declared.key.Entry.{Entry}
-use Rattle.file_index.specs.declared.key.FileKey.{FileKey}
-use Rattle.cd_base.specs.declared.place.Place.{Place}
-use Rattle.share_index.specs.Order.{owner_cmp}
-use Rattle.share_index.specs.Shares.{owners_of}
-use Rattle.spent_table.specs.declared.Spent.{Spent as Row}
-use Rattle.user_dedup.specs.declared.file_list.FileEntry.{FileEntry}
-use Rattle.user_dedup.specs.Strings.{fingerprint}
-use Rattle.user_dedup.specs.Cloud.{no_view, user_of, commands_of, view_after, user_view, strings_in, held_bytes, recipes_of}
-use Rattle.user_dedup.specs.Pages.{entry_at, sorted_keys, key_of as file_key}
-use Rattle.user_dedup.proofs.Owned.{contains_here, contains_later, contains_nothing, contains_cases}
-use Rattle.user_dedup.proofs.Entries.{found_entry}
-use Rattle.user_dedup.specs.declared.command.Command.{Command}
-use Rattle.user_dedup.specs.declared.command.Command.TheVariants as commands
-use Rattle.user_dedup.specs.Compact.{compact, users_in, user_at, puts_for, commit_at, commits_for}
-use Rattle.user_dedup.specs.Spending.{held_len, spent_by_all}
-use Rattle.user_dedup.proofs.Compacting.{same_held}
-use Rattle.user_dedup.proofs.Filtered.{in_flat}
-use Rattle.user_dedup.proofs.Sorting.{has_number, number_later, keys_have}
-use Rattle.cloud_areas.proofs.Counting.{split_at, beside}
-use Rattle.cloud_memory.specs.declared.cloud.CloudMemory.{CloudMemory}
-use Rattle.cloud_memory.specs.Memory.{Remembers, summary, summary_of}
-use Rattle.cloud_memory.specs.Rooms.{memory_of}
+use Rattle.compact_lists.specs.CdBase.ids.Fp.{Fp}
+use Rattle.compact_lists.specs.CdBase.ids.Tag.{Tag}
+use Rattle.compact_lists.specs.CdBase.ids.Version.{Version}
+use Rattle.compact_lists.specs.CdBase.shape.Shape.{Shape}
+use Rattle.checkpoints.specs.FileIndex.key.Entry.{Entry}
+use Rattle.checkpoints.specs.FileIndex.key.FileKey.{FileKey}
+use Rattle.compact_lists.specs.CdBase.place.Place.{Place}
+use Rattle.checkpoints.specs.ShareIndex.Order.{owner_cmp}
+use Rattle.checkpoints.specs.ShareIndex.Shares.{owners_of}
+use Rattle.checkpoints.specs.SpentTable.Spent.{Spent as Row}
+use Rattle.compact_lists.specs.UserDedup.file_list.FileEntry.{FileEntry}
+use Rattle.compact_lists.specs.UserDedup.Strings.{fingerprint}
+use Rattle.compact_lists.specs.UserDedup.Cloud.{no_view, user_of, commands_of, view_after, user_view, strings_in, held_bytes, recipes_of}
+use Rattle.compact_lists.specs.UserDedup.Pages.{entry_at, sorted_keys, key_of as file_key}
+use Rattle.compact_lists.proofs.UserDedup.Owned.{contains_here, contains_later, contains_nothing, contains_cases}
+use Rattle.compact_lists.proofs.UserDedup.EntryLists.{found_entry}
+use Rattle.compact_lists.specs.UserDedup.command.Command.{Command}
+use Rattle.compact_lists.specs.UserDedup.command.Command.TheVariants as commands
+use Rattle.compact_lists.specs.UserDedup.Compact.{compact, users_in, user_at, puts_for, commit_at, commits_for}
+use Rattle.compact_lists.specs.UserDedup.Spending.{held_len, spent_by_all}
+use Rattle.compact_lists.proofs.UserDedup.Compacting.{same_held}
+use Rattle.compact_lists.proofs.UserDedup.Filtered.{in_flat}
+use Rattle.compact_lists.proofs.UserDedup.Sorting.{has_number, number_later, keys_have}
+use Rattle.checkpoints.proofs.CloudAreas.Counting.{split_at, beside}
+use Rattle.checkpoints.specs.CloudMemory.cloud.CloudMemory.{CloudMemory}
+use Rattle.checkpoints.specs.CloudMemory.Memory.{Remembers, summary, summary_of}
+use Rattle.checkpoints.specs.CloudMemory.Rooms.{memory_of}
 use Rattle.checkpoints.specs.Known.{AreListed}
 use Rattle.checkpoints.proofs.Apartness.{Apart, in_map, from_map}
 use Rattle.checkpoints.proofs.Sought.{from_picked, apart_picked, map_picked}
-use Rattle.compact_lists.proofs.Rooms.{strings_kept}
+use Rattle.compact_lists.proofs.RoomLaws.{strings_kept}
 use Rattle.compact_lists.proofs.Sums.{sum_flat}
 use Rattle.compact_memories.specs.Kept.{live_at, live_places, live_entries}
 use Rattle.compact_memories.proofs.Live.{live_from}

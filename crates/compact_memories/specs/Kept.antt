@@ -2,23 +2,23 @@
 use Rattle.std.specs.Prelude.{◌≡◌, ◌↔◌, ◌+◌, ◌<◌, ℕ, ◌==◌, List, length, Option, Some, None, if◌then◌else◌}
 use Rattle.std.specs.List.{sum_by, Contains}
 use Rattle.std.specs.FinMap.{FinMap, get, len, entries}
-use Rattle.cd_base.specs.declared.ids.Fp.{Fp}
-use Rattle.cd_base.specs.declared.ids.UserId.{UserId}
-use Rattle.cd_base.specs.declared.shape.Shape.{Shape}
-use Rattle.file_index.specs.declared.key.Entry.{Entry}
-use Rattle.file_index.specs.declared.key.FileKey.{FileKey}
-use Rattle.pool_map.specs.Accounts.{keys_of}
-use Rattle.cd_base.specs.declared.place.Place.{Place}
-use Rattle.share_index.specs.Order.{owner_cmp}
-use Rattle.share_index.specs.Shares.{owners_of, ownerless_in, batches_of}
-use Rattle.user_dedup.specs.declared.command.Command.{Command}
-use Rattle.user_dedup.specs.Compact.{compact}
-use Rattle.user_dedup.specs.Spending.{Spent}
-use Rattle.spent_table.specs.Spending.{spent_by}
-use Rattle.cloud_memory.specs.declared.cloud.CloudMemory.{CloudMemory}
-use Rattle.cloud_memory.specs.Memory.{Memory, Remembers, as_spent}
-use Rattle.cloud_memory.specs.Rooms.{memory_of}
-use Rattle.cloud_memory.specs.Steps.{placed_len}
+use Rattle.compact_lists.specs.CdBase.ids.Fp.{Fp}
+use Rattle.compact_lists.specs.CdBase.ids.UserId.{UserId}
+use Rattle.compact_lists.specs.CdBase.shape.Shape.{Shape}
+use Rattle.checkpoints.specs.FileIndex.key.Entry.{Entry}
+use Rattle.checkpoints.specs.FileIndex.key.FileKey.{FileKey}
+use Rattle.checkpoints.specs.PoolMap.Accounts.{keys_of}
+use Rattle.compact_lists.specs.CdBase.place.Place.{Place}
+use Rattle.checkpoints.specs.ShareIndex.Order.{owner_cmp}
+use Rattle.checkpoints.specs.ShareIndex.Shares.{owners_of, ownerless_in, batches_of}
+use Rattle.compact_lists.specs.UserDedup.command.Command.{Command}
+use Rattle.compact_lists.specs.UserDedup.Compact.{compact}
+use Rattle.compact_lists.specs.UserDedup.Spending.{SpentByUser}
+use Rattle.checkpoints.specs.SpentTable.Spending.{spent_by}
+use Rattle.checkpoints.specs.CloudMemory.cloud.CloudMemory.{CloudMemory}
+use Rattle.checkpoints.specs.CloudMemory.Memory.{Memory, Remembers, as_spent}
+use Rattle.checkpoints.specs.CloudMemory.Rooms.{memory_of}
+use Rattle.checkpoints.specs.CloudMemory.Steps.{placed_len}
 use Rattle.checkpoints.specs.Picking.{picked}
 use Rattle.compact_memories.specs.declared.alive.Reclaimed.{Reclaimed}
 
@@ -46,7 +46,7 @@ live_entries memory = entries_in memory.files.slots
 -- ---- numbers
 
 -- what a user keeps, by the maps
-abbrev pub kept_in : Memory → UserId → Spent
+abbrev pub kept_in : Memory → UserId → SpentByUser
 kept_in m user = record {
   owners = keys_of (λ k. k.user) m.owners user.0;
   shares = sum_by (λ e. if e.0.user == user.0 then placed_len (get m.places e.0.fp) else 0) (entries m.owners);

@@ -1,5 +1,16 @@
+pub mod Checkpoints
+pub mod CloudAreas
+pub mod CloudMemory
+pub mod CompactLists
+pub mod ContainerLog
+pub mod FileIndex
+pub mod JournalStart
 pub mod Kept
 pub mod Moved
-pub mod Tables
 pub mod Passes
+pub mod PoolMap
 pub mod Relaid
+pub mod ShareIndex
+pub mod SpentTable
+pub mod Tables
+pub mod UserDedup

@@ -2,18 +2,18 @@
 use Rattle.std.specs.Prelude.{◌≡◌, ◌≢◌, ◌⊎◌, ◌↔◌, ◌+◌, ◌-◌, ◌≤◌, ◌<◌, ℕ, List, [], ◌∷◌, length, map, Some}
 use Rattle.std.specs.List.{Contains}
 use Rattle.std.specs.FinMap.{get}
-use Rattle.cd_base.specs.declared.ids.Fp.{Fp}
-use Rattle.cd_base.specs.declared.ids.UserId.{UserId}
-use Rattle.container_log.specs.Places.{place_of, end_after, end_of_laid}
-use Rattle.file_index.specs.declared.key.Entry.{Entry}
-use Rattle.file_index.specs.declared.key.FileKey.{FileKey}
-use Rattle.cd_base.specs.declared.place.Place.{Place}
-use Rattle.spent_table.specs.Spending.{spent_by}
-use Rattle.cloud_areas.specs.Placing.{region_start, end_of}
-use Rattle.cloud_areas.specs.Chains.{LiesIn}
-use Rattle.cloud_memory.specs.declared.cloud.CloudMemory.{CloudMemory}
-use Rattle.cloud_memory.specs.Memory.{Memory, as_spent}
-use Rattle.cloud_memory.specs.Rooms.{memory_of}
+use Rattle.compact_lists.specs.CdBase.ids.Fp.{Fp}
+use Rattle.compact_lists.specs.CdBase.ids.UserId.{UserId}
+use Rattle.checkpoints.specs.ContainerLog.Places.{place_of, end_after, end_of_laid}
+use Rattle.checkpoints.specs.FileIndex.key.Entry.{Entry}
+use Rattle.checkpoints.specs.FileIndex.key.FileKey.{FileKey}
+use Rattle.compact_lists.specs.CdBase.place.Place.{Place}
+use Rattle.checkpoints.specs.SpentTable.Spending.{spent_by}
+use Rattle.checkpoints.specs.CloudAreas.Placing.{region_start, end_of}
+use Rattle.checkpoints.specs.CloudAreas.Chains.{LiesIn}
+use Rattle.checkpoints.specs.CloudMemory.cloud.CloudMemory.{CloudMemory}
+use Rattle.checkpoints.specs.CloudMemory.Memory.{Memory, as_spent}
+use Rattle.checkpoints.specs.CloudMemory.Rooms.{memory_of}
 use Rattle.compact_memories.specs.Kept.{live_places, live_entries, kept_in}
 
 abbrev pub other_region : ℕ → ℕ

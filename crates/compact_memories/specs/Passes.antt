@@ -2,23 +2,23 @@
 use Rattle.std.specs.Prelude.{◌≡◌, ℕ, ◌*◌, ◌<◌, ◌≤◌, ◌==◌, nat_lt, List, [], length, take, Option, Some, None, slice_index_or, if◌then◌else◌}
 use Rattle.std.specs.List.{sum_by}
 use Rattle.std.specs.FinMap.{FinMap, get}
-use Rattle.cd_base.specs.declared.ids.Fp.{Fp}
-use Rattle.cd_base.specs.declared.place.Place.{Place}
-use Rattle.cd_base.specs.Order.{fp_cmp}
-use Rattle.file_index.specs.declared.key.Entry.{Entry}
-use Rattle.file_index.specs.declared.key.FileKey.{FileKey}
-use Rattle.file_index.specs.Files.{Files}
-use Rattle.pool_map.specs.Slots.{slot_of}
-use Rattle.share_index.specs.declared.key.Owner.{Owner}
-use Rattle.share_index.specs.Order.{owner_cmp}
-use Rattle.share_index.specs.Shares.{Shares, owners_of}
-use Rattle.spent_table.specs.declared.Spent.{Spent}
-use Rattle.spent_table.specs.Spending.{nothing}
-use Rattle.cloud_memory.specs.declared.cloud.CloudMemory.{CloudMemory}
-use Rattle.cloud_memory.specs.Live.{owned_only}
-use Rattle.cloud_memory.specs.Memory.{Memory}
-use Rattle.cloud_memory.specs.Rooms.{memory_of}
-use Rattle.cloud_memory.specs.Steps.{placed_len}
+use Rattle.compact_lists.specs.CdBase.ids.Fp.{Fp}
+use Rattle.compact_lists.specs.CdBase.place.Place.{Place}
+use Rattle.compact_lists.specs.CdBase.Order.{fp_cmp}
+use Rattle.checkpoints.specs.FileIndex.key.Entry.{Entry}
+use Rattle.checkpoints.specs.FileIndex.key.FileKey.{FileKey}
+use Rattle.checkpoints.specs.FileIndex.Files.{Files}
+use Rattle.checkpoints.specs.PoolMap.Slots.{slot_of}
+use Rattle.checkpoints.specs.ShareIndex.key.Owner.{Owner}
+use Rattle.checkpoints.specs.ShareIndex.Order.{owner_cmp}
+use Rattle.checkpoints.specs.ShareIndex.Shares.{Shares, owners_of}
+use Rattle.checkpoints.specs.SpentTable.Spent.{Spent}
+use Rattle.checkpoints.specs.SpentTable.Spending.{nothing}
+use Rattle.checkpoints.specs.CloudMemory.cloud.CloudMemory.{CloudMemory}
+use Rattle.checkpoints.specs.CloudMemory.Live.{owned_only}
+use Rattle.checkpoints.specs.CloudMemory.Memory.{Memory}
+use Rattle.checkpoints.specs.CloudMemory.Rooms.{memory_of}
+use Rattle.checkpoints.specs.CloudMemory.Steps.{placed_len}
 use Rattle.checkpoints.specs.Picking.{picked}
 use Rattle.checkpoints.specs.Records.{owned_in}
 

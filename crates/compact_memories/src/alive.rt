@@ -2,22 +2,22 @@
 
 ghost use Rattle.std.specs.Prelude.{◌≡◌, ◌<◌, ◌^◌, ℕ, [], List, length};
 ghost use Rattle.std.specs.List.{sum_by};
-ghost use Rattle.cd_base.specs.declared.ids.Fp.{Fp};
-ghost use Rattle.cd_base.specs.declared.place.Place.{Place};
-ghost use Rattle.cd_base.specs.declared.shape.Shape.{Shape};
-ghost use Rattle.file_index.specs.declared.key.Entry.{Entry};
-ghost use Rattle.file_index.specs.declared.key.FileKey.{FileKey};
-ghost use Rattle.pool_map.specs.Slots.{slot_of};
-ghost use Rattle.user_dedup.specs.declared.command.Command.{Command};
-ghost use Rattle.user_dedup.specs.Compact.{compact};
-ghost use Rattle.user_dedup.specs.Dedup.{IsSound};
-ghost use Rattle.cloud_memory.specs.Memory.{Remembers};
-ghost use Rattle.cloud_memory.specs.Rooms.{memory_of};
+ghost use Rattle.compact_lists.specs.CdBase.ids.Fp.{Fp};
+ghost use Rattle.compact_lists.specs.CdBase.place.Place.{Place};
+ghost use Rattle.compact_lists.specs.CdBase.shape.Shape.{Shape};
+ghost use Rattle.checkpoints.specs.FileIndex.key.Entry.{Entry};
+ghost use Rattle.checkpoints.specs.FileIndex.key.FileKey.{FileKey};
+ghost use Rattle.checkpoints.specs.PoolMap.Slots.{slot_of};
+ghost use Rattle.compact_lists.specs.UserDedup.command.Command.{Command};
+ghost use Rattle.compact_lists.specs.UserDedup.Compact.{compact};
+ghost use Rattle.compact_lists.specs.UserDedup.Dedup.{IsSound};
+ghost use Rattle.checkpoints.specs.CloudMemory.Memory.{Remembers};
+ghost use Rattle.checkpoints.specs.CloudMemory.Rooms.{memory_of};
 ghost use Rattle.checkpoints.specs.Picking.{onto};
 ghost use Rattle.compact_memories.specs.Kept.{live_at, live_places, live_entries, live_sum, commands_in};
 
 use crate::laws::law_of_kept;
-use cloud_memory::CloudMemory;
+use checkpoints::CloudMemory;
 
 /// The bytes that are alive, each blob once, and what isn't.
 #[derive(Clone, Copy, Debug, PartialEq, Eq)]

@@ -1,18 +1,18 @@
 //! A memory whose blobs that are alive lie one behind another, elsewhere.
 
 ghost use Rattle.std.specs.Prelude.{◌≡◌, ◌+◌, ◌<◌, ◌≤◌, ◌^◌, ℕ, length, drop, map};
-ghost use Rattle.pool_map.specs.Slots.{IsListed};
-ghost use Rattle.container_log.specs.Places.{container_len, place_of, end_of_laid};
-ghost use Rattle.journal_start.specs.declared.rooms.Rooms.{Rooms};
-ghost use Rattle.cloud_memory.specs.declared.cloud.CloudMemory.{CloudMemory as Memory};
-ghost use Rattle.cloud_memory.specs.Greatest.{KeepsGreatest};
-ghost use Rattle.cloud_memory.specs.Rooms.{HasRooms};
+ghost use Rattle.checkpoints.specs.PoolMap.Slots.{IsListed};
+ghost use Rattle.checkpoints.specs.ContainerLog.Places.{container_len, place_of, end_of_laid};
+ghost use Rattle.compact_lists.specs.JournalStart.rooms.UserRooms.{UserRooms};
+ghost use Rattle.checkpoints.specs.CloudMemory.cloud.CloudMemory.{CloudMemory as Memory};
+ghost use Rattle.checkpoints.specs.CloudMemory.Greatest.{KeepsGreatest};
+ghost use Rattle.checkpoints.specs.CloudMemory.Rooms.{HasRooms};
 ghost use Rattle.compact_memories.specs.Kept.{live_in, live_places, entries_in, live_entries};
 ghost use Rattle.compact_memories.specs.Relaid.{share_len, entry_len, PlacesSoFar, ArePlacesMoved};
 ghost use Rattle.compact_memories.specs.Relaid.{EntriesSoFar, AreEntriesMoved};
 
-use cd_base::Place;
-use cloud_memory::CloudMemory;
+use checkpoints::CloudMemory;
+use compact_lists::Place;
 
 // The bytes of a container.
 const CONTAINER: u64 = 4_194_304;
@@ -49,7 +49,7 @@ fn move_place(memory: &mut CloudMemory, slot: u32, end: u64) -> u64
         (live_in memory.old.shares.owners (drop slot memory.old.shares.place_slots))) < 2 ^ 64 }
     ensures so_far { (start : ℕ) (first : Memory) → PlacesSoFar start first memory.old slot end
         → PlacesSoFar start first memory.new (slot + 1) result }
-    ensures rooms { (rooms : Rooms) → HasRooms rooms memory.old → HasRooms rooms memory.new }
+    ensures rooms { (rooms : UserRooms) → HasRooms rooms memory.old → HasRooms rooms memory.new }
     ensures greatest { KeepsGreatest memory.old memory.new }
 {
     match memory.live_share(slot) {
@@ -70,7 +70,7 @@ fn move_entry(memory: &mut CloudMemory, slot: u32, end: u64) -> u64
     requires within { end_of_laid end (map entry_len (entries_in (drop slot memory.old.files.slots))) < 2 ^ 64 }
     ensures so_far { (start : ℕ) (first : Memory) → EntriesSoFar start first memory.old slot end
         → EntriesSoFar start first memory.new (slot + 1) result }
-    ensures rooms { (rooms : Rooms) → HasRooms rooms memory.old → HasRooms rooms memory.new }
+    ensures rooms { (rooms : UserRooms) → HasRooms rooms memory.old → HasRooms rooms memory.new }
     ensures greatest { KeepsGreatest memory.old memory.new }
 {
     match memory.live_file(slot) {
@@ -89,7 +89,7 @@ pub(crate) fn move_places(memory: &mut CloudMemory, start: u64) -> u64
     requires within { end_of_laid start (map share_len (live_places memory.old)) < 2 ^ 64 }
     ensures moved { ArePlacesMoved start memory.old memory.new }
     ensures end { result ≡ end_of_laid start (map share_len (live_places memory.old)) }
-    ensures rooms { (rooms : Rooms) → HasRooms rooms memory.old → HasRooms rooms memory.new }
+    ensures rooms { (rooms : UserRooms) → HasRooms rooms memory.old → HasRooms rooms memory.new }
     ensures greatest { KeepsGreatest memory.old memory.new }
 {
     let slots = memory.shares().place_slots();
@@ -106,7 +106,7 @@ pub(crate) fn move_entries(memory: &mut CloudMemory, start: u64) -> u64
     ensures moved { AreEntriesMoved start memory.old memory.new }
     ensures each { IsListed memory.new.files.files memory.new.files.slots }
     ensures end { result ≡ end_of_laid start (map entry_len (live_entries memory.old)) }
-    ensures rooms { (rooms : Rooms) → HasRooms rooms memory.old → HasRooms rooms memory.new }
+    ensures rooms { (rooms : UserRooms) → HasRooms rooms memory.old → HasRooms rooms memory.new }
     ensures greatest { KeepsGreatest memory.old memory.new }
 {
     let slots = memory.files().slots();

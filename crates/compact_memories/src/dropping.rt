@@ -1,17 +1,16 @@
 //! A memory without the places of what no user owns.
 
 ghost use Rattle.std.specs.Prelude.{◌≡◌, ◌+◌, length, option_map};
-ghost use Rattle.pool_map.specs.Slots.{slot_of, IsListed};
-ghost use Rattle.journal_start.specs.declared.rooms.Rooms.{Rooms};
-ghost use Rattle.cd_base.specs.declared.ids.Fp.{Fp as Name};
-ghost use Rattle.cloud_memory.specs.declared.cloud.CloudMemory.{CloudMemory as Memory};
-ghost use Rattle.cloud_memory.specs.Greatest.{KeepsGreatest};
-ghost use Rattle.cloud_memory.specs.Rooms.{HasRooms};
+ghost use Rattle.checkpoints.specs.PoolMap.Slots.{slot_of, IsListed};
+ghost use Rattle.compact_lists.specs.JournalStart.rooms.UserRooms.{UserRooms};
+ghost use Rattle.compact_lists.specs.CdBase.ids.Fp.{Fp as Name};
+ghost use Rattle.checkpoints.specs.CloudMemory.cloud.CloudMemory.{CloudMemory as Memory};
+ghost use Rattle.checkpoints.specs.CloudMemory.Greatest.{KeepsGreatest};
+ghost use Rattle.checkpoints.specs.CloudMemory.Rooms.{HasRooms};
 ghost use Rattle.compact_memories.specs.Passes.{dead_in, DroppedSoFar};
 
-use cd_base::Fp;
-use cloud_memory::CloudMemory;
-use share_index::ShareIndex;
+use checkpoints::{CloudMemory, ShareIndex};
+use compact_lists::Fp;
 
 // The share in a slot that has a place and no owner, if there is one.
 fn dead_share(shares: &ShareIndex, slot: u32) -> Option<Fp>
@@ -29,7 +28,7 @@ fn dead_share(shares: &ShareIndex, slot: u32) -> Option<Fp>
 fn drop_slot(memory: &mut CloudMemory, slot: u32)
     ensures so_far { (first : Memory) → DroppedSoFar first memory.old slot
         → DroppedSoFar first memory.new (slot + 1) }
-    ensures rooms { (rooms : Rooms) → HasRooms rooms memory.old → HasRooms rooms memory.new }
+    ensures rooms { (rooms : UserRooms) → HasRooms rooms memory.old → HasRooms rooms memory.new }
     ensures greatest { KeepsGreatest memory.old memory.new }
 {
     match dead_share(memory.shares(), slot) {
@@ -42,7 +41,7 @@ fn drop_slot(memory: &mut CloudMemory, slot: u32)
 pub(crate) fn drop_dead(memory: &mut CloudMemory)
     ensures dropped { DroppedSoFar memory.old memory.new (length memory.old.shares.place_slots) }
     ensures each { IsListed memory.new.shares.places memory.new.shares.place_slots }
-    ensures rooms { (rooms : Rooms) → HasRooms rooms memory.old → HasRooms rooms memory.new }
+    ensures rooms { (rooms : UserRooms) → HasRooms rooms memory.old → HasRooms rooms memory.new }
     ensures greatest { KeepsGreatest memory.old memory.new }
 {
     let slots = memory.shares().place_slots();

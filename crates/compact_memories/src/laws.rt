@@ -2,31 +2,31 @@
 
 ghost use Rattle.std.specs.Prelude.{◌≡◌, ◌≤◌, ◌<◌, ◌+◌, ◌*◌, ℕ, List, length, All};
 ghost use Rattle.std.specs.List.{sum_by, Contains};
-ghost use Rattle.cd_base.specs.declared.ids.Fp.{Fp};
-ghost use Rattle.cd_base.specs.declared.ids.UserId.{UserId};
-ghost use Rattle.cd_base.specs.declared.shape.Shape.{Shape};
-ghost use Rattle.container_log.specs.Places.{container_len, end_of_laid};
-ghost use Rattle.cd_base.specs.declared.place.Place.{Place};
-ghost use Rattle.user_dedup.specs.declared.command.Command.{Command};
-ghost use Rattle.user_dedup.specs.Dedup.{IsSound};
-ghost use Rattle.user_dedup.specs.Compact.{compact};
-ghost use Rattle.cloud_areas.specs.Placing.{region_start, end_of, places_of};
-ghost use Rattle.cloud_areas.specs.Chains.{LiesIn, DontOverlap};
-ghost use Rattle.cloud_memory.specs.declared.cloud.CloudMemory.{CloudMemory};
-ghost use Rattle.cloud_memory.specs.Fitting.{FitsRecords};
-ghost use Rattle.cloud_memory.specs.Memory.{Memory, Remembers, as_spent};
-ghost use Rattle.cloud_memory.specs.Rooms.{memory_of};
+ghost use Rattle.compact_lists.specs.CdBase.ids.Fp.{Fp};
+ghost use Rattle.compact_lists.specs.CdBase.ids.UserId.{UserId};
+ghost use Rattle.compact_lists.specs.CdBase.shape.Shape.{Shape};
+ghost use Rattle.checkpoints.specs.ContainerLog.Places.{container_len, end_of_laid};
+ghost use Rattle.compact_lists.specs.CdBase.place.Place.{Place};
+ghost use Rattle.compact_lists.specs.UserDedup.command.Command.{Command};
+ghost use Rattle.compact_lists.specs.UserDedup.Dedup.{IsSound};
+ghost use Rattle.compact_lists.specs.UserDedup.Compact.{compact};
+ghost use Rattle.checkpoints.specs.CloudAreas.Placing.{region_start, end_of, places_of};
+ghost use Rattle.checkpoints.specs.CloudAreas.Chains.{LiesIn, DontOverlap};
+ghost use Rattle.checkpoints.specs.CloudMemory.cloud.CloudMemory.{CloudMemory};
+ghost use Rattle.checkpoints.specs.CloudMemory.Fitting.{FitsRecords};
+ghost use Rattle.checkpoints.specs.CloudMemory.Memory.{Memory, Remembers, as_spent};
+ghost use Rattle.checkpoints.specs.CloudMemory.Rooms.{memory_of};
 ghost use Rattle.checkpoints.specs.Known.{AreListed};
-ghost use Rattle.spent_table.specs.Spending.{spent_by};
+ghost use Rattle.checkpoints.specs.SpentTable.Spending.{spent_by};
 ghost use Rattle.compact_lists.specs.Live.{live_of};
 ghost use Rattle.compact_memories.specs.Kept.{IsCompacted, RemembersCompact, kept_in, commands_in};
 ghost use Rattle.compact_memories.specs.Kept.{live_places, live_entries};
 ghost use Rattle.compact_memories.specs.Moved.{new_places, lens_of, IsMoved, PlacesLie};
-ghost use Rattle.user_dedup.specs.Spending.{nothing, spent_by_all};
-ghost use Rattle.spent_table.specs.declared.Spent.{Spent as Row};
+ghost use Rattle.compact_lists.specs.UserDedup.Spending.{nothing, spent_by_all};
+ghost use Rattle.checkpoints.specs.SpentTable.Spent.{Spent as Row};
 ghost use Rattle.compact_memories.specs.Tables.{with_table};
-ghost use Rattle.file_index.specs.declared.key.Entry.{Entry};
-ghost use Rattle.file_index.specs.declared.key.FileKey.{FileKey};
+ghost use Rattle.checkpoints.specs.FileIndex.key.Entry.{Entry};
+ghost use Rattle.checkpoints.specs.FileIndex.key.FileKey.{FileKey};
 
 /// Copies that are laid one behind another from a region's first place on lie in the region, each in one container,
 /// apart, and end no further than twice their bytes.

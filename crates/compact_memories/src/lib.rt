@@ -9,4 +9,9 @@ mod making;
 mod rows;
 
 pub use alive::{Reclaimed, commands_of_compact, live_sum};
+pub use checkpoints::{
+    CloudMemory, FileIndex, Marks, MemoryRecords, OwnerChains, ShareIndex, Spent, Unsettled,
+    lay_checkpoint,
+};
+pub use compact_lists::UserRooms;
 pub use making::{make_compact, make_moved};

@@ -1,11 +1,11 @@
 //! The memory of a compact list, made of the memory of the list.
 
 ghost use Rattle.std.specs.Prelude.{◌≡◌, ◌<◌, ◌≤◌, ◌^◌, length};
-ghost use Rattle.container_log.specs.Places.{end_of_laid};
-ghost use Rattle.journal_start.specs.declared.rooms.Rooms.{Rooms};
-ghost use Rattle.cloud_areas.specs.Placing.{region_start};
-ghost use Rattle.cloud_memory.specs.Greatest.{KeepsGreatest};
-ghost use Rattle.cloud_memory.specs.Rooms.{memory_of, HasRooms};
+ghost use Rattle.checkpoints.specs.ContainerLog.Places.{end_of_laid};
+ghost use Rattle.compact_lists.specs.JournalStart.rooms.UserRooms.{UserRooms};
+ghost use Rattle.checkpoints.specs.CloudAreas.Placing.{region_start};
+ghost use Rattle.checkpoints.specs.CloudMemory.Greatest.{KeepsGreatest};
+ghost use Rattle.checkpoints.specs.CloudMemory.Rooms.{memory_of, HasRooms};
 ghost use Rattle.compact_memories.specs.Kept.{IsCompacted, live_places, live_entries};
 ghost use Rattle.compact_memories.specs.Moved.{IsMoved, lens_of, entry_lens};
 ghost use Rattle.compact_memories.specs.Passes.{SetSoFar, row_of};
@@ -13,9 +13,8 @@ ghost use Rattle.compact_memories.specs.Passes.{SetSoFar, row_of};
 use crate::copied::{move_entries, move_places};
 use crate::dropping::drop_dead;
 use crate::rows::fill_rows;
-use cd_base::UserId;
-use cloud_memory::CloudMemory;
-use spent_table::Spent;
+use checkpoints::{CloudMemory, Spent};
+use compact_lists::UserId;
 
 // As many users as a cloud may have.
 const USERS: u32 = 256;
@@ -35,7 +34,7 @@ fn row_at(rows: &[Spent], user: u32) -> Spent
 fn set_rows(memory: &mut CloudMemory, rows: &[Spent])
     requires { length rows.now ≡ 256 }
     ensures set { SetSoFar rows.now (memory_of memory.old) (memory_of memory.new) 256 }
-    ensures rooms { (rooms : Rooms) → HasRooms rooms memory.old → HasRooms rooms memory.new }
+    ensures rooms { (rooms : UserRooms) → HasRooms rooms memory.old → HasRooms rooms memory.new }
     ensures greatest { KeepsGreatest memory.old memory.new }
 {
     for user in 0..USERS {
@@ -50,7 +49,7 @@ fn set_rows(memory: &mut CloudMemory, rows: &[Spent])
 pub fn make_compact(memory: &mut CloudMemory)
     requires users { length memory.old.spent ≤ 256 }
     ensures compacted { IsCompacted memory.old (memory_of memory.new) }
-    ensures rooms { (rooms : Rooms) → HasRooms rooms memory.old → HasRooms rooms memory.new }
+    ensures rooms { (rooms : UserRooms) → HasRooms rooms memory.old → HasRooms rooms memory.new }
     ensures greatest { KeepsGreatest memory.old memory.new }
 {
     let mut rows = [Spent::none(); 256];
@@ -77,7 +76,7 @@ pub fn make_moved(memory: &mut CloudMemory, region: u8)
     requires shares { end_of_laid (region_start region) (lens_of (live_places memory.old)) < 2 ^ 64 }
     requires recipes { end_of_laid (region_start region) (entry_lens (live_entries memory.old)) < 2 ^ 64 }
     ensures moved { IsMoved region memory.old (memory_of memory.new) }
-    ensures rooms { (rooms : Rooms) → HasRooms rooms memory.old → HasRooms rooms memory.new }
+    ensures rooms { (rooms : UserRooms) → HasRooms rooms memory.old → HasRooms rooms memory.new }
     ensures greatest { KeepsGreatest memory.old memory.new }
 {
     let start = first_place(region);

@@ -2,22 +2,19 @@
 
 ghost use Rattle.std.specs.Prelude.{◌≡◌, ◌<◌, ◌+◌, ◌^◌, length, replicate, slice_set};
 ghost use Rattle.std.specs.FinMap as maps;
-ghost use Rattle.cd_base.specs.declared.ids.UserId.{UserId};
-ghost use Rattle.file_index.specs.Files.{Files};
-ghost use Rattle.pool_map.specs.Slots.{IsListed};
-ghost use Rattle.share_index.specs.Shares.{Shares};
-ghost use Rattle.spent_table.specs.Spending.{nothing, spent_by, both, of_shares, of_recipe};
-ghost use Rattle.cloud_memory.specs.Memory.{as_spent};
-ghost use Rattle.cloud_memory.specs.Rooms.{memory_of};
-ghost use Rattle.cloud_memory.specs.Steps.{placed_len};
+ghost use Rattle.compact_lists.specs.CdBase.ids.UserId.{UserId};
+ghost use Rattle.checkpoints.specs.FileIndex.Files.{Files};
+ghost use Rattle.checkpoints.specs.PoolMap.Slots.{IsListed};
+ghost use Rattle.checkpoints.specs.ShareIndex.Shares.{Shares};
+ghost use Rattle.checkpoints.specs.SpentTable.Spending.{nothing, spent_by, both, of_shares, of_recipe};
+ghost use Rattle.checkpoints.specs.CloudMemory.Memory.{as_spent};
+ghost use Rattle.checkpoints.specs.CloudMemory.Rooms.{memory_of};
+ghost use Rattle.checkpoints.specs.CloudMemory.Steps.{placed_len};
 ghost use Rattle.compact_memories.specs.Kept.{kept_in};
 ghost use Rattle.compact_memories.specs.Passes.{AreSmall, OwnedSoFar, KeptSoFar, row_of};
 
-use cd_base::Fp;
-use cloud_memory::CloudMemory;
-use file_index::FileIndex;
-use share_index::ShareIndex;
-use spent_table::Spent;
+use checkpoints::{CloudMemory, FileIndex, ShareIndex, Spent};
+use compact_lists::Fp;
 
 // The bytes under a fingerprint, or none where it has no place.
 fn placed_len(shares: &ShareIndex, fp: &Fp) -> u32

@@ -10,7 +10,7 @@ ghost use Rattle.std.specs.Prelude.{nat_eq};
 ghost use Rattle.container_log.specs.Caches.{kept_of, in_front, with_room, with_container, is_left, turned, IsKeptOr};
 
 use crate::container::Container;
-use cd_base::NoMemory;
+use cd_edges::NoMemory;
 use lru::LruCache;
 use std::alloc::Global;
 use std::marker::Model;

@@ -6,8 +6,7 @@ ghost use Rattle.container_log.specs.Caches.{container_of, is_left};
 ghost use Rattle.container_log.specs.Places.{container_len};
 
 use crate::places::CONTAINER;
-use cd_base::CloudNo;
-use cd_edges::{Area, Failed, Shelf};
+use cd_edges::{Area, CloudNo, Failed, Shelf};
 use std::alloc::Global;
 use std::marker::Model;
 

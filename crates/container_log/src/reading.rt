@@ -9,8 +9,7 @@ ghost use Rattle.container_log.specs.Places.{container_len};
 use crate::cache::Cache;
 use crate::log::STAGING;
 use crate::places::CONTAINER;
-use cd_base::CloudNo;
-use cd_edges::{Area, Failed, Shelf};
+use cd_edges::{Area, CloudNo, Failed, Shelf};
 
 // The same of a container that isn't kept: it is read whole and kept where that can be, and else these bytes are read alone.
 fn read_new<V: Shelf>(

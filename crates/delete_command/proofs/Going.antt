@@ -4,14 +4,14 @@ use Rattle.std.proofs.Common.{append_assoc, append-nil}
 use Rattle.std.specs.Prelude.{All, Result, ◌↔◌, ◌&&◌}
 use Rattle.std.specs.List.{Contains}
 use Rattle.std.proofs.lemmas.List.Elements.{All-nil, All-cons, All-head, All-tail}
-use Rattle.user_dedup.proofs.Owned.{contains_here, contains_later}
-use Rattle.cd_base.specs.declared.ids.CloudNo.{CloudNo}
-use Rattle.cd_edges.specs.Ports.{Telling}
-use Rattle.transcript.specs.Transcript.{line_text}
-use Rattle.transcript.specs.declared.line.Line.{Line}
+use Rattle.ports_link.proofs.UserDedup.Owned.{contains_here, contains_later}
+use Rattle.deletions.specs.CdBase.ids.CloudNo.{CloudNo}
+use Rattle.ports_link.specs.CdEdges.Ports.{Telling}
+use Rattle.deletions.specs.Transcript.Transcript.{line_text}
+use Rattle.deletions.specs.Transcript.line.Line.{Line}
 use Rattle.ports_link.specs.Hellos.{ports_of}
-use Rattle.delete_command.specs.declared.asking.Halt.{Halt}
-use Rattle.delete_command.specs.declared.asking.Halt.TheVariants as halts
+use Rattle.delete_command.specs.declared.asking.AskHalt.{AskHalt}
+use Rattle.delete_command.specs.declared.asking.AskHalt.TheVariants as halts
 use Rattle.delete_command.specs.Asks.{NoneLeft, Next, Fails}
 use Rattle.delete_command.specs.Lines.{IsGone, text_of}
 use Rattle.delete_command.specs.Steps.{OneWent, Went, both}
@@ -21,7 +21,7 @@ pub went_none : (request : List ℕ) (t : Telling) (text : List ℕ) → Went re
 went_none request t text = ([], NoneLeft t, (λ _. All-nil IsGone, λ _. refl), sym (append-nil text))
 
 -- a cloud with which it stopped
-pub went_stopped : (request : List ℕ) (t u : Telling) (at : CloudNo × ℕ) (behind : List (CloudNo × ℕ)) (halt : Halt)
+pub went_stopped : (request : List ℕ) (t u : Telling) (at : CloudNo × ℕ) (behind : List (CloudNo × ℕ)) (halt : AskHalt)
     (before text : List ℕ) → OneWent request t at (Err halt) before text u
     → Went request t (at ∷ behind) (Err halt) before text u
 went_stopped request t u at behind halts.Lost before text one =
@@ -45,7 +45,7 @@ all_gone false more line answers first rest =
 
 -- a cloud, and what came of those behind it
 pub went_more : (request : List ℕ) (t mid u : Telling) (at : CloudNo × ℕ) (behind : List (CloudNo × ℕ)) (one : Bool)
-    (result : Result Bool Halt) (before between text : List ℕ) → OneWent request t at (Ok one) before between mid
+    (result : Result Bool AskHalt) (before between text : List ℕ) → OneWent request t at (Ok one) before between mid
     → Went request mid behind result between text u → Went request t (at ∷ behind) (both one result) before text u
 went_more request t mid u at behind one (Ok more) before between text first rest = (
   first.0 ∷ rest.0,

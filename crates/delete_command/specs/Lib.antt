@@ -1,5 +1,8 @@
-pub mod Lines
 pub mod Asks
-pub mod Writing
+pub mod CdEdges
 pub mod Deleted
+pub mod Lines
+pub mod PortsLink
 pub mod Steps
+pub mod UserDedup
+pub mod Writing

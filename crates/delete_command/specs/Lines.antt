@@ -1,9 +1,9 @@
 -- The text of lines, and which of them say that the version is gone.
 use Rattle.std.specs.Prelude.{ℕ, List}
 use Rattle.std.specs.List.{flat_map}
-use Rattle.transcript.specs.Transcript.{line_text}
-use Rattle.transcript.specs.declared.line.Line.{Line}
-use Rattle.transcript.specs.declared.line.Line.TheVariants as lines
+use Rattle.deletions.specs.Transcript.Transcript.{line_text}
+use Rattle.deletions.specs.Transcript.line.Line.{Line}
+use Rattle.deletions.specs.Transcript.line.Line.TheVariants as lines
 
 -- the text of lines, one after another
 abbrev pub text_of : List Line → List ℕ

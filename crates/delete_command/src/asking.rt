@@ -2,25 +2,21 @@
 
 ghost use Rattle.std.specs.Prelude.{◌≡◌, ◌≤◌, ◌∷◌, [], ℕ, IsTrue, OnOk, MatchOption};
 ghost use Rattle.std.specs.List.{Contains};
-ghost use Rattle.cd_edges.specs.Causes.{HasCause, Rose};
-ghost use Rattle.cd_edges.specs.Ports.{OthersStay};
-ghost use Rattle.frames.specs.Frames.{IsContent};
+ghost use Rattle.ports_link.specs.CdEdges.Causes.{HasCause, Rose};
+ghost use Rattle.ports_link.specs.CdEdges.Ports.{OthersStay};
+ghost use Rattle.deletions.specs.Frames.Frames.{IsContent};
 ghost use Rattle.ports_link.specs.Hellos.{ports_of};
 ghost use Rattle.delete_command.specs.Asks.{Hears};
 ghost use Rattle.delete_command.specs.Steps.{IfLost, OneWent, Went, both as both_of};
 
 use crate::lines::is_gone;
-use cd_base::{Bytes, CloudNo, NoMemory};
-use cd_edges::{Failed, Ports};
-use deletions::line_of;
-use frames::ReplyBuf;
-use ports_link::exchange;
+use deletions::{Bytes, CloudNo, NoMemory, ReplyBuf, line_of, write_line};
+use ports_link::{Failed, Ports, exchange};
 use std::alloc::Global;
-use transcript::write_line;
 
 /// Why no more clouds are asked.
 #[derive(Clone, Copy, Debug, PartialEq, Eq)]
-pub enum Halt {
+pub enum AskHalt {
     /// The ports failed in an ask.
     Lost,
     /// Memory ran out.
@@ -65,7 +61,7 @@ fn ask_one<P: Ports>(
     request: &[u8],
     reply: &mut ReplyBuf,
     text: &mut Bytes,
-) -> Result<bool, Halt>
+) -> Result<bool, AskHalt>
     requires { IsContent request.now }
     ensures went { OneWent request.now (P.tells ports.old) line result text.old text.new (P.tells ports.new) }
     ensures others { IsTrue (P.tells ports.old).told → OthersStay (P.tells ports.old) (P.tells ports.new) line.1 }
@@ -76,20 +72,20 @@ fn ask_one<P: Ports>(
     let (cloud, port) = line;
     match ask_on(ports, port, request, reply) {
         Ok(()) => {}
-        Err(Failed) => return Err(Halt::Lost),
+        Err(Failed) => return Err(AskHalt::Lost),
     }
     let said = match line_of(alloc, cloud, reply.content()) {
         Ok(said) => said,
-        Err(NoMemory) => return Err(Halt::NoMemory),
+        Err(NoMemory) => return Err(AskHalt::NoMemory),
     };
     match write_line(&said, text) {
         Ok(()) => Ok(is_gone(&said)),
-        Err(NoMemory) => Err(Halt::NoMemory),
+        Err(NoMemory) => Err(AskHalt::NoMemory),
     }
 }
 
 // What came of one cloud and then of the others.
-fn both(first: bool, more: Result<bool, Halt>) -> Result<bool, Halt>
+fn both(first: bool, more: Result<bool, AskHalt>) -> Result<bool, AskHalt>
     ensures { result ≡ both_of first more }
 {
     match more {
@@ -107,7 +103,7 @@ pub fn ask_each<P: Ports>(
     request: &[u8],
     reply: &mut ReplyBuf,
     text: &mut Bytes,
-) -> Result<bool, Halt>
+) -> Result<bool, AskHalt>
     requires { IsContent request.now }
     ensures went { Went request.now (P.tells ports.old) lines.now result text.old text.new (P.tells ports.new) }
     ensures others { IsTrue (P.tells ports.old).told → (port : ℕ) → ¬ Contains (ports_of lines.now) port

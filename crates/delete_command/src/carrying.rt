@@ -1,16 +1,13 @@
 //! A deletion at the clouds at some addresses.
 
 ghost use Rattle.std.specs.Prelude.{◌≡◌, ◌≤◌, [], length, IsTrue};
-ghost use Rattle.cd_base.specs.Limits.{IsPath};
+ghost use Rattle.deletions.specs.CdBase.Limits.{IsPath};
 ghost use Rattle.ports_link.specs.Dialled.{OnlyDialled};
 ghost use Rattle.delete_command.specs.Steps.{Carries, of_asked};
 
-use crate::asking::{Halt, ask_each};
-use cd_base::{Bytes, NoMemory, UserId, Version};
-use cd_edges::Ports;
-use deletions::delete_request;
-use frames::ReplyBuf;
-use ports_link::{Asked, MeetErr, Refused, meet_all};
+use crate::asking::{AskHalt, ask_each};
+use deletions::{Bytes, NoMemory, ReplyBuf, UserId, Version, delete_request};
+use ports_link::{AskedClouds, MeetErr, Ports, Refused, meet_all};
 use std::alloc::Global;
 
 /// Why a version wasn't deleted at all clouds.
@@ -29,13 +26,13 @@ pub enum DeleteErr {
 }
 
 // What came of the clouds that were met.
-fn behind_hellos(came: Result<bool, Halt>) -> Result<bool, DeleteErr>
+fn behind_hellos(came: Result<bool, AskHalt>) -> Result<bool, DeleteErr>
     ensures { result ≡ of_asked came }
 {
     match came {
         Ok(gone) => Ok(gone),
-        Err(Halt::Lost) => Err(DeleteErr::Lost),
-        Err(Halt::NoMemory) => Err(DeleteErr::NoMemory),
+        Err(AskHalt::Lost) => Err(DeleteErr::Lost),
+        Err(AskHalt::NoMemory) => Err(DeleteErr::NoMemory),
     }
 }
 
@@ -73,7 +70,7 @@ pub fn carry<P: Ports>(
         Ok(reply) => reply,
         Err(NoMemory) => return Err(DeleteErr::NoMemory),
     };
-    let greeted = match meet_all(alloc, ports, Asked::Backup, addresses, &mut reply) {
+    let greeted = match meet_all(alloc, ports, AskedClouds::Backup, addresses, &mut reply) {
         Ok(greeted) => greeted,
         Err(MeetErr::Undialled) => return Err(DeleteErr::Undialled),
         Err(MeetErr::Refused(why)) => return Err(DeleteErr::Refused(why)),

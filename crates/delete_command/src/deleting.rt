@@ -1,15 +1,15 @@
 //! The command.
 
 ghost use Rattle.std.specs.Prelude.{◌≡◌, ◌≤◌, ◌⊎◌, length, IsTrue, if◌then◌else◌};
-ghost use Rattle.cd_base.specs.Limits.{IsPath};
+ghost use Rattle.deletions.specs.CdBase.Limits.{IsPath};
 ghost use Rattle.ports_link.specs.Dialled.{OnlyDialled};
 ghost use Rattle.delete_command.specs.Deleted.{IsDeleted};
 ghost use Rattle.delete_command.specs.Writing.{output_of};
 
 use crate::carrying::{DeleteErr, carry};
 use crate::writing::{write_hello, write_text};
-use cd_base::{Bytes, UserId, Version};
-use cd_edges::{Ports, Sink};
+use deletions::{Bytes, UserId, Version};
+use ports_link::{Ports, Sink};
 use std::alloc::Global;
 
 // The status where each cloud replied.

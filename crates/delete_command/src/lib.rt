@@ -8,3 +8,4 @@ mod lines;
 mod writing;
 
 pub use deleting::delete;
+pub use ports_link::{Area, Failed, Ports, Shelf, Sink, Source, write_all};

@@ -3,7 +3,7 @@
 ghost use Rattle.std.specs.Prelude.{◌↔◌, IsTrue};
 ghost use Rattle.delete_command.specs.Lines.{IsGone};
 
-use transcript::Line;
+use deletions::Line;
 
 /// Whether the line says that the version isn't there any more.
 pub fn is_gone(line: &Line) -> bool

@@ -2,15 +2,15 @@
 
 ghost use Rattle.std.specs.Prelude.{IfOk};
 ghost use Rattle.caont_rs.specs.Package.{tag};
-ghost use Rattle.cd_base.specs.Limits.{IsPath};
-ghost use Rattle.frames.specs.Frames.{IsContent};
+ghost use Rattle.transcript.specs.CdBase.Limits.{IsPath};
+ghost use Rattle.messages.specs.Frames.Frames.{IsContent};
 ghost use Rattle.messages.specs.declared.request.Request.TheVariants as requests;
 ghost use Rattle.messages.specs.Requests.{IsRequest};
 
 use caont_rs::tag_of;
-use cd_base::{Bytes, NoMemory, Shape, UserId, Version};
 use messages::Request;
 use std::alloc::Global;
+use transcript::{Bytes, NoMemory, Shape, UserId, Version};
 
 /// The content of the Delete of a version of a user's file, 45 bytes: by the tag that its path has in a store of this shape.
 /// It takes memory for the path's share and for the content.

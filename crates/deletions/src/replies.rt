@@ -6,10 +6,9 @@ ghost use Rattle.messages.specs.Replies.{IsReply};
 ghost use Rattle.transcript.specs.declared.line.Line.{Line};
 ghost use Rattle.deletions.specs.Replies.{HasLine, Reads, line_of as line_by};
 
-use cd_base::{CloudNo, NoMemory};
 use messages::{MsgErr, Reply, ReplyView, kind_of};
 use std::alloc::Global;
-use transcript::Line;
+use transcript::{CloudNo, Line, NoMemory};
 
 // What a reply to a Delete says; None where it is none to a Delete.
 fn told_by(cloud: CloudNo, reply: &Reply) -> Option<Line>

@@ -6,8 +6,8 @@ use Rattle.std.specs.declared.cmp.Ordering.{Ordering}
 use Rattle.std.specs.Cmp.{tied_itself}
 use Rattle.std.specs.declared.cmp.Ordering.TheVariants.{Less, Equal, Greater}
 use Rattle.std.specs.FinMap.{FinMap, get, insert, remove, empty, get-empty}
-use Rattle.slot_pool.specs.Pool.{Pool, limit_of}
-use Rattle.pool_map.specs.declared.Entry.{Entry as Pair}
+use Rattle.pool_map.specs.SlotPool.Pool.{PoolContents, limit_of}
+use Rattle.pool_map.specs.declared.KeyedValue.{KeyedValue as Pair}
 use Rattle.pool_map.specs.Table.{contents, charged, value_at, with_value_at, rewritten, IsLeastAbove, HasNoneAbove}
 use Rattle.pool_map.specs.Shown.{shown, get-shown, shown-insert}
 use Rattle.pool_map.specs.declared.accounts.Accounts.{Accounts}
@@ -49,14 +49,14 @@ present-shown m k = ap is_some (get-shown value m k) ∙ some-mapped value (get 
 pub absent-shown : (m : FinMap key_cmp (ℕ × Entry)) (k : FileKey) → get (shown value m) k ≡ None → get m k ≡ None
 absent-shown m k e = none-mapped value (get m k) (sym (get-shown value m k) ∙ e)
 
-pub kept-fresh : (p : Pool (Pair FileKey Entry)) (accounts : Accounts) → p.limits ≡ limits_of accounts → contents key_cmp p ≡ empty → IsKept p accounts
+pub kept-fresh : (p : PoolContents (Pair FileKey Entry)) (accounts : Accounts) → p.limits ≡ limits_of accounts → contents key_cmp p ≡ empty → IsKept p accounts
 kept-fresh p accounts limits none = record {
   limits = limits;
   charged = subst (IsCharged accounts (λ (k : FileKey). k.user)) (sym none) (charged-empty key_total key_exact (λ (k : FileKey). k.user) accounts);
   tags = λ k some. absurd (true≢false (sym some ∙ ap (λ (m : FinMap key_cmp (ℕ × Entry)). is_some (get m k)) none ∙ ap is_some (get-empty key_cmp k)));
 }
 
-pub kept-insert : (p q : Pool (Pair FileKey Entry)) (accounts : Accounts) (k : FileKey) (a : ℕ) (e : Entry) → IsKept p accounts → q.limits ≡ p.limits → contents key_cmp q ≡ insert (contents key_cmp p) k (a, e) → a ≡ account_for accounts k.user → IsKnown accounts k.user → length k.tag ≡ 32 → IsKept q accounts
+pub kept-insert : (p q : PoolContents (Pair FileKey Entry)) (accounts : Accounts) (k : FileKey) (a : ℕ) (e : Entry) → IsKept p accounts → q.limits ≡ p.limits → contents key_cmp q ≡ insert (contents key_cmp p) k (a, e) → a ≡ account_for accounts k.user → IsKnown accounts k.user → length k.tag ≡ 32 → IsKept q accounts
 kept-insert p q accounts k a e kept limits is at known long = record {
   limits = limits ∙ kept.limits;
   charged = subst (IsCharged accounts (λ (k : FileKey). k.user)) (sym is) (charged-insert key_total key_exact (λ (k : FileKey). k.user) accounts (contents key_cmp p) kept.charged k a e at known);
@@ -69,7 +69,7 @@ kept-insert p q accounts k a e kept limits is at known long = record {
 }
 
 -- another entry at a key that the table has
-pub kept-rewritten : (p q : Pool (Pair FileKey Entry)) (accounts : Accounts) (k : FileKey) (e : Entry) (x : ℕ × Entry) → IsKept p accounts → q.limits ≡ p.limits → contents key_cmp q ≡ with_value_at (contents key_cmp p) k e → get (contents key_cmp p) k ≡ Some x → IsKept q accounts
+pub kept-rewritten : (p q : PoolContents (Pair FileKey Entry)) (accounts : Accounts) (k : FileKey) (e : Entry) (x : ℕ × Entry) → IsKept p accounts → q.limits ≡ p.limits → contents key_cmp q ≡ with_value_at (contents key_cmp p) k e → get (contents key_cmp p) k ≡ Some x → IsKept q accounts
 kept-rewritten p q accounts k e x kept limits is at = record {
   limits = limits ∙ kept.limits;
   charged = subst (IsCharged accounts (λ (k : FileKey). k.user)) (sym is) (charged-rewritten key_total key_exact (λ (k : FileKey). k.user) accounts (contents key_cmp p) kept.charged k e x at);
@@ -82,14 +82,14 @@ kept-rewritten p q accounts k e x kept limits is at = record {
       ];
 }
 
-pub rewritten-files : (p q : Pool (Pair FileKey Entry)) (k : FileKey) (e : Entry) (x : ℕ × Entry) → get (contents key_cmp p) k ≡ Some x → contents key_cmp q ≡ with_value_at (contents key_cmp p) k e → shown value (contents key_cmp q) ≡ insert (shown value (contents key_cmp p)) k e
+pub rewritten-files : (p q : PoolContents (Pair FileKey Entry)) (k : FileKey) (e : Entry) (x : ℕ × Entry) → get (contents key_cmp p) k ≡ Some x → contents key_cmp q ≡ with_value_at (contents key_cmp p) k e → shown value (contents key_cmp q) ≡ insert (shown value (contents key_cmp p)) k e
 rewritten-files p q k e x at to = ap (shown value) (to ∙ ap (rewritten (contents key_cmp p) k e) at) ∙ shown-insert value key_total key_exact (contents key_cmp p) k (x.0, e)
 
 -- a key of the files has its account and its entry in the table
 pub entry-of : (m : FinMap key_cmp (ℕ × Entry)) (k : FileKey) → is_some (get (shown value m) k) ≡ true → (x : ℕ × Entry) × (get m k ≡ Some x)
 entry-of m k some = value-of _ (sym (present-shown m k) ∙ some)
 
-pub kept-remove : (p q : Pool (Pair FileKey Entry)) (accounts : Accounts) (k : FileKey) → IsKept p accounts → q.limits ≡ p.limits → contents key_cmp q ≡ remove (contents key_cmp p) k → IsKept q accounts
+pub kept-remove : (p q : PoolContents (Pair FileKey Entry)) (accounts : Accounts) (k : FileKey) → IsKept p accounts → q.limits ≡ p.limits → contents key_cmp q ≡ remove (contents key_cmp p) k → IsKept q accounts
 kept-remove p q accounts k kept limits is = record {
   limits = limits ∙ kept.limits;
   charged = subst (IsCharged accounts (λ (k : FileKey). k.user)) (sym is) (charged-remove key_total key_exact (λ (k : FileKey). k.user) accounts (contents key_cmp p) kept.charged k);
@@ -98,7 +98,7 @@ kept-remove p q accounts k kept limits is = record {
       kept.tags t (some-is _ x.0 (got-remove key_total key_exact (contents key_cmp p) k t x.0 (ap (λ (m : FinMap key_cmp (ℕ × Entry)). get m t) (sym is) ∙ x.1)));
 }
 
-module _ (p : Pool (Pair FileKey Entry)) (accounts : Accounts) (kept : IsKept p accounts) (user : ℕ) where
+module _ (p : PoolContents (Pair FileKey Entry)) (accounts : Accounts) (kept : IsKept p accounts) (user : ℕ) where
   abbrev index : Files
   index = files_of p accounts
 
@@ -153,7 +153,7 @@ pub none-from : {X : Type 0} (r : Option X) (A : Type 0) → is_some r ≡ false
 none-from None A e h = h
 none-from (Some x) A e h = absurd (true≢false e)
 
-module _ (p : Pool (Pair FileKey Entry)) where
+module _ (p : PoolContents (Pair FileKey Entry)) where
   abbrev table : FinMap key_cmp (ℕ × Entry)
   table = contents key_cmp p
 

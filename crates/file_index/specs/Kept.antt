@@ -4,8 +4,8 @@ use Rattle.std.specs.FinMap.{FinMap, get}
 use Rattle.std.specs.declared.cmp.Ordering.TheVariants.{Greater}
 use Rattle.cd_base.specs.declared.ids.Tag.{Tag}
 use Rattle.cd_base.specs.declared.ids.Version.{Version}
-use Rattle.slot_pool.specs.Pool.{Pool}
-use Rattle.pool_map.specs.declared.Entry.{Entry as Pair}
+use Rattle.pool_map.specs.SlotPool.Pool.{PoolContents}
+use Rattle.pool_map.specs.declared.KeyedValue.{KeyedValue as Pair}
 use Rattle.pool_map.specs.Table.{contents}
 use Rattle.pool_map.specs.Shown.{shown}
 use Rattle.pool_map.specs.declared.accounts.Accounts.{Accounts}
@@ -18,7 +18,7 @@ use Rattle.file_index.specs.Order.{key_cmp}
 use Rattle.file_index.specs.Files.{Files, IsAfter}
 
 -- the table's pairs without their accounts
-abbrev pub files_of : Pool (Pair FileKey Entry) → Accounts → Files
+abbrev pub files_of : PoolContents (Pair FileKey Entry) → Accounts → Files
 files_of table accounts = record {
   files = shown (λ (x : ℕ × Entry). x.1) (contents key_cmp table);
   slots = shown_slots (λ (e : Entry). e) table.slots;
@@ -26,7 +26,7 @@ files_of table accounts = record {
 }
 
 -- each file is charged as the accounts say, and each tag has its 32 bytes
-pub record IsKept (table : Pool (Pair FileKey Entry)) (accounts : Accounts) : Type 0 where
+pub record IsKept (table : PoolContents (Pair FileKey Entry)) (accounts : Accounts) : Type 0 where
   pub limits : table.limits ≡ limits_of accounts
   pub charged : IsCharged accounts (λ (k : FileKey). k.user) (contents key_cmp table)
   pub tags : (k : FileKey) → IsSome (get (contents key_cmp table) k) → length k.tag ≡ 32

@@ -1,4 +1,5 @@
-pub mod Order
-pub mod Files
 pub mod Coded
+pub mod Files
 pub mod Kept
+pub mod Order
+pub mod PoolMap

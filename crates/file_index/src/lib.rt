@@ -15,10 +15,11 @@ ghost use Rattle.file_index.specs.Kept.{IsLeastFrom, HasNoneFrom, HasTags, IsFou
 
 mod key;
 
-use cd_base::{NoMemory, Tag, UserId, Version};
+use cd_base::NoMemory;
+pub use cd_base::{Fp, Tag, UserId, Version};
 pub use key::{Entry, FileKey};
-pub use pool_map::{Accounts, IndexErr};
-use pool_map::{SortedTable, Table, TableFull};
+use pool_map::TableFull;
+pub use pool_map::{Accounts, HashTable, IndexErr, Key, Pool, PoolFull, Slot, SortedTable, Table};
 use std::alloc::Global;
 use std::marker::Model;
 

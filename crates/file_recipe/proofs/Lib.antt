@@ -1,3 +1,4 @@
 pub mod Secrets
 pub mod Recipes
 pub mod Shares
+pub mod CaontRs

@@ -6,9 +6,9 @@ use Rattle.std.proofs.lemmas.List.{length-map}
 use Rattle.std.proofs.lemmas.List.Sums.{sum_by-cons}
 use Rattle.std.proofs.lemmas.List.Concat.{length-flat_map}
 use Rattle.sha2.proofs.Facts256.{length-sha256}
-use Rattle.cd_base.specs.declared.shape.Shape.{Shape}
-use Rattle.cd_base.specs.Lengths.{share_len_of}
-use Rattle.cd_base.specs.Limits.{IsPath}
+use Rattle.rabin_chunker.specs.CdBase.shape.Shape.{Shape}
+use Rattle.rabin_chunker.specs.CdBase.Lengths.{share_len_of}
+use Rattle.rabin_chunker.specs.CdBase.Limits.{IsPath}
 use Rattle.rabin_chunker.specs.Cuts.{ends}
 use Rattle.rabin_chunker.specs.Rule.{IsCutFrom}
 use Rattle.rabin_chunker.proofs.RuleLaws.{ends_cut}

@@ -5,9 +5,9 @@ use Rattle.std.proofs.Math.Nat.{mul-le-mul_right}
 use Rattle.std.proofs.lemmas.Bool.{cases_lt}
 use Rattle.std.proofs.lemmas.List.{ext_get_or, append-nil, drop_all, take_at, take-append-drop, get_or_default, map-append, flat_map_more, get_or-set_same, get_or-set_other}
 use Rattle.std.proofs.lemmas.List.FromFn.{get_or-map-range_with_len, map-range_with_len_more, length-map-range_with_len}
-use Rattle.cd_base.specs.declared.shape.Shape.{Shape}
+use Rattle.rabin_chunker.specs.CdBase.shape.Shape.{Shape}
 use Rattle.caont_rs.specs.Package.{share}
-use Rattle.reed_solomon.specs.Dispersal.{row}
+use Rattle.caont_rs.specs.ReedSolomon.Dispersal.{row}
 use Rattle.rabin_chunker.specs.Cuts.{ends}
 use Rattle.rabin_chunker.specs.Rule.{IsFirstEnd, IsCutFrom}
 use Rattle.recipe.specs.declared.items.Item.{Item}

@@ -1,7 +1,7 @@
 -- What each cloud gets of a file.
 use Rattle.std.specs.Prelude.{ℕ, List, map}
 use Rattle.std.specs.List.{range_with_len}
-use Rattle.cd_base.specs.declared.shape.Shape.{Shape}
+use Rattle.rabin_chunker.specs.CdBase.shape.Shape.{Shape}
 use Rattle.file_recipe.specs.FileRecipe.{recipe_of, shares_at}
 use Rattle.file_recipe.specs.declared.cloud_file.CloudFile.{CloudFile}
 

@@ -1,3 +1,6 @@
-pub mod FileRecipe
+pub mod CaontRs
+pub mod CdBase
 pub mod Clouds
+pub mod FileRecipe
 pub mod Progress
+pub mod ReedSolomon

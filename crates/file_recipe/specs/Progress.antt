@@ -2,9 +2,9 @@
 use Rattle.std.specs.Prelude.{◌≡◌, ℕ, ◌+◌, ◌<◌, List, [], ◌∷◌, ◌++◌, length, map, slice_index_or}
 use Rattle.std.specs.List.{flat_map}
 use Rattle.sha2.specs.Sha256.{sha256}
-use Rattle.cd_base.specs.declared.shape.Shape.{Shape}
+use Rattle.rabin_chunker.specs.CdBase.shape.Shape.{Shape}
 use Rattle.caont_rs.specs.Package.{share}
-use Rattle.reed_solomon.specs.Dispersal.{row}
+use Rattle.caont_rs.specs.ReedSolomon.Dispersal.{row}
 use Rattle.file_recipe.specs.FileRecipe.{item_of}
 use Rattle.file_recipe.specs.declared.cloud_file.CloudFile.{CloudFile}
 

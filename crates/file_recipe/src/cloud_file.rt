@@ -4,7 +4,7 @@ ghost use Rattle.std.specs.Prelude.{◌≡◌, [], length, slice_get, OnOk, IsTr
 ghost use Rattle.std.specs.Option.{option_copied};
 ghost use Rattle.file_recipe.specs.Progress.{with_share};
 
-use cd_base::{Bytes, NoMemory, sha256};
+use rabin_chunker::{Bytes, NoMemory, sha256};
 use recipe::{Item, Recipe};
 use std::marker::Model;
 

@@ -2,8 +2,8 @@
 
 ghost use Rattle.std.specs.Prelude.{◌≡◌, ◌+◌, ◌*◌, ◌/◌, ◌≤◌, ◌<◌, ℕ, [], length, map, min, OnOk, IfOk};
 ghost use Rattle.std.specs.List.{range_with_len};
-ghost use Rattle.cd_base.specs.Limits.{IsPath};
-ghost use Rattle.reed_solomon.specs.Dispersal.{row};
+ghost use Rattle.rabin_chunker.specs.CdBase.Limits.{IsPath};
+ghost use Rattle.caont_rs.specs.ReedSolomon.Dispersal.{row};
 ghost use Rattle.rabin_chunker.specs.Cuts.{ends as ends_of_file};
 ghost use Rattle.caont_rs.specs.Package.{share};
 ghost use Rattle.recipe.specs.Spelling.{file_limit, item_limit};
@@ -13,8 +13,7 @@ ghost use Rattle.file_recipe.specs.Progress.{unshared, EachWithShare, EachWithSe
 
 use crate::{CloudFile, CloudFiles};
 use caont_rs::disperse;
-use cd_base::{Bytes, CloudNo, Ends, NoMemory, Shape, share_len};
-use rabin_chunker::Chunker;
+use rabin_chunker::{Bytes, Chunker, CloudNo, Ends, NoMemory, Shape, share_len};
 use recipe::{ITEM_LIMIT, Items, Recipe};
 use std::alloc::Global;
 

@@ -3,9 +3,9 @@
 
 ghost use Rattle.std.specs.Prelude.{◌≡◌, ℕ, List, ◌<◌, ◌≤◌, ◌+◌, Ok, length, slice_index, slice_index_or, []};
 ghost use Rattle.std.specs.List.{concat, sum_by, flat_map};
-ghost use Rattle.cd_base.specs.declared.shape.Shape.{Shape};
-ghost use Rattle.cd_base.specs.Lengths.{share_len_of};
-ghost use Rattle.cd_base.specs.Limits.{IsPath, secret_limit};
+ghost use Rattle.rabin_chunker.specs.CdBase.shape.Shape.{Shape};
+ghost use Rattle.rabin_chunker.specs.CdBase.Lengths.{share_len_of};
+ghost use Rattle.rabin_chunker.specs.CdBase.Limits.{IsPath, secret_limit};
 ghost use Rattle.caont_rs.specs.Package.{share};
 ghost use Rattle.recipe.specs.Spelling.{Fits, file_limit, item_limit};
 ghost use Rattle.recipe.specs.Reading.{recipe_at};

@@ -5,5 +5,8 @@ mod cloud_file;
 mod disperse;
 pub mod laws;
 
+pub use caont_rs::{RecoverErr, recover, tag_of};
 pub use cloud_file::{CloudFile, CloudFiles};
 pub use disperse::{disperse_file, disperse_for};
+pub use rabin_chunker::Chunker;
+pub use recipe::{Item, Items, Malformed, Recipe, RecipeErr, RecipeView};

@@ -2,19 +2,19 @@
 use Rattle.std.proofs.Common.{◌≡◌, ℕ, Bool, true, false, List, [], ◌∷◌, ◌++◌, refl, sym, ap, subst, arith}
 use Rattle.std.specs.Prelude.{max}
 use Rattle.std.specs.FinMap.{get}
-use Rattle.cd_base.specs.declared.ids.UserId.{UserId}
-use Rattle.cd_base.specs.declared.place.Place.{Place}
-use Rattle.cd_base.specs.declared.shape.Shape.{Shape}
-use Rattle.file_index.specs.Files.{key_of}
-use Rattle.record_body.specs.declared.body.PutItem.{PutItem}
-use Rattle.record_bodies.specs.declared.body.KeptItem.{KeptItem}
-use Rattle.record_bodies.specs.Spelling as bodies
-use Rattle.record_bodies.specs.Spelling.{Body}
-use Rattle.user_dedup.specs.declared.command.Command.{Command}
-use Rattle.cloud_areas.specs.Placing.{recipes_placed, end_of, greatest_end, recipes_end}
-use Rattle.cloud_memory.specs.Memory.{Memory}
-use Rattle.cloud_memory.specs.Steps.{with_item, with_items, with_kept, with_kepts, places_with, end_with}
-use Rattle.cloud_memory.proofs.Puts.{recipes_end_stays}
+use Rattle.journal_halves.specs.CdBase.ids.UserId.{UserId}
+use Rattle.journal_halves.specs.CdBase.place.Place.{Place}
+use Rattle.journal_halves.specs.CdBase.shape.Shape.{Shape}
+use Rattle.compact_memories.specs.FileIndex.Files.{key_of}
+use Rattle.first_records.specs.RecordBody.body.PutItem.{PutItem}
+use Rattle.first_records.specs.RecordBodies.body.KeptItem.{KeptItem}
+use Rattle.first_records.specs.RecordBodies.Spelling as bodies
+use Rattle.first_records.specs.RecordBodies.Spelling.{Body}
+use Rattle.compact_memories.specs.UserDedup.command.Command.{Command}
+use Rattle.compact_memories.specs.CloudAreas.Placing.{recipes_placed, end_of, greatest_end, recipes_end}
+use Rattle.compact_memories.specs.CloudMemory.Memory.{Memory}
+use Rattle.compact_memories.specs.CloudMemory.Steps.{with_item, with_items, with_kept, with_kepts, places_with, end_with}
+use Rattle.compact_memories.proofs.CloudMemoryLaws.Puts.{recipes_end_stays}
 use Rattle.record_laws.specs.Leaving.{taken, recipe_for, entry_bytes, record_left, left_by, IsLeft}
 use Rattle.record_laws.proofs.Places.{further, kepts_recipes_end}
 use Rattle.first_laws.specs.Leaving.{IsLeftOne}

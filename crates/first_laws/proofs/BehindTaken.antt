@@ -4,43 +4,43 @@ use Rattle.std.specs.Prelude.{slice_get, All}
 use Rattle.std.specs.List.{Contains}
 use Rattle.std.specs.FinMap.{get}
 use Rattle.std.proofs.lemmas.List.Elements.{All-head, Contains-append_right}
-use Rattle.cd_base.specs.declared.ids.Fp.{Fp}
-use Rattle.cd_base.specs.declared.ids.Tag.{Tag}
-use Rattle.cd_base.specs.declared.ids.UserId.{UserId}
-use Rattle.cd_base.specs.declared.ids.Version.{Version}
-use Rattle.cd_base.specs.declared.place.Place.{Place}
-use Rattle.cd_base.specs.declared.shape.Shape.{Shape}
-use Rattle.container_log.specs.Laying.{Placed, IsAt}
-use Rattle.file_index.specs.Files.{key_of}
-use Rattle.journal_start.specs.declared.rooms.Rooms.{Rooms}
-use Rattle.record_body.specs.declared.body.CommitBody.{CommitBody}
-use Rattle.record_body.specs.declared.body.PutItem.{PutItem}
-use Rattle.record_bodies.specs.declared.body.DeleteBody.{DeleteBody}
-use Rattle.record_bodies.specs.Spelling as bodies
-use Rattle.record_bodies.specs.Spelling.{Body}
-use Rattle.share_index.specs.Order.{owner_of}
-use Rattle.user_dedup.specs.declared.command.Command.{Command}
-use Rattle.user_dedup.specs.declared.command.Command.TheVariants as commands
-use Rattle.user_dedup.specs.declared.file_list.FileEntry.{FileEntry}
-use Rattle.user_dedup.specs.declared.view.View.{View}
-use Rattle.user_dedup.specs.Cloud.{fingerprint, user_view, strings_in}
-use Rattle.user_dedup.specs.Dedup.{IsSound}
-use Rattle.user_dedup.specs.Requests.{fps_of as names_of}
-use Rattle.user_dedup.proofs.New.{are_new}
-use Rattle.user_dedup.proofs.Owned.{contains_here}
-use Rattle.user_dedup.proofs.Sound.{found_entry}
-use Rattle.user_dedup.proofs.Views.{own_adds}
-use Rattle.cloud_areas.specs.Chains.{commit_of, AreItems, IsRecord, LiesIn}
-use Rattle.cloud_areas.specs.FormatOne.{IsWithinGreatest}
-use Rattle.cloud_areas.specs.Placing.{places_given, places_of, AreBehind, shares_end, recipes_end}
-use Rattle.cloud_areas.proofs.Apart.{Apart, apart_from}
-use Rattle.cloud_areas.proofs.Lists.{from_map}
-use Rattle.cloud_memory.specs.Memory.{Memory}
-use Rattle.cloud_memory.specs.Sharing.{AreOwned}
-use Rattle.cloud_memory.specs.Steps.{with_items, with_entry}
-use Rattle.cloud_memory.proofs.Lists.{are_placed}
-use Rattle.record_checks.specs.declared.ground.Ground.{Ground}
-use Rattle.record_checks.specs.Checks.{ByCommit, ByDelete, RecipeLies, IsNamed, IsWhole}
+use Rattle.journal_halves.specs.CdBase.ids.Fp.{Fp}
+use Rattle.journal_halves.specs.CdBase.ids.Tag.{Tag}
+use Rattle.journal_halves.specs.CdBase.ids.UserId.{UserId}
+use Rattle.journal_halves.specs.CdBase.ids.Version.{Version}
+use Rattle.journal_halves.specs.CdBase.place.Place.{Place}
+use Rattle.journal_halves.specs.CdBase.shape.Shape.{Shape}
+use Rattle.record_laws.specs.ContainerLog.Laying.{Placed, IsAt}
+use Rattle.compact_memories.specs.FileIndex.Files.{key_of}
+use Rattle.journal_halves.specs.JournalStart.rooms.UserRooms.{UserRooms}
+use Rattle.first_records.specs.RecordBody.body.CommitBody.{CommitBody}
+use Rattle.first_records.specs.RecordBody.body.PutItem.{PutItem}
+use Rattle.first_records.specs.RecordBodies.body.DeleteBody.{DeleteBody}
+use Rattle.first_records.specs.RecordBodies.Spelling as bodies
+use Rattle.first_records.specs.RecordBodies.Spelling.{Body}
+use Rattle.compact_memories.specs.ShareIndex.Order.{owner_of}
+use Rattle.compact_memories.specs.UserDedup.command.Command.{Command}
+use Rattle.compact_memories.specs.UserDedup.command.Command.TheVariants as commands
+use Rattle.compact_memories.specs.UserDedup.file_list.FileEntry.{FileEntry}
+use Rattle.compact_memories.specs.UserDedup.view.View.{View}
+use Rattle.compact_memories.specs.UserDedup.Cloud.{fingerprint, user_view, strings_in}
+use Rattle.compact_memories.specs.UserDedup.Dedup.{IsSound}
+use Rattle.compact_memories.specs.UserDedup.Requests.{fps_of as names_of}
+use Rattle.compact_memories.proofs.UserDedup.New.{are_new}
+use Rattle.compact_memories.proofs.UserDedup.Owned.{contains_here}
+use Rattle.compact_memories.proofs.UserDedup.Sound.{found_entry}
+use Rattle.compact_memories.proofs.UserDedup.Views.{own_adds}
+use Rattle.compact_memories.specs.CloudAreas.Chains.{commit_of, AreItems, IsRecord, LiesIn}
+use Rattle.compact_memories.specs.CloudAreas.FormatOne.{IsWithinGreatest}
+use Rattle.compact_memories.specs.CloudAreas.Placing.{places_given, places_of, AreBehind, shares_end, recipes_end}
+use Rattle.compact_memories.proofs.CloudAreas.Apart.{Apart, apart_from}
+use Rattle.compact_memories.proofs.CloudAreas.Lists.{from_map}
+use Rattle.compact_memories.specs.CloudMemory.Memory.{Memory}
+use Rattle.compact_memories.specs.CloudMemory.Sharing.{AreOwned}
+use Rattle.compact_memories.specs.CloudMemory.Steps.{with_items, with_entry}
+use Rattle.compact_memories.proofs.CloudMemoryLaws.Lists.{are_placed}
+use Rattle.record_laws.specs.RecordChecks.ground.Ground.{Ground}
+use Rattle.record_laws.specs.RecordChecks.Checks.{ByCommit, ByDelete, RecipeLies, IsNamed, IsWhole}
 use Rattle.record_laws.specs.Leaving.{bytes_at, entry_bytes}
 use Rattle.record_laws.proofs.Asked.{lawful}
 use Rattle.record_laws.proofs.Behind.{AreFree, right_items, own_known, file_known}
@@ -54,7 +54,7 @@ use Rattle.first_laws.proofs.Passing.{IsTaken, put_own, commit_own, delete_own}
 
 -- ---- a record
 
-module _ (shape : Shape) (cloud end : ℕ) (rooms : Rooms) (shares_len : ℕ) (area : List ℕ) (whole list rest : List Command) (within : IsWithinGreatest shape whole) (before : List Body) (m : Memory)
+module _ (shape : Shape) (cloud end : ℕ) (rooms : UserRooms) (shares_len : ℕ) (area : List ℕ) (whole list rest : List Command) (within : IsWithinGreatest shape whole) (before : List Body) (m : Memory)
     (one : IsLeftOne shape area end list before m) where
   abbrev g : Ground
   g = record { shape = shape; rooms = rooms; region = 0; shares_len = shares_len; recipes_len = length area }

@@ -3,27 +3,27 @@ use Rattle.std.proofs.Common.{◌≡◌, ℕ, ◌≤◌, true, List, [], ◌∷�
 use Rattle.std.specs.Prelude.{All}
 use Rattle.std.proofs.lemmas.List.Elements.{All-contains, Contains-append_left, Contains-append_right}
 use Rattle.std.proofs.lemmas.List.Sums.{fold-append}
-use Rattle.cd_base.specs.declared.ids.Fp.{Fp}
-use Rattle.cd_base.specs.declared.ids.UserId.{UserId}
-use Rattle.cd_base.specs.declared.place.Place.{Place}
-use Rattle.cd_base.specs.declared.shape.Shape.{Shape}
-use Rattle.cd_edges.specs.declared.area.Area.TheVariants.{Shares, Recipes}
-use Rattle.cd_edges.specs.Disk.{Image}
-use Rattle.container_log.specs.Laying.{Placed, IsAt}
-use Rattle.journal_start.specs.declared.start.Header.{Header}
-use Rattle.journal_start.specs.Spelling.{commands_of, records_of, recipes_end_of}
-use Rattle.record_bodies.specs.Spelling.{Body}
-use Rattle.user_dedup.specs.declared.command.Command.{Command}
-use Rattle.user_dedup.specs.Cloud.{held_bytes}
-use Rattle.user_dedup.specs.Dedup.{IsSound}
-use Rattle.user_dedup.specs.Spending.{files_of}
-use Rattle.user_dedup.proofs.Sound.{sound_before}
-use Rattle.cloud_areas.specs.Chains.{Says, Summed, Then, AreLong, laid_shares}
-use Rattle.cloud_areas.specs.FormatOne.{Lays}
-use Rattle.cloud_areas.specs.Placing.{shares_in}
-use Rattle.cloud_areas.specs.Standing.{Chain}
-use Rattle.cloud_areas.proofs.Lists.{contained, in_map}
-use Rattle.cloud_memory.specs.Memory.{Memory, Stand}
+use Rattle.journal_halves.specs.CdBase.ids.Fp.{Fp}
+use Rattle.journal_halves.specs.CdBase.ids.UserId.{UserId}
+use Rattle.journal_halves.specs.CdBase.place.Place.{Place}
+use Rattle.journal_halves.specs.CdBase.shape.Shape.{Shape}
+use Rattle.journal_halves.specs.CdEdges.area.Area.TheVariants.{Shares, Recipes}
+use Rattle.journal_halves.specs.CdEdges.Disk.{Image}
+use Rattle.record_laws.specs.ContainerLog.Laying.{Placed, IsAt}
+use Rattle.journal_halves.specs.JournalStart.start.Header.{Header}
+use Rattle.journal_halves.specs.JournalStart.Spelling.{commands_of, records_of, recipes_end_of}
+use Rattle.first_records.specs.RecordBodies.Spelling.{Body}
+use Rattle.compact_memories.specs.UserDedup.command.Command.{Command}
+use Rattle.compact_memories.specs.UserDedup.Cloud.{held_bytes}
+use Rattle.compact_memories.specs.UserDedup.Dedup.{IsSound}
+use Rattle.compact_memories.specs.UserDedup.Spending.{files_of}
+use Rattle.compact_memories.proofs.UserDedup.Sound.{sound_before}
+use Rattle.compact_memories.specs.CloudAreas.Chains.{AreRecordsOfList, Summed, Then, AreLong, laid_shares}
+use Rattle.compact_memories.specs.CloudAreas.FormatOne.{Lays}
+use Rattle.compact_memories.specs.CloudAreas.Placing.{shares_in}
+use Rattle.compact_memories.specs.CloudAreas.Standing.{Chain}
+use Rattle.compact_memories.proofs.CloudAreas.Lists.{contained, in_map}
+use Rattle.compact_memories.specs.CloudMemory.Memory.{Memory, Stand}
 use Rattle.record_laws.specs.Leaving.{record_left}
 use Rattle.record_laws.proofs.Chain.{long_before}
 use Rattle.first_laws.specs.Holding.{MayHoldOne, front_left_one}
@@ -42,7 +42,7 @@ pub one_more : (shape : Shape) (area : List ℕ) (m : Memory) (before : List Bod
 one_more shape area m before body = fold-append (record_left shape area true) m before (body ∷ [])
 
 module _ (shape : Shape) (cloud users end count commands : ℕ) (area : List ℕ) where
-  pub all_left_one : (bodies : List Body) (list : List Command) (recipes : List Placed) → Says 1 shape 0 count commands bodies list recipes → IsSound shape cloud list
+  pub all_left_one : (bodies : List Body) (list : List Command) (recipes : List Placed) → AreRecordsOfList 1 shape 0 count commands bodies list recipes → IsSound shape cloud list
       → HasFewFiles shape list → AreLong list (shares_in bodies) → All (IsAt area) recipes
       → IsLeftOne shape area end list bodies (first_left_by shape area (begun_behind users end) bodies)
   all_left_one _ _ _ (Summed bodies list recipes is len number) sound few long lie =
@@ -57,9 +57,9 @@ module _ (shape : Shape) (cloud users end count commands : ℕ) (area : List ℕ
       (contained (IsAt area) more (λ b c. All-contains (IsAt area) (laid ++ more) b lie (Contains-append_right laid more b c))))
 
 module _ (header : Header) (image : Image) (list : List Command) (c : Chain) (may : MayHoldOne header list) (lays : Lays header image list c) where
-  pub says_one : Says 1 header.shape 0 (records_of c.start.checkpoint) (commands_of c.start.checkpoint) c.records list c.recipes
+  pub says_one : AreRecordsOfList 1 header.shape 0 (records_of c.start.checkpoint) (commands_of c.start.checkpoint) c.records list c.recipes
   says_one =
-      subst (λ (format : ℕ). Says format header.shape 0 (records_of c.start.checkpoint) (commands_of c.start.checkpoint) c.records list c.recipes) may.format lays.says
+      subst (λ (format : ℕ). AreRecordsOfList format header.shape 0 (records_of c.start.checkpoint) (commands_of c.start.checkpoint) c.records list c.recipes) may.format lays.says
 
   pub are_long : AreLong list (shares_in c.records)
   are_long = contained (λ (x : Fp × Place). x.1.len ≡ length (held_bytes list x.0)) (shares_in c.records) (λ x there.

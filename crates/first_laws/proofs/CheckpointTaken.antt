@@ -7,48 +7,48 @@ use Rattle.std.proofs.lemmas.Grind.{flat_map-append}
 use Rattle.std.proofs.lemmas.List.{map-append}
 use Rattle.std.proofs.lemmas.List.Elements.{All-contains, filter-append, Contains-append_left, Contains-append_right, Contains-append_cases}
 use Rattle.std.proofs.lemmas.List.Sums.{fold-append}
-use Rattle.cd_base.specs.declared.ids.Fp.{Fp}
-use Rattle.cd_base.specs.declared.ids.Tag.{Tag}
-use Rattle.cd_base.specs.declared.ids.UserId.{UserId}
-use Rattle.cd_base.specs.declared.ids.Version.{Version}
-use Rattle.cd_base.specs.declared.place.Place.{Place}
-use Rattle.cd_base.specs.declared.shape.Shape.{Shape}
-use Rattle.cd_base.specs.Order.{fp_cmp}
-use Rattle.container_log.specs.Laying.{Placed, IsAt}
-use Rattle.file_index.specs.declared.key.Entry.{Entry}
-use Rattle.file_index.specs.Files as files
-use Rattle.journal_start.specs.declared.rooms.Rooms.{Rooms}
-use Rattle.record_body.specs.declared.body.CommitBody.{CommitBody}
-use Rattle.record_body.specs.declared.body.PutItem.{PutItem}
-use Rattle.record_bodies.specs.declared.body.KeptItem.{KeptItem}
-use Rattle.record_bodies.specs.declared.body.SpentBody.{SpentBody}
-use Rattle.record_bodies.specs.Spelling as bodies
-use Rattle.record_bodies.specs.Spelling.{Body}
-use Rattle.share_index.specs.Order.{owner_cmp, owner_of}
-use Rattle.user_dedup.specs.declared.command.Command.{Command}
-use Rattle.user_dedup.specs.declared.file_list.FileEntry.{FileEntry}
-use Rattle.user_dedup.specs.Cloud.{fingerprint, user_view, strings_in}
-use Rattle.user_dedup.specs.Dedup.{IsSound}
-use Rattle.user_dedup.specs.Owning.{is_among}
-use Rattle.user_dedup.specs.Pages.{entry_at}
-use Rattle.user_dedup.specs.Requests.{fps_of as names_of}
-use Rattle.user_dedup.proofs.Owned.{contains_here, among_contains, contains_among}
-use Rattle.user_dedup.proofs.Sound.{found_entry, entries_owned}
-use Rattle.cloud_areas.specs.Checkpoints.{PutRecord, put_body, of_user, fps_of, items_in, key_of, AreFlagged, IsCheckpoint}
-use Rattle.cloud_areas.specs.FormatOne.{IsWithinGreatest}
-use Rattle.cloud_areas.specs.Placing.{shares_placed, shares_in, fps_placed}
-use Rattle.cloud_areas.proofs.Apart.{Apart, apart_from}
-use Rattle.cloud_areas.proofs.Entries.{entry_of}
-use Rattle.cloud_areas.proofs.Lists.{in_map, from_map, contained}
-use Rattle.cloud_areas.proofs.Once.{checkpoint_once}
-use Rattle.cloud_areas.proofs.Placed.{shares_more, checkpoint_is_sent}
-use Rattle.cloud_memory.specs.Memory.{Memory, IsPlacedBy, commit_of, times}
-use Rattle.cloud_memory.specs.Sharing.{AreOwned}
-use Rattle.cloud_memory.specs.Steps.{with_items, with_entry}
-use Rattle.cloud_memory.proofs.Beginning.{none_placed}
-use Rattle.cloud_memory.proofs.Naming.{one_more, repeated}
-use Rattle.record_checks.specs.declared.ground.Ground.{Ground}
-use Rattle.record_checks.specs.Checks.{ByCommit, RecipeLies, IsNamed, IsWhole}
+use Rattle.journal_halves.specs.CdBase.ids.Fp.{Fp}
+use Rattle.journal_halves.specs.CdBase.ids.Tag.{Tag}
+use Rattle.journal_halves.specs.CdBase.ids.UserId.{UserId}
+use Rattle.journal_halves.specs.CdBase.ids.Version.{Version}
+use Rattle.journal_halves.specs.CdBase.place.Place.{Place}
+use Rattle.journal_halves.specs.CdBase.shape.Shape.{Shape}
+use Rattle.journal_halves.specs.CdBase.Order.{fp_cmp}
+use Rattle.record_laws.specs.ContainerLog.Laying.{Placed, IsAt}
+use Rattle.compact_memories.specs.FileIndex.key.Entry.{Entry}
+use Rattle.compact_memories.specs.FileIndex.Files as files
+use Rattle.journal_halves.specs.JournalStart.rooms.UserRooms.{UserRooms}
+use Rattle.first_records.specs.RecordBody.body.CommitBody.{CommitBody}
+use Rattle.first_records.specs.RecordBody.body.PutItem.{PutItem}
+use Rattle.first_records.specs.RecordBodies.body.KeptItem.{KeptItem}
+use Rattle.first_records.specs.RecordBodies.body.SpentBody.{SpentBody}
+use Rattle.first_records.specs.RecordBodies.Spelling as bodies
+use Rattle.first_records.specs.RecordBodies.Spelling.{Body}
+use Rattle.compact_memories.specs.ShareIndex.Order.{owner_cmp, owner_of}
+use Rattle.compact_memories.specs.UserDedup.command.Command.{Command}
+use Rattle.compact_memories.specs.UserDedup.file_list.FileEntry.{FileEntry}
+use Rattle.compact_memories.specs.UserDedup.Cloud.{fingerprint, user_view, strings_in}
+use Rattle.compact_memories.specs.UserDedup.Dedup.{IsSound}
+use Rattle.compact_memories.specs.UserDedup.Owning.{is_among}
+use Rattle.compact_memories.specs.UserDedup.Pages.{entry_at}
+use Rattle.compact_memories.specs.UserDedup.Requests.{fps_of as names_of}
+use Rattle.compact_memories.proofs.UserDedup.Owned.{contains_here, among_contains, contains_among}
+use Rattle.compact_memories.proofs.UserDedup.Sound.{found_entry, entries_owned}
+use Rattle.compact_memories.specs.CloudAreas.Checkpoints.{PutRecord, put_body, of_user, fps_of, items_in, key_of, AreFlagged, IsCheckpointOfList}
+use Rattle.compact_memories.specs.CloudAreas.FormatOne.{IsWithinGreatest}
+use Rattle.compact_memories.specs.CloudAreas.Placing.{shares_placed, shares_in, fps_placed}
+use Rattle.compact_memories.proofs.CloudAreas.Apart.{Apart, apart_from}
+use Rattle.compact_memories.proofs.CloudAreas.Entries.{entry_of}
+use Rattle.compact_memories.proofs.CloudAreas.Lists.{in_map, from_map, contained}
+use Rattle.compact_memories.proofs.CloudAreas.Once.{checkpoint_once}
+use Rattle.compact_memories.proofs.CloudAreas.Placed.{shares_more, checkpoint_is_sent}
+use Rattle.compact_memories.specs.CloudMemory.Memory.{Memory, IsPlacedBy, commit_of, times}
+use Rattle.compact_memories.specs.CloudMemory.Sharing.{AreOwned}
+use Rattle.compact_memories.specs.CloudMemory.Steps.{with_items, with_entry}
+use Rattle.compact_memories.proofs.CloudMemoryLaws.Beginning.{none_placed}
+use Rattle.compact_memories.proofs.CloudMemoryLaws.Naming.{one_more, repeated}
+use Rattle.record_laws.specs.RecordChecks.ground.Ground.{Ground}
+use Rattle.record_laws.specs.RecordChecks.Checks.{ByCommit, RecipeLies, IsNamed, IsWhole}
 use Rattle.record_laws.specs.Leaving.{bytes_at, recipe_for, record_left}
 use Rattle.record_laws.proofs.Counts.{commits_by}
 use Rattle.record_laws.proofs.Items.{AreMine, inside_items, inside_kepts, puts_seen, flagged_split}
@@ -83,8 +83,8 @@ some_raised (suc n) k = some_raised n _
 
 -- ---- a checkpoint
 
-module _ (shape : Shape) (cloud users end : ℕ) (rooms : Rooms) (shares_len : ℕ) (area : List ℕ) (whole list rest : List Command) (within : IsWithinGreatest shape whole) (front : whole ≡ list ++ rest)
-    (records : List Body) (recipes : List Placed) (is : IsCheckpoint 1 shape list records recipes) (sound : IsSound shape cloud list) (lie : All (IsAt area) recipes) where
+module _ (shape : Shape) (cloud users end : ℕ) (rooms : UserRooms) (shares_len : ℕ) (area : List ℕ) (whole list rest : List Command) (within : IsWithinGreatest shape whole) (front : whole ≡ list ++ rest)
+    (records : List Body) (recipes : List Placed) (is : IsCheckpointOfList 1 shape list records recipes) (sound : IsSound shape cloud list) (lie : All (IsAt area) recipes) where
   abbrev g : Ground
   g = record { shape = shape; rooms = rooms; region = 0; shares_len = shares_len; recipes_len = length area }
 

@@ -4,24 +4,24 @@ use Rattle.std.specs.Prelude.{count_by, is_some}
 use Rattle.std.specs.Option.{option_or}
 use Rattle.std.specs.FinMap.{get, len, len-insert}
 use Rattle.std.proofs.lemmas.Bool.{false_from_ne_true}
-use Rattle.cd_base.specs.declared.ids.Fp.{Fp}
-use Rattle.cd_base.specs.declared.ids.UserId.{UserId}
-use Rattle.cd_base.specs.declared.rooms.Room.{Room}
-use Rattle.cd_base.specs.declared.rooms.Room.TheVariants.{Shares, Recipes, Fps, Owners, Files}
-use Rattle.file_index.specs.Files.{key_of}
-use Rattle.file_index.proofs.Order.{key_total}
-use Rattle.record_body.specs.declared.body.CommitBody.{CommitBody}
-use Rattle.record_body.specs.declared.body.PutItem.{PutItem}
-use Rattle.record_bodies.specs.declared.body.KeptItem.{KeptItem}
-use Rattle.record_bodies.specs.Spelling as bodies
-use Rattle.record_bodies.specs.Spelling.{Body}
-use Rattle.cloud_memory.specs.Memory.{Memory}
-use Rattle.cloud_memory.specs.Steps.{with_items, with_kepts, with_entry}
-use Rattle.record_checks.specs.declared.ground.Ground.{Ground}
-use Rattle.record_checks.specs.Checks.{AreRight, AreRightKepts}
-use Rattle.record_checks.specs.Steps.{has_place}
-use Rattle.record_checks.proofs.Rooming.{placed_after}
-use Rattle.record_checks.proofs.KeptWalking.{placed_after as kepts_placed}
+use Rattle.journal_halves.specs.CdBase.ids.Fp.{Fp}
+use Rattle.journal_halves.specs.CdBase.ids.UserId.{UserId}
+use Rattle.journal_halves.specs.CdBase.rooms.Room.{Room}
+use Rattle.journal_halves.specs.CdBase.rooms.Room.TheVariants.{Shares, Recipes, Fps, Owners, Files}
+use Rattle.compact_memories.specs.FileIndex.Files.{key_of}
+use Rattle.compact_memories.proofs.FileIndexLaws.Order.{key_total}
+use Rattle.first_records.specs.RecordBody.body.CommitBody.{CommitBody}
+use Rattle.first_records.specs.RecordBody.body.PutItem.{PutItem}
+use Rattle.first_records.specs.RecordBodies.body.KeptItem.{KeptItem}
+use Rattle.first_records.specs.RecordBodies.Spelling as bodies
+use Rattle.first_records.specs.RecordBodies.Spelling.{Body}
+use Rattle.compact_memories.specs.CloudMemory.Memory.{Memory}
+use Rattle.compact_memories.specs.CloudMemory.Steps.{with_items, with_kepts, with_entry}
+use Rattle.record_laws.specs.RecordChecks.ground.Ground.{Ground}
+use Rattle.record_laws.specs.RecordChecks.Checks.{AreRight, AreRightKepts}
+use Rattle.record_laws.specs.RecordChecks.Steps.{has_place}
+use Rattle.record_laws.proofs.RecordChecks.Rooming.{placed_after}
+use Rattle.record_laws.proofs.RecordChecks.KeptWalking.{placed_after as kepts_placed}
 use Rattle.first_records.specs.Limits.{limit_of, if_past, crowded, overfull}
 use Rattle.first_laws.proofs.Most.{owners_after}
 

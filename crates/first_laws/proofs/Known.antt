@@ -3,15 +3,15 @@ use Rattle.std.proofs.Common.{◌≡◌, ◌⊎◌, ◌≢◌, inl, inr, ℕ, �
 use Rattle.std.specs.Prelude.{fold}
 use Rattle.std.specs.List.{Contains}
 use Rattle.std.proofs.lemmas.Bool.{cases_eq, ne_eqb}
-use Rattle.cd_base.specs.declared.ids.UserId.{UserId}
-use Rattle.cd_base.specs.declared.shape.Shape.{Shape}
-use Rattle.user_dedup.specs.declared.command.Command.{Command}
-use Rattle.user_dedup.specs.Cloud.{user_of, commands_of, no_view, view_after}
-use Rattle.user_dedup.specs.Compact.{users_in, user_at}
-use Rattle.user_dedup.specs.Spending.{nothing, spent_of, spent_in, files_of}
-use Rattle.user_dedup.proofs.Sorting.{has_number, number_later}
-use Rattle.cloud_areas.specs.FormatOne.{all_files, IsWithinGreatest}
-use Rattle.cloud_areas.proofs.Counting.{no_weight}
+use Rattle.journal_halves.specs.CdBase.ids.UserId.{UserId}
+use Rattle.journal_halves.specs.CdBase.shape.Shape.{Shape}
+use Rattle.compact_memories.specs.UserDedup.command.Command.{Command}
+use Rattle.compact_memories.specs.UserDedup.Cloud.{user_of, commands_of, no_view, view_after}
+use Rattle.compact_memories.specs.UserDedup.Compact.{users_in, user_at}
+use Rattle.compact_memories.specs.UserDedup.Spending.{nothing, spent_of, spent_in, files_of}
+use Rattle.compact_memories.proofs.UserDedup.Sorting.{has_number, number_later}
+use Rattle.compact_memories.specs.CloudAreas.FormatOne.{all_files, IsWithinGreatest}
+use Rattle.compact_memories.proofs.CloudAreas.Counting.{no_weight}
 
 -- a user is one of the list's, or has no command in it
 pub user_or_none : (list : List Command) (user : UserId) → Contains (users_in list) user.0 ⊎ (commands_of user list ≡ [])

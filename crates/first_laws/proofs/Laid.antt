@@ -1,10 +1,10 @@
 -- Where blobs lie that are laid one behind another, and what of them is found.
 use Rattle.std.proofs.Common.{◌≡◌, ◌⊎◌, inl, inr, ℕ, ◌+◌, ◌≤◌, List, [], ◌∷◌, ◌++◌, length, refl, sym, ap, ◌∙◌, subst, arith}
 use Rattle.std.specs.List.{Contains}
-use Rattle.container_log.specs.Laying.{Placed, lengths, placed}
-use Rattle.container_log.specs.Places.{container_len, place_of, end_after, end_of_laid, LiesInOne}
-use Rattle.container_log.proofs.Least.{place_behind, least_place}
-use Rattle.user_dedup.proofs.Owned.{contains_here, contains_later, contains_nothing, contains_cases}
+use Rattle.record_laws.specs.ContainerLog.Laying.{Placed, lengths, placed}
+use Rattle.record_laws.specs.ContainerLog.Places.{container_len, place_of, end_after, end_of_laid, LiesInOne}
+use Rattle.record_laws.proofs.ContainerLog.Least.{place_behind, least_place}
+use Rattle.compact_memories.proofs.UserDedup.Owned.{contains_here, contains_later, contains_nothing, contains_cases}
 
 pub end_far : (end : ℕ) (lens : List ℕ) → end ≤ end_of_laid end lens
 end_far end [] = omega arith

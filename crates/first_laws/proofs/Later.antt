@@ -2,20 +2,20 @@
 use Rattle.std.proofs.Common.{◌≡◌, ℕ, zero, suc, ◌<◌, ◌≤◌, true, false, List, [], ◌∷◌, ◌++◌, length, get_or, replicate, refl, ap, ◌∙◌, arith, length-append}
 use Rattle.std.specs.Prelude.{max, All}
 use Rattle.std.proofs.lemmas.List.{length-replicate}
-use Rattle.cd_base.specs.declared.ids.UserId.{UserId}
-use Rattle.cd_base.specs.declared.shape.Shape.{Shape}
-use Rattle.container_log.specs.Laying.{Placed, IsAt}
-use Rattle.record_bodies.specs.Spelling.{Body}
-use Rattle.spent_table.specs.declared.Spent.{Spent as Row}
-use Rattle.spent_table.specs.Spending.{nothing as no_row}
-use Rattle.user_dedup.specs.declared.command.Command.{Command}
-use Rattle.user_dedup.specs.Cloud.{user_of}
-use Rattle.user_dedup.specs.Dedup.{IsSound}
-use Rattle.user_dedup.specs.Spending.{files_of}
-use Rattle.cloud_areas.specs.Chains.{IsRecord}
-use Rattle.cloud_areas.specs.Placing.{recipes_placed, recipes_in, greatest_end, recipes_end}
-use Rattle.cloud_areas.proofs.Behind.{recipes_more}
-use Rattle.cloud_memory.specs.Memory.{Memory, as_spent}
+use Rattle.journal_halves.specs.CdBase.ids.UserId.{UserId}
+use Rattle.journal_halves.specs.CdBase.shape.Shape.{Shape}
+use Rattle.record_laws.specs.ContainerLog.Laying.{Placed, IsAt}
+use Rattle.first_records.specs.RecordBodies.Spelling.{Body}
+use Rattle.record_laws.specs.SpentTable.Spent.{Spent as Row}
+use Rattle.record_laws.specs.SpentTable.Spending.{nothing as no_row}
+use Rattle.compact_memories.specs.UserDedup.command.Command.{Command}
+use Rattle.compact_memories.specs.UserDedup.Cloud.{user_of}
+use Rattle.compact_memories.specs.UserDedup.Dedup.{IsSound}
+use Rattle.compact_memories.specs.UserDedup.Spending.{files_of}
+use Rattle.compact_memories.specs.CloudAreas.Chains.{IsRecord}
+use Rattle.compact_memories.specs.CloudAreas.Placing.{recipes_placed, recipes_in, greatest_end, recipes_end}
+use Rattle.compact_memories.proofs.CloudAreas.Behind.{recipes_more}
+use Rattle.compact_memories.specs.CloudMemory.Memory.{Memory, as_spent}
 use Rattle.record_laws.specs.Leaving.{recipe_for, record_left, IsLeft}
 use Rattle.record_laws.proofs.Next.{next_left}
 use Rattle.first_laws.specs.Leaving.{first_left, filled, IsLeftOne}

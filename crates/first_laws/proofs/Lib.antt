@@ -15,3 +15,4 @@ pub mod Spenders
 pub mod Stood
 pub mod Strings
 pub mod Summed
+pub mod FirstRecords

@@ -4,35 +4,35 @@ use Rattle.std.specs.Prelude.{take}
 use Rattle.std.specs.List.{Contains, flat_map}
 use Rattle.std.specs.FinMap.{get}
 use Rattle.std.proofs.lemmas.List.{take-append-le}
-use Rattle.cd_base.specs.declared.ids.Fp.{Fp}
-use Rattle.cd_base.specs.declared.place.Place.{Place}
-use Rattle.cd_base.specs.declared.shape.Shape.{Shape}
-use Rattle.cd_edges.specs.declared.area.Area.TheVariants.{Recipes}
-use Rattle.cd_edges.specs.Disk.{Image}
-use Rattle.container_log.specs.Laying.{Placed}
-use Rattle.container_log.specs.Places.{LiesInOne}
-use Rattle.file_index.specs.declared.key.Entry.{Entry}
-use Rattle.file_index.specs.declared.key.FileKey.{FileKey}
-use Rattle.journal_start.specs.declared.start.Header.{Header}
-use Rattle.journal_start.specs.Spelling.{commands_of, records_of, recipes_end_of}
-use Rattle.record_body.specs.declared.body.CommitBody.{CommitBody}
-use Rattle.record_bodies.specs.Spelling as bodies
-use Rattle.record_bodies.specs.Spelling.{Body}
-use Rattle.user_dedup.specs.declared.command.Command.{Command}
-use Rattle.user_dedup.specs.declared.command.Command.TheVariants as commands
-use Rattle.user_dedup.specs.Cloud.{fingerprint, recipes_of}
-use Rattle.user_dedup.proofs.Filtered.{in_flat}
-use Rattle.user_dedup.proofs.Owned.{contains_here, contains_nothing, contains_cases}
-use Rattle.cloud_areas.specs.Chains.{IsRecord, Says, Summed, Then, DontOverlap}
-use Rattle.cloud_areas.specs.FormatOne.{laid_strings, strings_end, laid_end, Lays}
-use Rattle.cloud_areas.specs.Laid.{place_by}
-use Rattle.cloud_areas.specs.Placing.{shares_in, recipes_placed, recipes_in, places_of, end_of, greatest_end, AreBehind, shares_end, recipes_end}
-use Rattle.cloud_areas.specs.Standing.{Chain}
-use Rattle.cloud_areas.proofs.Apart.{contains_get}
-use Rattle.cloud_areas.proofs.Behind.{recipes_more, recipes_placed_by}
-use Rattle.cloud_areas.proofs.Ends.{end_bound, apart_more}
-use Rattle.cloud_areas.proofs.Lists.{from_map}
-use Rattle.cloud_memory.specs.Memory.{Memory, commit_of}
+use Rattle.journal_halves.specs.CdBase.ids.Fp.{Fp}
+use Rattle.journal_halves.specs.CdBase.place.Place.{Place}
+use Rattle.journal_halves.specs.CdBase.shape.Shape.{Shape}
+use Rattle.journal_halves.specs.CdEdges.area.Area.TheVariants.{Recipes}
+use Rattle.journal_halves.specs.CdEdges.Disk.{Image}
+use Rattle.record_laws.specs.ContainerLog.Laying.{Placed}
+use Rattle.record_laws.specs.ContainerLog.Places.{LiesInOne}
+use Rattle.compact_memories.specs.FileIndex.key.Entry.{Entry}
+use Rattle.compact_memories.specs.FileIndex.key.FileKey.{FileKey}
+use Rattle.journal_halves.specs.JournalStart.start.Header.{Header}
+use Rattle.journal_halves.specs.JournalStart.Spelling.{commands_of, records_of, recipes_end_of}
+use Rattle.first_records.specs.RecordBody.body.CommitBody.{CommitBody}
+use Rattle.first_records.specs.RecordBodies.Spelling as bodies
+use Rattle.first_records.specs.RecordBodies.Spelling.{Body}
+use Rattle.compact_memories.specs.UserDedup.command.Command.{Command}
+use Rattle.compact_memories.specs.UserDedup.command.Command.TheVariants as commands
+use Rattle.compact_memories.specs.UserDedup.Cloud.{fingerprint, recipes_of}
+use Rattle.compact_memories.proofs.UserDedup.Filtered.{in_flat}
+use Rattle.compact_memories.proofs.UserDedup.Owned.{contains_here, contains_nothing, contains_cases}
+use Rattle.compact_memories.specs.CloudAreas.Chains.{IsRecord, AreRecordsOfList, Summed, Then, DontOverlap}
+use Rattle.compact_memories.specs.CloudAreas.FormatOne.{laid_strings, strings_end, laid_end, Lays}
+use Rattle.compact_memories.specs.CloudAreas.Laid.{place_by}
+use Rattle.compact_memories.specs.CloudAreas.Placing.{shares_in, recipes_placed, recipes_in, places_of, end_of, greatest_end, AreBehind, shares_end, recipes_end}
+use Rattle.compact_memories.specs.CloudAreas.Standing.{Chain}
+use Rattle.compact_memories.proofs.CloudAreas.Apart.{contains_get}
+use Rattle.compact_memories.proofs.CloudAreas.Behind.{recipes_more, recipes_placed_by}
+use Rattle.compact_memories.proofs.CloudAreas.Ends.{end_bound, apart_more}
+use Rattle.compact_memories.proofs.CloudAreas.Lists.{from_map}
+use Rattle.compact_memories.specs.CloudMemory.Memory.{Memory, commit_of}
 use Rattle.compact_memories.specs.Moved.{PlacesApart, entry_place, PlacesLie}
 use Rattle.record_laws.proofs.Chain.{checkpoint_within}
 use Rattle.first_laws.specs.Holding.{MayHoldOne}
@@ -109,7 +109,7 @@ take_all {X} n xs len = subst (λ (k : ℕ). take k xs ≡ xs) len (all xs)
     all [] = refl
     all (x ∷ l) = ap (λ k. x ∷ k) (all l)
 
-all_apart : (shape : Shape) (count commands : ℕ) (bodies : List Body) (list : List Command) (recipes : List Placed) → Says 1 shape 0 count commands bodies list recipes
+all_apart : (shape : Shape) (count commands : ℕ) (bodies : List Body) (list : List Command) (recipes : List Placed) → AreRecordsOfList 1 shape 0 count commands bodies list recipes
     → DontOverlap (recipes_in (take count bodies)) → DontOverlap (recipes_in bodies)
 all_apart shape count commands _ _ _ (Summed bodies list recipes is len number) apart =
     subst (λ (l : List Body). DontOverlap (recipes_in l)) (take_all count bodies len) apart

@@ -7,40 +7,40 @@ use Rattle.std.proofs.lemmas.Grind.{flat_map-append}
 use Rattle.std.proofs.lemmas.List.{length-map}
 use Rattle.std.proofs.lemmas.List.Elements.{Contains-append_left}
 use Rattle.std.proofs.lemmas.List.Sums.{sum_by-cons}
-use Rattle.cd_base.specs.declared.ids.Fp.{Fp}
-use Rattle.cd_base.specs.declared.ids.Tag.{Tag}
-use Rattle.cd_base.specs.declared.ids.UserId.{UserId}
-use Rattle.cd_base.specs.declared.ids.Version.{Version}
-use Rattle.cd_base.specs.declared.place.Place.{Place}
-use Rattle.cd_base.specs.declared.shape.Shape.{Shape}
-use Rattle.cd_base.specs.Order.{fp_cmp, fp_exact}
-use Rattle.file_index.specs.declared.key.Entry.{Entry}
-use Rattle.file_index.specs.declared.key.FileKey.{FileKey}
-use Rattle.file_index.specs.Files.{key_of}
-use Rattle.file_index.specs.Order.{key_cmp, key_exact}
-use Rattle.file_index.proofs.Order.{key_total}
-use Rattle.record_body.specs.declared.body.PutItem.{PutItem}
-use Rattle.share_index.specs.declared.key.Owner.{Owner}
-use Rattle.share_index.specs.Order.{owner_cmp, owner_of, owner_exact}
-use Rattle.share_index.proofs.Owning.{owner_total}
-use Rattle.share_index.proofs.Placing.{fp_total}
-use Rattle.user_dedup.specs.declared.command.Command.{Command}
-use Rattle.user_dedup.specs.declared.file_list.FileEntry.{FileEntry}
-use Rattle.user_dedup.specs.declared.view.View.{View}
-use Rattle.user_dedup.specs.Cloud.{fingerprint, has_fingerprint, commands_of, user_view, no_view, view_after, strings_of, strings_in}
-use Rattle.user_dedup.specs.Compact.{users_in, user_at}
-use Rattle.user_dedup.specs.Pages.{entry_at}
-use Rattle.user_dedup.proofs.Filtered.{in_flat}
-use Rattle.user_dedup.proofs.Owned.{fp_same, contains_nothing}
-use Rattle.user_dedup.proofs.Sound.{found_entry}
-use Rattle.user_dedup.proofs.Views.{found_from, found_passes, is_held}
-use Rattle.cloud_areas.specs.FormatOne.{laid_strings, IsWithinGreatest}
-use Rattle.cloud_areas.proofs.Lists.{in_map, from_map}
-use Rattle.cloud_memory.specs.Memory.{Memory}
-use Rattle.cloud_memory.specs.Steps.{with_item, with_items}
-use Rattle.cloud_memory.proofs.KeyCounts.{few_keys, all_keys}
-use Rattle.record_checks.specs.declared.ground.Ground.{Ground}
-use Rattle.record_checks.specs.Checks.{AreRight}
+use Rattle.journal_halves.specs.CdBase.ids.Fp.{Fp}
+use Rattle.journal_halves.specs.CdBase.ids.Tag.{Tag}
+use Rattle.journal_halves.specs.CdBase.ids.UserId.{UserId}
+use Rattle.journal_halves.specs.CdBase.ids.Version.{Version}
+use Rattle.journal_halves.specs.CdBase.place.Place.{Place}
+use Rattle.journal_halves.specs.CdBase.shape.Shape.{Shape}
+use Rattle.journal_halves.specs.CdBase.Order.{fp_cmp, fp_exact}
+use Rattle.compact_memories.specs.FileIndex.key.Entry.{Entry}
+use Rattle.compact_memories.specs.FileIndex.key.FileKey.{FileKey}
+use Rattle.compact_memories.specs.FileIndex.Files.{key_of}
+use Rattle.compact_memories.specs.FileIndex.Order.{key_cmp, key_exact}
+use Rattle.compact_memories.proofs.FileIndexLaws.Order.{key_total}
+use Rattle.first_records.specs.RecordBody.body.PutItem.{PutItem}
+use Rattle.compact_memories.specs.ShareIndex.key.Owner.{Owner}
+use Rattle.compact_memories.specs.ShareIndex.Order.{owner_cmp, owner_of, owner_exact}
+use Rattle.compact_memories.proofs.ShareIndexLaws.Owning.{owner_total}
+use Rattle.compact_memories.proofs.ShareIndexLaws.Placing.{fp_total}
+use Rattle.compact_memories.specs.UserDedup.command.Command.{Command}
+use Rattle.compact_memories.specs.UserDedup.file_list.FileEntry.{FileEntry}
+use Rattle.compact_memories.specs.UserDedup.view.View.{View}
+use Rattle.compact_memories.specs.UserDedup.Cloud.{fingerprint, has_fingerprint, commands_of, user_view, no_view, view_after, strings_of, strings_in}
+use Rattle.compact_memories.specs.UserDedup.Compact.{users_in, user_at}
+use Rattle.compact_memories.specs.UserDedup.Pages.{entry_at}
+use Rattle.compact_memories.proofs.UserDedup.Filtered.{in_flat}
+use Rattle.compact_memories.proofs.UserDedup.Owned.{fp_same, contains_nothing}
+use Rattle.compact_memories.proofs.UserDedup.Sound.{found_entry}
+use Rattle.compact_memories.proofs.UserDedup.Views.{found_from, found_passes, is_held}
+use Rattle.compact_memories.specs.CloudAreas.FormatOne.{laid_strings, IsWithinGreatest}
+use Rattle.compact_memories.proofs.CloudAreas.Lists.{in_map, from_map}
+use Rattle.compact_memories.specs.CloudMemory.Memory.{Memory}
+use Rattle.compact_memories.specs.CloudMemory.Steps.{with_item, with_items}
+use Rattle.compact_memories.proofs.CloudMemoryLaws.KeyCounts.{few_keys, all_keys}
+use Rattle.record_laws.specs.RecordChecks.ground.Ground.{Ground}
+use Rattle.record_laws.specs.RecordChecks.Checks.{AreRight}
 use Rattle.first_laws.proofs.Known.{user_or_none}
 use Rattle.first_laws.proofs.Strings.{find_new}
 

@@ -1,15 +1,15 @@
 -- What a record passes to be taken, and which kinds format 1 has.
 use Rattle.std.proofs.Common.{◌≡◌, ◌≢◌, ◌⊎◌, inl, inr, ℕ, Bool, true, false, List, None, arith}
 use Rattle.std.specs.Prelude.{IsFalse}
-use Rattle.cd_base.specs.declared.ids.UserId.{UserId}
-use Rattle.record_body.specs.declared.body.CommitBody.{CommitBody}
-use Rattle.record_body.specs.declared.body.PutItem.{PutItem}
-use Rattle.record_bodies.specs.declared.body.DeleteBody.{DeleteBody}
-use Rattle.record_bodies.specs.declared.body.KeptItem.{KeptItem}
-use Rattle.record_bodies.specs.Spelling as bodies
-use Rattle.record_bodies.specs.Spelling.{Body, body_bytes}
-use Rattle.cloud_memory.specs.Memory.{Memory}
-use Rattle.record_checks.specs.declared.ground.Ground.{Ground}
+use Rattle.journal_halves.specs.CdBase.ids.UserId.{UserId}
+use Rattle.first_records.specs.RecordBody.body.CommitBody.{CommitBody}
+use Rattle.first_records.specs.RecordBody.body.PutItem.{PutItem}
+use Rattle.first_records.specs.RecordBodies.body.DeleteBody.{DeleteBody}
+use Rattle.first_records.specs.RecordBodies.body.KeptItem.{KeptItem}
+use Rattle.first_records.specs.RecordBodies.Spelling as bodies
+use Rattle.first_records.specs.RecordBodies.Spelling.{Body, body_bytes}
+use Rattle.compact_memories.specs.CloudMemory.Memory.{Memory}
+use Rattle.record_laws.specs.RecordChecks.ground.Ground.{Ground}
 use Rattle.record_laws.specs.Leaving.{recipe_for}
 use Rattle.record_laws.proofs.Behind.{ReadsNone}
 use Rattle.first_records.specs.Judging.{IsForeign, Leaves}

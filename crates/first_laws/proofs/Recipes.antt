@@ -5,18 +5,18 @@ use Rattle.std.specs.List.{Contains, flat_map}
 use Rattle.std.proofs.lemmas.Grind.{flat_map-append}
 use Rattle.std.proofs.lemmas.List.{map-append}
 use Rattle.std.proofs.lemmas.List.Elements.{Contains-append_left, Contains-append_right, Contains-push_cases}
-use Rattle.cd_base.specs.declared.shape.Shape.{Shape}
-use Rattle.container_log.specs.Laying.{Placed, lengths, placed}
-use Rattle.container_log.specs.Places.{place_of, end_of_laid}
-use Rattle.user_dedup.specs.declared.command.Command.{Command}
-use Rattle.user_dedup.specs.declared.command.Command.TheVariants as commands
-use Rattle.user_dedup.specs.Cloud.{recipes_of}
-use Rattle.user_dedup.specs.Dedup.{IsSound}
-use Rattle.user_dedup.proofs.CompactSound.{FitsCommand, all_fit}
-use Rattle.user_dedup.proofs.Filtered.{from_filter, from_flat}
-use Rattle.user_dedup.proofs.Owned.{contains_here, contains_nothing, contains_cases}
-use Rattle.cloud_areas.specs.FormatOne.{laid_end, LaidEntry, is_entry, entries_after, entries_from, laid_entries, LaysRecipe, IsLaidRecipe}
-use Rattle.cloud_areas.proofs.Lists.{from_map}
+use Rattle.journal_halves.specs.CdBase.shape.Shape.{Shape}
+use Rattle.record_laws.specs.ContainerLog.Laying.{Placed, lengths, placed}
+use Rattle.record_laws.specs.ContainerLog.Places.{place_of, end_of_laid}
+use Rattle.compact_memories.specs.UserDedup.command.Command.{Command}
+use Rattle.compact_memories.specs.UserDedup.command.Command.TheVariants as commands
+use Rattle.compact_memories.specs.UserDedup.Cloud.{recipes_of}
+use Rattle.compact_memories.specs.UserDedup.Dedup.{IsSound}
+use Rattle.compact_memories.proofs.UserDedup.CompactSound.{FitsCommand, all_fit}
+use Rattle.compact_memories.proofs.UserDedup.Filtered.{from_filter, from_flat}
+use Rattle.compact_memories.proofs.UserDedup.Owned.{contains_here, contains_nothing, contains_cases}
+use Rattle.compact_memories.specs.CloudAreas.FormatOne.{laid_end, LaidEntry, is_entry, entries_after, entries_from, laid_entries, LaysRecipe, IsLaidRecipe}
+use Rattle.compact_memories.proofs.CloudAreas.Lists.{from_map}
 use Rattle.record_laws.proofs.Sized.{IsSized, sized}
 use Rattle.first_laws.proofs.Laid.{end_far, end_append, placed_append}
 

@@ -5,33 +5,33 @@ use Rattle.std.specs.List.{Contains}
 use Rattle.std.proofs.lemmas.Bool.{false_from_ne_true}
 use Rattle.std.proofs.lemmas.Grind.{flat_map-append}
 use Rattle.std.proofs.lemmas.List.Elements.{All-contains, Contains-append_left, Contains-append_right}
-use Rattle.cd_base.specs.declared.ids.Fp.{Fp}
-use Rattle.cd_base.specs.declared.place.Place.{Place}
-use Rattle.cd_base.specs.declared.shape.Shape.{Shape}
-use Rattle.cd_edges.specs.declared.area.Area.TheVariants.{Shares, Recipes}
-use Rattle.cd_edges.specs.Disk.{Image}
-use Rattle.container_log.specs.Laying.{Placed, IsAt}
-use Rattle.journal_start.specs.declared.start.Header.{Header}
-use Rattle.journal_start.specs.Spelling.{commands_of, records_of, recipes_end_of}
-use Rattle.record_body.specs.declared.body.BodyErr.{BodyErr}
-use Rattle.record_bodies.specs.Spelling.{Body, body_bytes, FitsBody}
-use Rattle.record_bodies.proofs.BodyLaws.{again}
-use Rattle.user_dedup.specs.declared.command.Command.{Command}
-use Rattle.user_dedup.specs.Cloud.{held_bytes}
-use Rattle.user_dedup.specs.Dedup.{IsSound}
-use Rattle.user_dedup.proofs.Filtered.{in_flat}
-use Rattle.user_dedup.proofs.Owned.{contains_here}
-use Rattle.user_dedup.proofs.Sound.{last_same, sound_before}
-use Rattle.cloud_areas.specs.Chains.{IsRecord, Says, Summed, Then, AreLong, laid_shares}
-use Rattle.cloud_areas.specs.Checkpoints.{IsCheckpoint}
-use Rattle.cloud_areas.specs.FormatOne.{Lays}
-use Rattle.cloud_areas.specs.Placing.{shares_placed, shares_in, recipes_placed, recipes_in, greatest_end, shares_end}
-use Rattle.cloud_areas.specs.Standing.{Chain}
-use Rattle.cloud_areas.proofs.Lists.{contained, in_map, from_map}
-use Rattle.cloud_areas.proofs.Placed.{placed_is_sent}
-use Rattle.cloud_memory.specs.Memory.{Memory}
-use Rattle.record_checks.specs.declared.ground.Ground.{Ground}
-use Rattle.record_checks.specs.Checks.{Asks, AsksFor, ByCommit, ByDelete}
+use Rattle.journal_halves.specs.CdBase.ids.Fp.{Fp}
+use Rattle.journal_halves.specs.CdBase.place.Place.{Place}
+use Rattle.journal_halves.specs.CdBase.shape.Shape.{Shape}
+use Rattle.journal_halves.specs.CdEdges.area.Area.TheVariants.{Shares, Recipes}
+use Rattle.journal_halves.specs.CdEdges.Disk.{Image}
+use Rattle.record_laws.specs.ContainerLog.Laying.{Placed, IsAt}
+use Rattle.journal_halves.specs.JournalStart.start.Header.{Header}
+use Rattle.journal_halves.specs.JournalStart.Spelling.{commands_of, records_of, recipes_end_of}
+use Rattle.first_records.specs.RecordBody.body.BodyErr.{BodyErr}
+use Rattle.first_records.specs.RecordBodies.Spelling.{Body, body_bytes, FitsBody}
+use Rattle.first_records.proofs.RecordBodies.BodyLaws.{again}
+use Rattle.compact_memories.specs.UserDedup.command.Command.{Command}
+use Rattle.compact_memories.specs.UserDedup.Cloud.{held_bytes}
+use Rattle.compact_memories.specs.UserDedup.Dedup.{IsSound}
+use Rattle.compact_memories.proofs.UserDedup.Filtered.{in_flat}
+use Rattle.compact_memories.proofs.UserDedup.Owned.{contains_here}
+use Rattle.compact_memories.proofs.UserDedup.Sound.{last_same, sound_before}
+use Rattle.compact_memories.specs.CloudAreas.Chains.{IsRecord, AreRecordsOfList, Summed, Then, AreLong, laid_shares}
+use Rattle.compact_memories.specs.CloudAreas.Checkpoints.{IsCheckpointOfList}
+use Rattle.compact_memories.specs.CloudAreas.FormatOne.{Lays}
+use Rattle.compact_memories.specs.CloudAreas.Placing.{shares_placed, shares_in, recipes_placed, recipes_in, greatest_end, shares_end}
+use Rattle.compact_memories.specs.CloudAreas.Standing.{Chain}
+use Rattle.compact_memories.proofs.CloudAreas.Lists.{contained, in_map, from_map}
+use Rattle.compact_memories.proofs.CloudAreas.Placed.{placed_is_sent}
+use Rattle.compact_memories.specs.CloudMemory.Memory.{Memory}
+use Rattle.record_laws.specs.RecordChecks.ground.Ground.{Ground}
+use Rattle.record_laws.specs.RecordChecks.Checks.{Asks, AsksFor, ByCommit, ByDelete}
 use Rattle.record_laws.specs.Fronts.{is_inside}
 use Rattle.record_laws.specs.Leaving.{entry_bytes, recipe_for}
 use Rattle.record_laws.proofs.Chain.{checkpoint_within, long_before}
@@ -63,7 +63,7 @@ module _ (shape : Shape) (cloud count commands : ℕ) (area : List ℕ) (all : L
     pub records : List Body
     pub recipes : List Placed
     pub after : List Body
-    pub is : IsCheckpoint 1 shape list records recipes
+    pub is : IsCheckpointOfList 1 shape list records recipes
     pub whole : records ≡ before ++ body ∷ after
     pub len : length records ≡ count
     pub sound : IsSound shape cloud list
@@ -77,13 +77,13 @@ module _ (shape : Shape) (cloud count commands : ℕ) (area : List ℕ) (all : L
     pub front : all ≡ (list ++ command ∷ []) ++ rest
     pub laid : List Placed
     pub more : List Placed
-    pub says : Says 1 shape 0 count commands before list laid
+    pub says : AreRecordsOfList 1 shape 0 count commands before list laid
     pub is : IsRecord 0 before list command body more
     pub sound : IsSound shape cloud (list ++ command ∷ [])
     pub long : AreLong (list ++ command ∷ []) (shares_in (before ++ body ∷ []))
     pub lie : All (IsAt area) (laid ++ more)
 
-  stands_in : (records : List Body) (list : List Command) (recipes : List Placed) → Says 1 shape 0 count commands records list recipes → (rest : List Command) → all ≡ list ++ rest
+  stands_in : (records : List Body) (list : List Command) (recipes : List Placed) → AreRecordsOfList 1 shape 0 count commands records list recipes → (rest : List Command) → all ≡ list ++ rest
       → IsSound shape cloud list → AreLong list (shares_in records) → All (IsAt area) recipes → (before : List Body) (body : Body) (after : List Body) → records ≡ before ++ body ∷ after
       → IsInside before body ⊎ IsBehind before body
   stands_in _ _ _ (Summed records list recipes is len number) rest front sound long lie before body after whole =

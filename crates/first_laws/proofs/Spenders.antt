@@ -2,28 +2,28 @@
 use Rattle.std.proofs.Common.{◌≡◌, ◌≢◌, ℕ, Bool, true, false, cond, List, [], ◌∷◌, ◌++◌, map, refl, sym, ap, ◌∙◌, subst, arith, append_assoc, append-nil}
 use Rattle.std.specs.Prelude.{◌==◌, ◌&&◌, not, filter}
 use Rattle.std.proofs.lemmas.Bool.{and_parts, eqb-true}
-use Rattle.cd_base.specs.declared.ids.UserId.{UserId}
-use Rattle.cd_base.specs.declared.shape.Shape.{Shape}
-use Rattle.container_log.specs.Laying.{Placed}
-use Rattle.record_bodies.specs.declared.body.SpentBody.{SpentBody}
-use Rattle.record_bodies.specs.Spelling as bodies
-use Rattle.record_bodies.specs.Spelling.{Body}
-use Rattle.user_dedup.specs.declared.command.Command.{Command}
-use Rattle.user_dedup.specs.Compact.{users_in, user_at}
-use Rattle.user_dedup.specs.Spending.{Spent, nothing, spent_of}
-use Rattle.user_dedup.proofs.Compacting.{users_rise}
-use Rattle.user_dedup.proofs.Filtered.{in_filter, from_filter}
-use Rattle.user_dedup.proofs.Sorting.{Rises}
-use Rattle.cloud_areas.specs.Checkpoints.{put_body, spent_by, ListSpent, IsCheckpoint}
-use Rattle.cloud_areas.proofs.Apart.{Apart, are_apart}
-use Rattle.cloud_areas.proofs.Lists.{in_map, from_map}
+use Rattle.journal_halves.specs.CdBase.ids.UserId.{UserId}
+use Rattle.journal_halves.specs.CdBase.shape.Shape.{Shape}
+use Rattle.record_laws.specs.ContainerLog.Laying.{Placed}
+use Rattle.first_records.specs.RecordBodies.body.SpentBody.{SpentBody}
+use Rattle.first_records.specs.RecordBodies.Spelling as bodies
+use Rattle.first_records.specs.RecordBodies.Spelling.{Body}
+use Rattle.compact_memories.specs.UserDedup.command.Command.{Command}
+use Rattle.compact_memories.specs.UserDedup.Compact.{users_in, user_at}
+use Rattle.compact_memories.specs.UserDedup.Spending.{SpentByUser, nothing, spent_of}
+use Rattle.compact_memories.proofs.UserDedup.Compacting.{users_rise}
+use Rattle.compact_memories.proofs.UserDedup.Filtered.{in_filter, from_filter}
+use Rattle.compact_memories.proofs.UserDedup.Sorting.{Rises}
+use Rattle.compact_memories.specs.CloudAreas.Checkpoints.{put_body, spent_by, ListSpent, IsCheckpointOfList}
+use Rattle.compact_memories.proofs.CloudAreas.Apart.{Apart, are_apart}
+use Rattle.compact_memories.proofs.CloudAreas.Lists.{in_map, from_map}
 use Rattle.first_laws.proofs.Known.{spender_known}
 
 -- anything of it isn't 0
-abbrev pub is_some_spent : Spent → Bool
+abbrev pub is_some_spent : SpentByUser → Bool
 is_some_spent s = not ((s.owners == 0) && ((s.shares == 0) && (s.recipes == 0)))
 
-none_spent : (s : Spent) → is_some_spent s ≡ false → s ≡ nothing
+none_spent : (s : SpentByUser) → is_some_spent s ≡ false → s ≡ nothing
 none_spent s off =
     let all : ((s.owners == 0) && ((s.shares == 0) && (s.recipes == 0))) ≡ true = by_not ((s.owners == 0) && ((s.shares == 0) && (s.recipes == 0))) off in
     let one = and_parts (s.owners == 0) ((s.shares == 0) && (s.recipes == 0)) all in
@@ -37,7 +37,7 @@ none_spent s off =
     by_not true e = refl
     by_not false e = absurd (let no : true ≡ false = e in cc)
 
-some_spent : (s : Spent) → is_some_spent s ≡ true → s ≢ nothing
+some_spent : (s : SpentByUser) → is_some_spent s ≡ true → s ≢ nothing
 some_spent s on none = let no : true ≡ false = sym on ∙ ap is_some_spent none in cc
 
 module _ (list : List Command) where
@@ -94,8 +94,8 @@ module _ (list : List Command) where
       by_some user true is some = is
       by_some user false is some = absurd (some (none_spent (spent_of list user) is))
 
-  pub as_later : (shape : Shape) (records : List Body) (recipes : List Placed) → IsCheckpoint 1 shape list records recipes
-      → IsCheckpoint 2 shape list (records ++ map bodies.Spent spents) recipes
+  pub as_later : (shape : Shape) (records : List Body) (recipes : List Placed) → IsCheckpointOfList 1 shape list records recipes
+      → IsCheckpointOfList 2 shape list (records ++ map bodies.Spent spents) recipes
   as_later shape records recipes is =
       let puts = map put_body is.puts in
       let kept = map bodies.Kept is.kept in

@@ -3,25 +3,25 @@ use Rattle.std.proofs.Common.{◌≡◌, inl, inr, ℕ, true, List, [], ◌∷�
 use Rattle.std.specs.Prelude.{All, take, drop}
 use Rattle.std.proofs.lemmas.Bool.{false≢true}
 use Rattle.std.proofs.lemmas.List.Elements.{All-head, All-tail}
-use Rattle.cd_base.specs.declared.place.Place.{Place}
-use Rattle.cd_edges.specs.declared.area.Area.TheVariants.{Journal, Recipes}
-use Rattle.cd_edges.specs.Disk.{Image}
-use Rattle.container_log.specs.Laying.{Placed, IsAt}
+use Rattle.journal_halves.specs.CdBase.place.Place.{Place}
+use Rattle.journal_halves.specs.CdEdges.area.Area.TheVariants.{Journal, Recipes}
+use Rattle.journal_halves.specs.CdEdges.Disk.{Image}
+use Rattle.record_laws.specs.ContainerLog.Laying.{Placed, IsAt}
 use Rattle.journal_halves.specs.Beginnings.{IsUnbegun}
 use Rattle.journal_halves.specs.Halves.{half_len, is_half_begun}
 use Rattle.journal_halves.specs.Journals.{Where, HasChain}
 use Rattle.journal_halves.proofs.Current.{one_chain, begun_half}
-use Rattle.journal_start.specs.declared.start.Header.{Header}
-use Rattle.journal_start.specs.Spelling.{commands_of, records_of}
-use Rattle.record_bodies.specs.Spelling.{Body, body_bytes, FitsBody}
-use Rattle.record_bodies.proofs.BodyLaws as laws
-use Rattle.user_dedup.specs.declared.command.Command.{Command}
-use Rattle.user_dedup.specs.Dedup.{IsSound}
-use Rattle.cloud_areas.specs.FormatOne.{Lays, StandsForOne}
-use Rattle.cloud_areas.specs.Laid.{place_by}
-use Rattle.cloud_areas.specs.Placing.{recipes_in}
-use Rattle.cloud_areas.specs.Standing.{Chain, where_of, IsChain}
-use Rattle.cloud_areas.proofs.Behind.{recipes_placed_by}
+use Rattle.journal_halves.specs.JournalStart.start.Header.{Header}
+use Rattle.journal_halves.specs.JournalStart.Spelling.{commands_of, records_of}
+use Rattle.first_records.specs.RecordBodies.Spelling.{Body, body_bytes, FitsBody}
+use Rattle.first_records.proofs.RecordBodies.BodyLaws as laws
+use Rattle.compact_memories.specs.UserDedup.command.Command.{Command}
+use Rattle.compact_memories.specs.UserDedup.Dedup.{IsSound}
+use Rattle.compact_memories.specs.CloudAreas.FormatOne.{Lays, StandsForOne}
+use Rattle.compact_memories.specs.CloudAreas.Laid.{place_by}
+use Rattle.compact_memories.specs.CloudAreas.Placing.{recipes_in}
+use Rattle.compact_memories.specs.CloudAreas.Standing.{Chain, where_of, IsChain}
+use Rattle.compact_memories.proofs.CloudAreas.Behind.{recipes_placed_by}
 use Rattle.first_laws.specs.Standing.{HasChainOne}
 
 -- a journal with a chain has a half that is begun

@@ -3,23 +3,23 @@ use Rattle.std.proofs.Common.{◌≡◌, ℕ, Bool, true, false, cond, List, [],
 use Rattle.std.specs.Prelude.{◌||◌, bytes_eq, find, option_map, unwrap_or}
 use Rattle.std.specs.List.{Contains}
 use Rattle.std.proofs.lemmas.List.Folds.{list_any-append}
-use Rattle.cd_base.specs.declared.ids.Fp.{Fp}
-use Rattle.cd_base.specs.declared.place.Place.{Place}
-use Rattle.cd_base.specs.declared.shape.Shape.{Shape}
-use Rattle.container_log.specs.Laying.{Placed, placed}
-use Rattle.container_log.specs.Places.{place_of, end_after}
-use Rattle.message_fields.specs.Shares.{IsShare}
-use Rattle.user_dedup.specs.declared.command.Command.{Command}
-use Rattle.user_dedup.specs.declared.command.Command.TheVariants as commands
-use Rattle.user_dedup.specs.Cloud.{fingerprint, has_fingerprint, strings_of, strings_in, held_bytes}
-use Rattle.user_dedup.specs.Dedup.{IsSound}
-use Rattle.user_dedup.specs.Owning.{is_among, new_strings}
-use Rattle.user_dedup.proofs.CompactSound.{FitsCommand, all_fit}
-use Rattle.user_dedup.proofs.Filtered.{from_flat}
-use Rattle.user_dedup.proofs.New.{are_new}
-use Rattle.user_dedup.proofs.Owned.{fp_same, contains_nothing}
-use Rattle.user_dedup.proofs.Views.{found_passes}
-use Rattle.cloud_areas.specs.FormatOne.{laid_strings, place_named, place_in}
+use Rattle.journal_halves.specs.CdBase.ids.Fp.{Fp}
+use Rattle.journal_halves.specs.CdBase.place.Place.{Place}
+use Rattle.journal_halves.specs.CdBase.shape.Shape.{Shape}
+use Rattle.record_laws.specs.ContainerLog.Laying.{Placed, placed}
+use Rattle.record_laws.specs.ContainerLog.Places.{place_of, end_after}
+use Rattle.record_laws.specs.MessageFields.Shares.{IsShare}
+use Rattle.compact_memories.specs.UserDedup.command.Command.{Command}
+use Rattle.compact_memories.specs.UserDedup.command.Command.TheVariants as commands
+use Rattle.compact_memories.specs.UserDedup.Cloud.{fingerprint, has_fingerprint, strings_of, strings_in, held_bytes}
+use Rattle.compact_memories.specs.UserDedup.Dedup.{IsSound}
+use Rattle.compact_memories.specs.UserDedup.Owning.{is_among, new_strings}
+use Rattle.compact_memories.proofs.UserDedup.CompactSound.{FitsCommand, all_fit}
+use Rattle.compact_memories.proofs.UserDedup.Filtered.{from_flat}
+use Rattle.compact_memories.proofs.UserDedup.New.{are_new}
+use Rattle.compact_memories.proofs.UserDedup.Owned.{fp_same, contains_nothing}
+use Rattle.compact_memories.proofs.UserDedup.Views.{found_passes}
+use Rattle.compact_memories.specs.CloudAreas.FormatOne.{laid_strings, place_named, place_in}
 
 abbrev blob_of : Placed → List ℕ
 blob_of b = b.blob

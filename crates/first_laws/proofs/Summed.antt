@@ -6,25 +6,25 @@ use Rattle.std.specs.FinMap.{get}
 use Rattle.std.proofs.lemmas.Grind.{flat_map-append}
 use Rattle.std.proofs.lemmas.List.Elements.{Contains-append_cases}
 use Rattle.std.proofs.lemmas.List.Sums.{fold-append}
-use Rattle.cd_base.specs.declared.ids.Fp.{Fp}
-use Rattle.cd_base.specs.declared.ids.UserId.{UserId}
-use Rattle.cd_base.specs.declared.place.Place.{Place}
-use Rattle.cd_base.specs.declared.shape.Shape.{Shape}
-use Rattle.container_log.specs.Laying.{Placed, IsAt}
-use Rattle.record_bodies.specs.declared.body.SpentBody.{SpentBody}
-use Rattle.record_bodies.specs.Spelling as bodies
-use Rattle.record_bodies.specs.Spelling.{Body}
-use Rattle.user_dedup.specs.declared.command.Command.{Command}
-use Rattle.user_dedup.specs.Compact.{users_in}
-use Rattle.user_dedup.specs.Dedup.{IsSound}
-use Rattle.user_dedup.specs.Spending.{files_of}
-use Rattle.cloud_areas.specs.Chains.{AreLong}
-use Rattle.cloud_areas.specs.Checkpoints.{IsCheckpoint}
-use Rattle.cloud_areas.specs.Placing.{shares_placed, shares_in, recipes_placed, recipes_in, places_of, end_of, greatest_end}
-use Rattle.cloud_areas.proofs.Counting.{no_weight}
-use Rattle.cloud_areas.proofs.Lists.{from_map}
-use Rattle.cloud_memory.specs.Memory.{Memory, commit_of}
-use Rattle.cloud_memory.specs.Steps.{begun}
+use Rattle.journal_halves.specs.CdBase.ids.Fp.{Fp}
+use Rattle.journal_halves.specs.CdBase.ids.UserId.{UserId}
+use Rattle.journal_halves.specs.CdBase.place.Place.{Place}
+use Rattle.journal_halves.specs.CdBase.shape.Shape.{Shape}
+use Rattle.record_laws.specs.ContainerLog.Laying.{Placed, IsAt}
+use Rattle.first_records.specs.RecordBodies.body.SpentBody.{SpentBody}
+use Rattle.first_records.specs.RecordBodies.Spelling as bodies
+use Rattle.first_records.specs.RecordBodies.Spelling.{Body}
+use Rattle.compact_memories.specs.UserDedup.command.Command.{Command}
+use Rattle.compact_memories.specs.UserDedup.Compact.{users_in}
+use Rattle.compact_memories.specs.UserDedup.Dedup.{IsSound}
+use Rattle.compact_memories.specs.UserDedup.Spending.{files_of}
+use Rattle.compact_memories.specs.CloudAreas.Chains.{AreLong}
+use Rattle.compact_memories.specs.CloudAreas.Checkpoints.{IsCheckpointOfList}
+use Rattle.compact_memories.specs.CloudAreas.Placing.{shares_placed, shares_in, recipes_placed, recipes_in, places_of, end_of, greatest_end}
+use Rattle.compact_memories.proofs.CloudAreas.Counting.{no_weight}
+use Rattle.compact_memories.proofs.CloudAreas.Lists.{from_map}
+use Rattle.compact_memories.specs.CloudMemory.Memory.{Memory, commit_of}
+use Rattle.compact_memories.specs.CloudMemory.Steps.{begun}
 use Rattle.record_laws.specs.Leaving.{recipe_for, record_left, left_by, IsLeft}
 use Rattle.record_laws.proofs.Checkpoint.{checkpoint_left}
 use Rattle.record_laws.proofs.Places.{further}
@@ -94,7 +94,7 @@ spents_alike shape area (s ∷ spents) m =
     record { places = rest.places; owners = rest.owners; files = rest.files; shares_end = rest.shares_end }
 
 pub summed_left : (shape : Shape) (cloud users end : ℕ) (area : List ℕ) (list : List Command) (records : List Body) (recipes : List Placed) → IsSound shape cloud list
-    → ((q : UserId) → files_of shape list q ≤ 16384) → IsCheckpoint 1 shape list records recipes → AreLong list (shares_in records) → All (IsAt area) recipes
+    → ((q : UserId) → files_of shape list q ≤ 16384) → IsCheckpointOfList 1 shape list records recipes → AreLong list (shares_in records) → All (IsAt area) recipes
     → IsLeftOne shape area end list records (first_left_by shape area (begun_behind users end) records)
 summed_left shape cloud users end area list records recipes sound few is long lie =
     let more = map bodies.Spent (spents list) in

@@ -1,15 +1,15 @@
 -- Which lists a store of format 1 may hold, and what the first records of a chain leave.
 use Rattle.std.specs.Prelude.{◌≡◌, ℕ, List}
-use Rattle.cd_edges.specs.declared.area.Area.TheVariants.{Recipes}
-use Rattle.cd_edges.specs.Disk.{Image}
-use Rattle.journal_start.specs.declared.start.Header.{Header}
-use Rattle.journal_start.specs.Spelling.{recipes_end_of}
-use Rattle.record_bodies.specs.Spelling.{Body}
-use Rattle.user_dedup.specs.declared.command.Command.{Command}
-use Rattle.user_dedup.specs.Dedup.{IsSound}
-use Rattle.cloud_areas.specs.FormatOne.{IsWithinGreatest}
-use Rattle.cloud_areas.specs.Standing.{Chain}
-use Rattle.cloud_memory.specs.Memory.{Memory}
+use Rattle.journal_halves.specs.CdEdges.area.Area.TheVariants.{Recipes}
+use Rattle.journal_halves.specs.CdEdges.Disk.{Image}
+use Rattle.journal_halves.specs.JournalStart.start.Header.{Header}
+use Rattle.journal_halves.specs.JournalStart.Spelling.{recipes_end_of}
+use Rattle.first_records.specs.RecordBodies.Spelling.{Body}
+use Rattle.compact_memories.specs.UserDedup.command.Command.{Command}
+use Rattle.compact_memories.specs.UserDedup.Dedup.{IsSound}
+use Rattle.compact_memories.specs.CloudAreas.FormatOne.{IsWithinGreatest}
+use Rattle.compact_memories.specs.CloudAreas.Standing.{Chain}
+use Rattle.compact_memories.specs.CloudMemory.Memory.{Memory}
 use Rattle.first_laws.specs.Leaving.{begun_behind, first_left_by}
 
 -- A store of format 1 with this header may hold the list: it is a sound list of the header's cloud, within the greatest rooms.

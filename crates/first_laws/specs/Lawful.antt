@@ -1,15 +1,15 @@
 -- A record of a chain of format 1 that comes next, and that it is taken.
 use Rattle.std.specs.Prelude.{◌≡◌, ℕ, List, [], ◌∷◌, ◌++◌, length, Ok}
-use Rattle.cd_base.specs.declared.place.Place.{Place}
-use Rattle.cd_edges.specs.declared.area.Area.TheVariants.{Shares, Recipes}
-use Rattle.cd_edges.specs.Disk.{Image}
-use Rattle.journal_start.specs.declared.start.Header.{Header}
-use Rattle.record_bodies.specs.Spelling.{Body, body_bytes}
-use Rattle.user_dedup.specs.declared.command.Command.{Command}
-use Rattle.cloud_areas.specs.FormatOne.{Lays}
-use Rattle.cloud_areas.specs.Standing.{Chain}
-use Rattle.record_checks.specs.Checks.{AsksFor}
-use Rattle.record_checks.specs.declared.ground.Ground.{Ground}
+use Rattle.journal_halves.specs.CdBase.place.Place.{Place}
+use Rattle.journal_halves.specs.CdEdges.area.Area.TheVariants.{Shares, Recipes}
+use Rattle.journal_halves.specs.CdEdges.Disk.{Image}
+use Rattle.journal_halves.specs.JournalStart.start.Header.{Header}
+use Rattle.first_records.specs.RecordBodies.Spelling.{Body, body_bytes}
+use Rattle.compact_memories.specs.UserDedup.command.Command.{Command}
+use Rattle.compact_memories.specs.CloudAreas.FormatOne.{Lays}
+use Rattle.compact_memories.specs.CloudAreas.Standing.{Chain}
+use Rattle.record_laws.specs.RecordChecks.Checks.{AsksFor}
+use Rattle.record_laws.specs.RecordChecks.ground.Ground.{Ground}
 use Rattle.record_laws.specs.Fronts.{is_inside}
 use Rattle.first_records.specs.Judging.{JudgesFirst}
 use Rattle.first_laws.specs.Holding.{MayHoldOne, front_left_one}

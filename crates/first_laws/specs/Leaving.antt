@@ -1,13 +1,13 @@
 -- What the records of a chain of format 1 leave in a server's memory, each read into it behind those before it.
 use Rattle.std.specs.Prelude.{◌≡◌, ℕ, max, true, List, length}
-use Rattle.cd_base.specs.declared.shape.Shape.{Shape}
-use Rattle.record_bodies.specs.Spelling.{Body}
-use Rattle.spent_table.specs.declared.Spent.{Spent as Row}
-use Rattle.user_dedup.specs.declared.command.Command.{Command}
-use Rattle.cloud_areas.specs.Placing.{recipes_end}
-use Rattle.cloud_memory.specs.Memory.{Memory}
-use Rattle.cloud_memory.specs.Moving.{with_ends}
-use Rattle.cloud_memory.specs.Steps.{begun}
+use Rattle.journal_halves.specs.CdBase.shape.Shape.{Shape}
+use Rattle.first_records.specs.RecordBodies.Spelling.{Body}
+use Rattle.record_laws.specs.SpentTable.Spent.{Spent as Row}
+use Rattle.compact_memories.specs.UserDedup.command.Command.{Command}
+use Rattle.compact_memories.specs.CloudAreas.Placing.{recipes_end}
+use Rattle.compact_memories.specs.CloudMemory.Memory.{Memory}
+use Rattle.compact_memories.specs.CloudMemory.Moving.{with_ends}
+use Rattle.compact_memories.specs.CloudMemory.Steps.{begun}
 use Rattle.record_laws.specs.Leaving.{record_left, left_by, IsLeft}
 
 -- the memory of no commands, of so many users, where the start says that recipes end here

@@ -1,3 +1,4 @@
+pub mod FirstRecords
 pub mod Holding
 pub mod Lawful
 pub mod Leaving

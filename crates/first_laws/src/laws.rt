@@ -1,22 +1,22 @@
 //! The laws of what the records of format 1 leave, for the proofs of callers. The calls do nothing.
 
 ghost use Rattle.std.specs.Prelude.{◌≤◌, ℕ, List, [], ◌∷◌, ◌++◌, All};
-ghost use Rattle.cd_base.specs.Limits.{greatest_rooms};
-ghost use Rattle.cd_base.specs.declared.shape.Shape.{Shape};
-ghost use Rattle.cd_edges.specs.declared.area.Area.TheVariants.{Shares, Recipes};
-ghost use Rattle.cd_edges.specs.Disk.{Image};
-ghost use Rattle.container_log.specs.Laying.{Placed, IsAt};
-ghost use Rattle.journal_start.specs.declared.start.Header.{Header};
-ghost use Rattle.journal_start.specs.Spelling.{recipes_end_of};
-ghost use Rattle.record_bodies.specs.Spelling.{Body};
-ghost use Rattle.user_dedup.specs.declared.command.Command.{Command};
-ghost use Rattle.user_dedup.specs.Dedup.{IsSound};
-ghost use Rattle.cloud_areas.specs.Chains.{IsRecord, AreLong};
-ghost use Rattle.cloud_areas.specs.Checkpoints.{IsCheckpoint};
-ghost use Rattle.cloud_areas.specs.FormatOne.{Lays, IsWithinGreatest};
-ghost use Rattle.cloud_areas.specs.Placing.{shares_in};
-ghost use Rattle.cloud_areas.specs.Standing.{Chain};
-ghost use Rattle.cloud_memory.specs.Memory.{Memory, Stand};
+ghost use Rattle.journal_halves.specs.CdBase.Limits.{greatest_rooms};
+ghost use Rattle.journal_halves.specs.CdBase.shape.Shape.{Shape};
+ghost use Rattle.journal_halves.specs.CdEdges.area.Area.TheVariants.{Shares, Recipes};
+ghost use Rattle.journal_halves.specs.CdEdges.Disk.{Image};
+ghost use Rattle.record_laws.specs.ContainerLog.Laying.{Placed, IsAt};
+ghost use Rattle.journal_halves.specs.JournalStart.start.Header.{Header};
+ghost use Rattle.journal_halves.specs.JournalStart.Spelling.{recipes_end_of};
+ghost use Rattle.first_records.specs.RecordBodies.Spelling.{Body};
+ghost use Rattle.compact_memories.specs.UserDedup.command.Command.{Command};
+ghost use Rattle.compact_memories.specs.UserDedup.Dedup.{IsSound};
+ghost use Rattle.compact_memories.specs.CloudAreas.Chains.{IsRecord, AreLong};
+ghost use Rattle.compact_memories.specs.CloudAreas.Checkpoints.{IsCheckpointOfList};
+ghost use Rattle.compact_memories.specs.CloudAreas.FormatOne.{Lays, IsWithinGreatest};
+ghost use Rattle.compact_memories.specs.CloudAreas.Placing.{shares_in};
+ghost use Rattle.compact_memories.specs.CloudAreas.Standing.{Chain};
+ghost use Rattle.compact_memories.specs.CloudMemory.Memory.{Memory, Stand};
 ghost use Rattle.compact_memories.specs.Moved.{PlacesLie};
 ghost use Rattle.first_laws.specs.Holding.{MayHoldOne, front_left_one};
 ghost use Rattle.first_laws.specs.Leaving.{begun_behind, first_left, first_left_by, IsLeftOne};
@@ -25,7 +25,7 @@ ghost use Rattle.first_laws.specs.Leaving.{begun_behind, first_left, first_left_
 pub fn law_of_first_checkpoints()
     ensures left { (shape : Shape) (cloud users end : ℕ) (area : List ℕ) (list : List Command) (records : List Body)
         (recipes : List Placed) → IsSound shape cloud list → IsWithinGreatest shape list
-        → IsCheckpoint 1 shape list records recipes → AreLong list (shares_in records) → All (IsAt area) recipes
+        → IsCheckpointOfList 1 shape list records recipes → AreLong list (shares_in records) → All (IsAt area) recipes
         → IsLeftOne shape area end list records (first_left_by shape area (begun_behind users end) records) }
 {}
 

@@ -5,3 +5,5 @@
 pub mod laws;
 pub mod standing;
 pub mod taking;
+
+pub use first_records::{CloudMemory, Damage, FirstErr, Ground, recipe_of, take};

@@ -1,16 +1,16 @@
 //! The law of what areas of format 1 stand for, for the proofs of callers. The call does nothing.
 
 ghost use Rattle.std.specs.Prelude.{◌≡◌, List, []};
-ghost use Rattle.cd_edges.specs.declared.area.Area.TheVariants.{Journal};
-ghost use Rattle.cd_edges.specs.Disk.{Image};
+ghost use Rattle.journal_halves.specs.CdEdges.area.Area.TheVariants.{Journal};
+ghost use Rattle.journal_halves.specs.CdEdges.Disk.{Image};
 ghost use Rattle.journal_halves.specs.Beginnings.{IsUnbegun};
 ghost use Rattle.journal_halves.specs.Halves.{half_len};
 ghost use Rattle.journal_halves.specs.Journals.{Where, HasChain};
-ghost use Rattle.journal_start.specs.declared.start.Header.{Header};
-ghost use Rattle.user_dedup.specs.Dedup.{IsSound};
-ghost use Rattle.user_dedup.specs.declared.command.Command.{Command};
-ghost use Rattle.cloud_areas.specs.FormatOne.{Lays, StandsForOne};
-ghost use Rattle.cloud_areas.specs.Standing.{Chain, IsChain};
+ghost use Rattle.journal_halves.specs.JournalStart.start.Header.{Header};
+ghost use Rattle.compact_memories.specs.UserDedup.Dedup.{IsSound};
+ghost use Rattle.compact_memories.specs.UserDedup.command.Command.{Command};
+ghost use Rattle.compact_memories.specs.CloudAreas.FormatOne.{Lays, StandsForOne};
+ghost use Rattle.compact_memories.specs.CloudAreas.Standing.{Chain, IsChain};
 ghost use Rattle.first_laws.specs.Standing.{HasChainOne};
 
 /// Which lists areas of format 1 stand for.

@@ -1,13 +1,13 @@
 //! The laws of lawful records of format 1, for the proofs of callers. The calls do nothing.
 
 ghost use Rattle.std.specs.Prelude.{ℕ, List, [], take, drop};
-ghost use Rattle.cd_base.specs.declared.place.Place.{Place};
-ghost use Rattle.cd_edges.specs.declared.area.Area.TheVariants.{Recipes};
-ghost use Rattle.cd_edges.specs.Disk.{Image};
-ghost use Rattle.journal_start.specs.declared.start.Header.{Header};
-ghost use Rattle.record_bodies.specs.Spelling.{Body, FitsBody};
-ghost use Rattle.user_dedup.specs.declared.command.Command.{Command};
-ghost use Rattle.cloud_areas.specs.Standing.{Chain};
+ghost use Rattle.journal_halves.specs.CdBase.place.Place.{Place};
+ghost use Rattle.journal_halves.specs.CdEdges.area.Area.TheVariants.{Recipes};
+ghost use Rattle.journal_halves.specs.CdEdges.Disk.{Image};
+ghost use Rattle.journal_halves.specs.JournalStart.start.Header.{Header};
+ghost use Rattle.first_records.specs.RecordBodies.Spelling.{Body, FitsBody};
+ghost use Rattle.compact_memories.specs.UserDedup.command.Command.{Command};
+ghost use Rattle.compact_memories.specs.CloudAreas.Standing.{Chain};
 ghost use Rattle.first_laws.specs.Lawful.{IsNextOne, WantsOne, PassesOne};
 
 /// Each record of a chain of format 1 that lays a list is taken, in the checkpoint and behind it: it is neither

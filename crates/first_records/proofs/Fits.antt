@@ -2,20 +2,20 @@
 use Rattle.std.proofs.Common.{◌≡◌, ℕ, ◌≤◌, Bool, List, [], ◌∷◌, Option, Some, None, refl, ap, subst}
 use Rattle.std.specs.Prelude.{All, Result, IfOk}
 use Rattle.std.proofs.lemmas.List.Elements.{All-nil, All-cons, All-head, All-tail}
-use Rattle.cd_base.specs.declared.ids.UserId.{UserId}
-use Rattle.cd_base.specs.declared.place.Place.{Place}
-use Rattle.file_index.specs.Files.{key_of}
+use Rattle.message_fields.specs.CdBase.ids.UserId.{UserId}
+use Rattle.message_fields.specs.CdBase.place.Place.{Place}
+use Rattle.record_checks.specs.FileIndex.Files.{key_of}
 use Rattle.message_fields.specs.Shares.{share_limit}
-use Rattle.record_bodies.specs.declared.body.KeptItem.{KeptItem}
-use Rattle.record_bodies.specs.Spelling.{Body, FitsBody}
-use Rattle.record_body.specs.declared.body.PutItem.{PutItem}
-use Rattle.record_body.specs.Spelling.{FitsPlaced, FitsItem}
-use Rattle.user_dedup.specs.Requests.{fps_of}
-use Rattle.cloud_memory.specs.Fitting.{FitsPart, FitsRecords, AreItemsPlaced}
-use Rattle.cloud_memory.specs.Memory.{Memory}
-use Rattle.cloud_memory.specs.Steps.{with_item, with_kept, with_kepts}
-use Rattle.cloud_memory.proofs.Fitting.{filled_fits, kepts_fit, entry_fits, delete_fits, has_place}
-use Rattle.cloud_memory.proofs.Puts.{spent_stays}
+use Rattle.record_checks.specs.RecordBodies.body.KeptItem.{KeptItem}
+use Rattle.record_checks.specs.RecordBodies.Spelling.{Body, FitsBody}
+use Rattle.record_checks.specs.RecordBody.body.PutItem.{PutItem}
+use Rattle.record_checks.specs.RecordBody.Spelling.{FitsPlaced, FitsItem}
+use Rattle.record_checks.specs.UserDedup.Requests.{fps_of}
+use Rattle.record_checks.specs.CloudMemory.Fitting.{FitsPart, FitsRecords, AreItemsPlaced}
+use Rattle.record_checks.specs.CloudMemory.Memory.{Memory}
+use Rattle.record_checks.specs.CloudMemory.Steps.{with_item, with_kept, with_kepts}
+use Rattle.record_checks.proofs.CloudMemoryLaws.Fitting.{filled_fits, kepts_fit, entry_fits, delete_fits, has_place}
+use Rattle.record_checks.proofs.CloudMemoryLaws.Puts.{spent_stays}
 use Rattle.record_checks.specs.declared.ground.Ground.{Ground}
 use Rattle.record_checks.specs.Checks.{AreRight}
 use Rattle.first_records.specs.declared.errors.Fault.{Fault}

@@ -1,10 +1,10 @@
 -- The ways out of a record's checks.
 use Rattle.std.proofs.Common.{◌≡◌, ℕ, Bool, List, Some, None, Ok, Err, sym, ◌∙◌, subst}
 use Rattle.std.specs.Prelude.{Result, MatchResult}
-use Rattle.cd_base.specs.declared.rooms.Room.{Room}
-use Rattle.record_bodies.specs.Spelling.{Body, Commit}
-use Rattle.record_body.specs.declared.body.CommitBody.{CommitBody}
-use Rattle.cloud_memory.specs.Memory.{Memory}
+use Rattle.message_fields.specs.CdBase.rooms.Room.{Room}
+use Rattle.record_checks.specs.RecordBodies.Spelling.{Body, Commit}
+use Rattle.record_checks.specs.RecordBody.body.CommitBody.{CommitBody}
+use Rattle.record_checks.specs.CloudMemory.Memory.{Memory}
 use Rattle.record_checks.specs.declared.ground.Ground.{Ground}
 use Rattle.record_checks.specs.Steps.{CommitFault, PlaceFails, TagFails}
 use Rattle.first_records.specs.declared.errors.Fault.{Fault}

@@ -2,17 +2,17 @@
 use Rattle.std.proofs.Common.{◌≡◌, ℕ, ◌+◌, Bool, List, length, Option, Some, None, refl, sym, ap, ◌∙◌, subst}
 use Rattle.std.specs.Prelude.{IsSome, is_some, Result, Ok, Err}
 use Rattle.std.specs.FinMap.{get}
-use Rattle.cd_base.specs.declared.ids.UserId.{UserId}
-use Rattle.cd_base.specs.declared.rooms.Room.{Room}
-use Rattle.file_index.specs.declared.key.Entry.{Entry}
-use Rattle.record_bodies.specs.declared.body.KeptItem.{KeptItem}
-use Rattle.record_bodies.specs.Reading.{body_at}
-use Rattle.record_bodies.specs.Spelling.{Body}
-use Rattle.record_body.specs.declared.body.BodyErr.{BodyErr}
-use Rattle.record_body.specs.declared.body.PutItem.{PutItem}
-use Rattle.record_body.specs.Spelling.{item_bytes}
-use Rattle.cloud_memory.specs.Memory.{Memory}
-use Rattle.cloud_memory.specs.Steps.{with_item, with_kept}
+use Rattle.message_fields.specs.CdBase.ids.UserId.{UserId}
+use Rattle.message_fields.specs.CdBase.rooms.Room.{Room}
+use Rattle.record_checks.specs.FileIndex.key.Entry.{Entry}
+use Rattle.record_checks.specs.RecordBodies.body.KeptItem.{KeptItem}
+use Rattle.record_checks.specs.RecordBodies.Reading.{body_at}
+use Rattle.record_checks.specs.RecordBodies.Spelling.{Body}
+use Rattle.record_checks.specs.RecordBody.body.BodyErr.{BodyErr}
+use Rattle.record_checks.specs.RecordBody.body.PutItem.{PutItem}
+use Rattle.record_checks.specs.RecordBody.Spelling.{item_bytes}
+use Rattle.record_checks.specs.CloudMemory.Memory.{Memory}
+use Rattle.record_checks.specs.CloudMemory.Steps.{with_item, with_kept}
 use Rattle.record_checks.specs.declared.ground.Ground.{Ground}
 use Rattle.record_checks.specs.Checks.{body_fault, IsRightItem, ItemFault, Owned, Flag, Misplaced, AreRight, ItemsFault, Here, Later, IsRightKept, KeptFault, PlacedTwice, KeptMisplaced, AreRightKepts, KeptsFault, KeptHere, KeptLater, IsNamed}
 use Rattle.first_records.specs.declared.errors.FirstErr.{FirstErr}

@@ -4,30 +4,30 @@ use Rattle.std.specs.Prelude.{◌↔◌, nat_lt, count_by, is_some, IsSome, IfSo
 use Rattle.std.specs.Option.{option_or}
 use Rattle.std.specs.FinMap.{FinMap, get, insert, len, len-insert}
 use Rattle.std.proofs.lemmas.List.Sums.{sum_by-cons}
-use Rattle.cd_base.specs.declared.ids.Fp.{Fp}
-use Rattle.cd_base.specs.declared.ids.UserId.{UserId}
-use Rattle.cd_base.specs.declared.place.Place.{Place}
-use Rattle.cd_base.specs.declared.rooms.Room.{Room}
-use Rattle.cd_base.specs.declared.rooms.Room.TheVariants.{Fps, Owners, Files}
-use Rattle.cd_base.specs.Order.{fp_cmp}
-use Rattle.file_index.specs.declared.key.FileKey.{FileKey}
-use Rattle.file_index.specs.Files.{used_by as files_used}
-use Rattle.pool_map.specs.declared.accounts.Accounts.{Accounts}
-use Rattle.pool_map.specs.Accounts.{limit_for, use_for}
-use Rattle.record_bodies.specs.declared.body.KeptItem.{KeptItem}
-use Rattle.record_bodies.specs.Spelling.{Put, Commit, Kept}
-use Rattle.record_body.specs.declared.body.CommitBody.{CommitBody}
-use Rattle.record_body.specs.declared.body.PutItem.{PutItem}
-use Rattle.share_index.specs.declared.key.Owner.{Owner}
-use Rattle.share_index.specs.Order.{owner_cmp, owner_of}
-use Rattle.share_index.proofs.Owning.{owner_total}
-use Rattle.cloud_memory.specs.CloudAreas.Placing.{end_of}
-use Rattle.cloud_memory.specs.declared.cloud.CloudMemory.{CloudMemory}
-use Rattle.cloud_memory.specs.Greatest.{HasGreatest, KeepsGreatest}
-use Rattle.cloud_memory.specs.Memory.{Memory}
-use Rattle.cloud_memory.specs.Records.{HasPlaceRoom, HasItemRoom}
-use Rattle.cloud_memory.specs.Rooms.{memory_of}
-use Rattle.cloud_memory.specs.Steps.{with_item, with_kept, places_with}
+use Rattle.message_fields.specs.CdBase.ids.Fp.{Fp}
+use Rattle.message_fields.specs.CdBase.ids.UserId.{UserId}
+use Rattle.message_fields.specs.CdBase.place.Place.{Place}
+use Rattle.message_fields.specs.CdBase.rooms.Room.{Room}
+use Rattle.message_fields.specs.CdBase.rooms.Room.TheVariants.{Fps, Owners, Files}
+use Rattle.message_fields.specs.CdBase.Order.{fp_cmp}
+use Rattle.record_checks.specs.FileIndex.key.FileKey.{FileKey}
+use Rattle.record_checks.specs.FileIndex.Files.{used_by as files_used}
+use Rattle.record_checks.specs.PoolMap.accounts.Accounts.{Accounts}
+use Rattle.record_checks.specs.PoolMap.Accounts.{limit_for, use_for}
+use Rattle.record_checks.specs.RecordBodies.body.KeptItem.{KeptItem}
+use Rattle.record_checks.specs.RecordBodies.Spelling.{Put, Commit, Kept}
+use Rattle.record_checks.specs.RecordBody.body.CommitBody.{CommitBody}
+use Rattle.record_checks.specs.RecordBody.body.PutItem.{PutItem}
+use Rattle.record_checks.specs.ShareIndex.key.Owner.{Owner}
+use Rattle.record_checks.specs.ShareIndex.Order.{owner_cmp, owner_of}
+use Rattle.record_checks.proofs.ShareIndex.Owning.{owner_total}
+use Rattle.record_checks.specs.CloudMemory.CloudAreas.Placing.{end_of}
+use Rattle.record_checks.specs.CloudMemory.cloud.CloudMemory.{CloudMemory}
+use Rattle.record_checks.specs.CloudMemory.Greatest.{HasGreatest, KeepsGreatest}
+use Rattle.record_checks.specs.CloudMemory.Memory.{Memory}
+use Rattle.record_checks.specs.CloudMemory.Records.{HasPlaceRoom, HasItemRoom}
+use Rattle.record_checks.specs.CloudMemory.Rooms.{memory_of}
+use Rattle.record_checks.specs.CloudMemory.Steps.{with_item, with_kept, places_with}
 use Rattle.record_checks.specs.declared.ground.Ground.{Ground}
 use Rattle.record_checks.specs.Checks.{IsRightItem, IsRightKept}
 use Rattle.record_checks.specs.Steps.{has_place}

@@ -1,19 +1,19 @@
 -- What becomes of a record of format 1, by its checks in their order.
 use Rattle.std.specs.Prelude.{◌≡◌, ◌⊎◌, ℕ, ◌-◌, Bool, IsFalse, List, [], ◌∷◌, Some, None, IsSome, Result, Ok, Err}
-use Rattle.cd_base.specs.declared.ids.UserId.{UserId}
-use Rattle.cd_base.specs.declared.rooms.Room.{Room}
-use Rattle.file_index.specs.declared.key.Entry.{Entry}
-use Rattle.record_bodies.specs.declared.body.DeleteBody.{DeleteBody}
-use Rattle.record_bodies.specs.declared.body.KeptItem.{KeptItem}
-use Rattle.record_bodies.specs.Reading.{body_at}
-use Rattle.record_bodies.specs.Spelling as bodies
-use Rattle.record_bodies.specs.Spelling.{Body}
-use Rattle.record_body.specs.declared.body.BodyErr.{BodyErr}
-use Rattle.record_body.specs.declared.body.CommitBody.{CommitBody}
-use Rattle.record_body.specs.declared.body.PutItem.{PutItem}
-use Rattle.user_dedup.specs.Requests.{fps_of}
-use Rattle.cloud_memory.specs.Memory.{Memory}
-use Rattle.cloud_memory.specs.Steps.{with_items, with_kepts, with_entry}
+use Rattle.message_fields.specs.CdBase.ids.UserId.{UserId}
+use Rattle.message_fields.specs.CdBase.rooms.Room.{Room}
+use Rattle.record_checks.specs.FileIndex.key.Entry.{Entry}
+use Rattle.record_checks.specs.RecordBodies.body.DeleteBody.{DeleteBody}
+use Rattle.record_checks.specs.RecordBodies.body.KeptItem.{KeptItem}
+use Rattle.record_checks.specs.RecordBodies.Reading.{body_at}
+use Rattle.record_checks.specs.RecordBodies.Spelling as bodies
+use Rattle.record_checks.specs.RecordBodies.Spelling.{Body}
+use Rattle.record_checks.specs.RecordBody.body.BodyErr.{BodyErr}
+use Rattle.record_checks.specs.RecordBody.body.CommitBody.{CommitBody}
+use Rattle.record_checks.specs.RecordBody.body.PutItem.{PutItem}
+use Rattle.record_checks.specs.UserDedup.Requests.{fps_of}
+use Rattle.record_checks.specs.CloudMemory.Memory.{Memory}
+use Rattle.record_checks.specs.CloudMemory.Steps.{with_items, with_kepts, with_entry}
 use Rattle.record_checks.specs.declared.ground.Ground.{Ground}
 use Rattle.record_checks.specs.Checks.{damaged_at, body_fault, put_items, kept_items, tag_at, place_at, recipe_fp_at, RecipeLies, AreRight, ItemsFault, AreRightKepts, KeptsFault, commit_entry, delete_entry, IsNamed, IsWhole}
 use Rattle.record_checks.specs.Judging.{delete_left}

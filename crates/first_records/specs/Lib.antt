@@ -1,3 +1,5 @@
 pub mod Judging
 pub mod Limits
+pub mod RecordBodies
+pub mod RecordBody
 pub mod Steps

@@ -2,14 +2,14 @@
 use Rattle.std.specs.Prelude.{ℕ, ◌+◌, length, count_by, nat_lt, Option, Some, None, if◌then◌else◌}
 use Rattle.std.specs.Option.{option_or}
 use Rattle.std.specs.FinMap.{len}
-use Rattle.cd_base.specs.Limits.{greatest_rooms}
-use Rattle.cd_base.specs.declared.rooms.Room.{Room}
-use Rattle.cd_base.specs.declared.rooms.Room.TheVariants.{Shares, Recipes, Journal, Fps, Owners, Files}
-use Rattle.record_bodies.specs.Spelling as bodies
-use Rattle.record_bodies.specs.Spelling.{Body}
-use Rattle.cloud_memory.specs.Greatest.{HasGreatest}
-use Rattle.cloud_memory.specs.Memory.{Memory}
-use Rattle.cloud_memory.specs.declared.cloud.CloudMemory.{CloudMemory}
+use Rattle.message_fields.specs.CdBase.Limits.{greatest_rooms}
+use Rattle.message_fields.specs.CdBase.rooms.Room.{Room}
+use Rattle.message_fields.specs.CdBase.rooms.Room.TheVariants.{Shares, Recipes, Journal, Fps, Owners, Files}
+use Rattle.record_checks.specs.RecordBodies.Spelling as bodies
+use Rattle.record_checks.specs.RecordBodies.Spelling.{Body}
+use Rattle.record_checks.specs.CloudMemory.Greatest.{HasGreatest}
+use Rattle.record_checks.specs.CloudMemory.Memory.{Memory}
+use Rattle.record_checks.specs.CloudMemory.cloud.CloudMemory.{CloudMemory}
 use Rattle.record_checks.specs.Steps.{has_place}
 
 -- how much of a room the cloud may hold

@@ -1,12 +1,12 @@
 -- What the steps of a call need and leave. No public clause cites this module.
 use Rattle.std.specs.Prelude.{ℕ, ◌+◌, ◌<◌, ◌≤◌, Bool, List, length, count_by, Result, Ok, Err}
 use Rattle.std.specs.FinMap.{len}
-use Rattle.cd_base.specs.declared.rooms.Room.TheVariants.{Fps, Owners}
-use Rattle.record_bodies.specs.declared.body.KeptItem.{KeptItem}
-use Rattle.record_bodies.specs.Spelling.{Body}
-use Rattle.record_body.specs.declared.body.PutItem.{PutItem}
-use Rattle.cloud_memory.specs.Memory.{Memory}
-use Rattle.cloud_memory.specs.declared.cloud.CloudMemory.{CloudMemory}
+use Rattle.message_fields.specs.CdBase.rooms.Room.TheVariants.{Fps, Owners}
+use Rattle.record_checks.specs.RecordBodies.body.KeptItem.{KeptItem}
+use Rattle.record_checks.specs.RecordBodies.Spelling.{Body}
+use Rattle.record_checks.specs.RecordBody.body.PutItem.{PutItem}
+use Rattle.record_checks.specs.CloudMemory.Memory.{Memory}
+use Rattle.record_checks.specs.CloudMemory.cloud.CloudMemory.{CloudMemory}
 use Rattle.record_checks.specs.declared.ground.Ground.{Ground}
 use Rattle.record_checks.specs.Steps.{has_place}
 use Rattle.first_records.specs.declared.errors.Fault.{Fault}

@@ -1,11 +1,11 @@
 //! The records of a Commit and of a Delete.
 
 ghost use Rattle.std.specs.Prelude.{◌≡◌, ◌<◌, ◌+◌, ◌^◌, List, length, None, IfErr, OnOk};
-ghost use Rattle.record_bodies.specs.Spelling.{Commit, Delete};
-ghost use Rattle.user_dedup.specs.Owning.{fps_in};
-ghost use Rattle.cloud_memory.specs.Rooms.{memory_of};
-ghost use Rattle.cloud_memory.specs.Sharing.{AreOwned};
-ghost use Rattle.cloud_memory.specs.Steps.{with_entry};
+ghost use Rattle.record_checks.specs.RecordBodies.Spelling.{Commit, Delete};
+ghost use Rattle.record_checks.specs.UserDedup.Owning.{fps_in};
+ghost use Rattle.record_checks.specs.CloudMemory.Rooms.{memory_of};
+ghost use Rattle.record_checks.specs.CloudMemory.Sharing.{AreOwned};
+ghost use Rattle.record_checks.specs.CloudMemory.Steps.{with_entry};
 ghost use Rattle.record_checks.specs.Checks.{commit_entry};
 ghost use Rattle.first_records.specs.Limits.{HasFirstRooms, crowded};
 ghost use Rattle.first_records.specs.Steps.{JudgedAs, IsWithin};
@@ -13,11 +13,8 @@ ghost use Rattle.first_records.specs.Steps.{JudgedAs, IsWithin};
 use crate::Ground;
 use crate::errors::Fault;
 use crate::limits::{if_past, recipes_within};
-use cd_base::Room;
-use cloud_memory::CloudMemory;
-use recipe::RecipeView;
-use record_bodies::{CommitBody, DeleteBody};
-use record_checks::{commit_fault, named, whole};
+use message_fields::Room;
+use record_checks::{CloudMemory, CommitBody, DeleteBody, RecipeView, commit_fault, named, whole};
 
 // Where fields stand in the body: the tag, and the fingerprint of a Commit's recipe.
 const TAG: usize = 5;

@@ -1,7 +1,7 @@
 //! What is answered of a record that isn't taken.
 
 ghost use Rattle.std.specs.Prelude.{◌≡◌, ◌+◌, ◌<◌, ◌≤◌, ◌^◌, length};
-ghost use Rattle.record_body.specs.Reading.{IsPlaced};
+ghost use Rattle.record_checks.specs.RecordBody.Reading.{IsPlaced};
 ghost use Rattle.record_checks.specs.Checks.{damaged_at, body_fault};
 ghost use Rattle.first_records.specs.Judging.{err_of};
 ghost use Rattle.first_records.specs.Steps.{IsWithin};
@@ -9,8 +9,7 @@ ghost use Rattle.first_records.specs.Steps.{IsWithin};
 use crate::FirstErr;
 use crate::errors::Fault;
 use crate::limits::limit_of;
-use record_bodies::BodyErr;
-use record_checks::Damage;
+use record_checks::{BodyErr, Damage};
 
 /// The damage at a byte of a body that begins at a place of the journal.
 pub(crate) fn damaged(body: &[u8], at: u64, place: usize) -> Damage

@@ -1,6 +1,6 @@
 //! Why a record isn't taken.
 
-use cd_base::Room;
+use message_fields::Room;
 use record_checks::Damage;
 
 /// Why a record isn't taken.

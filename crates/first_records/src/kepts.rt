@@ -1,9 +1,9 @@
 //! The record of a Kept.
 
 ghost use Rattle.std.specs.Prelude.{◌≡◌, ◌<◌, ◌≤◌, ℕ, List, length, IfErr, OnOk, MatchResult};
-ghost use Rattle.record_bodies.specs.Spelling.{Kept};
-ghost use Rattle.cloud_memory.specs.Rooms.{memory_of};
-ghost use Rattle.cloud_memory.specs.Steps.{with_kepts};
+ghost use Rattle.record_checks.specs.RecordBodies.Spelling.{Kept};
+ghost use Rattle.record_checks.specs.CloudMemory.Rooms.{memory_of};
+ghost use Rattle.record_checks.specs.CloudMemory.Steps.{with_kepts};
 ghost use Rattle.record_checks.specs.Checks.{AreRightKepts, KeptsFault};
 ghost use Rattle.first_records.specs.Limits.{HasFirstRooms, crowded};
 ghost use Rattle.first_records.specs.Steps.{HasKeptsRoom, JudgedAs, IsWithin};
@@ -11,10 +11,8 @@ ghost use Rattle.first_records.specs.Steps.{HasKeptsRoom, JudgedAs, IsWithin};
 use crate::Ground;
 use crate::errors::Fault;
 use crate::limits::{if_past, shares_within};
-use cd_base::Room;
-use cloud_memory::CloudMemory;
-use record_bodies::KeptItems;
-use record_checks::kept_fault;
+use message_fields::Room;
+use record_checks::{CloudMemory, KeptItems, kept_fault};
 
 // The room that these shares would pass by their number.
 fn crowded_by(memory: &CloudMemory, items: &KeptItems<'_>) -> Option<Room>

@@ -1,8 +1,8 @@
 //! The laws of a record's checks, for the proofs of callers. The calls do nothing.
 
 ghost use Rattle.std.specs.Prelude.{◌≡◌, ℕ, Bool, List, Result, Ok};
-ghost use Rattle.cloud_memory.specs.Fitting.{FitsRecords};
-ghost use Rattle.cloud_memory.specs.Memory.{Memory};
+ghost use Rattle.record_checks.specs.CloudMemory.Fitting.{FitsRecords};
+ghost use Rattle.record_checks.specs.CloudMemory.Memory.{Memory};
 ghost use Rattle.record_checks.specs.declared.ground.Ground.{Ground};
 ghost use Rattle.first_records.specs.Judging.{JudgesFirst};
 ghost use Rattle.first_records.specs.declared.errors.FirstErr.{FirstErr};

@@ -12,7 +12,6 @@ mod limits;
 mod puts;
 mod record;
 
-pub use cloud_memory::CloudMemory;
 pub use errors::FirstErr;
 pub use record::take;
-pub use record_checks::{Damage, Ground, recipe_of};
+pub use record_checks::{CloudMemory, Damage, Ground, recipe_of};

@@ -1,14 +1,14 @@
 //! The greatest rooms that format 1 had, for all users together.
 
 ghost use Rattle.std.specs.Prelude.{◌≡◌, ℕ, IfErr, MatchResult, None, Some};
-ghost use Rattle.cd_base.specs.declared.rooms.Room.TheVariants as names;
+ghost use Rattle.message_fields.specs.CdBase.rooms.Room.TheVariants as names;
 ghost use Rattle.first_records.specs.Limits.{limit_of, if_past};
 ghost use Rattle.first_records.specs.Steps.{IsWithin};
 ghost use Rattle.first_records.specs.declared.errors.Fault.TheVariants as faults;
 
 use crate::errors::Fault;
-use cd_base::{Room, Rooms};
-use cloud_memory::CloudMemory;
+use message_fields::{Room, Rooms};
+use record_checks::CloudMemory;
 
 /// How much of a room the cloud may hold.
 pub(crate) fn limit_of(room: Room) -> u64

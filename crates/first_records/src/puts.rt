@@ -1,10 +1,10 @@
 //! The record of a Put.
 
 ghost use Rattle.std.specs.Prelude.{◌≡◌, ◌<◌, ◌≤◌, ℕ, List, length, count_by, IfErr, OnOk, MatchResult};
-ghost use Rattle.cd_base.specs.declared.ids.UserId.{UserId as Number};
-ghost use Rattle.record_bodies.specs.Spelling.{Put};
-ghost use Rattle.cloud_memory.specs.Rooms.{memory_of};
-ghost use Rattle.cloud_memory.specs.Steps.{with_items};
+ghost use Rattle.message_fields.specs.CdBase.ids.UserId.{UserId as Number};
+ghost use Rattle.record_checks.specs.RecordBodies.Spelling.{Put};
+ghost use Rattle.record_checks.specs.CloudMemory.Rooms.{memory_of};
+ghost use Rattle.record_checks.specs.CloudMemory.Steps.{with_items};
 ghost use Rattle.record_checks.specs.Checks.{AreRight, ItemsFault};
 ghost use Rattle.record_checks.specs.Steps.{has_place};
 ghost use Rattle.first_records.specs.Limits.{HasFirstRooms, crowded};
@@ -13,10 +13,8 @@ ghost use Rattle.first_records.specs.Steps.{HasItemsRoom, JudgedAs, IsWithin};
 use crate::Ground;
 use crate::errors::Fault;
 use crate::limits::{if_past, shares_within};
-use cd_base::{Room, UserId};
-use cloud_memory::CloudMemory;
-use record_bodies::PutItems;
-use record_checks::item_fault;
+use message_fields::{Room, UserId};
+use record_checks::{CloudMemory, PutItems, item_fault};
 
 // How many of the shares have a place in the record.
 fn placed_in(items: &PutItems<'_>) -> u64

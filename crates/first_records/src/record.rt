@@ -1,10 +1,10 @@
 //! One record of a journal of format 1, taken into a server's memory.
 
 ghost use Rattle.std.specs.Prelude.{◌≡◌, ◌↔◌, ◌+◌, ◌<◌, ◌≤◌, ◌^◌, length, Ok, Err, OnOk, IfErr, MatchResult, IsTrue};
-ghost use Rattle.record_bodies.specs.Spelling.{IsBody};
-ghost use Rattle.record_bodies.specs.Seen.{seen, StartsIn};
-ghost use Rattle.cloud_memory.specs.Fitting.{FitsRecords};
-ghost use Rattle.cloud_memory.specs.Rooms.{memory_of};
+ghost use Rattle.record_checks.specs.RecordBodies.Spelling.{IsBody};
+ghost use Rattle.record_checks.specs.RecordBodies.Seen.{seen, StartsIn};
+ghost use Rattle.record_checks.specs.CloudMemory.Fitting.{FitsRecords};
+ghost use Rattle.record_checks.specs.CloudMemory.Rooms.{memory_of};
 ghost use Rattle.first_records.specs.Judging.{IsForeign, JudgesFirst};
 ghost use Rattle.first_records.specs.Limits.{HasFirstRooms};
 ghost use Rattle.first_records.specs.Steps.{JudgedAs, IsWithin};
@@ -15,8 +15,7 @@ use crate::errors::Fault;
 use crate::kepts::take_kept;
 use crate::puts::take_put;
 use crate::{FirstErr, Ground};
-use cloud_memory::CloudMemory;
-use record_bodies::BodyView;
+use record_checks::{BodyView, CloudMemory};
 
 // Whether the record is of a kind that stands nowhere in format 1, or nowhere outside of a checkpoint, and isn't one of
 // the checkpoint's.

@@ -4,41 +4,41 @@ use Rattle.std.specs.Prelude.{All, slice_get, is_some}
 use Rattle.std.specs.FinMap.{get}
 use Rattle.std.specs.List.{Contains}
 use Rattle.std.proofs.lemmas.Bool.{cases_eq}
-use Rattle.cd_base.specs.declared.ids.Fp.{Fp}
-use Rattle.cd_base.specs.declared.ids.Tag.{Tag}
-use Rattle.cd_base.specs.declared.ids.UserId.{UserId}
-use Rattle.cd_base.specs.declared.ids.Version.{Version}
-use Rattle.cd_edges.specs.declared.area.Area.TheVariants.{Shares, Recipes}
-use Rattle.cd_edges.specs.Disk.{Image}
-use Rattle.container_log.specs.Laying.{IsAt}
-use Rattle.file_index.specs.declared.key.FileKey.{FileKey}
-use Rattle.journal_start.specs.declared.start.Header.{Header}
-use Rattle.record_bodies.specs.Spelling as bodies
-use Rattle.record_bodies.specs.Spelling.{Body}
-use Rattle.record_body.specs.declared.body.CommitBody.{CommitBody}
-use Rattle.cd_base.specs.declared.place.Place.{Place}
-use Rattle.user_dedup.proofs.Owned.{contains_nothing, contains_cases}
-use Rattle.user_dedup.specs.declared.command.Command.{Command}
-use Rattle.user_dedup.specs.Cloud.{held_bytes}
-use Rattle.user_dedup.specs.Spending.{spent_by_all}
-use Rattle.user_dedup.proofs.Filtered.{from_flat}
-use Rattle.cloud_areas.specs.Checkpoints.{IsCheckpoint, key_of}
-use Rattle.cloud_areas.specs.Chains.{Summed, laid_shares, AreLong, LiesIn, DontOverlap, HaveRoom, least_shares, least_recipes}
-use Rattle.cloud_areas.specs.Placing.{shares_in, recipes_in, region_start, end_of, places_of, fps_placed}
-use Rattle.cloud_areas.specs.Standing.{Chain, Holds}
-use Rattle.cloud_areas.proofs.Apart.{get_contains, are_apart}
-use Rattle.cloud_areas.proofs.Ends.{end_bound}
-use Rattle.cloud_areas.proofs.Once.{checkpoint_once, checkpoint_all}
-use Rattle.cloud_areas.proofs.Summing.{commit_in, commits_in, place_of_commit, recipes_by_commits, checkpoint_commits}
-use Rattle.cloud_memory.specs.declared.cloud.CloudMemory.{CloudMemory}
-use Rattle.cloud_memory.specs.Memory.{IsPlacedBy}
-use Rattle.cloud_memory.specs.Rooms.{memory_of}
-use Rattle.checkpoints.specs.Records.{commits_from, records_of}
-use Rattle.checkpoints.specs.Known.{recipe_of, recipes_of, checkpoint_in}
-use Rattle.checkpoints.proofs.Apartness.{contained, from_map}
-use Rattle.checkpoints.proofs.EntryLaw.{is_entry}
-use Rattle.checkpoints.proofs.Given.{Names, names_of, shares_given, commit_given, commit_there}
-use Rattle.checkpoints.proofs.RecordsLaw.{records_law}
+use Rattle.cloud_disk.specs.CdBase.ids.Fp.{Fp}
+use Rattle.cloud_disk.specs.CdBase.ids.Tag.{Tag}
+use Rattle.cloud_disk.specs.CdBase.ids.UserId.{UserId}
+use Rattle.cloud_disk.specs.CdBase.ids.Version.{Version}
+use Rattle.cloud_disk.specs.CdEdges.area.Area.TheVariants.{Shares, Recipes}
+use Rattle.cloud_disk.specs.CdEdges.Disk.{Image}
+use Rattle.cloud_disk.specs.ContainerLog.Laying.{IsAt}
+use Rattle.compact_memories.specs.FileIndex.key.FileKey.{FileKey}
+use Rattle.cloud_disk.specs.JournalStart.start.Header.{Header}
+use Rattle.cloud_disk.specs.RecordBodies.Spelling as bodies
+use Rattle.cloud_disk.specs.RecordBodies.Spelling.{Body}
+use Rattle.cloud_disk.specs.RecordBody.body.CommitBody.{CommitBody}
+use Rattle.cloud_disk.specs.CdBase.place.Place.{Place}
+use Rattle.cloud_disk.proofs.UserDedup.Owned.{contains_nothing, contains_cases}
+use Rattle.cloud_disk.specs.UserDedup.command.Command.{Command}
+use Rattle.cloud_disk.specs.UserDedup.Cloud.{held_bytes}
+use Rattle.cloud_disk.specs.UserDedup.Spending.{spent_by_all}
+use Rattle.cloud_disk.proofs.UserDedup.Filtered.{from_flat}
+use Rattle.cloud_disk.specs.CloudAreas.Checkpoints.{IsCheckpointOfList, key_of}
+use Rattle.cloud_disk.specs.CloudAreas.Chains.{Summed, laid_shares, AreLong, LiesIn, DontOverlap, HaveRoom, least_shares, least_recipes}
+use Rattle.cloud_disk.specs.CloudAreas.Placing.{shares_in, recipes_in, region_start, end_of, places_of, fps_placed}
+use Rattle.cloud_disk.specs.CloudAreas.Standing.{Chain, Holds}
+use Rattle.cloud_disk.proofs.CloudAreas.Apart.{get_contains, are_apart}
+use Rattle.cloud_disk.proofs.CloudAreas.Ends.{end_bound}
+use Rattle.cloud_disk.proofs.CloudAreas.Once.{checkpoint_once, checkpoint_all}
+use Rattle.cloud_disk.proofs.CloudAreas.Summing.{commit_in, commits_in, place_of_commit, recipes_by_commits, checkpoint_commits}
+use Rattle.compact_memories.specs.CloudMemory.cloud.CloudMemory.{CloudMemory}
+use Rattle.compact_memories.specs.CloudMemory.Memory.{IsPlacedBy}
+use Rattle.compact_memories.specs.CloudMemory.Rooms.{memory_of}
+use Rattle.compact_memories.specs.Checkpoints.Records.{commits_from, records_of}
+use Rattle.compact_memories.specs.Checkpoints.Known.{recipe_of, recipes_of, checkpoint_in}
+use Rattle.compact_memories.proofs.Checkpoints.Apartness.{contained, from_map}
+use Rattle.compact_memories.proofs.Checkpoints.EntryLaw.{is_entry}
+use Rattle.compact_memories.proofs.Checkpoints.Given.{Names, names_of, shares_given, commit_given, commit_there}
+use Rattle.compact_memories.proofs.Checkpoints.RecordsLaw.{records_law}
 use Rattle.compact_memories.specs.Moved.{PlacesApart, entry_place}
 use Rattle.fresh_checkpoints.specs.Fresh.{StandsAlone}
 
@@ -73,8 +73,8 @@ module _ (header : Header) (image : Image) (list : List Command) (commands regio
   abbrev records : List Body
   records = records_of memory
 
-  is_checkpoint : IsCheckpoint header.format header.shape list records (recipes_of header.shape list memory)
-  is_checkpoint = subst (λ (n : ℕ). IsCheckpoint n header.shape list records (recipes_of header.shape list memory)) (sym f.format) (records_law header.shape list memory f.remembers f.are_listed)
+  is_checkpoint : IsCheckpointOfList header.format header.shape list records (recipes_of header.shape list memory)
+  is_checkpoint = subst (λ (n : ℕ). IsCheckpointOfList n header.shape list records (recipes_of header.shape list memory)) (sym f.format) (records_law header.shape list memory f.remembers f.are_listed)
 
   given : (x : Fp × Place) → Contains (shares_in records) x → get memory.shares.places x.0.0 ≡ Some x.1
   given = shares_given memory f.are_listed

@@ -1,3 +1,9 @@
 pub mod Fresh
 pub mod Switch
 pub mod Next
+pub mod CloudAreas
+pub mod CdEdges
+pub mod CompactMemories
+pub mod Checkpoints
+pub mod CloudMemoryLaws
+pub mod CloudDiskLaws

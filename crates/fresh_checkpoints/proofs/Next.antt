@@ -2,28 +2,28 @@
 use Rattle.std.proofs.Common.{◌≡◌, ◌≢◌, ℕ, ◌+◌, ◌≤◌, List, [], ◌∷◌, ◌++◌, length, map, None, IsTrue, refl, sym, subst, arith, length-append}
 use Rattle.std.specs.Prelude.{All}
 use Rattle.std.specs.Int.{w32, to_be_bytes}
-use Rattle.cd_edges.specs.declared.area.Area.{Area}
-use Rattle.cd_edges.specs.declared.area.Area.TheVariants.{Journal}
-use Rattle.cd_edges.specs.Disk.{Cloud, LeavesOnly, reads}
-use Rattle.commit_journal.specs.Records.{sized, chain}
-use Rattle.journal_halves.specs.Halves.{half_limit}
-use Rattle.journal_halves.specs.Journals.{Where, used_by, with_body}
-use Rattle.journal_start.specs.declared.start.Header.{Header}
-use Rattle.journal_start.specs.Spelling.{start_bytes}
-use Rattle.journal_start.proofs.Lengths as lengths
-use Rattle.half_journal.specs.States as journals
-use Rattle.record_bodies.specs.Spelling as bodies
-use Rattle.record_bodies.specs.Spelling.{Body, FitsBody, body_bytes}
-use Rattle.user_dedup.specs.declared.command.Command.{Command}
-use Rattle.user_dedup.specs.Spending.{IsWithin}
-use Rattle.cloud_areas.specs.Checkpoints.{IsCheckpoint}
-use Rattle.cloud_areas.specs.Standing.{Chain, where_of}
+use Rattle.cloud_disk.specs.CdEdges.area.Area.{Area}
+use Rattle.cloud_disk.specs.CdEdges.area.Area.TheVariants.{Journal}
+use Rattle.cloud_disk.specs.CdEdges.Disk.{Cloud, LeavesOnly, reads}
+use Rattle.cloud_disk.specs.CommitJournal.Records.{sized, chain}
+use Rattle.cloud_disk.specs.JournalHalves.Halves.{half_limit}
+use Rattle.cloud_disk.specs.JournalHalves.Journals.{Where, used_by, with_body}
+use Rattle.cloud_disk.specs.JournalStart.start.Header.{Header}
+use Rattle.cloud_disk.specs.JournalStart.Spelling.{start_bytes}
+use Rattle.cloud_disk.proofs.JournalStart.Lengths as lengths
+use Rattle.cloud_disk.specs.HalfJournal.States as journals
+use Rattle.cloud_disk.specs.RecordBodies.Spelling as bodies
+use Rattle.cloud_disk.specs.RecordBodies.Spelling.{Body, FitsBody, body_bytes}
+use Rattle.cloud_disk.specs.UserDedup.command.Command.{Command}
+use Rattle.cloud_disk.specs.UserDedup.Spending.{IsWithin}
+use Rattle.cloud_disk.specs.CloudAreas.Checkpoints.{IsCheckpointOfList}
+use Rattle.cloud_disk.specs.CloudAreas.Standing.{Chain, where_of}
 use Rattle.cloud_disk.specs.Disk.{IsRead}
-use Rattle.cloud_memory.specs.declared.cloud.CloudMemory.{CloudMemory}
-use Rattle.checkpoints.specs.Laying.{records_len, checkpoint_behind, KeepsOrSettles}
-use Rattle.checkpoints.specs.Records.{records_of}
-use Rattle.checkpoints.specs.Known.{recipes_of, checkpoint_in}
-use Rattle.checkpoints.proofs.RecordsLaw.{records_law}
+use Rattle.compact_memories.specs.CloudMemory.cloud.CloudMemory.{CloudMemory}
+use Rattle.compact_memories.specs.Checkpoints.Laying.{records_len, checkpoint_behind, KeepsOrSettles}
+use Rattle.compact_memories.specs.Checkpoints.Records.{records_of}
+use Rattle.compact_memories.specs.Checkpoints.Known.{recipes_of, checkpoint_in}
+use Rattle.compact_memories.proofs.Checkpoints.RecordsLaw.{records_law}
 use Rattle.fresh_checkpoints.specs.Fresh.{IsNextMemory}
 use Rattle.fresh_checkpoints.specs.Switching.{IsNextChain, StandsForOneOf, IsReadOne, IsMigrating}
 use Rattle.fresh_checkpoints.proofs.Fresh.{holds}
@@ -62,7 +62,7 @@ no_chain header = record { half = 0; start = record { header = header; checkpoin
 
 abbrev pub RoomLaw : Type 0
 RoomLaw = (header : Header) (list : List Command) (c : Chain) (body : Body) → IsWithin header.shape header.rooms list
-    → IsCheckpoint header.format header.shape list c.records c.recipes → All FitsBody c.records → FitsBody body
+    → IsCheckpointOfList header.format header.shape list c.records c.recipes → All FitsBody c.records → FitsBody body
     → used_by (with_body (where_of c) (body_bytes body)) ≤ half_limit header.rooms
 
 module _ (law : RoomLaw) (two : Header) (other : List Command) (commands region : ℕ) (memory : CloudMemory) (old : Cloud)
@@ -70,9 +70,9 @@ module _ (law : RoomLaw) (two : Header) (other : List Command) (commands region 
   abbrev next : Chain
   next = checkpoint_in two other c commands region memory
 
-  is_checkpoint : IsCheckpoint two.format two.shape other (records_of memory) (recipes_of two.shape other memory)
+  is_checkpoint : IsCheckpointOfList two.format two.shape other (records_of memory) (recipes_of two.shape other memory)
   is_checkpoint =
-      subst (λ (n : ℕ). IsCheckpoint n two.shape other (records_of memory) (recipes_of two.shape other memory)) (sym p.fresh.format)
+      subst (λ (n : ℕ). IsCheckpointOfList n two.shape other (records_of memory) (recipes_of two.shape other memory)) (sym p.fresh.format)
       (records_law two.shape other memory p.fresh.remembers p.fresh.are_listed)
 
   abbrev small : Body
@@ -105,7 +105,7 @@ module _ (law : RoomLaw) (two : Header) (other : List Command) (commands region 
     within = omega (arith, used, short);
   }
 
-  module _ (one : Header) (list : List Command) (journal : journals.State) (new : Cloud)
+  module _ (one : Header) (list : List Command) (journal : journals.JournalState) (new : Cloud)
       (run : KeepsOrSettles journal two commands (length (records_of memory)) region (records_of memory) old new) where
     pub switching : IsRead one list c journal old → LeavesOnly old new (StandsForOneOf one list two other)
     switching read = switches one two list other c next journal old new (record { read = read; next_chain = is_next }) (run read.told (where_of c) read.ended)
@@ -113,9 +113,9 @@ module _ (law : RoomLaw) (two : Header) (other : List Command) (commands region 
     pub migrating : IsReadOne one list c journal old → LeavesOnly old new (IsMigrating one list two other)
     migrating read = migrates one two list other c next journal old new (record { read = read; next_chain = is_next }) (run read.told (where_of c) read.ended)
 
-  module _ (one : Header) (list : List Command) (journal after : journals.State) (new : Cloud) (told : IsTrue old.told → IsTrue new.told) (limit : after.limit ≡ half_limit two.rooms)
-      (taken : IsTrue old.told → (w : Where) → journals.IsEnded journal (old.now Journal) w
-      → journals.IsEnded after (new.now Journal) (checkpoint_behind w two commands (length (records_of memory)) region (records_of memory)))
+  module _ (one : Header) (list : List Command) (journal after : journals.JournalState) (new : Cloud) (told : IsTrue old.told → IsTrue new.told) (limit : after.limit ≡ half_limit two.rooms)
+      (taken : IsTrue old.told → (w : Where) → journals.IsJournalEnded journal (old.now Journal) w
+      → journals.IsJournalEnded after (new.now Journal) (checkpoint_behind w two commands (length (records_of memory)) region (records_of memory)))
       (stay : IsTrue old.told → (area : Area) → area ≢ Journal → new.now area ≡ old.now area) where
     pub switched_to : IsRead one list c journal old → IsRead two other next after new
     switched_to read =
@@ -130,14 +130,14 @@ module _ (law : RoomLaw) (two : Header) (other : List Command) (commands region 
 -- ---- the records that were counted and laid are the memory's
 
 module _ (two : Header) (commands region count : ℕ) (bodies all : List Body) (number : count ≡ length all) (same : bodies ≡ all) where
-  pub kept_as : (journal : journals.State) (old new : Cloud) → KeepsOrSettles journal two commands count region bodies old new
+  pub kept_as : (journal : journals.JournalState) (old new : Cloud) → KeepsOrSettles journal two commands count region bodies old new
       → KeepsOrSettles journal two commands (length all) region all old new
   kept_as journal old new run =
       subst (λ (n : ℕ). KeepsOrSettles journal two commands n region all old new) number
       (subst (λ (b : List Body). KeepsOrSettles journal two commands count region b old new) same run)
 
-  pub ended_as : (after : journals.State) (new : Cloud) (w : Where) → journals.IsEnded after (new.now Journal) (checkpoint_behind w two commands count region bodies)
-      → journals.IsEnded after (new.now Journal) (checkpoint_behind w two commands (length all) region all)
+  pub ended_as : (after : journals.JournalState) (new : Cloud) (w : Where) → journals.IsJournalEnded after (new.now Journal) (checkpoint_behind w two commands count region bodies)
+      → journals.IsJournalEnded after (new.now Journal) (checkpoint_behind w two commands (length all) region all)
   ended_as after new w ended =
-      subst (λ (n : ℕ). journals.IsEnded after (new.now Journal) (checkpoint_behind w two commands n region all)) number
-      (subst (λ (b : List Body). journals.IsEnded after (new.now Journal) (checkpoint_behind w two commands count region b)) same ended)
+      subst (λ (n : ℕ). journals.IsJournalEnded after (new.now Journal) (checkpoint_behind w two commands n region all)) number
+      (subst (λ (b : List Body). journals.IsJournalEnded after (new.now Journal) (checkpoint_behind w two commands count region b)) same ended)

@@ -1,23 +1,23 @@
 -- One chain in another's place.
 use Rattle.std.proofs.Common.{◌≡◌, ◌≢◌, ◌⊎◌, inl, inr, ℕ, ◌≤◌, List, IsTrue, sym, subst}
 use Rattle.std.specs.Prelude.{length, All}
-use Rattle.cd_edges.specs.declared.area.Area.{Area}
-use Rattle.cd_edges.specs.declared.area.Area.TheVariants.{Journal, Shares, Recipes}
-use Rattle.cd_edges.specs.Disk.{Store, Image, Cloud, LeavesOnly, IsAtArea, reads}
-use Rattle.cd_edges.specs.Shelf.{stable}
-use Rattle.cd_edges.proofs.Moments.{weaker}
-use Rattle.commit_journal.specs.Records.{IsJournal}
-use Rattle.container_log.specs.Laying.{IsAt}
-use Rattle.journal_start.specs.declared.start.Header.{Header}
-use Rattle.journal_halves.specs.Halves.{half_limit, half_of}
-use Rattle.journal_halves.specs.Journals.{all_bodies, HasChain, IsEither}
-use Rattle.half_journal.specs.States as journals
-use Rattle.user_dedup.specs.declared.command.Command.{Command}
-use Rattle.user_dedup.specs.Dedup.{IsSound}
-use Rattle.cloud_areas.specs.Chains.{laid_shares}
-use Rattle.cloud_areas.specs.FormatOne.{Lays, HasListOne, StandsForOne}
-use Rattle.cloud_areas.specs.Placing.{shares_in}
-use Rattle.cloud_areas.specs.Standing.{Chain, where_of, Holds, StandsFor}
+use Rattle.cloud_disk.specs.CdEdges.area.Area.{Area}
+use Rattle.cloud_disk.specs.CdEdges.area.Area.TheVariants.{Journal, Shares, Recipes}
+use Rattle.cloud_disk.specs.CdEdges.Disk.{Store, Image, Cloud, LeavesOnly, IsAtArea, reads}
+use Rattle.cloud_disk.specs.CdEdges.Shelf.{stable}
+use Rattle.cloud_disk.proofs.CdEdges.Moments.{weaker}
+use Rattle.cloud_disk.specs.CommitJournal.Records.{IsJournal}
+use Rattle.cloud_disk.specs.ContainerLog.Laying.{IsAt}
+use Rattle.cloud_disk.specs.JournalStart.start.Header.{Header}
+use Rattle.cloud_disk.specs.JournalHalves.Halves.{half_limit, half_of}
+use Rattle.cloud_disk.specs.JournalHalves.Journals.{all_bodies, HasChain, IsEither}
+use Rattle.cloud_disk.specs.HalfJournal.States as journals
+use Rattle.cloud_disk.specs.UserDedup.command.Command.{Command}
+use Rattle.cloud_disk.specs.UserDedup.Dedup.{IsSound}
+use Rattle.cloud_disk.specs.CloudAreas.Chains.{laid_shares}
+use Rattle.cloud_disk.specs.CloudAreas.FormatOne.{Lays, HasListOne, StandsForOne}
+use Rattle.cloud_disk.specs.CloudAreas.Placing.{shares_in}
+use Rattle.cloud_disk.specs.CloudAreas.Standing.{Chain, where_of, Holds, StandsFor}
 use Rattle.cloud_disk.specs.Held.{LieIn}
 use Rattle.cloud_disk.specs.Disk.{IsRead}
 use Rattle.cloud_disk.proofs.Standing.{stands, holds_in}
@@ -52,7 +52,7 @@ module _ (c next : Chain) (c0 : Cloud) (disk : (area : Area) → c0.now area ≡
     behind = l.behind;
     recipes = subst (λ (bytes : List ℕ). All (IsAt bytes) d.recipes) recipes_are l.recipes;
     end_is = l.end_is;
-    area = subst (λ (bytes : List ℕ). Rattle.cloud_areas.specs.FormatOne.laid_end l.before ≤ length bytes) recipes_are l.area;
+    area = subst (λ (bytes : List ℕ). Rattle.cloud_disk.specs.CloudAreas.FormatOne.laid_end l.before ≤ length bytes) recipes_are l.area;
   }
 
   next_stands : (header : Header) (list : List Command) → IsNextChain header list next c0 → HasChain (image Journal) (where_of next) → StandsFor image header list
@@ -61,9 +61,9 @@ module _ (c next : Chain) (c0 : Cloud) (disk : (area : Area) → c0.now area ≡
 
 -- ---- the journal is read to the end of the next chain
 
-next_read : (header : Header) (list : List Command) (next : Chain) (after : journals.State) (c0 c1 : Cloud)
+next_read : (header : Header) (list : List Command) (next : Chain) (after : journals.JournalState) (c0 c1 : Cloud)
     → IsNextChain header list next c0 → ((area : Area) → c0.now area ≡ stable (c0.now area).read) → IsTrue c1.told
-    → journals.IsEnded after (c1.now Journal) (where_of next) → after.limit ≡ half_limit header.rooms
+    → journals.IsJournalEnded after (c1.now Journal) (where_of next) → after.limit ≡ half_limit header.rooms
     → ((area : Area) → area ≢ Journal → c1.now area ≡ c0.now area) → IsRead header list next after c1
 next_read header list next after c0 c1 n disk told ended limit others = record {
   told = told;
@@ -89,7 +89,7 @@ next_read header list next after c0 c1 n disk told ended limit others = record {
 
 -- ---- within format 2
 
-pub switches : (one two : Header) (list other : List Command) (c next : Chain) (journal : journals.State) (old new : Cloud) → MaySwitch one two list other c next journal old
+pub switches : (one two : Header) (list other : List Command) (c next : Chain) (journal : journals.JournalState) (old new : Cloud) → MaySwitch one two list other c next journal old
     → HasEitherChain c next old new → LeavesOnly old new (StandsForOneOf one list two other)
 switches one two list other c next journal old new may run =
     weaker old new (IsAtArea old.now Journal (IsEither (where_of c) (where_of next))) (StandsForOneOf one list two other) run
@@ -103,8 +103,8 @@ switches one two list other c next journal old new may run =
         (still_holds c next old may.read.on_disk image at one list c may.read.holds))
     by_chain image at (inr there) = inr (next_stands c next old may.read.on_disk image at two other may.next_chain there)
 
-pub switched : (one two : Header) (list other : List Command) (c next : Chain) (journal after : journals.State) (old new : Cloud) → MaySwitch one two list other c next journal old
-    → IsTrue new.told → journals.IsEnded after (new.now Journal) (where_of next) → after.limit ≡ half_limit two.rooms
+pub switched : (one two : Header) (list other : List Command) (c next : Chain) (journal after : journals.JournalState) (old new : Cloud) → MaySwitch one two list other c next journal old
+    → IsTrue new.told → journals.IsJournalEnded after (new.now Journal) (where_of next) → after.limit ≡ half_limit two.rooms
     → ((area : Area) → area ≢ Journal → new.now area ≡ old.now area) → IsRead two other next after new
 switched one two list other c next journal after old new may told ended limit others =
     next_read two other next after old new may.next_chain may.read.on_disk told ended limit others
@@ -115,7 +115,7 @@ one_stands : (image : Image) (header : Header) (list : List Command) → IsSound
 unfolding StandsForOne
 one_stands image header list sound has = (sound, inl has)
 
-pub migrates : (one two : Header) (list other : List Command) (c next : Chain) (journal : journals.State) (old new : Cloud) → MayMigrate one two list other c next journal old
+pub migrates : (one two : Header) (list other : List Command) (c next : Chain) (journal : journals.JournalState) (old new : Cloud) → MayMigrate one two list other c next journal old
     → HasEitherChain c next old new → LeavesOnly old new (IsMigrating one list two other)
 migrates one two list other c next journal old new may run =
     weaker old new (IsAtArea old.now Journal (IsEither (where_of c) (where_of next))) (IsMigrating one list two other) run
@@ -132,8 +132,8 @@ migrates one two list other c next journal old new may run =
         }))
     by_chain image at (inr there) = inr (next_stands c next old may.read.on_disk image at two other may.next_chain there)
 
-pub migrated : (one two : Header) (list other : List Command) (c next : Chain) (journal after : journals.State) (old new : Cloud) → MayMigrate one two list other c next journal old
-    → IsTrue new.told → journals.IsEnded after (new.now Journal) (where_of next) → after.limit ≡ half_limit two.rooms
+pub migrated : (one two : Header) (list other : List Command) (c next : Chain) (journal after : journals.JournalState) (old new : Cloud) → MayMigrate one two list other c next journal old
+    → IsTrue new.told → journals.IsJournalEnded after (new.now Journal) (where_of next) → after.limit ≡ half_limit two.rooms
     → ((area : Area) → area ≢ Journal → new.now area ≡ old.now area) → IsRead two other next after new
 migrated one two list other c next journal after old new may told ended limit others =
     next_read two other next after old new may.next_chain may.read.on_disk told ended limit others

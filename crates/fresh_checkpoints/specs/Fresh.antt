@@ -1,17 +1,17 @@
 -- What a checkpoint needs that stands by itself, whatever the chain before it said.
 use Rattle.std.specs.Prelude.{◌≡◌, ◌+◌, ◌*◌, ℕ, List}
-use Rattle.cd_edges.specs.declared.area.Area.TheVariants.{Shares, Recipes}
-use Rattle.cd_edges.specs.Disk.{Image, Cloud, reads}
-use Rattle.journal_start.specs.declared.start.Header.{Header}
-use Rattle.user_dedup.specs.declared.command.Command.{Command}
-use Rattle.user_dedup.specs.Cloud.{counted}
-use Rattle.user_dedup.specs.Dedup.{IsSound}
-use Rattle.user_dedup.specs.Spending.{spent_by_all, IsWithin}
-use Rattle.cloud_areas.specs.Chains.{least_shares, least_recipes}
-use Rattle.cloud_memory.specs.declared.cloud.CloudMemory.{CloudMemory}
-use Rattle.cloud_memory.specs.Memory.{Remembers, Stand}
-use Rattle.cloud_memory.specs.Rooms.{memory_of}
-use Rattle.checkpoints.specs.Known.{AreListed}
+use Rattle.cloud_disk.specs.CdEdges.area.Area.TheVariants.{Shares, Recipes}
+use Rattle.cloud_disk.specs.CdEdges.Disk.{Image, Cloud, reads}
+use Rattle.cloud_disk.specs.JournalStart.start.Header.{Header}
+use Rattle.cloud_disk.specs.UserDedup.command.Command.{Command}
+use Rattle.cloud_disk.specs.UserDedup.Cloud.{counted}
+use Rattle.cloud_disk.specs.UserDedup.Dedup.{IsSound}
+use Rattle.cloud_disk.specs.UserDedup.Spending.{spent_by_all, IsWithin}
+use Rattle.cloud_disk.specs.CloudAreas.Chains.{least_shares, least_recipes}
+use Rattle.compact_memories.specs.CloudMemory.cloud.CloudMemory.{CloudMemory}
+use Rattle.compact_memories.specs.CloudMemory.Memory.{Remembers, Stand}
+use Rattle.compact_memories.specs.CloudMemory.Rooms.{memory_of}
+use Rattle.compact_memories.specs.Checkpoints.Known.{AreListed}
 use Rattle.compact_memories.specs.Moved.{PlacesLie}
 
 -- The memory is that of the list, which has so many commands; all that it places stands in the areas, in the region, apart, and within

@@ -1,2 +1,10 @@
+pub mod CdBase
+pub mod CdEdges
+pub mod Checkpoints
+pub mod CloudAreas
+pub mod CloudDisk
+pub mod CloudMemory
+pub mod CompactMemories
 pub mod Fresh
+pub mod JournalHalves
 pub mod Switching

@@ -1,22 +1,22 @@
 //! The laws of checkpoints that stand by themselves, for the proofs of callers. The calls do nothing.
 
 ghost use Rattle.std.specs.Prelude.{ℕ, List, ◌≡◌, ◌≢◌, IsTrue};
-ghost use Rattle.cd_edges.specs.Disk.{Image, Cloud, LeavesOnly};
-ghost use Rattle.journal_start.specs.declared.start.Header.{Header};
-ghost use Rattle.user_dedup.specs.declared.command.Command.{Command};
-ghost use Rattle.cloud_areas.specs.Standing.{Chain, Holds, where_of};
-ghost use Rattle.cloud_memory.specs.declared.cloud.CloudMemory.{CloudMemory};
-ghost use Rattle.cloud_memory.specs.Memory.{IsPlacedBy};
-ghost use Rattle.cloud_memory.specs.Rooms.{memory_of};
-ghost use Rattle.checkpoints.specs.Known.{checkpoint_in};
-ghost use Rattle.checkpoints.specs.Records.{records_of};
+ghost use Rattle.cloud_disk.specs.CdEdges.Disk.{Image, Cloud, LeavesOnly};
+ghost use Rattle.cloud_disk.specs.JournalStart.start.Header.{Header};
+ghost use Rattle.cloud_disk.specs.UserDedup.command.Command.{Command};
+ghost use Rattle.cloud_disk.specs.CloudAreas.Standing.{Chain, Holds, where_of};
+ghost use Rattle.compact_memories.specs.CloudMemory.cloud.CloudMemory.{CloudMemory};
+ghost use Rattle.compact_memories.specs.CloudMemory.Memory.{IsPlacedBy};
+ghost use Rattle.compact_memories.specs.CloudMemory.Rooms.{memory_of};
+ghost use Rattle.compact_memories.specs.Checkpoints.Known.{checkpoint_in};
+ghost use Rattle.compact_memories.specs.Checkpoints.Records.{records_of};
 ghost use Rattle.fresh_checkpoints.specs.Fresh.{StandsAlone};
-ghost use Rattle.cd_edges.specs.declared.area.Area.{Area};
-ghost use Rattle.cd_edges.specs.declared.area.Area.TheVariants.{Journal};
-ghost use Rattle.journal_halves.specs.Halves.{half_limit};
+ghost use Rattle.cloud_disk.specs.CdEdges.area.Area.{Area};
+ghost use Rattle.cloud_disk.specs.CdEdges.area.Area.TheVariants.{Journal};
+ghost use Rattle.cloud_disk.specs.JournalHalves.Halves.{half_limit};
 ghost use Rattle.cloud_disk.specs.Disk.{IsRead};
 ghost use Rattle.fresh_checkpoints.specs.Switching.{MaySwitch, MayMigrate, StandsForOneOf, IsMigrating, HasEitherChain};
-ghost use Rattle.half_journal.specs.States as journals;
+ghost use Rattle.cloud_disk.specs.HalfJournal.States as journals;
 
 /// The checkpoint of a memory of a list holds the list, in whatever half and behind whatever chain, and the memory is
 /// placed by its records.
@@ -32,22 +32,26 @@ pub fn law_of_fresh_checkpoints()
 /// While another chain takes the place of the one by which a cloud stands for a list, each image stands for that list,
 /// or for the other chain's. Once it has the place, the journal is read to its end for the other list.
 pub fn law_of_switches()
-    ensures any_moment { (one two : Header) (list other : List Command) (c next : Chain) (journal : journals.State)
+    ensures any_moment { (one two : Header) (list other : List Command) (c next : Chain)
+        (journal : journals.JournalState)
         (old new : Cloud) → MaySwitch one two list other c next journal old → HasEitherChain c next old new
         → LeavesOnly old new (StandsForOneOf one list two other) }
-    ensures settled { (one two : Header) (list other : List Command) (c next : Chain) (journal after : journals.State)
+    ensures settled { (one two : Header) (list other : List Command) (c next : Chain)
+        (journal after : journals.JournalState)
         (old new : Cloud) → MaySwitch one two list other c next journal old → IsTrue new.told
-        → journals.IsEnded after (new.now Journal) (where_of next) → after.limit ≡ half_limit two.rooms
+        → journals.IsJournalEnded after (new.now Journal) (where_of next) → after.limit ≡ half_limit two.rooms
         → ((area : Area) → area ≢ Journal → new.now area ≡ old.now area) → IsRead two other next after new }
 {}
 
 /// The same, from a chain of format 1.
 pub fn law_of_migrations()
-    ensures any_moment { (one two : Header) (list other : List Command) (c next : Chain) (journal : journals.State)
+    ensures any_moment { (one two : Header) (list other : List Command) (c next : Chain)
+        (journal : journals.JournalState)
         (old new : Cloud) → MayMigrate one two list other c next journal old → HasEitherChain c next old new
         → LeavesOnly old new (IsMigrating one list two other) }
-    ensures settled { (one two : Header) (list other : List Command) (c next : Chain) (journal after : journals.State)
+    ensures settled { (one two : Header) (list other : List Command) (c next : Chain)
+        (journal after : journals.JournalState)
         (old new : Cloud) → MayMigrate one two list other c next journal old → IsTrue new.told
-        → journals.IsEnded after (new.now Journal) (where_of next) → after.limit ≡ half_limit two.rooms
+        → journals.IsJournalEnded after (new.now Journal) (where_of next) → after.limit ≡ half_limit two.rooms
         → ((area : Area) → area ≢ Journal → new.now area ≡ old.now area) → IsRead two other next after new }
 {}

@@ -1,36 +1,30 @@
 //! A checkpoint of a memory in the place of a chain, whatever that chain says.
 
 ghost use Rattle.std.specs.Prelude.{◌≡◌, ◌<◌, ◌≤◌, ◌+◌, ℕ, List, length, All, OnOk};
-ghost use Rattle.cd_edges.specs.Disk.{LeavesOnly};
-ghost use Rattle.cd_edges.specs.Shelf.{IsCall, HasFailed, KeepsCounts};
-ghost use Rattle.journal_halves.specs.Halves.{half_limit};
-ghost use Rattle.journal_start.specs.Ranges.{IsHeader};
-ghost use Rattle.journal_start.specs.declared.start.Header.{Header as OfStore};
-ghost use Rattle.half_journal.specs.Leaving.{OthersStay};
-ghost use Rattle.half_journal.specs.declared.journal.Stage.TheVariants.{AtEnd};
-ghost use Rattle.half_journal.specs.States.{state_of};
-ghost use Rattle.user_dedup.specs.declared.command.Command.{Command};
-ghost use Rattle.cloud_areas.specs.Standing.{Chain};
+ghost use Rattle.cloud_disk.specs.CdEdges.Disk.{LeavesOnly};
+ghost use Rattle.cloud_disk.specs.CdEdges.Shelf.{IsCall, HasFailed, KeepsCounts};
+ghost use Rattle.cloud_disk.specs.JournalHalves.Halves.{half_limit};
+ghost use Rattle.cloud_disk.specs.JournalStart.Ranges.{IsHeader};
+ghost use Rattle.cloud_disk.specs.JournalStart.start.Header.{Header as OfStore};
+ghost use Rattle.cloud_disk.specs.HalfJournal.Leaving.{OthersStay};
+ghost use Rattle.cloud_disk.specs.HalfJournal.journal.Stage.TheVariants.{AtEnd};
+ghost use Rattle.cloud_disk.specs.HalfJournal.States.{state_of};
+ghost use Rattle.cloud_disk.specs.UserDedup.command.Command.{Command};
+ghost use Rattle.cloud_disk.specs.CloudAreas.Standing.{Chain};
 ghost use Rattle.cloud_disk.specs.Disk.{IsRead};
-ghost use Rattle.checkpoints.specs.Laying.{records_len, KeepsOrSettles, HasSettled};
-ghost use Rattle.checkpoints.specs.Records.{coming, records_of};
-ghost use Rattle.checkpoints.specs.Ready.{IsReady};
-ghost use Rattle.checkpoints.specs.Known.{checkpoint_in, CountsWithin, stage_behind};
-ghost use Rattle.checkpoints.specs.Known.{IfFailed, UnlessFailed, IfLong, UnlessLong};
-ghost use Rattle.cloud_memory.specs.Rooms.{memory_of, HasRooms};
-ghost use Rattle.cloud_memory.specs.Fitting.{FitsRecords};
-ghost use Rattle.record_bodies.specs.Spelling.{FitsBody};
+ghost use Rattle.compact_memories.specs.Checkpoints.Laying.{records_len, KeepsOrSettles, HasSettled};
+ghost use Rattle.compact_memories.specs.Checkpoints.Records.{coming, records_of};
+ghost use Rattle.compact_memories.specs.Checkpoints.Ready.{IsReadyToWrite};
+ghost use Rattle.compact_memories.specs.Checkpoints.Known.{checkpoint_in, CountsWithin, stage_behind};
+ghost use Rattle.compact_memories.specs.Checkpoints.Known.{IfFailed, UnlessFailed, IfLong, UnlessLong};
+ghost use Rattle.compact_memories.specs.CloudMemory.Rooms.{memory_of, HasRooms};
+ghost use Rattle.compact_memories.specs.CloudMemory.Fitting.{FitsRecords};
+ghost use Rattle.cloud_disk.specs.RecordBodies.Spelling.{FitsBody};
 ghost use Rattle.fresh_checkpoints.specs.Fresh.{IsNextMemory};
 ghost use Rattle.fresh_checkpoints.specs.Switching.{IsReadOne, StandsForOneOf, IsMigrating};
 
-use cd_base::CloudNo;
-use cd_edges::Shelf;
-use checkpoints::{Marks, MemoryRecords, OwnerChains, Unsettled, lay_checkpoint};
-use cloud_areas::laws::law_of_checkpoints;
-use cloud_memory::CloudMemory;
-use half_journal::Journal;
-use journal_start::Header;
-use record_bodies::BodyBuf;
+use cloud_disk::{BodyBuf, CloudNo, Header, Journal, Shelf, law_of_checkpoints};
+use compact_memories::{CloudMemory, Marks, MemoryRecords, OwnerChains, Unsettled, lay_checkpoint};
 
 /// The list that takes a chain's place.
 #[derive(Clone, Copy, Debug, PartialEq, Eq)]
@@ -43,7 +37,7 @@ pub struct NextList {
 
 // How many records are still to come, where they fit so many bytes behind a start's 63. It writes each into the buffer.
 fn fresh_count(records: &mut MemoryRecords<'_>, limit: u64, buffer: &mut BodyBuf) -> Option<u32>
-    requires ready { IsReady records.old.shares.now records.old.files.now records.old.spent.now
+    requires ready { IsReadyToWrite records.old.shares.now records.old.files.now records.old.spent.now
         records.old.chains.now records.old.marks.now records.old.at }
     requires few { limit < 4294967296 }
     ensures count { CountsWithin (coming records.old.shares.now records.old.files.now records.old.spent.now

@@ -4,4 +4,14 @@
 pub mod laws;
 mod laying;
 
+pub use cloud_disk::{
+    Area, Bytes, CloudDisk, CloudNo, Failed, FindErr, Found, HALF_LEN, NoMemory, Place,
+    RECIPE_LIMIT, Room, Shape, Shelf, Sink, UserId, UserRooms, WINDOW, find, half_limit,
+    law_of_headers, law_of_peers,
+};
+pub use compact_memories::laws::law_of_moved_fits;
+pub use compact_memories::{
+    CloudMemory, Marks, OwnerChains, Reclaimed, commands_of_compact, live_sum, make_compact,
+    make_moved,
+};
 pub use laying::{NextList, lay_fresh};

@@ -8,30 +8,30 @@ use Rattle.generated_session.specs.Drawn.{file_of}
 use Rattle.generated_session.specs.Lines.{user_at, version_at, file_path, upload_lines}
 use Rattle.generated_session.proofs.Pieces.{file_len, file_bytes}
 use Rattle.lane_steps.specs.Reached.{IsReached, Begun}
-use Rattle.cd_base.specs.Limits.{IsPath}
-use Rattle.cd_base.specs.declared.ids.UserId.{UserId}
-use Rattle.cd_base.specs.declared.ids.Version.{Version}
-use Rattle.cd_base.specs.declared.shape.Shape.{Shape}
-use Rattle.cd_edges.specs.Disk.{Cloud}
-use Rattle.user_dedup.specs.Exec.{Peer}
-use Rattle.upload_job.specs.Upload.{FileVersion}
-use Rattle.upload_job.specs.Lanes.{LaneView, lanes_begun}
-use Rattle.restore_job.specs.declared.error.RestoreErr.{RestoreErr}
+use Rattle.lane_steps.specs.CdBase.Limits.{IsPath}
+use Rattle.lane_steps.specs.CdBase.ids.UserId.{UserId}
+use Rattle.lane_steps.specs.CdBase.ids.Version.{Version}
+use Rattle.lane_steps.specs.CdBase.shape.Shape.{Shape}
+use Rattle.lane_steps.specs.CdEdges.Disk.{Cloud}
+use Rattle.subset_restore.specs.UserDedup.Exec.{Peer}
+use Rattle.lane_steps.specs.UploadJob.Upload.{FileVersion}
+use Rattle.lane_steps.specs.UploadJob.Lanes.{LaneView, lanes_begun}
+use Rattle.subset_restore.specs.RestoreJob.error.RestoreErr.{RestoreErr}
 use Rattle.replay_core.specs.LocalLink.link.LocalLink.{LocalLink}
-use Rattle.session.specs.Spelling.{AreBytes, IsJob}
-use Rattle.session.specs.declared.event.Event.{Event}
-use Rattle.session.specs.declared.event.Event.TheVariants as events
-use Rattle.transcript.specs.declared.line.Line.{Line}
-use Rattle.transcript.specs.declared.line.Line.TheVariants as lines
-use Rattle.transcript.specs.declared.refusal.Refusal.{Refusal}
-use Rattle.session.specs.Scripts.{jobs_after}
+use Rattle.replay_core.specs.Session.Spelling.{AreBytes, IsJob}
+use Rattle.replay_core.specs.Session.event.Event.{Event}
+use Rattle.replay_core.specs.Session.event.Event.TheVariants as events
+use Rattle.subset_restore.specs.Transcript.line.Line.{Line}
+use Rattle.subset_restore.specs.Transcript.line.Line.TheVariants as lines
+use Rattle.subset_restore.specs.Transcript.refusal.Refusal.{Refusal}
+use Rattle.replay_core.specs.Session.Scripts.{jobs_after}
 use Rattle.replay_core.specs.SessionModel.Vault.{Setting, Vault, lanes_of}
 use Rattle.replay_core.specs.SessionModel.Steps.{version_of, all_done, IsGetLine}
 use Rattle.replay_core.specs.SessionModel.Kept.{upload_of}
 use Rattle.replay_core.specs.SessionModel.Run.{Answered, script_of}
 use Rattle.replay_core.specs.SessionModel.Headline.{IsPartOf}
-use Rattle.replay_core.specs.ScriptLines.At.{IsAt, Leaves}
-use Rattle.replay_core.specs.ScriptLines.Does.{Goes, Cut}
+use Rattle.replay_core.specs.ScriptLines.At.{IsAt, KeepsOtherClouds}
+use Rattle.replay_core.specs.ScriptLines.Does.{Goes, IsLineCut}
 use Rattle.replay_core.specs.ScriptLines.Finishing.{FinishedPart}
 use Rattle.replay_core.specs.ScriptLines.Jobs.{job_lanes}
 use Rattle.replay_core.proofs.ScriptLines.Going.{leaves_all}
@@ -42,7 +42,7 @@ use Rattle.replay_core.specs.Going.{SaysNext, CanBe}
 use Rattle.replay_core.proofs.Sessions.{Later, Here, answered, come_on, script_more}
 use Rattle.generated_session.specs.declared.numbers.Numbers.{Numbers}
 use Rattle.generated_session.specs.Numbers.{stored_in, sent_in, known_in, bytes_in, HasNumbers, GivesUploaded}
-use Rattle.generated_session.specs.Progress.{start_of, HasMade, HasJob, IsFileOf, IsStopped, Brings, Adds, CountsGot}
+use Rattle.generated_session.specs.Progress.{start_of, HasMade, HasLastJob, IsFileOf, IsStopped, Brings, HasAddedAnswers, CountsGot}
 use Rattle.generated_session.proofs.Tallies.{Gives, numbers_more, adds_end}
 
 -- nothing is read, so nothing is said
@@ -60,7 +60,7 @@ pub record Counted (files : List FileVersion) (a : Answered) (n m : Numbers) : T
 module _ {V : Type 0} (clouds : V → ℕ → Cloud) (begun : ℕ → Cloud) (s : Setting) (files : List FileVersion) (script : List Event) (count : ℕ) (n : Numbers) (old : LocalLink V)
     (made : HasMade clouds begun s old files script count n) where
   -- a line was answered
-  abbrev pub made_on : Later → Here → (new : LocalLink V) (event : Event) (jobs_now : List (List LaneView)) (answers : List Line) (count_now : ℕ) (m : Numbers) (can : CanBe s.shape (length made.jobs) event) (leaves : Leaves clouds old new)
+  abbrev pub made_on : Later → Here → (new : LocalLink V) (event : Event) (jobs_now : List (List LaneView)) (answers : List Line) (count_now : ℕ) (m : Numbers) (can : CanBe s.shape (length made.jobs) event) (leaves : KeepsOtherClouds clouds old new)
       (goes : Goes clouds s event old new jobs_now made.come.at answers) → length jobs_now ≡ jobs_after (length made.jobs) event → length jobs_now ≡ count_now
       → Counted files (answered made.come.at event answers goes.moments goes.after) n m → HasMade clouds begun s new files (script ++ event ∷ []) count_now m
   made_on later here new event jobs_now answers count_now m can leaves goes after now counted = record {
@@ -78,7 +78,7 @@ module _ {V : Type 0} (clouds : V → ℕ → Cloud) (begun : ℕ → Cloud) (s 
   paused rest = inl (record { jobs = made.jobs; lines = made.lines; come = made.come; rest = rest; script_is = ap (λ (l : List Event). l ++ rest) made.script_is })
 
   -- it stopped within this line
-  pub broken : (new : LocalLink V) (event : Event) (rest : List Event) → CanBe s.shape (length made.jobs) event → Leaves clouds old new → Cut clouds s event old new made.come.at
+  pub broken : (new : LocalLink V) (event : Event) (rest : List Event) → CanBe s.shape (length made.jobs) event → KeepsOtherClouds clouds old new → IsLineCut clouds s event old new made.come.at
       → IsStopped clouds begun s new (script ++ event ∷ rest)
   broken new event rest can leaves cut = inr (record {
     before = old;
@@ -96,7 +96,7 @@ module _ {V : Type 0} (clouds : V → ℕ → Cloud) (begun : ℕ → Cloud) (s 
   -- a job was begun
   pub job_made : Later → Here → (user : UserId) (path : List ℕ) (version : Version) (bytes : List ℕ) (lanes : List LaneView) (shape : Shape) (number : ℕ) (m : Numbers) → number ≡ count + 1 → number ≤ 1000 → IsPath path → length bytes ≤ 67108864
       → user.0 < 2 ^ 32 → AreBytes path → version.0 < 2 ^ 64 → AreBytes bytes → shape ≡ old.servers.shape → lanes ≡ lanes_begun shape (version_of user path version bytes)
-      → m ≡ record n { bytes = n.bytes + length bytes } → HasJob clouds begun s old files (script ++ events.Upload user path version bytes ∷ []) number m lanes
+      → m ≡ record n { bytes = n.bytes + length bytes } → HasLastJob clouds begun s old files (script ++ events.Upload user path version bytes ∷ []) number m lanes
   job_made later here user path version bytes lanes shape number m next few named short user_few path_bytes version_few bytes_bytes same_shape begun_so added =
       let goes = upload_goes clouds s old made.jobs made.come.at user path version bytes lanes (length made.jobs + 1) made.come.is_at (begun_so ∙ ap (λ (sh : Shape). lanes_begun sh (version_of user path version bytes)) same_shape) refl in
       let len : length (made.jobs ++ lanes ∷ []) ≡ length made.jobs + 1 = length-append made.jobs (lanes ∷ []) in
@@ -128,7 +128,7 @@ module _ {V : Type 0} (clouds : V → ℕ → Cloud) (begun : ℕ → Cloud) (s 
       last_of (j ∷ jobs) lanes = last_of jobs lanes
 
 module _ {V : Type 0} (clouds : V → ℕ → Cloud) (begun : ℕ → Cloud) (s : Setting) (files : List FileVersion) (script : List Event) (count : ℕ) (n : Numbers) (views : List LaneView) (old : LocalLink V)
-    (job : HasJob clouds begun s old files script count n views) where
+    (job : HasLastJob clouds begun s old files script count n views) where
   abbrev pub is_job : IsJob (length job.made.jobs) count
   is_job = (job.some, subst (λ (k : ℕ). count ≤ k) (sym job.made.count_is) (same_le count))
     where
@@ -139,7 +139,7 @@ module _ {V : Type 0} (clouds : V → ℕ → Cloud) (begun : ℕ → Cloud) (s 
   can_finish = record { fits = is_job; typed = tt }
 
   -- its lanes came to their ends
-  pub job_finished : Later → Here → (new : LocalLink V) (m : Numbers) → Leaves clouds old new
+  pub job_finished : Later → Here → (new : LocalLink V) (m : Numbers) → KeepsOtherClouds clouds old new
       → (later : List (List LaneView)) × (length later ≡ length job.made.jobs) × Brings clouds s count (range_with_len 0 s.shape.n) old new later job.made.come.at n m
       → HasMade clouds begun s new files (script ++ events.Finish count ∷ []) count m
   job_finished later here new m leaves came =
@@ -155,7 +155,7 @@ module _ {V : Type 0} (clouds : V → ℕ → Cloud) (begun : ℕ → Cloud) (s 
       no_more k = omega arith
 
   -- want of memory cut them
-  pub job_cut : (new : LocalLink V) → Leaves clouds old new → (part : FinishedPart clouds s count (range_with_len 0 s.shape.n) old new job.made.come.at)
+  pub job_cut : (new : LocalLink V) → KeepsOtherClouds clouds old new → (part : FinishedPart clouds s count (range_with_len 0 s.shape.n) old new job.made.come.at)
       → IsPartOf s job.made.come.at (record { event = events.Finish count; moments = part.moments }) part.last → IsStopped clouds begun s new (script ++ events.Finish count ∷ [])
   job_cut new leaves part is =
       broken clouds begun s files script count n old job.made new (events.Finish count) [] can_finish leaves (finish_cut clouds s count old new job.made.come.at part is)
@@ -211,7 +211,7 @@ module _ {V : Type 0} (clouds : V → ℕ → Cloud) (seed pieces number : ℕ) 
   pub job_of_file : (begun : ℕ → Cloud) (s : Setting) (files : List FileVersion) (script : List Event) (n : Numbers) (old : LocalLink V) → HasMade clouds begun s old files script (number - 1) n → Later → Here
       → (user : UserId) (version : ℕ) (bytes : List ℕ) (own : Shape) (lanes : List LaneView) (len : ℕ) → 1 ≤ number → number ≤ 1000 → pieces ≤ 8192 → user ≡ user_at number → version ≡ (version_at number).0 → bytes ≡ file_of seed pieces version
       → own ≡ old.servers.shape → lanes ≡ lanes_begun own (version_of user file_path (record { 0 = version }) bytes) → len ≡ length bytes
-      → HasJob clouds begun s old files (script ++ upload_here ∷ []) number (record n { bytes = n.bytes + len }) lanes
+      → HasLastJob clouds begun s old files (script ++ upload_here ∷ []) number (record n { bytes = n.bytes + len }) lanes
   job_of_file begun s files script n old made later here user version bytes own lanes len some few few_pieces u v f same made_so long =
       job_made clouds begun s files script (number - 1) n old made later here (user_at number) file_path (version_at number) (file_of seed pieces (version_at number).0) lanes own number (record n { bytes = n.bytes + len })
       (omega arith) few path_named (short_here few_pieces) few_user path_bytes (few_version few) (file_bytes seed pieces (version_at number).0) same

@@ -4,8 +4,8 @@ use Rattle.std.specs.Prelude.{◌==◌, not, All, filter}
 use Rattle.std.specs.List.{range_with_len}
 use Rattle.std.specs.List.Sorted.{IsStrictlyIncreasing}
 use Rattle.std.proofs.lemmas.List.Elements.{All-from_recursion}
-use Rattle.cd_base.specs.declared.shape.Shape.{Shape}
-use Rattle.session.specs.Spelling.{AreSources}
+use Rattle.lane_steps.specs.CdBase.shape.Shape.{Shape}
+use Rattle.replay_core.specs.Session.Spelling.{AreSources}
 use Rattle.generated_session.specs.Lines.{clouds_at}
 
 pub rise_one : (a : ℕ) → IsStrictlyIncreasing (a ∷ [])

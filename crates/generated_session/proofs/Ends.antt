@@ -3,16 +3,16 @@ use Rattle.std.proofs.Common.{◌≡◌, ℕ, ◌+◌, ◌*◌, ◌<◌, ◌≤�
 use Rattle.std.specs.Prelude.{Option, Some, None, IsTrue, MatchOption}
 use Rattle.std.specs.Io.KnownBytes.{Appends}
 use Rattle.std.proofs.lemmas.List.{length-map}
-use Rattle.journal_start.specs.Ranges.{usual_rooms}
-use Rattle.cd_base.specs.declared.shape.Shape.{Shape}
-use Rattle.journal_start.specs.declared.rooms.Rooms.{Rooms}
-use Rattle.cd_edges.specs.declared.area.Area.{Area}
-use Rattle.cd_edges.specs.Causes.{Rose}
-use Rattle.cd_edges.specs.Disk.{Cloud, IsImage, reads}
-use Rattle.user_dedup.specs.Exec.{Peer}
+use Rattle.replay_core.specs.JournalStart.Ranges.{usual_rooms}
+use Rattle.lane_steps.specs.CdBase.shape.Shape.{Shape}
+use Rattle.replay_core.specs.JournalStart.rooms.UserRooms.{UserRooms}
+use Rattle.lane_steps.specs.CdEdges.area.Area.{Area}
+use Rattle.lane_steps.specs.CdEdges.Causes.{Rose}
+use Rattle.lane_steps.specs.CdEdges.Disk.{Cloud, IsImage, reads}
+use Rattle.subset_restore.specs.UserDedup.Exec.{Peer}
 use Rattle.replay_core.specs.LocalLink.link.LocalLink.{LocalLink}
 use Rattle.replay_core.specs.LocalLink.Calls.{no_commands}
-use Rattle.session.specs.declared.event.Event.{Event}
+use Rattle.replay_core.specs.Session.event.Event.{Event}
 use Rattle.replay_core.specs.SessionModel.Vault.{Setting, Vault, opening}
 use Rattle.replay_core.specs.SessionModel.Kept.{uploads}
 use Rattle.replay_core.specs.SessionModel.Run.{Answered, Turns, script_of}
@@ -23,7 +23,7 @@ use Rattle.replay_core.specs.declared.end.ReplayEnd.TheVariants as ends
 use Rattle.replay_core.specs.Endings.{IsEmptyAt, AreEmptyBelow, AreSpared}
 use Rattle.replay_core.specs.Replayed.{Replayed, status_of}
 use Rattle.replay_core.specs.Opening.{AreSame, PreparesAll, EndsUnopened, OpensTo, before_first}
-use Rattle.replay_core.specs.Going.{WritesFront, EndsSink, IsReady}
+use Rattle.replay_core.specs.Going.{WritesFront, EndsSink, IsReplayReady}
 use Rattle.replay_core.proofs.Clouds.{spared_by, spared_same}
 use Rattle.replay_core.proofs.Sessions.{Later, Here, Part, Holds, holds_between, holds_cut, appends_none}
 use Rattle.replay_core.proofs.Whole.{Laws, session_of, replayed, apart}
@@ -31,7 +31,7 @@ use Rattle.replay_core.proofs.Begins.{unopened_of, replayed_unopened, come_first
 use Rattle.generated_session.specs.declared.numbers.Numbers.{Numbers}
 use Rattle.generated_session.specs.Lines.{generated_lines}
 use Rattle.generated_session.specs.Numbers.{HasNumbers, summary_text}
-use Rattle.generated_session.specs.Generates.{Order, Passing, IsWhole, IsUnopened, IsCaused, WritesSummary, IsSummed, Generates, IsStill, GoesWell, IsDone}
+use Rattle.generated_session.specs.Generates.{Order, Passing, IsSessionWhole, IsSessionUnopened, IsCaused, WritesSummary, IsSummed, Generates, IsStill, GoesWell, IsDone}
 use Rattle.generated_session.specs.Progress.{start_of, no_numbers, HasMade, IsStopped}
 use Rattle.generated_session.proofs.Tallies.{numbers_none}
 use Rattle.generated_session.proofs.Script.{lines_len}
@@ -93,7 +93,7 @@ module _ (laws : Laws) (order : Order) (call : Passing) (s : Setting) (four : Op
 
 -- the clouds are opened, and no line was carried out
 pub made_first : {V : Type 0} (clouds : V → ℕ → Cloud) (laws : Laws) (begun : ℕ → Cloud) (s : Setting) (old new : LocalLink V)
-    → IsReady clouds (start_of begun) s old before_first None 0 None 0 → OpensTo clouds old new old.servers.shape.n → (order : Order) → HasMade clouds begun s new (uploads (lines_of order)) [] 0 no_numbers
+    → IsReplayReady clouds (start_of begun) s old before_first None 0 None 0 → OpensTo clouds old new old.servers.shape.n → (order : Order) → HasMade clouds begun s new (uploads (lines_of order)) [] 0 no_numbers
 made_first clouds laws begun s old new ready to order = record {
   jobs = [];
   lines = 0;
@@ -143,7 +143,7 @@ module _ {V : Type 0} (clouds : V → ℕ → Cloud) (laws : Laws) (order : Orde
     run : Session
     run = session_of s made.come.history made.come.at None made.come.at.peers
 
-    whole : IsWhole order (session_of s made.come.history made.come.at None made.come.at.peers)
+    whole : IsSessionWhole order (session_of s made.come.history made.come.at None made.come.at.peers)
     whole = record { opened = refl; begun = refl; lines = made.script_is }
 
     numbers : HasNumbers (uploads (script_of made.come.history)) made.come.history n

@@ -1,6 +1,6 @@
 -- Worked cases of the definitions. The bytes were computed apart, by the rule in a few lines of another language.
 use Rattle.std.proofs.Common.{◌≡◌, ℕ, List, [], ◌∷◌, refl}
-use Rattle.session.specs.declared.event.Event.TheVariants as events
+use Rattle.replay_core.specs.Session.event.Event.TheVariants as events
 use Rattle.generated_session.specs.Drawn.{next_state, drawn, first_state, generation_in, file_of}
 use Rattle.generated_session.specs.Lines.{file_path, generated_lines}
 

@@ -2,25 +2,25 @@
 use Rattle.std.proofs.Common.{◌≡◌, ℕ, ◌+◌, ◌^◌, ◌<◌, ◌≤◌, Bool, true, false, List, [], ◌∷◌, ◌++◌, length, Some, None, refl, sym, ap, ◌∙◌, subst, inl, inr, ◌⊎◌, arith}
 use Rattle.std.specs.Prelude.{◌↔◌, Option, Result, Ok, Err, IsSome, IsTrue, sum_by, if◌then◌else◌}
 use Rattle.std.specs.List.{Contains}
-use Rattle.cd_base.specs.Limits.{IsPath}
-use Rattle.cd_base.specs.declared.ids.UserId.{UserId}
-use Rattle.cd_base.specs.declared.ids.Version.{Version}
-use Rattle.cd_base.specs.declared.shape.Shape.{Shape}
-use Rattle.cd_edges.specs.Disk.{Cloud}
-use Rattle.upload_job.specs.Upload.{FileVersion}
-use Rattle.restore_job.specs.declared.error.RestoreErr.{RestoreErr}
+use Rattle.lane_steps.specs.CdBase.Limits.{IsPath}
+use Rattle.lane_steps.specs.CdBase.ids.UserId.{UserId}
+use Rattle.lane_steps.specs.CdBase.ids.Version.{Version}
+use Rattle.lane_steps.specs.CdBase.shape.Shape.{Shape}
+use Rattle.lane_steps.specs.CdEdges.Disk.{Cloud}
+use Rattle.lane_steps.specs.UploadJob.Upload.{FileVersion}
+use Rattle.subset_restore.specs.RestoreJob.error.RestoreErr.{RestoreErr}
 use Rattle.replay_core.specs.LocalLink.link.LocalLink.{LocalLink}
-use Rattle.session.specs.Spelling.{AreBytes, AreSources}
-use Rattle.session.specs.declared.event.Event.{Event}
-use Rattle.session.specs.declared.event.Event.TheVariants as events
-use Rattle.transcript.specs.declared.line.Line.{Line}
-use Rattle.transcript.specs.declared.line.Line.TheVariants as lines
-use Rattle.transcript.specs.declared.refusal.Refusal.{Refusal}
+use Rattle.replay_core.specs.Session.Spelling.{AreBytes, AreSources}
+use Rattle.replay_core.specs.Session.event.Event.{Event}
+use Rattle.replay_core.specs.Session.event.Event.TheVariants as events
+use Rattle.subset_restore.specs.Transcript.line.Line.{Line}
+use Rattle.subset_restore.specs.Transcript.line.Line.TheVariants as lines
+use Rattle.subset_restore.specs.Transcript.refusal.Refusal.{Refusal}
 use Rattle.replay_core.specs.SessionModel.Vault.{Setting}
 use Rattle.subset_restore.specs.Refusals.{refusal_of}
 use Rattle.replay_core.specs.SessionModel.Steps.{version_of, IsGetLine}
 use Rattle.replay_core.specs.SessionModel.Headline.{IsPartOf}
-use Rattle.replay_core.specs.ScriptLines.At.{Leaves}
+use Rattle.replay_core.specs.ScriptLines.At.{KeepsOtherClouds}
 use Rattle.replay_core.specs.ScriptLines.Does.{Goes}
 use Rattle.replay_core.proofs.ScriptLines.Others.{Read, get_goes, get_cut}
 use Rattle.replay_core.specs.Going.{CanBe}
@@ -82,7 +82,7 @@ module _ (files : List FileVersion) (user : UserId) (path : List ℕ) (version :
 module _ {V : Type 0} (clouds : V → ℕ → Cloud) (begun : ℕ → Cloud) (s : Setting) (files : List FileVersion) (script : List Event) (count : ℕ) (n : Numbers) (old : LocalLink V)
     (made : HasMade clouds begun s old files script count n) (new : LocalLink V) (user : UserId) (path : List ℕ) (version : Version) (named : List ℕ)
     (is_path : IsPath path) (user_few : user.0 < 2 ^ 32) (path_bytes : AreBytes path) (version_few : version.0 < 2 ^ 64) (are : AreSources old.servers.shape named)
-    (result : Result (Unit {0}) RestoreErr) (file : List ℕ) (r : Read clouds s old new named result user path version file) (leaves : Leaves clouds old new) where
+    (result : Result (Unit {0}) RestoreErr) (file : List ℕ) (r : Read clouds s old new named result user path version file) (leaves : KeepsOtherClouds clouds old new) where
   can_get : CanBe s.shape (length made.jobs) (events.Get user path version named)
   can_get = record {
     fits = (is_path, subst (λ (sh : Shape). AreSources sh named) made.come.is_at.link_at.shape are);

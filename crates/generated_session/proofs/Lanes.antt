@@ -1,19 +1,19 @@
 -- The lanes of a finish, one behind another, with what is counted of them.
 use Rattle.std.proofs.Common.{◌≡◌, ℕ, ◌<◌, Bool, not, ◌&&◌, List, [], ◌∷◌, ◌++◌, map, length, refl, sym, ap, ◌∙◌, subst, append-nil}
 use Rattle.std.specs.Prelude.{Ok, Err}
-use Rattle.cd_edges.specs.Disk.{Cloud}
-use Rattle.user_dedup.specs.Link.{Talk}
-use Rattle.upload_job.specs.declared.news.LaneNews.{LaneNews}
-use Rattle.upload_job.specs.Lanes.{LaneView, with_state}
+use Rattle.lane_steps.specs.CdEdges.Disk.{Cloud}
+use Rattle.subset_restore.specs.UserDedup.Link.{Talk}
+use Rattle.lane_steps.specs.UploadJob.news.LaneNews.{LaneNews}
+use Rattle.lane_steps.specs.UploadJob.Lanes.{LaneView, with_state}
 use Rattle.lane_steps.specs.Runs.{starting, lane_at}
 use Rattle.lane_steps.specs.Steps.{Heard, Finishes}
 use Rattle.replay_core.specs.LocalLink.link.LocalLink.{LocalLink}
 use Rattle.replay_core.specs.LocalLink.Tells.{telling}
-use Rattle.session.specs.Spelling.{IsJob}
-use Rattle.transcript.specs.declared.line.Line.{Line}
-use Rattle.replay_core.specs.SessionModel.Vault.{Setting, Vault, Executes, lanes_of, with_lanes}
+use Rattle.replay_core.specs.Session.Spelling.{IsJob}
+use Rattle.subset_restore.specs.Transcript.line.Line.{Line}
+use Rattle.replay_core.specs.SessionModel.Vault.{Setting, Vault, HasVaultExecuted, lanes_of, with_lanes}
 use Rattle.replay_core.specs.SessionModel.Steps.{moment_of, step_line, all_done, stored_line}
-use Rattle.session.specs.Texts.{text_of}
+use Rattle.replay_core.specs.Session.Texts.{text_of}
 use Rattle.replay_core.specs.ScriptLines.At.{IsAt}
 use Rattle.replay_core.specs.ScriptLines.Jobs.{job_lanes, with_job}
 use Rattle.replay_core.specs.ScriptLines.Stepping.{stored_if}
@@ -23,7 +23,7 @@ use Rattle.replay_core.proofs.ScriptLines.Walking.{views_are, jobs_with, run_alo
 use Rattle.replay_core.proofs.ScriptLines.Lines.{stored_same}
 use Rattle.replay_core.proofs.ScriptLines.Bringing.{lanes_join, first_lanes, images_later, part_join}
 use Rattle.generated_session.specs.declared.numbers.Numbers.{Numbers}
-use Rattle.generated_session.specs.Progress.{Adds, Brings}
+use Rattle.generated_session.specs.Progress.{HasAddedAnswers, Brings}
 use Rattle.generated_session.proofs.Tallies.{adds_none, adds_join}
 
 module _ {V : Type 0} (clouds : V → ℕ → Cloud) (s : Setting) (job : ℕ) where
@@ -60,7 +60,7 @@ module _ {V : Type 0} (clouds : V → ℕ → Cloud) (s : Setting) (job : ℕ) w
 module _ {V : Type 0} (clouds : V → ℕ → Cloud) (talk : LocalLink V → ℕ → Talk → Type 0) (s : Setting) (job cloud : ℕ) where
   one_brought : (old new : LocalLink V) (jobs : List (List LaneView)) (v : Vault) (after : List LaneView) (now : List LaneNews) (stored : Bool) (n m : Numbers) → IsAt clouds s old jobs v → cloud < s.shape.n
       → Finishes (telling clouds) talk cloud old (lanes_of v.jobs job) [] (Ok tt) new after now → stored ≡ (not (all_done (lanes_of v.jobs job)) && all_done after)
-      → Adds (map (step_line job cloud) now ++ stored_if job stored) n m → Brings clouds s job (cloud ∷ []) old new (with_job jobs job after) v n m
+      → HasAddedAnswers (map (step_line job cloud) now ++ stored_if job stored) n m → Brings clouds s job (cloud ∷ []) old new (with_job jobs job after) v n m
   one_brought old new jobs v after now stored n m is lt f e adds =
       let views = lanes_of v.jobs job in
       let run = run_along (Heard (telling clouds) talk cloud) (starting (lane_at views cloud)) old f.0 f.1 new f.3 in
@@ -79,7 +79,7 @@ module _ {V : Type 0} (clouds : V → ℕ → Cloud) (talk : LocalLink V → ℕ
           after,
           [],
           [],
-          along_run (Executes s cloud) (starting (lane_at views cloud)) v.peers w.walked f.1 w.mid w.along run.1,
+          along_run (HasVaultExecuted s cloud) (starting (lane_at views cloud)) v.peers w.walked f.1 w.mid w.along run.1,
           w.tells (lane_at views cloud) f.2 f.4,
           f.6,
           refl,
@@ -89,13 +89,13 @@ module _ {V : Type 0} (clouds : V → ℕ → Cloud) (talk : LocalLink V → ℕ
         );
         is_at = record { link_at = w.link_at; jobs_are = jobs_with v.jobs jobs job after is.jobs_are };
         images = w.images;
-        adds = subst (λ (l : List Line). Adds l n m) same adds;
+        adds = subst (λ (l : List Line). HasAddedAnswers l n m) same adds;
       }
 
   -- the job has these lanes by its number
   pub lane_brought : (old new : LocalLink V) (jobs : List (List LaneView)) (v : Vault) (views after : List LaneView) (now : List LaneNews) (before is_now : Bool) (n m : Numbers) → IsAt clouds s old jobs v → cloud < s.shape.n
       → job_lanes jobs job ≡ views → Finishes (telling clouds) talk cloud old views [] (Ok tt) new after now → before ≡ all_done views → is_now ≡ all_done after
-      → Adds (map (step_line job cloud) now ++ stored_if job (not before && is_now)) n m → Brings clouds s job (cloud ∷ []) old new (with_job jobs job after) v n m
+      → HasAddedAnswers (map (step_line job cloud) now ++ stored_if job (not before && is_now)) n m → Brings clouds s job (cloud ∷ []) old new (with_job jobs job after) v n m
   lane_brought old new jobs v views after now before is_now n m is lt same f was becomes adds =
       let views_same : views ≡ lanes_of v.jobs job = sym same ∙ sym (views_are v.jobs jobs job is.jobs_are) in
       one_brought old new jobs v after now (not before && is_now) n m is lt

@@ -5,10 +5,10 @@ use Rattle.std.proofs.lemmas.List.{map-append, length-append, length-map}
 use Rattle.std.proofs.lemmas.List.Concat.{flat_map-append}
 use Rattle.std.proofs.lemmas.List.Elements.{Contains-append_left, Contains-append_right, Contains-append_cases}
 use Rattle.std.proofs.lemmas.List.FromFn.{length-range_with_len}
-use Rattle.user_dedup.proofs.Owned.{contains_here}
-use Rattle.cd_base.specs.declared.ids.Version.{Version}
-use Rattle.upload_job.specs.Upload.{FileVersion}
-use Rattle.session.specs.declared.event.Event.{Event}
+use Rattle.subset_restore.proofs.UserDedup.Owned.{contains_here}
+use Rattle.lane_steps.specs.CdBase.ids.Version.{Version}
+use Rattle.lane_steps.specs.UploadJob.Upload.{FileVersion}
+use Rattle.replay_core.specs.Session.event.Event.{Event}
 use Rattle.replay_core.specs.SessionModel.Steps.{version_of}
 use Rattle.replay_core.specs.SessionModel.Kept.{upload_of, uploads}
 use Rattle.generated_session.specs.Drawn.{file_of}

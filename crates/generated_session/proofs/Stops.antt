@@ -1,8 +1,8 @@
 -- Sessions that stopped within some lines, and lines behind them.
 use Rattle.std.proofs.Common.{◌≡◌, ℕ, List, [], ◌∷◌, ◌++◌, refl, sym, ap, ◌∙◌, subst, inl, inr, ◌⊎◌, append_assoc}
-use Rattle.cd_edges.specs.Disk.{Cloud}
+use Rattle.lane_steps.specs.CdEdges.Disk.{Cloud}
 use Rattle.replay_core.specs.LocalLink.link.LocalLink.{LocalLink}
-use Rattle.session.specs.declared.event.Event.{Event}
+use Rattle.replay_core.specs.Session.event.Event.{Event}
 use Rattle.replay_core.specs.SessionModel.Vault.{Setting}
 use Rattle.replay_core.specs.SessionModel.Run.{script_of}
 use Rattle.generated_session.specs.Progress.{IsStopped}

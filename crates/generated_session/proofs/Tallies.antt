@@ -4,12 +4,12 @@ use Rattle.std.specs.Prelude.{sum_by, if◌then◌else◌}
 use Rattle.std.specs.List.{flat_map}
 use Rattle.std.proofs.lemmas.List.Concat.{flat_map-append}
 use Rattle.std.proofs.lemmas.List.Sums.{sum_by-cons, sum_by-append, sum_by_push}
-use Rattle.upload_job.specs.Upload.{FileVersion}
-use Rattle.upload_job.specs.declared.news.LaneNews.{LaneNews}
-use Rattle.upload_job.specs.declared.news.LaneNews.TheVariants as lane_news
-use Rattle.session.specs.declared.event.Event.{Event}
-use Rattle.transcript.specs.declared.line.Line.{Line}
-use Rattle.transcript.specs.declared.line.Line.TheVariants as lines
+use Rattle.lane_steps.specs.UploadJob.Upload.{FileVersion}
+use Rattle.lane_steps.specs.UploadJob.news.LaneNews.{LaneNews}
+use Rattle.lane_steps.specs.UploadJob.news.LaneNews.TheVariants as lane_news
+use Rattle.replay_core.specs.Session.event.Event.{Event}
+use Rattle.subset_restore.specs.Transcript.line.Line.{Line}
+use Rattle.subset_restore.specs.Transcript.line.Line.TheVariants as lines
 use Rattle.replay_core.specs.SessionModel.Steps.{step_line}
 use Rattle.replay_core.specs.SessionModel.Kept.{upload_of, uploads}
 use Rattle.replay_core.specs.SessionModel.Run.{Answered, script_of, answers_of}
@@ -17,7 +17,7 @@ use Rattle.replay_core.specs.ScriptLines.Stepping.{stored_if}
 use Rattle.replay_core.proofs.Sessions.{script_more}
 use Rattle.generated_session.specs.declared.numbers.Numbers.{Numbers}
 use Rattle.generated_session.specs.Numbers.{stored_in, sent_in, known_in, GivesUploaded, Counts, bytes_in, HasNumbers}
-use Rattle.generated_session.specs.Progress.{sent_by, known_by, no_numbers, Adds}
+use Rattle.generated_session.specs.Progress.{sent_by, known_by, no_numbers, HasAddedAnswers}
 
 -- ---- the lines of a lane
 
@@ -67,7 +67,7 @@ sum_stored job false = (refl, refl, refl)
 
 pub adds_lane : (job cloud : ℕ) (told : List LaneNews) (b : Bool) (n m : Numbers)
     → m ≡ record n { stored = n.stored + (if b then 1 else 0); sent = n.sent + sum_by sent_by told; known = n.known + sum_by known_by told }
-    → Adds (map (step_line job cloud) told ++ stored_if job b) n m
+    → HasAddedAnswers (map (step_line job cloud) told ++ stored_if job b) n m
 adds_lane job cloud told b n m e =
     let steps = map (step_line job cloud) told in
     let last = sum_stored job b in
@@ -79,10 +79,10 @@ adds_lane job cloud told b n m e =
       equal = ap (λ (x : Numbers). x.equal) e;
     }
 
-pub adds_none : (n : Numbers) → Adds [] n n
+pub adds_none : (n : Numbers) → HasAddedAnswers [] n n
 adds_none n = record { bytes = refl; stored = omega arith; sent = omega arith; known = omega arith; equal = refl }
 
-pub adds_join : (xs ys : List Line) (n k m : Numbers) → Adds xs n k → Adds ys k m → Adds (xs ++ ys) n m
+pub adds_join : (xs ys : List Line) (n k m : Numbers) → HasAddedAnswers xs n k → HasAddedAnswers ys k m → HasAddedAnswers (xs ++ ys) n m
 adds_join xs ys n k m one two = record {
   bytes = two.bytes ∙ one.bytes;
   stored = omega (arith, one.stored, two.stored, sum_by-append stored_in xs ys);
@@ -92,7 +92,7 @@ adds_join xs ys n k m one two = record {
 }
 
 -- the line with which a finish ends counts nothing
-pub adds_end : (xs : List Line) (job : ℕ) (b : Bool) (n m : Numbers) → Adds xs n m → Adds (xs ++ lines.End job b ∷ []) n m
+pub adds_end : (xs : List Line) (job : ℕ) (b : Bool) (n m : Numbers) → HasAddedAnswers xs n m → HasAddedAnswers (xs ++ lines.End job b ∷ []) n m
 adds_end xs job b n m adds = record {
   bytes = adds.bytes;
   stored = omega (arith, adds.stored, sum_by_push stored_in xs (lines.End job b));

@@ -2,11 +2,11 @@
 use Rattle.std.proofs.Common.{◌≡◌, ℕ, List, [], ◌∷◌, ◌++◌, map, sym, subst, inl, inr}
 use Rattle.std.specs.List.{flat_map, range_with_len, Contains}
 use Rattle.std.proofs.lemmas.List.Elements.{Contains-append_left, Contains-append_cases}
-use Rattle.cd_base.specs.declared.ids.CloudNo.{CloudNo}
-use Rattle.cd_edges.specs.Disk.{Cloud}
-use Rattle.user_dedup.proofs.Owned.{contains_cases, contains_nothing}
-use Rattle.session.specs.declared.event.Event.{Event}
-use Rattle.session.specs.declared.event.Event.TheVariants as events
+use Rattle.lane_steps.specs.CdBase.ids.CloudNo.{CloudNo}
+use Rattle.lane_steps.specs.CdEdges.Disk.{Cloud}
+use Rattle.subset_restore.proofs.UserDedup.Owned.{contains_cases, contains_nothing}
+use Rattle.replay_core.specs.Session.event.Event.{Event}
+use Rattle.replay_core.specs.Session.event.Event.TheVariants as events
 use Rattle.replay_core.specs.SessionModel.Steps.{cloud_no}
 use Rattle.replay_core.specs.SessionModel.Headline.{Session, script_in}
 use Rattle.replay_core.specs.Replayed.{ArmsByLines}

@@ -1,11 +1,11 @@
 -- What the generator promises: the session that was carried out, why it ended, and what is written of it.
 use Rattle.std.specs.Prelude.{◌≡◌, ◌⊎◌, ℕ, ◌-◌, ◌^◌, ◌<◌, false, IsTrue, List, [], ◌++◌, length, Option, None}
 use Rattle.std.specs.Io.KnownBytes.{Appends}
-use Rattle.journal_start.specs.Ranges.{usual_rooms}
-use Rattle.cd_edges.specs.declared.area.Area.{Area}
-use Rattle.cd_edges.specs.Causes.{Rose}
-use Rattle.cd_edges.specs.Disk.{Cloud}
-use Rattle.session.specs.declared.event.Event.{Event}
+use Rattle.replay_core.specs.JournalStart.Ranges.{usual_rooms}
+use Rattle.lane_steps.specs.CdEdges.area.Area.{Area}
+use Rattle.lane_steps.specs.CdEdges.Causes.{Rose}
+use Rattle.lane_steps.specs.CdEdges.Disk.{Cloud}
+use Rattle.replay_core.specs.Session.event.Event.{Event}
 use Rattle.replay_core.specs.SessionModel.Kept.{uploads}
 use Rattle.replay_core.specs.SessionModel.Run.{script_of}
 use Rattle.replay_core.specs.SessionModel.Headline.{Session, script_in}
@@ -33,13 +33,13 @@ pub record Passing : Type 0 where
   pub new : ℕ → Cloud
 
 -- all its lines were answered
-pub record IsWhole (order : Order) (run : Session) : Type 0 where
+pub record IsSessionWhole (order : Order) (run : Session) : Type 0 where
   pub opened : IsTrue run.opened
   pub begun : run.begun ≡ None
   pub lines : script_of run.history ≡ generated_lines order.seed order.files order.pieces
 
 -- no cloud was opened, the one that is named is one of the four, and the sink wasn't touched
-pub record IsUnopened (call : Passing) (run : Session) (cloud : ℕ) : Type 0 where
+pub record IsSessionUnopened (call : Passing) (run : Session) (cloud : ℕ) : Type 0 where
   pub opened : run.opened ≡ false
   pub below : cloud < 4
   pub sink : call.sink_after ≡ call.sink_before
@@ -47,18 +47,18 @@ pub record IsUnopened (call : Passing) (run : Session) (cloud : ℕ) : Type 0 wh
 -- Why it ended so. Want of memory alone has no cause.
 abbrev pub IsCaused : ReplayEnd → Order → Passing → Session → Type 0
 IsCaused (ends.Done events) order call run =
-    IsWhole order run × (events ≡ length run.history) × (call.sink_after ≡ call.sink_before)
+    IsSessionWhole order run × (events ≡ length run.history) × (call.sink_after ≡ call.sink_before)
 IsCaused (ends.Script line at found) order call run = ⊥
 IsCaused ends.SourceFault order call run = ⊥
-IsCaused ends.SinkFault order call run = IsWhole order run × Rose call.sink_before call.sink_after
+IsCaused ends.SinkFault order call run = IsSessionWhole order run × Rose call.sink_before call.sink_after
 IsCaused (ends.ShelfFault cloud) order call run =
-    IsUnopened call run cloud.0 × Rose (run.last cloud.0).faults (call.new cloud.0).faults
+    IsSessionUnopened call run cloud.0 × Rose (run.last cloud.0).faults (call.new cloud.0).faults
     × AreEmptyBelow call.old cloud.0
 IsCaused (ends.NotEmpty cloud area len) order call run =
-    IsUnopened call run cloud.0 × IsFirstFilled call.old cloud.0 area len
+    IsSessionUnopened call run cloud.0 × IsFirstFilled call.old cloud.0 area len
     × ((other : ℕ) → call.new other ≡ call.old other)
 IsCaused (ends.Damaged cloud at byte) order call run =
-    IsUnopened call run cloud.0 × ((call.old cloud.0).told ≡ false) × AreEmptyBelow call.old 4
+    IsSessionUnopened call run cloud.0 × ((call.old cloud.0).told ≡ false) × AreEmptyBelow call.old 4
 IsCaused ends.NoMemory order call run = call.sink_after ≡ call.sink_before
 
 -- a front of the summary was written, and nothing behind it

@@ -1,5 +1,6 @@
 pub mod Drawn
 pub mod Generates
+pub mod JournalStart
 pub mod Lines
 pub mod Numbers
 pub mod Progress

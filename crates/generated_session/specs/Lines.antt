@@ -1,10 +1,10 @@
 -- The lines of the generated session.
 use Rattle.std.specs.Prelude.{ℕ, ◌+◌, ◌-◌, ◌/◌, ◌%◌, ◌==◌, not, List, [], ◌∷◌, ◌++◌, map, filter, codes}
 use Rattle.std.specs.List.{flat_map, range_with_len}
-use Rattle.cd_base.specs.declared.ids.UserId.{UserId}
-use Rattle.cd_base.specs.declared.ids.Version.{Version}
-use Rattle.session.specs.declared.event.Event.{Event}
-use Rattle.session.specs.declared.event.Event.TheVariants as events
+use Rattle.lane_steps.specs.CdBase.ids.UserId.{UserId}
+use Rattle.lane_steps.specs.CdBase.ids.Version.{Version}
+use Rattle.replay_core.specs.Session.event.Event.{Event}
+use Rattle.replay_core.specs.Session.event.Event.TheVariants as events
 use Rattle.generated_session.specs.Drawn.{file_of}
 
 -- Files are numbered from 1. Three users take turns, and each file is a user's next version of one path.

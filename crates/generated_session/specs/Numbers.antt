@@ -1,13 +1,13 @@
 -- The numbers of a session, and the summary that has them.
 use Rattle.std.specs.Prelude.{◌≡◌, ◌⊎◌, ℕ, ◌+◌, List, [], ◌∷◌, ◌++◌, length, sum_by, codes, decimal}
 use Rattle.std.specs.List.{Contains}
-use Rattle.upload_job.specs.Upload.{FileVersion}
-use Rattle.session.specs.declared.event.Event.{Event}
-use Rattle.session.specs.declared.event.Event.TheVariants as events
-use Rattle.transcript.specs.Transcript.{ended}
-use Rattle.transcript.specs.declared.line.Line.{Line}
-use Rattle.transcript.specs.declared.line.Line.TheVariants as lines
-use Rattle.transcript.specs.declared.news.News.TheVariants as news
+use Rattle.lane_steps.specs.UploadJob.Upload.{FileVersion}
+use Rattle.replay_core.specs.Session.event.Event.{Event}
+use Rattle.replay_core.specs.Session.event.Event.TheVariants as events
+use Rattle.subset_restore.specs.Transcript.Transcript.{ended}
+use Rattle.subset_restore.specs.Transcript.line.Line.{Line}
+use Rattle.subset_restore.specs.Transcript.line.Line.TheVariants as lines
+use Rattle.subset_restore.specs.Transcript.news.News.TheVariants as news
 use Rattle.replay_core.specs.SessionModel.Steps.{version_of}
 use Rattle.replay_core.specs.SessionModel.Kept.{uploads}
 use Rattle.replay_core.specs.SessionModel.Run.{Answered, script_of, answers_of}

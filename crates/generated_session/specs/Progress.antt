@@ -1,27 +1,27 @@
 -- How far a generated session has come behind its openings, and where want of memory stopped it.
 use Rattle.std.specs.Prelude.{◌≡◌, ◌⊎◌, ℕ, ◌+◌, ◌*◌, ◌^◌, ◌<◌, ◌≤◌, Bool, List, [], ◌∷◌, ◌++◌, length, sum_by, None, IsSome, Result, Ok, Err, if◌then◌else◌}
 use Rattle.std.specs.List.{Contains}
-use Rattle.cd_base.specs.Limits.{file_limit}
-use Rattle.cd_edges.specs.Disk.{Cloud}
-use Rattle.upload_job.specs.Upload.{FileVersion}
-use Rattle.upload_job.specs.Lanes.{LaneView}
-use Rattle.upload_job.specs.declared.news.LaneNews.{LaneNews}
-use Rattle.upload_job.specs.declared.news.LaneNews.TheVariants as news
-use Rattle.restore_job.specs.declared.error.RestoreErr.{RestoreErr}
+use Rattle.lane_steps.specs.CdBase.Limits.{file_limit}
+use Rattle.lane_steps.specs.CdEdges.Disk.{Cloud}
+use Rattle.lane_steps.specs.UploadJob.Upload.{FileVersion}
+use Rattle.lane_steps.specs.UploadJob.Lanes.{LaneView}
+use Rattle.lane_steps.specs.UploadJob.news.LaneNews.{LaneNews}
+use Rattle.lane_steps.specs.UploadJob.news.LaneNews.TheVariants as news
+use Rattle.subset_restore.specs.RestoreJob.error.RestoreErr.{RestoreErr}
 use Rattle.replay_core.specs.LocalLink.link.LocalLink.{LocalLink}
-use Rattle.session.specs.Spelling.{IsJob}
-use Rattle.session.specs.declared.event.Event.{Event}
-use Rattle.transcript.specs.declared.line.Line.{Line}
+use Rattle.replay_core.specs.Session.Spelling.{IsJob}
+use Rattle.replay_core.specs.Session.event.Event.{Event}
+use Rattle.subset_restore.specs.Transcript.line.Line.{Line}
 use Rattle.replay_core.specs.SessionModel.Vault.{Setting, Vault}
 use Rattle.subset_restore.specs.Refusals.{refusal_of}
 use Rattle.replay_core.specs.SessionModel.Steps.{Moment, FinishLanes}
 use Rattle.replay_core.specs.SessionModel.Run.{script_of}
-use Rattle.replay_core.specs.ScriptLines.At.{IsAt, Leaves}
-use Rattle.replay_core.specs.ScriptLines.Does.{Images, Cut}
+use Rattle.replay_core.specs.ScriptLines.At.{IsAt, KeepsOtherClouds}
+use Rattle.replay_core.specs.ScriptLines.Does.{Images, IsLineCut}
 use Rattle.replay_core.specs.ScriptLines.Finishing.{FinishedPart}
 use Rattle.replay_core.specs.ScriptLines.Jobs.{job_lanes}
 use Rattle.replay_core.specs.Opening.{before_first}
-use Rattle.replay_core.specs.Going.{Start, HasCome, CanBe}
+use Rattle.replay_core.specs.Going.{ReplayStart, HasCome, CanBe}
 use Rattle.generated_session.specs.declared.numbers.Numbers.{Numbers}
 use Rattle.generated_session.specs.Numbers.{HasNumbers, stored_in, sent_in, known_in}
 
@@ -62,7 +62,7 @@ pub record AreWithin (files : ℕ) (n : Numbers) : Type 0 where
   pub known : n.known ≤ files * 2 ^ 88
 
 -- just these answers were added
-pub record Adds (answers : List Line) (n m : Numbers) : Type 0 where
+pub record HasAddedAnswers (answers : List Line) (n m : Numbers) : Type 0 where
   pub bytes : m.bytes ≡ n.bytes
   pub stored : m.stored ≡ n.stored + sum_by stored_in answers
   pub sent : m.sent ≡ n.sent + sum_by sent_in answers
@@ -85,7 +85,7 @@ pub record Brings {V : Type 0} (clouds : V → ℕ → Cloud) (s : Setting) (job
   pub lanes_run : FinishLanes s job lanes v answers moments after
   pub is_at : IsAt clouds s new jobs after
   pub images : Images clouds s old new moments after.peers
-  pub adds : Adds answers n m
+  pub adds : HasAddedAnswers answers n m
 
 -- Of each setting, vault and number at which the link and the job are: so it was, and the job has these lanes now.
 abbrev pub BringsLanes : {V : Type 0} → (V → ℕ → Cloud) → (Setting → List ℕ) → LocalLink V → List LaneView → LocalLink V
@@ -105,7 +105,7 @@ CutsJob clouds lanes old views new =
 -- ---- the lines
 
 -- what is known as a session begins: its clouds alone
-abbrev pub start_of : (ℕ → Cloud) → Start
+abbrev pub start_of : (ℕ → Cloud) → ReplayStart
 start_of old = record { script = None; old = old; source = 0; sink = 0; total = 0; written = None }
 
 -- So many lines were answered, and these are the jobs.
@@ -125,7 +125,7 @@ pub record HasMade {V : Type 0} (clouds : V → ℕ → Cloud) (old : ℕ → Cl
   pub numbers : HasNumbers files come.history n
 
 -- The last job has these lanes.
-pub record HasJob {V : Type 0} (clouds : V → ℕ → Cloud) (old : ℕ → Cloud) (s : Setting) (link : LocalLink V)
+pub record HasLastJob {V : Type 0} (clouds : V → ℕ → Cloud) (old : ℕ → Cloud) (s : Setting) (link : LocalLink V)
     (files : List FileVersion) (script : List Event) (count : ℕ) (n : Numbers) (views : List LaneView) : Type 0 where
   pub some : 1 ≤ count
   pub made : HasMade clouds old s link files script count n
@@ -156,8 +156,8 @@ pub record IsBroken {V : Type 0} (clouds : V → ℕ → Cloud) (old : ℕ → C
   pub rest : List Event
   pub script_is : script_of come.history ++ event ∷ rest ≡ script
   pub can : CanBe s.shape (length jobs) event
-  pub leaves : Leaves clouds before link
-  pub cut : Cut clouds s event before link come.at
+  pub leaves : KeepsOtherClouds clouds before link
+  pub cut : IsLineCut clouds s event before link come.at
 
 abbrev pub IsStopped : {V : Type 0} → (V → ℕ → Cloud) → (ℕ → Cloud) → Setting → LocalLink V → List Event → Type 0
 IsStopped clouds old s link script = IsPaused clouds old s link script ⊎ IsBroken clouds old s link script

@@ -3,50 +3,48 @@
 ghost use Rattle.std.specs.Prelude.{◌≡◌, ◌<◌, ◌≤◌, ◌+◌, ◌-◌, ◌/◌, ◌*◌, ℕ, List, [], ◌∷◌, ◌++◌, length, map, IfOk, OnOk};
 ghost use Rattle.std.specs.Prelude.{OnErr, IsTrue};
 ghost use Rattle.std.specs.List.{flat_map, range_with_len};
-ghost use Rattle.cd_edges.specs.Disk.{Cloud};
-ghost use Rattle.upload_job.specs.Upload.{FileVersion};
+ghost use Rattle.lane_steps.specs.CdEdges.Disk.{Cloud};
+ghost use Rattle.lane_steps.specs.UploadJob.Upload.{FileVersion};
 ghost use Rattle.lane_steps.specs.Reached.{IsReached};
-ghost use Rattle.session.specs.declared.event.Event.{Event};
-ghost use Rattle.session.specs.declared.event.Event.TheVariants as events;
+ghost use Rattle.replay_core.specs.Session.event.Event.{Event};
+ghost use Rattle.replay_core.specs.Session.event.Event.TheVariants as events;
 ghost use Rattle.replay_core.specs.SessionModel.Vault.{Setting};
 ghost use Rattle.replay_core.specs.SessionModel.Steps.{version_of as file_version};
 ghost use Rattle.replay_core.specs.SessionModel.Kept.{uploads};
-ghost use Rattle.replay_core.specs.ScriptLines.At.{Leaves};
+ghost use Rattle.replay_core.specs.ScriptLines.At.{KeepsOtherClouds};
 ghost use Rattle.generated_session.specs.Drawn.{file_of};
 ghost use Rattle.generated_session.specs.Lines.{user_at, version_at, file_path, clouds_at, upload_lines, get_line};
 ghost use Rattle.generated_session.specs.Lines.{generated_lines};
 ghost use Rattle.generated_session.specs.Progress.{no_numbers, HasRoom, Grows, AreWithin, BringsLanes, CutsJob};
-ghost use Rattle.generated_session.specs.Progress.{HasMade, HasJob, IsFileOf, IsStopped, Makes, Stops};
+ghost use Rattle.generated_session.specs.Progress.{HasMade, HasLastJob, IsFileOf, IsStopped, Makes, Stops};
 
 use crate::Numbers;
 use crate::counting::{count_got, count_lane, is_same};
 use crate::drawing::make_file;
-use cd_base::{Bytes, CloudNo, Clouds, NoMemory, UserId, Version};
-use cd_edges::Shelf;
-use frames::ReplyBuf;
-use lane_steps::finish_lane;
+use lane_steps::{
+    Bytes, CloudNo, Clouds, Job, LaneNews, NoMemory, ReplyBuf, Shelf, UserId, Version, finish_lane,
+};
 use replay_core::{LocalLink, law_of_moments, law_of_parts};
 use std::alloc::Global;
 use subset_restore::restore_any;
-use upload_job::{Job, LaneNews};
 
 // The one path of all files.
 const PATH: &[u8] = b"file";
 
 /// What is written and read on the way, and kept from line to line for its memory alone.
 #[derive(Debug, Drop)]
-pub struct Buffers {
+pub struct SessionBuffers {
     file: Bytes,
     content: Bytes,
     reply: ReplyBuf,
     told: Vec<LaneNews>,
 }
 
-impl Buffers {
+impl SessionBuffers {
     /// Empty buffers. The one for replies takes its 4,194,304 bytes here.
-    pub fn make(alloc: Global) -> Result<Buffers, NoMemory> {
+    pub fn make(alloc: Global) -> Result<SessionBuffers, NoMemory> {
         let reply = ReplyBuf::make(alloc)?;
-        Ok(Buffers {
+        Ok(SessionBuffers {
             file: Bytes::new(alloc),
             content: Bytes::new(alloc),
             reply,
@@ -101,7 +99,7 @@ fn finish_one<V: Shelf>(
     link: &mut LocalLink<'_, V>,
     job: &mut Job,
     lane: CloudNo,
-    buffers: &mut Buffers,
+    buffers: &mut SessionBuffers,
     numbers: &mut Numbers,
 ) -> Result<(), NoMemory>
     requires below { lane.0 < link.old.servers.shape.n }
@@ -111,7 +109,7 @@ fn finish_one<V: Shelf>(
         numbers.old numbers.new) }
     ensures cut { OnErr result (CutsJob V.cloud_at (λ s. lane.0 ∷ []) link.old job.old link.new) }
     ensures grows { Grows 1 numbers.old numbers.new }
-    ensures leaves { Leaves V.cloud_at link.old link.new }
+    ensures leaves { KeepsOtherClouds V.cloud_at link.old link.new }
     ensures reached { IsReached link.old.servers.shape job.new }
     ensures same_reference { link.new.shelf.ghost_name ≡ link.old.shelf.ghost_name }
 {
@@ -138,7 +136,7 @@ fn finish_one<V: Shelf>(
 fn finish_lanes<V: Shelf>(
     link: &mut LocalLink<'_, V>,
     job: &mut Job,
-    buffers: &mut Buffers,
+    buffers: &mut SessionBuffers,
     numbers: &mut Numbers,
 ) -> Result<(), NoMemory>
     requires reached { IsReached link.old.servers.shape job.old }
@@ -148,7 +146,7 @@ fn finish_lanes<V: Shelf>(
         numbers.old numbers.new) }
     ensures cut { OnErr result (CutsJob V.cloud_at (λ s. range_with_len 0 s.shape.n) link.old job.old link.new) }
     ensures grows { Grows 256 numbers.old numbers.new }
-    ensures leaves { Leaves V.cloud_at link.old link.new }
+    ensures leaves { KeepsOtherClouds V.cloud_at link.old link.new }
     ensures same_reference { link.new.shelf.ghost_name ≡ link.old.shelf.ghost_name }
 {
     let lanes = link.shape().n();
@@ -162,18 +160,18 @@ fn finish_lanes<V: Shelf>(
 fn finish_job<V: Shelf>(
     link: &mut LocalLink<'_, V>,
     job: &mut Job,
-    buffers: &mut Buffers,
+    buffers: &mut SessionBuffers,
     numbers: &mut Numbers,
 ) -> Result<(), NoMemory>
     requires reached { IsReached link.old.servers.shape job.old }
     requires room { HasRoom 256 numbers.old }
     ensures makes { OnOk result ((begun : ℕ → Cloud) (s : Setting) (files : List FileVersion) (script : List Event)
         (count : ℕ)
-        → HasJob V.cloud_at begun s link.old files script count numbers.old job.old
+        → HasLastJob V.cloud_at begun s link.old files script count numbers.old job.old
         → HasMade V.cloud_at begun s link.new files (script ++ events.Finish count ∷ []) count numbers.new) }
     ensures stops { OnErr result ((begun : ℕ → Cloud) (s : Setting) (files : List FileVersion) (script : List Event)
         (count : ℕ)
-        → HasJob V.cloud_at begun s link.old files script count numbers.old job.old
+        → HasLastJob V.cloud_at begun s link.old files script count numbers.old job.old
         → IsStopped V.cloud_at begun s link.new (script ++ events.Finish count ∷ [])) }
     ensures grows { Grows 256 numbers.old numbers.new }
     ensures shape { link.new.servers.shape ≡ link.old.servers.shape }
@@ -194,7 +192,7 @@ fn upload_file<V: Shelf>(
     pieces: u32,
     number: u32,
     link: &mut LocalLink<'_, V>,
-    buffers: &mut Buffers,
+    buffers: &mut SessionBuffers,
     numbers: &mut Numbers,
 ) -> Result<(), NoMemory>
     requires number { (1 ≤ number) × (number ≤ 1000) }
@@ -236,7 +234,7 @@ fn get_file<V: Shelf>(
     pieces: u32,
     number: u32,
     link: &mut LocalLink<'_, V>,
-    buffers: &mut Buffers,
+    buffers: &mut SessionBuffers,
     numbers: &mut Numbers,
 ) -> Result<(), NoMemory>
     requires number { (1 ≤ number) × (number ≤ 1000) }
@@ -288,7 +286,7 @@ fn upload_all<V: Shelf>(
     files: u32,
     pieces: u32,
     link: &mut LocalLink<'_, V>,
-    buffers: &mut Buffers,
+    buffers: &mut SessionBuffers,
     numbers: &mut Numbers,
 ) -> Result<(), NoMemory>
     requires files { files ≤ 1000 }
@@ -317,7 +315,7 @@ fn get_all<V: Shelf>(
     files: u32,
     pieces: u32,
     link: &mut LocalLink<'_, V>,
-    buffers: &mut Buffers,
+    buffers: &mut SessionBuffers,
     numbers: &mut Numbers,
 ) -> Result<(), NoMemory>
     requires files { files ≤ 1000 }
@@ -342,7 +340,7 @@ pub fn carry_all<V: Shelf>(
     files: u32,
     pieces: u32,
     link: &mut LocalLink<'_, V>,
-    buffers: &mut Buffers,
+    buffers: &mut SessionBuffers,
 ) -> Result<Numbers, NoMemory>
     requires files { files ≤ 1000 }
     requires pieces { pieces ≤ 8192 }

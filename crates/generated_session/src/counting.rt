@@ -4,9 +4,8 @@ ghost use Rattle.std.specs.Prelude.{◌≡◌, ◌<◌, ◌≤◌, ◌+◌, ◌*
 ghost use Rattle.generated_session.specs.Progress.{sent_by, known_by, HasRoom, Grows, CountsGot};
 
 use crate::Numbers;
-use cd_base::NoMemory;
-use restore_job::RestoreErr;
-use upload_job::LaneNews;
+use lane_steps::{LaneNews, NoMemory};
+use subset_restore::RestoreErr;
 
 // How many shares were sent by the news of a lane.
 fn sent_of(told: LaneNews) -> u16

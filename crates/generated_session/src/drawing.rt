@@ -3,7 +3,7 @@
 ghost use Rattle.std.specs.Prelude.{◌≡◌, ◌++◌, length, OnOk};
 ghost use Rattle.generated_session.specs.Drawn.{next_state, drawn, first_state, generation_in, piece_of, file_of};
 
-use cd_base::{Bytes, NoMemory};
+use lane_steps::{Bytes, NoMemory};
 
 // How many drawn bytes a piece has.
 const DRAWN: usize = 1984;

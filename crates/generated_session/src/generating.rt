@@ -1,23 +1,20 @@
 //! The generated session, from the check that its clouds are empty to its summary.
 
 ghost use Rattle.std.specs.Prelude.{◌≡◌, ◌<◌, ◌≤◌, ◌*◌, ℕ, None};
-ghost use Rattle.cd_edges.specs.Disk.{Cloud};
-ghost use Rattle.journal_start.specs.Ranges.{usual_rooms};
+ghost use Rattle.lane_steps.specs.CdEdges.Disk.{Cloud};
+ghost use Rattle.replay_core.specs.JournalStart.Ranges.{usual_rooms};
 ghost use Rattle.replay_core.specs.SessionModel.Vault.{Setting};
 ghost use Rattle.replay_core.specs.Opening.{IsEmpty, before_first};
-ghost use Rattle.replay_core.specs.Going.{IsReady};
+ghost use Rattle.replay_core.specs.Going.{IsReplayReady};
 ghost use Rattle.generated_session.specs.Generates.{Generates, GoesWell, IsDone};
 ghost use Rattle.generated_session.specs.Progress.{start_of};
 
-use crate::carrying::{Buffers, carry_all};
+use crate::carrying::{SessionBuffers, carry_all};
 use crate::summary::{put_summary, write_summary};
-use cd_base::{Bytes, Shape};
-use cd_edges::{Shelf, Sink};
-use cloud_server::laws::law_of_no_commands;
-use journal_start::Rooms;
+use lane_steps::{Bytes, Shape, Shelf, Sink};
 use replay_core::{
-    LocalLink, ReplayEnd, Servers, empty_clouds, law_of_acknowledged, law_of_moments,
-    law_of_own_replies, open_clouds,
+    LocalLink, ReplayEnd, Servers, UserRooms, empty_clouds, law_of_acknowledged, law_of_moments,
+    law_of_no_commands, law_of_own_replies, open_clouds,
 };
 use std::alloc::Global;
 
@@ -35,7 +32,7 @@ fn carry_session<K: Sink, V: Shelf>(
     requires shape { (link.old.servers.shape.n ≡ 4) × (link.old.servers.shape.k ≡ 3) }
     requires empty { (cloud : ℕ) → cloud < link.old.servers.shape.n → IsEmpty (V.cloud_at link.old.shelf.now cloud) }
     ensures generates { (begun : ℕ → Cloud) (s : Setting)
-        → IsReady V.cloud_at (start_of begun) s link.old before_first None 0 None 0
+        → IsReplayReady V.cloud_at (start_of begun) s link.old before_first None 0 None 0
         → s.rooms ≡ usual_rooms
         → Generates result (record { seed = seed; files = files; pieces = pieces }) (record {
           sink_before = K.faults sink.old;
@@ -52,7 +49,7 @@ fn carry_session<K: Sink, V: Shelf>(
     law_of_moments();
     law_of_no_commands();
     let mut text = Bytes::new(alloc);
-    let Ok(mut buffers) = Buffers::make(alloc) else {
+    let Ok(mut buffers) = SessionBuffers::make(alloc) else {
         return ReplayEnd::NoMemory;
     };
     match open_clouds(link) {
@@ -108,7 +105,7 @@ fn make_session<K: Sink, V: Shelf>(
         Ok(()) => {}
         Err(end) => return end,
     }
-    let Ok(servers) = Servers::make(alloc, shape, Rooms::usual()) else {
+    let Ok(servers) = Servers::make(alloc, shape, UserRooms::usual()) else {
         return ReplayEnd::NoMemory;
     };
     let mut link = LocalLink::of(alloc, shelf, servers);

@@ -6,8 +6,7 @@ ghost use Rattle.replay_core.specs.Going.{EndsSink};
 ghost use Rattle.generated_session.specs.Numbers.{number_line, summary_text};
 
 use crate::Numbers;
-use cd_base::{Bytes, NoMemory};
-use cd_edges::{Sink, write_all};
+use lane_steps::{Bytes, NoMemory, Sink, write_all};
 use replay_core::ReplayEnd;
 
 // Appends a number. For want of memory a part of it may stand there.

@@ -1,5 +1,6 @@
+pub mod CdBase
+pub mod Fields
+pub mod Hexadecimal
+pub mod Numerals
 pub mod Readers
 pub mod Words
-pub mod Numerals
-pub mod Hexadecimal
-pub mod Fields

@@ -1,22 +1,22 @@
 -- What a crash leaves in each call, and what stands after it.
 use Rattle.std.proofs.Common.{◌≡◌, ◌≢◌, inl, inr, ℕ, ◌+◌, ◌-◌, ◌*◌, ◌<◌, ◌≤◌, max, List, [], ◌∷◌, ◌++◌, length, get_or, Result, Ok, Err, OnOk, refl, sym, ◌∙◌, ap, subst, arith, length-append}
-use Rattle.cd_edges.specs.declared.area.Area.{Area}
-use Rattle.cd_edges.specs.declared.area.Area.TheVariants.{Journal}
-use Rattle.cd_edges.specs.Disk.{Store, Areas, Cloud, MayLeave, IsImage, LeavesOnly, IsAtArea, overwritten, reads}
-use Rattle.cd_edges.specs.Shelf.{Stays, Writes, wrote, stable}
-use Rattle.cd_edges.proofs.Moments.{started, stayed, weaker, joined, at_end}
-use Rattle.cd_edges.proofs.Overwritten.{length-overwritten, overwritten_inside}
-use Rattle.cd_edges.proofs.Runs.{begin, writes}
-use Rattle.cd_edges.proofs.Torn.{only}
-use Rattle.commit_journal.specs.Records.{IsBody, sized}
-use Rattle.journal_start.specs.declared.start.Start.{Start}
-use Rattle.journal_start.specs.Spelling.{start_bytes, records_of}
+use Rattle.journal_halves.specs.CdEdges.area.Area.{Area}
+use Rattle.journal_halves.specs.CdEdges.area.Area.TheVariants.{Journal}
+use Rattle.journal_halves.specs.CdEdges.Disk.{Store, Areas, Cloud, MayLeave, IsImage, LeavesOnly, IsAtArea, overwritten, reads}
+use Rattle.journal_halves.specs.CdEdges.Shelf.{Stays, Writes, wrote, stable}
+use Rattle.journal_halves.proofs.CdEdges.Moments.{started, stayed, weaker, joined, at_end}
+use Rattle.journal_halves.proofs.CdEdges.Overwritten.{length-overwritten, overwritten_inside}
+use Rattle.journal_halves.proofs.CdEdges.Runs.{begin, writes}
+use Rattle.journal_halves.proofs.CdEdges.Torn.{only}
+use Rattle.journal_halves.specs.CommitJournal.Records.{IsJournalBody, sized}
+use Rattle.journal_halves.specs.JournalStart.start.Start.{Start}
+use Rattle.journal_halves.specs.JournalStart.Spelling.{start_bytes, records_of}
 use Rattle.journal_halves.specs.Halves.{half_len}
-use Rattle.journal_halves.specs.Journals.{Where, with_body, used_by, HasChain, IsEither, Stands, MayFollow, IsClosedAt, IsOpenAt, IsLaid, IsLaidWhole}
+use Rattle.journal_halves.specs.Journals.{Where, with_body, used_by, HasChain, IsEither, Stands, MayFollow, IsClosedAt, IsOpenAt, IsCheckpointLaid, IsLaidWhole}
 use Rattle.journal_halves.proofs.Laying.{laying_stands}
 use Rattle.journal_halves.proofs.Settling.{settles}
 use Rattle.journal_halves.proofs.Turning.{turning_stands}
-use Rattle.half_journal.specs.Turning.{State, begun_with, IsLaying}
+use Rattle.half_journal.specs.Turning.{WriterState, begun_with, IsWriterLaying}
 use Rattle.half_journal.proofs.Turns.{begun, with_record, apart_wrote, written_out, whole, used_is, settled}
 
 -- what follows where a call was Ok
@@ -58,16 +58,16 @@ closed_now store last w half is other open_at is_last left =
 
 -- ---- a checkpoint is begun, and a record comes to it
 
-pub begun_laying : (state : State) (store : Store) (w : Where) (half : ℕ) (start : Start) → state ≡ record { half = half; written = 0; waiting = sized (start_bytes start); left = records_of start.checkpoint }
-    → Stands store w → IsClosedAt store.read half → MayFollow w half start → IsLaying state store w (begun_with half start)
+pub begun_laying : (state : WriterState) (store : Store) (w : Where) (half : ℕ) (start : Start) → state ≡ record { half = half; written = 0; waiting = sized (start_bytes start); left = records_of start.checkpoint }
+    → Stands store w → IsClosedAt store.read half → MayFollow w half start → IsWriterLaying state store w (begun_with half start)
 begun_laying state store w half start is stands closed follows =
-    subst (λ (s : State). IsLaying s store w (begun_with half start)) (sym is)
+    subst (λ (s : WriterState). IsWriterLaying s store w (begun_with half start)) (sym is)
     (record { half = refl; bytes = []; count = refl; laid = begun store w half start stands closed follows; left = omega arith })
 
-pub one_more : (old new : State) (store : Store) (w next : Where) (body : List ℕ) → IsLaying old store w next → IsBody body → 1 ≤ old.left → new ≡ record old { waiting = old.waiting ++ 1 ∷ sized body; left = old.left - 1 }
-    → IsLaying new store w (with_body next body)
+pub one_more : (old new : WriterState) (store : Store) (w next : Where) (body : List ℕ) → IsWriterLaying old store w next → IsJournalBody body → 1 ≤ old.left → new ≡ record old { waiting = old.waiting ++ 1 ∷ sized body; left = old.left - 1 }
+    → IsWriterLaying new store w (with_body next body)
 one_more old new store w next body is one some same =
-    subst (λ (s : State). IsLaying s store w (with_body next body)) (sym same)
+    subst (λ (s : WriterState). IsWriterLaying s store w (with_body next body)) (sym same)
     (record {
       half = is.half;
       bytes = is.bytes;
@@ -78,10 +78,10 @@ one_more old new store w next body is one some same =
 
 -- ---- what waits is written
 
-at_place : (state : State) (store : Store) (w next : Where) (at : ℕ) → IsLaying state store w next → at ≡ state.half * half_len + 1 + state.written → (is : IsLaying state store w next) → at ≡ next.half * half_len + 1 + length is.bytes
+at_place : (state : WriterState) (store : Store) (w next : Where) (at : ℕ) → IsWriterLaying state store w next → at ≡ state.half * half_len + 1 + state.written → (is : IsWriterLaying state store w next) → at ≡ next.half * half_len + 1 + length is.bytes
 at_place state store w next at laying place is = place ∙ ap (λ (h : ℕ). h * half_len + 1 + state.written) is.half ∙ ap (λ (n : ℕ). next.half * half_len + 1 + n) is.count
 
-module _ (state : State) (c0 c1 : Cloud) (w next : Where) (at : ℕ) (is : IsLaying state (c0.now Journal) w next) (place : at ≡ state.half * half_len + 1 + state.written) (within : state.written + length state.waiting + 2 ≤ half_len) where
+module _ (state : WriterState) (c0 c1 : Cloud) (w next : Where) (at : ℕ) (is : IsWriterLaying state (c0.now Journal) w next) (place : at ≡ state.half * half_len + 1 + state.written) (within : state.written + length state.waiting + 2 ≤ half_len) where
   there : at ≡ next.half * half_len + 1 + length is.bytes
   there = at_place state (c0.now Journal) w next at is place is
 
@@ -95,9 +95,9 @@ module _ (state : State) (c0 c1 : Cloud) (w next : Where) (at : ℕ) (is : IsLay
   pub unflushed : LeavesOnly c0 c0 (IsAtArea c0.now Journal (λ image. HasChain image w))
   unflushed = started c0 _ (λ image now. record { area = laying_stands (c0.now Journal) w next.half is.laid.apart (image Journal) (now Journal); others = λ other ne. now other })
 
-  pub flushed : (new : State) → IsImage c0.now (reads c0.now) → c1.now Journal ≡ wrote (c0.now Journal) at state.waiting → new ≡ record state { written = state.written + length state.waiting; waiting = [] } → IsLaying new (c1.now Journal) w next
+  pub flushed : (new : WriterState) → IsImage c0.now (reads c0.now) → c1.now Journal ≡ wrote (c0.now Journal) at state.waiting → new ≡ record state { written = state.written + length state.waiting; waiting = [] } → IsWriterLaying new (c1.now Journal) w next
   flushed new image store same =
-      subst (λ (s : State). IsLaying s (c1.now Journal) w next) (sym same) (subst (λ (s : Store). IsLaying (record state { written = state.written + length state.waiting; waiting = [] }) s w next) (sym store)
+      subst (λ (s : WriterState). IsWriterLaying s (c1.now Journal) w next) (sym same) (subst (λ (s : Store). IsWriterLaying (record state { written = state.written + length state.waiting; waiting = [] }) s w next) (sym store)
       (record {
         half = is.half;
         bytes = is.bytes ++ state.waiting;

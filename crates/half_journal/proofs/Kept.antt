@@ -1,16 +1,16 @@
 -- A chain stays where its half has it and the places of the other half stay.
 use Rattle.std.proofs.Common.{◌≡◌, ◌⊎◌, inl, inr, ℕ, ◌+◌, ◌-◌, ◌*◌, ◌%◌, ◌≤◌, false, List, [], ◌∷◌, ◌++◌, length, take, sym, ◌∙◌, ap, subst, arith, append_assoc, length-append}
 use Rattle.std.proofs.Math.Seq.{take-append-add}
-use Rattle.commit_journal.specs.Records.{sized, is_begun}
-use Rattle.commit_journal.specs.Frames.{IsRecord}
-use Rattle.journal_start.specs.declared.start.Start.{Start}
-use Rattle.journal_start.specs.Spelling.{start_bytes, epoch_of}
+use Rattle.journal_halves.specs.CommitJournal.Records.{sized, is_begun}
+use Rattle.journal_halves.specs.CommitJournal.Frames.{IsRecord}
+use Rattle.journal_halves.specs.JournalStart.start.Start.{Start}
+use Rattle.journal_halves.specs.JournalStart.Spelling.{start_bytes, epoch_of}
 use Rattle.journal_halves.specs.Halves.{half_len, half_of, is_half_begun, HasStart, IsCurrent}
 use Rattle.journal_halves.specs.Journals.{Where, all_bodies, with_body, HasChain, IsEither}
 use Rattle.journal_halves.proofs.Laying.{starts}
 use Rattle.journal_halves.specs.Findings.{part_of}
 use Rattle.journal_halves.proofs.Looks.{begun_part, has_start}
-use Rattle.journal_halves.specs.States.{IsKept, IsAdded}
+use Rattle.journal_halves.specs.States.{IsHalfKept, IsAdded}
 
 -- a half's first record lies in its places
 pub record_off : (xs body : List ℕ) → IsRecord xs body → IsRecord (take half_len xs) body
@@ -40,7 +40,7 @@ pub other_stays : (half : ℕ) (old : List ℕ) (bodies : List (List ℕ)) (body
 other_stays half old bodies body image (inl k) = k.other
 other_stays half old bodies body image (inr k) = k.other
 
-pub kept_chain : (old image : List ℕ) (w : Where) → IsCurrent old w.half w.start → IsKept w.half old (all_bodies w) image → HasChain image w
+pub kept_chain : (old image : List ℕ) (w : Where) → IsCurrent old w.half w.start → IsHalfKept w.half old (all_bodies w) image → HasChain image w
 kept_chain old image w c k = record {
   current = record {
     is_half = c.is_half;

@@ -4,3 +4,7 @@ pub mod Opening
 pub mod Same
 pub mod Steps
 pub mod Turns
+pub mod JournalHalves
+pub mod JournalStart
+pub mod CommitJournal
+pub mod CdEdges

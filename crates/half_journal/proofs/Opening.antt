@@ -1,27 +1,27 @@
 -- What an opening finds and leaves.
 use Rattle.std.proofs.Common.{◌≡◌, ◌≢◌, ◌⊎◌, inl, inr, ℕ, ◌+◌, ◌-◌, ◌*◌, ◌<◌, ◌≤◌, Bool, true, false, IsTrue, List, [], ◌∷◌, ◌++◌, length, take, drop, Option, None, Result, Ok, Err, OnOk, refl, sym, ◌∙◌, ap, subst, arith, append-nil, length-append, length-drop}
 use Rattle.std.proofs.lemmas.Bool.{false≢true}
-use Rattle.cd_edges.specs.declared.area.Area.{Area}
-use Rattle.cd_edges.specs.declared.area.Area.TheVariants.{Journal}
-use Rattle.cd_edges.specs.Disk.{Store, Areas, Cloud, Image, MayLeave, IsImage, LeavesOnly, IsAtArea, overwritten}
-use Rattle.cd_edges.specs.Shelf.{Stays, wrote, stable, Changes}
-use Rattle.cd_edges.proofs.Moments.{joined, weaker, stayed, started, at_end}
-use Rattle.cd_edges.proofs.Torn.{only}
-use Rattle.commit_journal.specs.Records.{IsBody, sized, chain, IsJournal, is_begun}
-use Rattle.commit_journal.specs.Frames.{IsRecord}
-use Rattle.commit_journal.proofs.Begin.{journal_unbegun, unbegun_journal, small_unbegun, one_zero, zero_journal}
-use Rattle.journal_start.specs.declared.start.Header.{Header}
-use Rattle.journal_start.specs.declared.start.Start.{Start}
-use Rattle.journal_start.specs.Ranges.{IsHeader, IsStart}
-use Rattle.journal_start.specs.Spelling.{start_bytes, records_of}
+use Rattle.journal_halves.specs.CdEdges.area.Area.{Area}
+use Rattle.journal_halves.specs.CdEdges.area.Area.TheVariants.{Journal}
+use Rattle.journal_halves.specs.CdEdges.Disk.{Store, Areas, Cloud, Image, MayLeave, IsImage, LeavesOnly, IsAtArea, overwritten}
+use Rattle.journal_halves.specs.CdEdges.Shelf.{Stays, wrote, stable, Changes}
+use Rattle.journal_halves.proofs.CdEdges.Moments.{joined, weaker, stayed, started, at_end}
+use Rattle.journal_halves.proofs.CdEdges.Torn.{only}
+use Rattle.journal_halves.specs.CommitJournal.Records.{IsJournalBody, sized, chain, IsJournal, is_begun}
+use Rattle.journal_halves.specs.CommitJournal.Frames.{IsRecord}
+use Rattle.journal_halves.proofs.CommitJournal.Begin.{journal_unbegun, unbegun_journal, small_unbegun, one_zero, zero_journal}
+use Rattle.journal_halves.specs.JournalStart.start.Header.{Header}
+use Rattle.journal_halves.specs.JournalStart.start.Start.{Start}
+use Rattle.journal_halves.specs.JournalStart.Ranges.{IsHeader, IsStart}
+use Rattle.journal_halves.specs.JournalStart.Spelling.{start_bytes, records_of}
 use Rattle.journal_halves.specs.Halves.{half_len, half_of, is_half_begun, HasStart, IsCurrent}
 use Rattle.journal_halves.specs.Journals.{Where, all_bodies, HasChain}
 use Rattle.journal_halves.proofs.Current.{begun_half}
 use Rattle.journal_halves.proofs.Laying.{starts}
 use Rattle.journal_halves.specs.Findings.{part_of}
-use Rattle.journal_halves.specs.States.{begun_at, IsKept, IsAdded}
+use Rattle.journal_halves.specs.States.{begun_at, IsHalfKept, IsAdded}
 use Rattle.journal_halves.specs.States as records
-use Rattle.half_journal.specs.States.{State, IsReading}
+use Rattle.half_journal.specs.States.{JournalState, IsJournalReading}
 use Rattle.journal_halves.specs.Beginnings.{new_of}
 use Rattle.journal_halves.specs.declared.found.Found.{Found}
 use Rattle.half_journal.specs.declared.errors.OpenErr.{OpenErr}
@@ -35,15 +35,15 @@ use Rattle.half_journal.proofs.Kept.{record_off, unbegun_stays}
 abbrev pub at_start : ℕ → Start → Where
 at_start half start = record { half = half; start = start; bodies = [] }
 
-pub reading_at : (state : State) (store : Store) (half : ℕ) (start : Start) → store ≡ stable store.read → IsCurrent store.read half start → state.current ≡ begun_at half (length (start_bytes start) + 5) → state.start ≡ start
-    → state.left ≡ records_of start.checkpoint → IsReading state store (at_start half start)
+pub reading_at : (state : JournalState) (store : Store) (half : ℕ) (start : Start) → store ≡ stable store.read → IsCurrent store.read half start → state.current ≡ begun_at half (length (start_bytes start) + 5) → state.start ≡ start
+    → state.left ≡ records_of start.checkpoint → IsJournalReading state store (at_start half start)
 reading_at state store half start synced c current same left =
     let body = start_bytes start in
     let r = record_off (half_of half store.read) body c.begun.record_is in
     let tail = r.gate ∷ r.behind in
-    let half_is : state.current.half ≡ half = ap (λ (s : records.State). s.half) current in
-    let gate_is : state.current.gate ≡ length body + 5 = ap (λ (s : records.State). s.gate) current in
-    let none : state.current.ahead ≡ [] = ap (λ (s : records.State). s.ahead) current in
+    let half_is : state.current.half ≡ half = ap (λ (s : records.HalfState). s.half) current in
+    let gate_is : state.current.gate ≡ length body + 5 = ap (λ (s : records.HalfState). s.gate) current in
+    let none : state.current.ahead ≡ [] = ap (λ (s : records.HalfState). s.ahead) current in
     record {
       half = half_is;
       start = same;
@@ -60,7 +60,7 @@ reading_at state store half start synced c current same left =
       left = omega (arith, left);
     }
 
-pub opened_at : (state : State) (store : Store) (half : ℕ) (start : Start) (asked : Header) → store ≡ stable store.read → IsCurrent store.read half start → state.current ≡ begun_at half (length (start_bytes start) + 5) → state.start ≡ start
+pub opened_at : (state : JournalState) (store : Store) (half : ℕ) (start : Start) (asked : Header) → store ≡ stable store.read → IsCurrent store.read half start → state.current ≡ begun_at half (length (start_bytes start) + 5) → state.start ≡ start
     → state.left ≡ records_of start.checkpoint → start.header ≡ asked → IsOpened state store asked
 opened_at state store half start asked synced c current same left header =
     record { w = at_start half start; header_is = header; none = refl; reading = reading_at state store half start synced c current same left }
@@ -104,7 +104,7 @@ plain_start header is = record { header = is; behind = refl }
 pub ready_ended : (store : Store) → IsReady store → records.IsEnded (begun_at 0 0) store []
 ready_ended store is = record { synced = is.synced; chain_is = is.closed; gate = refl; within = omega arith }
 
-pub has_new : (old image : List ℕ) (header : Header) → IsUnbegun old → IsHeader header → IsKept 0 old (all_bodies (new_of header)) image → HasChain image (new_of header)
+pub has_new : (old image : List ℕ) (header : Header) → IsUnbegun old → IsHeader header → IsHalfKept 0 old (all_bodies (new_of header)) image → HasChain image (new_of header)
 has_new old image header unbegun is k = record {
   current = record {
     is_half = inl refl;
@@ -131,7 +131,7 @@ beginning c0 c1 c2 header first others ready is run = joined c0 c1 c2 _ (closed_
   others = λ other ne. subst (λ (s : Store). MayLeave s (image other)) (others other ne) (at.others other ne);
 }))
 
-pub begun_new : (store last : Store) (header : Header) (state : records.State) → IsReady store → IsHeader header → state.half ≡ 0 → records.IsEnded state last (all_bodies (new_of header)) → part_of 1 last.read ≡ part_of 1 store.read
+pub begun_new : (store last : Store) (header : Header) (state : records.HalfState) → IsReady store → IsHeader header → state.half ≡ 0 → records.IsEnded state last (all_bodies (new_of header)) → part_of 1 last.read ≡ part_of 1 store.read
     → HasChain last.read (new_of header)
 begun_new store last header state ready is half ended same =
     has_new store.read last.read header ready.unbegun is (record { chain_is = subst (λ (h : ℕ). IsJournal (all_bodies (new_of header)) (half_of h last.read)) half ended.chain_is; other = same })
@@ -180,10 +180,10 @@ not_unbegun journal half start c none = elim c.is_half [
   | inr one_is ↦ false≢true (sym none.second ∙ begun_half journal 1 start (subst (λ (h : ℕ). HasStart journal h start) one_is c.begun))
 ]
 
-pub not_opened : (header : Header) (begin : Bool) (c0 c1 : Cloud) (after : State) (e : OpenErr) → Stays c0 c1 → OpensIs (c0.now Journal).read header begin (Err e) → IsOpening header begin c0 c1 after (Err e)
+pub not_opened : (header : Header) (begin : Bool) (c0 c1 : Cloud) (after : JournalState) (e : OpenErr) → Stays c0 c1 → OpensIs (c0.now Journal).read header begin (Err e) → IsOpening header begin c0 c1 after (Err e)
 not_opened header begin c0 c1 after e stays answer = record { any_moment = read_only c0 c1 header begin stays; answer = answer; opened = tt; unbegun = λ none. tt; alone = λ none. tt; others = tt }
 
-pub found_taken : (header : Header) (begin : Bool) (c0 c1 : Cloud) (after : State) (found : Found) (result : Result (Unit {0}) OpenErr) → Stays c0 c1 → IsCurrent (c0.now Journal).read found.half found.start
+pub found_taken : (header : Header) (begin : Bool) (c0 c1 : Cloud) (after : JournalState) (found : Found) (result : Result (Unit {0}) OpenErr) → Stays c0 c1 → IsCurrent (c0.now Journal).read found.half found.start
     → TakenIs after (c0.now Journal) found header result → IsOpening header begin c0 c1 after result
 found_taken header begin c0 c1 after found (Ok value) stays c is = record {
   any_moment = read_only c0 c1 header begin stays;
@@ -198,8 +198,8 @@ found_taken header begin c0 c1 after found (Err Fault) stays c is = absurd is
 found_taken header begin c0 c1 after found (Err (NotBegun len)) stays c is = absurd is
 found_taken header begin c0 c1 after found (Err (Damaged at byte)) stays c is = absurd is
 
-pub began_ok : (header : Header) (begin : Bool) (c0 c1 c2 : Cloud) (after : State) → IsTrue begin → IsUnbegun (c0.now Journal).read → Stays c0 c1 → LeavesOnly c1 c2 (IsAtArea c1.now Journal (IsNewOrUnbegun header))
-    → IsReading after (c2.now Journal) (new_of header) → HasChain (c2.now Journal).read (new_of header) → is_half_begun 1 (c2.now Journal).read ≡ false → ((other : Area) → other ≢ Journal → c2.now other ≡ c1.now other) → IsOpening header begin c0 c2 after (Ok tt)
+pub began_ok : (header : Header) (begin : Bool) (c0 c1 c2 : Cloud) (after : JournalState) → IsTrue begin → IsUnbegun (c0.now Journal).read → Stays c0 c1 → LeavesOnly c1 c2 (IsAtArea c1.now Journal (IsNewOrUnbegun header))
+    → IsJournalReading after (c2.now Journal) (new_of header) → HasChain (c2.now Journal).read (new_of header) → is_half_begun 1 (c2.now Journal).read ≡ false → ((other : Area) → other ≢ Journal → c2.now other ≡ c1.now other) → IsOpening header begin c0 c2 after (Ok tt)
 began_ok header begin c0 c1 c2 after is none stays run reading has one others = record {
   any_moment = then_began c0 c1 c2 header begin is none stays run;
   answer = inl (none, is);
@@ -209,7 +209,7 @@ began_ok header begin c0 c1 c2 after is none stays run reading has one others = 
   others = λ other ne. others other ne ∙ ap (λ (a : Areas). a other) stays.now;
 }
 
-pub began_err : (header : Header) (begin : Bool) (c0 c1 c2 : Cloud) (after : State) → IsTrue begin → IsUnbegun (c0.now Journal).read → Stays c0 c1 → LeavesOnly c1 c2 (IsAtArea c1.now Journal (IsNewOrUnbegun header))
+pub began_err : (header : Header) (begin : Bool) (c0 c1 c2 : Cloud) (after : JournalState) → IsTrue begin → IsUnbegun (c0.now Journal).read → Stays c0 c1 → LeavesOnly c1 c2 (IsAtArea c1.now Journal (IsNewOrUnbegun header))
     → IsOpening header begin c0 c2 after (Err Fault)
 began_err header begin c0 c1 c2 after is none stays run =
     record { any_moment = then_began c0 c1 c2 header begin is none stays run; answer = tt; opened = tt; unbegun = λ again. tt; alone = λ again. tt; others = tt }
@@ -220,10 +220,10 @@ others_on : {E : Type 0} (result : Result (Unit {0}) E) (c0 c1 c2 : Cloud) → (
 others_on (Ok value) c0 c1 c2 first second = λ other ne. second other ne ∙ first other ne
 others_on (Err e) c0 c1 c2 first second = tt
 
-pub sync_failed : (header : Header) (begin : Bool) (c0 c1 : Cloud) (after : State) → LeavesOnly c0 c1 (IsImage c0.now) → IsOpening header begin c0 c1 after (Err Fault)
+pub sync_failed : (header : Header) (begin : Bool) (c0 c1 : Cloud) (after : JournalState) → LeavesOnly c0 c1 (IsImage c0.now) → IsOpening header begin c0 c1 after (Err Fault)
 sync_failed header begin c0 c1 after run = record { any_moment = synced_only c0 c1 header begin run; answer = tt; opened = tt; unbegun = λ none. tt; alone = λ none. tt; others = tt }
 
-pub sync_opened : (header : Header) (begin : Bool) (c0 c1 c2 : Cloud) (after : State) (result : Result (Unit {0}) OpenErr) → LeavesOnly c0 c1 (IsImage c0.now) → Changes c0 c1 Journal (stable (c0.now Journal).read)
+pub sync_opened : (header : Header) (begin : Bool) (c0 c1 c2 : Cloud) (after : JournalState) (result : Result (Unit {0}) OpenErr) → LeavesOnly c0 c1 (IsImage c0.now) → Changes c0 c1 Journal (stable (c0.now Journal).read)
     → IsOpening header begin c1 c2 after result → IsOpening header begin c0 c2 after result
 sync_opened header begin c0 c1 c2 after result run synced is =
     let same : (c1.now Journal).read ≡ (c0.now Journal).read = ap (λ (s : Store). s.read) synced.area in

@@ -4,17 +4,17 @@ use Rattle.std.specs.Int.{w32, w64, to_be_bytes}
 use Rattle.std.proofs.Math.Seq.{take-add}
 use Rattle.std.proofs.lemmas.List.{append-nil, take_at, drop_at, drop_more}
 use Rattle.std.proofs.lemmas.List.Elements.{All-nil, All-cons}
-use Rattle.cd_edges.specs.Disk.{Store, MayLeave, overwritten}
-use Rattle.cd_edges.specs.Shelf.{wrote, stable}
-use Rattle.cd_edges.proofs.Overwritten.{length-overwritten, overwritten_inside}
-use Rattle.cd_edges.proofs.Since.{image_of_stable}
-use Rattle.commit_journal.specs.Records.{IsBody, sized, chain, AreBodies, is_begun}
-use Rattle.commit_journal.proofs.Chain.{chain-push, bodies_more, overwritten_within}
-use Rattle.journal_start.specs.declared.start.Checkpoint.{Checkpoint}
-use Rattle.journal_start.specs.declared.start.Start.{Start}
-use Rattle.journal_start.specs.Spelling.{rooms_bytes, front_bytes, header_bytes, behind_header, start_bytes}
+use Rattle.journal_halves.specs.CdEdges.Disk.{Store, MayLeave, overwritten}
+use Rattle.journal_halves.specs.CdEdges.Shelf.{wrote, stable}
+use Rattle.journal_halves.proofs.CdEdges.Overwritten.{length-overwritten, overwritten_inside}
+use Rattle.journal_halves.proofs.CdEdges.Since.{image_of_stable}
+use Rattle.journal_halves.specs.CommitJournal.Records.{IsJournalBody, sized, chain, AreBodies, is_begun}
+use Rattle.journal_halves.proofs.CommitJournal.Chain.{chain-push, bodies_more, overwritten_within}
+use Rattle.journal_halves.specs.JournalStart.start.Checkpoint.{Checkpoint}
+use Rattle.journal_halves.specs.JournalStart.start.Start.{Start}
+use Rattle.journal_halves.specs.JournalStart.Spelling.{rooms_bytes, front_bytes, header_bytes, behind_header, start_bytes}
 use Rattle.journal_halves.specs.Halves.{half_len, half_of, is_half_begun}
-use Rattle.journal_halves.specs.Journals.{Where, all_bodies, with_body, used_by, HasChain, Stands, MayFollow, IsClosedAt, AreInHalf, IsApart, IsLaid, IsLaidWhole}
+use Rattle.journal_halves.specs.Journals.{Where, all_bodies, with_body, used_by, HasChain, Stands, MayFollow, IsClosedAt, AreInHalf, IsApart, IsCheckpointLaid, IsLaidWhole}
 use Rattle.journal_halves.proofs.Laying.{laying_stands, closed_stays}
 use Rattle.journal_halves.proofs.Settling.{opened}
 use Rattle.half_journal.specs.Turning.{begun_with}
@@ -31,14 +31,14 @@ as_shaped : (s : Start) (o : Option Checkpoint) → s.checkpoint ≡ o → start
 as_shaped s None e = ap (λ (x : Option Checkpoint). header_bytes s.header ++ behind_header s.header.format x) e
 as_shaped s (Some c) e = ap (λ (x : Option Checkpoint). header_bytes s.header ++ behind_header s.header.format x) e
 
-small : (b : Bool) (s : Start) (o : Option Checkpoint) → IsBody (shaped b s o)
+small : (b : Bool) (s : Start) (o : Option Checkpoint) → IsJournalBody (shaped b s o)
 small true s None = record { some = omega arith; few = omega arith }
 small true s (Some c) = record { some = omega arith; few = omega arith }
 small false s None = record { some = omega arith; few = omega arith }
 small false s (Some c) = record { some = omega arith; few = omega arith }
 
-pub start_is_body : (s : Start) → IsBody (start_bytes s)
-start_is_body s = subst IsBody (sym (as_shaped s s.checkpoint refl)) (small (eqb s.header.format 1) s s.checkpoint)
+pub start_is_body : (s : Start) → IsJournalBody (start_bytes s)
+start_is_body s = subst IsJournalBody (sym (as_shaped s s.checkpoint refl)) (small (eqb s.header.format 1) s s.checkpoint)
 
 -- ---- the beginning
 
@@ -55,7 +55,7 @@ stands_apart store w half is other closed =
       ranges = subst (AreInHalf half) (sym none) (All-nil (λ (range : ℕ × ℕ). (half * half_len + 1 ≤ range.0) × (range.1 ≤ half * half_len + half_len)));
     }
 
-pub begun : (store : Store) (w : Where) (half : ℕ) (start : Start) → Stands store w → IsClosedAt store.read half → MayFollow w half start → IsLaid store w (begun_with half start) [] (sized (start_bytes start))
+pub begun : (store : Store) (w : Where) (half : ℕ) (start : Start) → Stands store w → IsClosedAt store.read half → MayFollow w half start → IsCheckpointLaid store w (begun_with half start) [] (sized (start_bytes start))
 begun store w half start is closed follows = record {
   apart = stands_apart store w half is follows.other closed;
   follows = follows;
@@ -69,7 +69,7 @@ begun store w half start is closed follows = record {
 push : (bodies : List (List ℕ)) (body : List ℕ) → chain (bodies ++ body ∷ []) ≡ chain bodies ++ 1 ∷ sized body
 push bodies body = sym (append-nil (chain (bodies ++ body ∷ []))) ∙ chain-push bodies body [] ∙ ap (λ (l : List ℕ). chain bodies ++ 1 ∷ l) (append-nil (sized body))
 
-pub with_record : (store : Store) (w next : Where) (written waiting body : List ℕ) → IsLaid store w next written waiting → IsBody body → IsLaid store w (with_body next body) written (waiting ++ 1 ∷ sized body)
+pub with_record : (store : Store) (w next : Where) (written waiting body : List ℕ) → IsCheckpointLaid store w next written waiting → IsJournalBody body → IsCheckpointLaid store w (with_body next body) written (waiting ++ 1 ∷ sized body)
 with_record store w next written waiting body is one = record {
   apart = is.apart;
   follows = is.follows;
@@ -90,7 +90,7 @@ apart_wrote store w half at bytes is from to = record {
   ranges = All-cons (λ (range : ℕ × ℕ). (half * half_len + 1 ≤ range.0) × (range.1 ≤ half * half_len + half_len)) (at, at + length bytes) store.written (from, to) is.ranges;
 }
 
-module _ (store : Store) (w next : Where) (written waiting : List ℕ) (is : IsLaid store w next written waiting) (reads : MayLeave store store.read) (at : ℕ) (place : at ≡ next.half * half_len + 1 + length written) where
+module _ (store : Store) (w next : Where) (written waiting : List ℕ) (is : IsCheckpointLaid store w next written waiting) (reads : MayLeave store store.read) (at : ℕ) (place : at ≡ next.half * half_len + 1 + length written) where
   -- the first place of the half, and what was written behind it, are there
   long : at ≤ length store.read
   long = omega (arith, place, ap length is.there, length-take (length written) (drop (next.half * half_len + 1) store.read), length-drop (next.half * half_len + 1) store.read, reads.no_shorter, is.apart.closed.inside)
@@ -113,7 +113,7 @@ module _ (store : Store) (w next : Where) (written waiting : List ℕ) (is : IsL
       ∙ append_assoc (first ++ written) bytes (drop (at + length bytes) store.read) ∙ append_assoc first written (bytes ++ drop (at + length bytes) store.read))
       ∙ drop_at first (written ++ (bytes ++ drop (at + length bytes) store.read)) (next.half * half_len + 1) length-first
 
-  pub written_out : length written + length waiting + 2 ≤ half_len → IsLaid (wrote store at waiting) w next (written ++ waiting) []
+  pub written_out : length written + length waiting + 2 ≤ half_len → IsCheckpointLaid (wrote store at waiting) w next (written ++ waiting) []
   written_out within =
       let rest = drop (at + length waiting) store.read in
       record {
@@ -150,7 +150,7 @@ module _ (store : Store) (w next : Where) (written waiting : List ℕ) (is : IsL
         laid = ap (λ (l : List ℕ). 1 ∷ written ++ l) (append_assoc waiting (0 ∷ []) rest) ∙ ap (λ (l : List ℕ). 1 ∷ l) (sym (append_assoc written waiting (0 ∷ rest))) ∙ ap (λ (l : List ℕ). l ++ 0 ∷ rest) is.laid;
       }
 
-pub used_is : (store : Store) (w next : Where) (written waiting : List ℕ) → IsLaid store w next written waiting → used_by next ≡ length written + length waiting + 2
+pub used_is : (store : Store) (w next : Where) (written waiting : List ℕ) → IsCheckpointLaid store w next written waiting → used_by next ≡ length written + length waiting + 2
 used_is store w next written waiting is = omega (arith, ap length is.laid, length-append written waiting)
 
 -- ---- the first gate is opened

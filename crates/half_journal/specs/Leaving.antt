@@ -1,13 +1,13 @@
 -- What the calls of a writer leave of a told cloud: its state before and after, and the cloud before and after.
 use Rattle.std.specs.Prelude.{◌≡◌, ◌≢◌, ℕ, ◌+◌, ◌-◌, List, IsTrue, length, Result, OnOk}
-use Rattle.cd_edges.specs.declared.area.Area.{Area}
-use Rattle.cd_edges.specs.declared.area.Area.TheVariants.{Journal}
-use Rattle.cd_edges.specs.Disk.{Cloud, LeavesOnly, IsAtArea, MayLeave, moment, overwritten}
-use Rattle.cd_edges.specs.Shelf.{Stays, wrote, stable}
-use Rattle.journal_start.specs.declared.start.Start.{Start}
-use Rattle.journal_start.specs.Spelling.{records_of}
+use Rattle.journal_halves.specs.CdEdges.area.Area.{Area}
+use Rattle.journal_halves.specs.CdEdges.area.Area.TheVariants.{Journal}
+use Rattle.journal_halves.specs.CdEdges.Disk.{Cloud, LeavesOnly, IsAtArea, MayLeave, moment, overwritten}
+use Rattle.journal_halves.specs.CdEdges.Shelf.{Stays, wrote, stable}
+use Rattle.journal_halves.specs.JournalStart.start.Start.{Start}
+use Rattle.journal_halves.specs.JournalStart.Spelling.{records_of}
 use Rattle.journal_halves.specs.Journals.{Where, HasChain, IsEither, Stands, MayFollow, IsClosedAt, IsOpenAt, with_body}
-use Rattle.half_journal.specs.Turning.{State, begun_with, IsLaying}
+use Rattle.half_journal.specs.Turning.{WriterState, begun_with, IsWriterLaying}
 
 -- ---- what each image since has
 
@@ -20,12 +20,12 @@ abbrev pub KeepsStanding : ℕ → Cloud → Cloud → Type 0
 KeepsStanding half old new = IsTrue old.told → (w : Where) → Stands (old.now Journal) w → half ≡ 1 - w.half → KeepsChain old new w
 
 -- whatever chain has a checkpoint laid behind it
-abbrev pub KeepsLaid : State → Cloud → Cloud → Type 0
-KeepsLaid state old new = IsTrue old.told → (w next : Where) → IsLaying state (old.now Journal) w next → KeepsChain old new w
+abbrev pub KeepsLaid : WriterState → Cloud → Cloud → Type 0
+KeepsLaid state old new = IsTrue old.told → (w next : Where) → IsWriterLaying state (old.now Journal) w next → KeepsChain old new w
 
 -- that chain, or the checkpoint's
-abbrev pub KeepsOrSettles : State → Cloud → Cloud → Type 0
-KeepsOrSettles state old new = IsTrue old.told → (w next : Where) → IsLaying state (old.now Journal) w next
+abbrev pub KeepsOrSettles : WriterState → Cloud → Cloud → Type 0
+KeepsOrSettles state old new = IsTrue old.told → (w next : Where) → IsWriterLaying state (old.now Journal) w next
     → LeavesOnly old new (IsAtArea old.now Journal (IsEither w next))
 
 -- what a write at this place may leave
@@ -40,28 +40,30 @@ HasClosed half old new result = IsTrue old.told → (w : Where) → Stands (old.
     → OnOk result (Stands (new.now Journal) w × IsClosedAt (new.now Journal).read half)
 
 -- A checkpoint with this start is being laid, and has no record yet.
-abbrev pub HasTurned : {T E : Type 0} → State → ℕ → Start → Cloud → Cloud → Result T E → Type 0
+abbrev pub HasTurned : {T E : Type 0} → WriterState → ℕ → Start → Cloud → Cloud → Result T E → Type 0
 HasTurned after half start old new result = IsTrue old.told → (w : Where) → Stands (old.now Journal) w → MayFollow w half start
-    → OnOk result (IsLaying after (new.now Journal) w (begun_with half start))
+    → OnOk result (IsWriterLaying after (new.now Journal) w (begun_with half start))
 
 -- The checkpoint is laid as it was.
-abbrev pub IsLaidStill : {T E : Type 0} → State → State → Cloud → Cloud → Result T E → Type 0
-IsLaidStill before after old new result = IsTrue old.told → (w next : Where) → IsLaying before (old.now Journal) w next
-    → OnOk result (IsLaying after (new.now Journal) w next)
+abbrev pub IsLaidStill : {T E : Type 0} → WriterState → WriterState → Cloud → Cloud → Result T E → Type 0
+IsLaidStill before after old new result = IsTrue old.told → (w next : Where)
+    → IsWriterLaying before (old.now Journal) w next
+    → OnOk result (IsWriterLaying after (new.now Journal) w next)
 
 -- It has one record more.
-abbrev pub HasLaid : {T E : Type 0} → State → State → List ℕ → Cloud → Cloud → Result T E → Type 0
-HasLaid before after body old new result = IsTrue old.told → (w next : Where) → IsLaying before (old.now Journal) w next
-    → OnOk result (IsLaying after (new.now Journal) w (with_body next body))
+abbrev pub HasLaid : {T E : Type 0} → WriterState → WriterState → List ℕ → Cloud → Cloud → Result T E → Type 0
+HasLaid before after body old new result = IsTrue old.told → (w next : Where)
+    → IsWriterLaying before (old.now Journal) w next
+    → OnOk result (IsWriterLaying after (new.now Journal) w (with_body next body))
 
 -- The checkpoint's chain stands.
-abbrev pub HasSettled : {T E : Type 0} → State → Cloud → Cloud → Result T E → Type 0
-HasSettled before old new result = IsTrue old.told → (w next : Where) → IsLaying before (old.now Journal) w next
+abbrev pub HasSettled : {T E : Type 0} → WriterState → Cloud → Cloud → Result T E → Type 0
+HasSettled before old new result = IsTrue old.told → (w next : Where) → IsWriterLaying before (old.now Journal) w next
     → OnOk result (Stands (new.now Journal) next)
 
 -- It has as many records as its start names.
-abbrev pub IsFull : State → Cloud → Type 0
-IsFull before old = IsTrue old.told → (w next : Where) → IsLaying before (old.now Journal) w next
+abbrev pub IsFull : WriterState → Cloud → Type 0
+IsFull before old = IsTrue old.told → (w next : Where) → IsWriterLaying before (old.now Journal) w next
     → length next.bodies ≡ records_of next.start.checkpoint
 
 -- All of the area is on the disk, with these bytes written.

@@ -1,3 +1,8 @@
+pub mod CdBase
+pub mod CdEdges
+pub mod CommitJournal
+pub mod JournalHalves
+pub mod JournalStart
 pub mod Leaving
 pub mod Openings
 pub mod Outcomes

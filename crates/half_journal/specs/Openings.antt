@@ -1,21 +1,21 @@
 -- What an opening finds and leaves.
 use Rattle.std.specs.Prelude.{◌≡◌, ◌≢◌, ◌⊎◌, ℕ, ◌+◌, ◌*◌, Bool, true, false, IsTrue, List, [], length, Result, Ok, Err, OnOk}
-use Rattle.cd_edges.specs.declared.area.Area.{Area}
-use Rattle.cd_edges.specs.declared.area.Area.TheVariants.{Journal}
-use Rattle.cd_edges.specs.Disk.{Store, Areas, Cloud, Image, IsImage, IsAtArea, LeavesOnly}
-use Rattle.cd_edges.specs.Shelf.{stable, Stays}
-use Rattle.journal_start.specs.declared.start.Header.{Header}
-use Rattle.journal_start.specs.declared.start.Start.{Start}
+use Rattle.journal_halves.specs.CdEdges.area.Area.{Area}
+use Rattle.journal_halves.specs.CdEdges.area.Area.TheVariants.{Journal}
+use Rattle.journal_halves.specs.CdEdges.Disk.{Store, Areas, Cloud, Image, IsImage, IsAtArea, LeavesOnly}
+use Rattle.journal_halves.specs.CdEdges.Shelf.{stable, Stays}
+use Rattle.journal_halves.specs.JournalStart.start.Header.{Header}
+use Rattle.journal_halves.specs.JournalStart.start.Start.{Start}
 use Rattle.journal_halves.specs.Halves.{half_len, is_half_begun, IsCurrent}
 use Rattle.journal_halves.specs.Journals.{Where, HasChain}
-use Rattle.commit_journal.specs.Records.{IsJournal}
+use Rattle.journal_halves.specs.CommitJournal.Records.{IsJournal}
 use Rattle.journal_halves.specs.declared.found.Found.{Found}
 use Rattle.journal_halves.specs.Findings.{IsFoundDamage}
 use Rattle.half_journal.specs.declared.errors.OpenErr.{OpenErr}
 use Rattle.half_journal.specs.declared.errors.OpenErr.TheVariants.{Fault, NotBegun, Damaged, OtherStore}
 use Rattle.half_journal.specs.declared.journal.Stage.{Stage}
 use Rattle.half_journal.specs.declared.journal.Stage.TheVariants.{Shut, Reading}
-use Rattle.half_journal.specs.States.{State, IsReading}
+use Rattle.half_journal.specs.States.{JournalState, IsJournalReading}
 use Rattle.journal_halves.specs.Beginnings.{IsUnbegun, new_of}
 
 -- The current half begins with this header.
@@ -58,14 +58,14 @@ HasBegun (Err (Damaged at byte)) = Unit {0}
 HasBegun (Err (OtherStore found wanted at)) = Unit {0}
 
 -- The current half's chain, which begins with this header, is read up to its start.
-pub record IsOpened (state : State) (store : Store) (header : Header) : Type 0 where
+pub record IsOpened (state : JournalState) (store : Store) (header : Header) : Type 0 where
   pub w : Where
   pub header_is : w.start.header ≡ header
   pub none : w.bodies ≡ []
-  pub reading : IsReading state store w
+  pub reading : IsJournalReading state store w
 
 -- What an opening does to a told cloud: each image since, the answer, and what stands after Ok.
-pub record IsOpening (header : Header) (begin : Bool) (old new : Cloud) (after : State) (result : Result (Unit {0}) OpenErr) : Type 0 where
+pub record IsOpening (header : Header) (begin : Bool) (old new : Cloud) (after : JournalState) (result : Result (Unit {0}) OpenErr) : Type 0 where
   pub any_moment : LeavesOnly old new (MayBecome old.now header begin)
   pub answer : OpensIs (old.now Journal).read header begin result
   pub opened : OnOk result (IsOpened after (new.now Journal) header)
@@ -82,7 +82,7 @@ IsSynced store = store ≡ stable store.read
 -- ---- the steps of an opening
 
 -- what is answered of a current half that was found
-abbrev pub TakenIs : State → Store → Found → Header → Result (Unit {0}) OpenErr → Type 0
+abbrev pub TakenIs : JournalState → Store → Found → Header → Result (Unit {0}) OpenErr → Type 0
 TakenIs after store found asked (Ok value) = IsOpened after store asked × HasHeader store.read found.half asked
 TakenIs after store found asked (Err (OtherStore other wanted at)) = HasHeader store.read found.half other × (other ≢ asked) × (wanted ≡ asked) × (at ≡ found.half * half_len + 5)
 TakenIs after store found asked (Err Fault) = ⊥
@@ -110,9 +110,10 @@ HasReady len old new result = IsTrue old.told → IsFree (old.now Journal) len �
 abbrev pub LeavesBegun : ℕ → Header → Cloud → Cloud → Type 0
 LeavesBegun len header old new = IsTrue old.told → IsFree (old.now Journal) len → LeavesOnly old new (IsAtArea old.now Journal (IsNewOrUnbegun header))
 
-abbrev pub HasNew : {T E : Type 0} → ℕ → State → Header → Cloud → Cloud → Result T E → Type 0
+abbrev pub HasNew : {T E : Type 0} → ℕ → JournalState → Header → Cloud → Cloud → Result T E → Type 0
 HasNew len after header old new result = IsTrue old.told → IsFree (old.now Journal) len
-    → OnOk result (IsReading after (new.now Journal) (new_of header) × HasChain (new.now Journal).read (new_of header)
+    → OnOk result (IsJournalReading after (new.now Journal) (new_of header)
+    × HasChain (new.now Journal).read (new_of header)
     × (is_half_begun 1 (new.now Journal).read ≡ false))
 
 -- No device call failed.

@@ -1,9 +1,9 @@
 -- What a journal in two halves knows.
 use Rattle.std.specs.Prelude.{◌≡◌, ℕ, ◌+◌, ◌-◌, ◌*◌, ◌%◌, ◌≤◌, List, [], length, Some, None}
-use Rattle.cd_edges.specs.Disk.{Store}
-use Rattle.journal_start.specs.declared.start.Header.{Header}
-use Rattle.journal_start.specs.declared.start.Start.{Start}
-use Rattle.journal_start.specs.Spelling.{epoch_of, records_of}
+use Rattle.journal_halves.specs.CdEdges.Disk.{Store}
+use Rattle.journal_halves.specs.JournalStart.start.Header.{Header}
+use Rattle.journal_halves.specs.JournalStart.start.Start.{Start}
+use Rattle.journal_halves.specs.JournalStart.Spelling.{epoch_of, records_of}
 use Rattle.journal_halves.specs.Halves.{IsCurrent}
 use Rattle.journal_halves.specs.Journals.{Where, all_bodies}
 use Rattle.journal_halves.specs.States as records
@@ -12,16 +12,16 @@ use Rattle.half_journal.specs.declared.journal.Journal.{Journal}
 use Rattle.half_journal.specs.declared.journal.Stage.{Stage}
 
 -- what a journal shows
-pub record State : Type 0 where
+pub record JournalState : Type 0 where
   pub limit : ℕ  -- the most places of a half that a chain takes
   pub stage : Stage
   pub start : Start  -- what the current half's chain begins with
   pub left : ℕ  -- how many records of its checkpoint weren't read yet
-  pub current : records.State  -- the records of the current half
+  pub current : records.HalfState  -- the records of the current half
   pub next : Start  -- what the checkpoint that is laid begins with
-  pub laid : writer.State
+  pub laid : writer.WriterState
 
-abbrev pub state_of : Journal → State
+abbrev pub state_of : Journal → JournalState
 state_of j = record {
   limit = j.limit;
   stage = j.stage;
@@ -33,7 +33,7 @@ state_of j = record {
 }
 
 -- The current half's records before the gate were read, and they are those of the chain so far.
-pub record IsReading (state : State) (store : Store) (w : Where) : Type 0 where
+pub record IsJournalReading (state : JournalState) (store : Store) (w : Where) : Type 0 where
   pub half : state.current.half ≡ w.half
   pub start : state.start ≡ w.start
   pub is_current : IsCurrent store.read w.half w.start
@@ -41,7 +41,7 @@ pub record IsReading (state : State) (store : Store) (w : Where) : Type 0 where
   pub left : state.left ≡ records_of w.start.checkpoint - length w.bodies
 
 -- All of the area is on the disk, the current half has this chain, and the gate is the closed one behind it.
-pub record IsEnded (state : State) (store : Store) (w : Where) : Type 0 where
+pub record IsJournalEnded (state : JournalState) (store : Store) (w : Where) : Type 0 where
   pub half : state.current.half ≡ w.half
   pub start : state.start ≡ w.start
   pub is_current : IsCurrent store.read w.half w.start
@@ -49,10 +49,10 @@ pub record IsEnded (state : State) (store : Store) (w : Where) : Type 0 where
   pub full : records_of w.start.checkpoint ≤ length w.bodies
 
 -- A checkpoint is being laid in the other half, behind this chain.
-pub record IsLaying (state : State) (store : Store) (w next : Where) : Type 0 where
+pub record IsLaying (state : JournalState) (store : Store) (w next : Where) : Type 0 where
   pub half : state.current.half ≡ w.half
   pub start : state.next ≡ next.start
-  pub laid : writer.IsLaying state.laid store w next
+  pub laid : writer.IsWriterLaying state.laid store w next
 
 -- the start that a checkpoint behind this chain has
 abbrev pub next_start : Start → Header → ℕ → ℕ → ℕ → Start

@@ -1,16 +1,14 @@
 //! What a writer does to the area of its journal.
 
 ghost use Rattle.std.specs.Prelude.{◌≡◌, ◌≢◌, ◌⊎◌, ℕ, ◌+◌, ◌-◌, ◌*◌, ◌<◌, ◌≤◌, List, [], ◌∷◌, ◌++◌, length, true, false, IsTrue, IfOk, OnOk, OnErr};
-ghost use Rattle.cd_edges.specs.declared.area.Area.{Area};
-ghost use Rattle.cd_edges.specs.Shelf.{IsCall, HasFailed, KeepsCounts, Stays, Writes};
+ghost use Rattle.journal_halves.specs.CdEdges.area.Area.{Area};
+ghost use Rattle.journal_halves.specs.CdEdges.Shelf.{IsCall, HasFailed, KeepsCounts, Stays, Writes};
 ghost use Rattle.journal_halves.specs.Halves.{half_len};
 ghost use Rattle.journal_halves.specs.Journals.{IsClosedAt, IsOpenAt};
 ghost use Rattle.half_journal.specs.Leaving.{KeepsStanding, LeavesWrite, HasClosed, HasWritten, OthersStay, IsLater, IsSpared, IsLaterOpen};
 
 use crate::piece::Piece;
-use cd_base::CloudNo;
-use cd_edges::{Area, Failed, Shelf, write_synced};
-use journal_halves::HALF_LEN;
+use journal_halves::{Area, CloudNo, Failed, HALF_LEN, Shelf, write_synced};
 
 /// The first place of a half.
 pub(crate) fn first_place(half: u8) -> u64

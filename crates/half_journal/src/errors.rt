@@ -1,6 +1,6 @@
 //! Why a journal wasn't opened.
 
-use journal_start::Header;
+use journal_halves::Header;
 
 /// Why a journal wasn't opened.
 #[derive(Clone, Copy, Debug, PartialEq, Eq)]

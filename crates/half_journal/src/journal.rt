@@ -1,18 +1,15 @@
 //! The journal: its current half, read one record after another and added to.
 
 ghost use Rattle.std.specs.Prelude.{◌≡◌, ◌≢◌, ◌⊎◌, ◌↔◌, ℕ, ◌+◌, ◌-◌, ◌*◌, ◌<◌, ◌≤◌, List, [], ◌∷◌, ◌++◌, length, true, false, IsTrue, IfOk, OnOk, OnErr};
-ghost use Rattle.cd_edges.specs.Shelf.{IsCall, HasFailed, KeepsCounts, Stays};
+ghost use Rattle.journal_halves.specs.CdEdges.Shelf.{IsCall, HasFailed, KeepsCounts, Stays};
 ghost use Rattle.journal_halves.specs.Halves.{half_len};
-ghost use Rattle.journal_start.specs.Spelling.{commands_of, records_of, region_of};
+ghost use Rattle.journal_halves.specs.JournalStart.Spelling.{commands_of, records_of, region_of};
 ghost use Rattle.half_journal.specs.Leaving.{OthersStay, IsLater};
 ghost use Rattle.journal_halves.specs.Outcomes.{StepIs, OnFailed, IsHandled};
 
 use crate::CheckpointWriter;
 use crate::starts::{no_start, records_place};
-use cd_base::{CloudNo, NoMemory};
-use cd_edges::{Failed, Shelf};
-use journal_halves::{HALF_LEN, HalfRecords, JournalErr};
-use journal_start::Start;
+use journal_halves::{CloudNo, Failed, HALF_LEN, HalfRecords, NoMemory, RecordErr, Shelf, Start};
 use std::alloc::Global;
 
 /// How far a journal is read, or what is done with it.
@@ -144,7 +141,7 @@ impl Journal {
     /// called.
     ///
     /// It makes one device call at most, and none where the record was read ahead: by its body, no clause counts reads.
-    pub fn next<V: Shelf>(&mut self, shelf: &mut V, cloud: CloudNo) -> Result<bool, JournalErr>
+    pub fn next<V: Shelf>(&mut self, shelf: &mut V, cloud: CloudNo) -> Result<bool, RecordErr>
         requires { (state_of self.old).stage ≡ Stage.Reading }
 
         ensures reads { ReadsNext (state_of self.old) (state_of self.new) (V.cloud_at shelf.old cloud.0) result }
@@ -171,7 +168,7 @@ impl Journal {
     }
 
     // One record was read, or the gate is closed.
-    fn took(&mut self, more: bool) -> Result<bool, JournalErr>
+    fn took(&mut self, more: bool) -> Result<bool, RecordErr>
         requires { (state_of self.old).stage ≡ Stage.Reading }
         ensures took { TookIs (state_of self.old) (state_of self.new) more result }
         ensures stage { (state_of self.new).stage ≡ stage_of result }
@@ -187,7 +184,7 @@ impl Journal {
     }
 
     // At the closed gate: all records of the checkpoint were read, or the start is damaged.
-    fn end(&mut self) -> Result<bool, JournalErr>
+    fn end(&mut self) -> Result<bool, RecordErr>
         ensures took { TookIs (state_of self.old) (state_of self.new) false result }
         ensures stage { (state_of self.new).stage ≡ stage_of result }
         ensures start { (state_of self.new).start ≡ (state_of self.old).start }
@@ -197,7 +194,7 @@ impl Journal {
         if self.left > 0 {
             self.stage = Stage::Shut;
             let [byte, ..] = self.start.records().to_be_bytes();
-            return Err(JournalErr::Damaged {
+            return Err(RecordErr::Damaged {
                 at: self.records.half() as u64 * HALF_LEN + records_place(&self.start),
                 byte,
             });

@@ -1,12 +1,12 @@
 //! The opening of a journal.
 
 ghost use Rattle.std.specs.Prelude.{◌≡◌, ◌≢◌, ◌⊎◌, ℕ, ◌+◌, ◌-◌, ◌*◌, ◌<◌, ◌≤◌, List, [], ◌∷◌, ◌++◌, length, true, false, IsTrue, IfOk, OnOk, OnErr};
-ghost use Rattle.cd_edges.specs.declared.area.Area.{Area};
-ghost use Rattle.cd_edges.specs.Disk.{Store};
-ghost use Rattle.cd_edges.specs.Shelf.{IsCall, HasFailed, KeepsCounts, Stays, stable};
+ghost use Rattle.journal_halves.specs.CdEdges.area.Area.{Area};
+ghost use Rattle.journal_halves.specs.CdEdges.Disk.{Store};
+ghost use Rattle.journal_halves.specs.CdEdges.Shelf.{IsCall, HasFailed, KeepsCounts, Stays, stable};
 ghost use Rattle.journal_halves.specs.Halves.{IsCurrent};
 ghost use Rattle.journal_halves.specs.Journals.{HasChain};
-ghost use Rattle.journal_start.specs.Ranges.{IsHeader, IsStart};
+ghost use Rattle.journal_halves.specs.JournalStart.Ranges.{IsHeader, IsStart};
 ghost use Rattle.journal_halves.specs.Findings.{FindIs};
 ghost use Rattle.journal_halves.specs.Findings as findings;
 ghost use Rattle.half_journal.specs.Leaving.{OthersStay};
@@ -14,10 +14,9 @@ ghost use Rattle.half_journal.specs.Openings.{LeavesFree, HasReady};
 
 use crate::starts::is_same;
 use crate::{Journal, OpenErr, Stage};
-use cd_base::CloudNo;
-use cd_edges::{Area, Failed, Shelf, write_synced};
-use journal_halves::{FindErr, Found, HALF_LEN};
-use journal_start::{Header, Start};
+use journal_halves::{
+    Area, CloudNo, Failed, FindErr, Found, HALF_LEN, Header, Shelf, Start, write_synced,
+};
 
 // Makes sure that the area has a first place, which is closed where no half is begun.
 fn close<V: Shelf>(shelf: &mut V, cloud: CloudNo, len: u64) -> Result<(), Failed>

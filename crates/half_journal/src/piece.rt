@@ -1,9 +1,9 @@
 //! Bytes that wait to be written at once.
 
 ghost use Rattle.std.specs.Prelude.{◌≡◌, ◌+◌, ◌≤◌, ◌++◌, [], length, IfOk};
-ghost use Rattle.commit_journal.specs.Records.{sized};
+ghost use Rattle.journal_halves.specs.CommitJournal.Records.{sized};
 
-use cd_base::NoMemory;
+use journal_halves::NoMemory;
 use std::alloc::Global;
 use std::marker::Model;
 

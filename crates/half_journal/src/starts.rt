@@ -4,8 +4,7 @@ ghost use Rattle.std.specs.Prelude.{◌≡◌, ◌≢◌, ℕ, ◌+◌, ◌%◌,
 ghost use Rattle.half_journal.specs.Outcomes as outcomes;
 ghost use Rattle.half_journal.specs.States as states;
 
-use cd_base::{CloudNo, Shape};
-use journal_start::{Checkpoint, Header, Rooms, Start};
+use journal_halves::{Checkpoint, CloudNo, Header, Shape, Start, UserRooms};
 
 /// A start that is no journal's, before the first opening.
 pub(crate) fn no_start() -> Start {
@@ -14,7 +13,7 @@ pub(crate) fn no_start() -> Start {
             format: 2,
             shape: Shape { n: 4, k: 3 },
             cloud: CloudNo(0),
-            rooms: Rooms::least(),
+            rooms: UserRooms::least(),
         },
         checkpoint: None,
     }

@@ -1,19 +1,17 @@
 //! The writer of a checkpoint.
 
 ghost use Rattle.std.specs.Prelude.{◌≡◌, ◌≢◌, ◌⊎◌, ℕ, ◌+◌, ◌-◌, ◌*◌, ◌<◌, ◌≤◌, List, [], ◌∷◌, ◌++◌, length, true, false, IsTrue, IfOk, OnOk, OnErr};
-ghost use Rattle.cd_edges.specs.declared.area.Area.{Area};
-ghost use Rattle.cd_edges.specs.Shelf.{IsCall, HasFailed, KeepsCounts};
-ghost use Rattle.commit_journal.specs.Records.{sized};
-ghost use Rattle.journal_start.specs.Ranges.{IsStart};
-ghost use Rattle.journal_start.specs.Spelling.{start_bytes, records_of};
+ghost use Rattle.journal_halves.specs.CdEdges.area.Area.{Area};
+ghost use Rattle.journal_halves.specs.CdEdges.Shelf.{IsCall, HasFailed, KeepsCounts};
+ghost use Rattle.journal_halves.specs.CommitJournal.Records.{sized};
+ghost use Rattle.journal_halves.specs.JournalStart.Ranges.{IsStart};
+ghost use Rattle.journal_halves.specs.JournalStart.Spelling.{start_bytes, records_of};
 ghost use Rattle.journal_halves.specs.Halves.{half_len};
 
 use crate::PIECE;
 use crate::area::{close, first_place, write_last, write_piece};
 use crate::piece::Piece;
-use cd_base::{CloudNo, NoMemory};
-use cd_edges::{Area, Failed, Shelf, write_synced};
-use journal_start::Start;
+use journal_halves::{Area, CloudNo, Failed, NoMemory, Shelf, Start, write_synced};
 use std::alloc::Global;
 
 /// Writes a checkpoint into a half of a cloud's journal, in pieces of up to 4 MiB.

@@ -1,17 +1,15 @@
 //! A checkpoint in the half that isn't current, which then takes the other chain's place.
 
 ghost use Rattle.std.specs.Prelude.{◌≡◌, ◌≢◌, ◌⊎◌, ℕ, ◌+◌, ◌-◌, ◌*◌, ◌%◌, ◌<◌, ◌≤◌, List, [], ◌∷◌, ◌++◌, length, true, false, IsTrue, IfOk, OnOk, OnErr};
-ghost use Rattle.cd_edges.specs.Shelf.{IsCall, HasFailed, KeepsCounts, Stays};
-ghost use Rattle.journal_start.specs.Ranges.{IsHeader, IsStart};
+ghost use Rattle.journal_halves.specs.CdEdges.Shelf.{IsCall, HasFailed, KeepsCounts, Stays};
+ghost use Rattle.journal_halves.specs.JournalStart.Ranges.{IsHeader, IsStart};
 ghost use Rattle.journal_halves.specs.Halves.{half_len};
 ghost use Rattle.half_journal.specs.Turning.{used_of};
 ghost use Rattle.half_journal.specs.Leaving.{OthersStay, IsLater, IsSpared, IsLaterOpen};
 
 use crate::starts::next_start;
 use crate::{Journal, Stage};
-use cd_base::CloudNo;
-use cd_edges::{Failed, Shelf};
-use journal_start::Header;
+use journal_halves::{CloudNo, Failed, Header, Shelf};
 
 impl Journal {
     ghost use Rattle.half_journal.specs.States.{state_of};

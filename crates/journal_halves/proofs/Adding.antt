@@ -1,16 +1,16 @@
 -- What a crash leaves in each step of an append.
 use Rattle.std.proofs.Common.{◌≡◌, ◌≢◌, ◌⊎◌, inl, inr, ℕ, zero, suc, ◌+◌, ◌-◌, ◌*◌, ◌≤◌, List, [], ◌∷◌, ◌++◌, length, take, drop, refl, sym, ◌∙◌, ap, subst, arith, length-append, length-drop}
-use Rattle.cd_edges.specs.declared.area.Area.{Area}
-use Rattle.cd_edges.specs.declared.area.Area.TheVariants.{Journal}
-use Rattle.cd_edges.specs.Disk.{Store, MayLeave, IsImage, Cloud, LeavesOnly, IsAtArea, overwritten, reads}
-use Rattle.cd_edges.specs.Shelf.{wrote, stable}
-use Rattle.cd_edges.proofs.Moments.{joined, weaker, at_end}
-use Rattle.cd_edges.proofs.Torn.{Torn, torn, only}
-use Rattle.commit_journal.specs.Records.{IsBody, framed, chain, AreBodies, IsJournal}
+use Rattle.commit_journal.specs.CdEdges.area.Area.{Area}
+use Rattle.commit_journal.specs.CdEdges.area.Area.TheVariants.{Journal}
+use Rattle.commit_journal.specs.CdEdges.Disk.{Store, MayLeave, IsImage, Cloud, LeavesOnly, IsAtArea, overwritten, reads}
+use Rattle.commit_journal.specs.CdEdges.Shelf.{wrote, stable}
+use Rattle.commit_journal.proofs.CdEdges.Moments.{joined, weaker, at_end}
+use Rattle.commit_journal.proofs.CdEdges.Torn.{Torn, torn, only}
+use Rattle.commit_journal.specs.Records.{IsJournalBody, framed, chain, AreBodies, IsJournal}
 use Rattle.commit_journal.proofs.Chain.{behind_gate, at_gate, wrote_behind, wrote_gate, long_enough, bodies_more, length-chain-push}
 use Rattle.journal_halves.specs.Halves.{half_len, half_of}
 use Rattle.journal_halves.specs.Findings.{part_of}
-use Rattle.journal_halves.specs.States.{State, IsEnded, IsKept, IsAdded}
+use Rattle.journal_halves.specs.States.{HalfState, IsEnded, IsHalfKept, IsAdded}
 use Rattle.journal_halves.proofs.Halving.{torn_drop, other_kept, overwritten_drop}
 
 pub either : (half : ℕ) → half ≤ 1 → (half ≡ 0) ⊎ (half ≡ 1)
@@ -22,7 +22,7 @@ either (suc (suc half)) le = absurd (omega (arith, le))
 pub read_left : (c0 c1 : Cloud) (P : List ℕ → Type 0) → LeavesOnly c0 c1 (IsAtArea c0.now Journal P) → IsImage c1.now (reads c1.now) → P (c1.now Journal).read
 read_left c0 c1 P run image = (at_end c0 c1 _ run (reads c1.now) image).area
 
-module _ (old : State) (bodies : List (List ℕ)) (body : List ℕ) (one : IsBody body) (is_half : (old.half ≡ 0) ⊎ (old.half ≡ 1)) (room : old.gate + length body + 6 ≤ half_len) where
+module _ (old : HalfState) (bodies : List (List ℕ)) (body : List ℕ) (one : IsJournalBody body) (is_half : (old.half ≡ 0) ⊎ (old.half ≡ 1)) (room : old.gate + length body + 6 ≤ half_len) where
   abbrev base : ℕ
   base = old.half * half_len
 
@@ -30,9 +30,9 @@ module _ (old : State) (bodies : List (List ℕ)) (body : List ℕ) (one : IsBod
   abbrev place : ℕ
   place = base + old.gate
 
-  pub unwritten : (store : Store) (image : List ℕ) → IsEnded old store bodies → MayLeave store image → IsKept old.half store.read bodies image
+  pub unwritten : (store : Store) (image : List ℕ) → IsEnded old store bodies → MayLeave store image → IsHalfKept old.half store.read bodies image
   unwritten store image ended left =
-      subst (λ (l : List ℕ). IsKept old.half store.read bodies l) (sym (only _ image (subst (λ (s : Store). MayLeave s image) ended.synced left))) (record { chain_is = ended.chain_is; other = refl })
+      subst (λ (l : List ℕ). IsHalfKept old.half store.read bodies l) (sym (only _ image (subst (λ (s : Store). MayLeave s image) ended.synced left))) (record { chain_is = ended.chain_is; other = refl })
 
   there : (store : Store) → IsEnded old store bodies → place + 1 ≤ length store.read
   there store ended =
@@ -40,7 +40,7 @@ module _ (old : State) (bodies : List (List ℕ)) (body : List ℕ) (one : IsBod
       omega (arith, ap length j.spelled, length-drop base store.read, long_enough bodies j.sizes old.gate ended.gate j.gate j.behind)
 
   -- the first write leaves the old bodies
-  first_write : (store : Store) (image : List ℕ) → IsEnded old store bodies → MayLeave (wrote store (place + 1) (framed body)) image → IsKept old.half store.read bodies image
+  first_write : (store : Store) (image : List ℕ) → IsEnded old store bodies → MayLeave (wrote store (place + 1) (framed body)) image → IsHalfKept old.half store.read bodies image
   first_write store image ended left =
       let j = ended.chain_is in let last = old.gate + 1 + length (framed body) in
       let t = torn store.read (place + 1) (framed body) image (there store ended) (subst (λ (s : Store). MayLeave (wrote s (place + 1) (framed body)) image) ended.synced left) in
@@ -99,7 +99,7 @@ module _ (old : State) (bodies : List (List ℕ)) (body : List ℕ) (one : IsBod
         others = λ other ne. subst (λ (x : Store). MayLeave x (image other)) (others other ne) (at.others other ne);
       }))
 
-  pub added : (new : State) (store mid last : Store) → IsEnded old store bodies → Staged store.read mid → last ≡ stable (overwritten mid.read place (1 ∷ [])) → MayLeave (wrote mid place (1 ∷ [])) last.read
+  pub added : (new : HalfState) (store mid last : Store) → IsEnded old store bodies → Staged store.read mid → last ≡ stable (overwritten mid.read place (1 ∷ [])) → MayLeave (wrote mid place (1 ∷ [])) last.read
       → new.half ≡ old.half → new.gate ≡ old.gate + length (framed body) → IsEnded new last (bodies ++ body ∷ []) × (part_of (1 - old.half) last.read ≡ part_of (1 - old.half) store.read)
   added new store mid last ended s second left half gate =
       let at = ended.gate in let sizes = ended.chain_is.sizes in

@@ -3,8 +3,8 @@ use Rattle.std.proofs.Common.{◌≡◌, ◌≢◌, ◌⊎◌, inl, inr, ℕ, ze
 use Rattle.std.proofs.lemmas.Bool.{cases_Bool, eqb-true}
 use Rattle.std.proofs.lemmas.List.{ext_get_or}
 use Rattle.std.proofs.lemmas.List.Elements.{All-head, All-tail}
-use Rattle.cd_edges.specs.Disk.{Store, MayLeave, IsOutside}
-use Rattle.commit_journal.specs.Records.{IsBody, sized, chain, IsJournal, is_begun}
+use Rattle.commit_journal.specs.CdEdges.Disk.{Store, MayLeave, IsOutside}
+use Rattle.commit_journal.specs.Records.{IsJournalBody, sized, chain, IsJournal, is_begun}
 use Rattle.commit_journal.specs.Frames.{IsRecord}
 use Rattle.journal_start.specs.Spelling.{start_bytes}
 use Rattle.journal_halves.specs.Halves.{half_len, half_of, is_half_begun, HasStart}
@@ -43,7 +43,7 @@ front old new from bytes behind is long same = ext_get_or 0 _ _
 
 -- ---- a chain begins with its first record
 
-pub starts : (body : List ℕ) (bodies : List (List ℕ)) (gate : ℕ) (behind : List ℕ) → IsBody body → IsRecord (chain (body ∷ bodies) ++ gate ∷ behind) body
+pub starts : (body : List ℕ) (bodies : List (List ℕ)) (gate : ℕ) (behind : List ℕ) → IsJournalBody body → IsRecord (chain (body ∷ bodies) ++ gate ∷ behind) body
 starts body [] gate behind is = record { gate = gate; behind = behind; is_body = is; spelled = ap (λ (l : List ℕ). 1 ∷ l) (append_assoc (sized body) [] (gate ∷ behind)) }
 starts body (next ∷ bodies) gate behind is = record {
   gate = 1;

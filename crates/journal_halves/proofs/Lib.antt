@@ -7,3 +7,6 @@ pub mod OneByte
 pub mod Reading
 pub mod Settling
 pub mod Turning
+pub mod JournalStart
+pub mod CommitJournal
+pub mod CdEdges

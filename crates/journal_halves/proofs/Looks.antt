@@ -2,7 +2,7 @@
 use Rattle.std.proofs.Common.{◌≡◌, ◌≢◌, ◌⊎◌, inl, inr, ℕ, zero, suc, ◌+◌, ◌-◌, ◌*◌, ◌%◌, ◌<◌, ◌≤◌, true, false, List, [], ◌∷◌, length, take, drop, Option, Some, None, Result, Ok, Err, refl, sym, ◌∙◌, ap, subst, arith, length-take, length-drop, eqb-true}
 use Rattle.std.proofs.lemmas.Bool.{false≢true}
 use Rattle.std.proofs.lemmas.List.{take-take, take_min}
-use Rattle.cd_edges.specs.Shelf.{ReadsFrom}
+use Rattle.commit_journal.specs.CdEdges.Shelf.{ReadsFrom}
 use Rattle.commit_journal.specs.declared.errors.JournalErr.TheVariants as errors
 use Rattle.commit_journal.specs.Records.{is_begun}
 use Rattle.commit_journal.specs.Frames.{IsClosed, IsRecord, HasBadLength, IsCutOff}

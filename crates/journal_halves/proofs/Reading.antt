@@ -1,8 +1,8 @@
 -- One record further.
 use Rattle.std.proofs.Common.{◌≡◌, ◌⊎◌, inl, inr, ℕ, ◌+◌, ◌-◌, ◌*◌, ◌^◌, ◌<◌, ◌≤◌, min, Bool, true, false, List, [], ◌∷◌, ◌++◌, length, take, drop, Result, Ok, Err, refl, sym, ◌∙◌, ap, subst, arith, append_assoc, length-append, length-take, length-drop}
 use Rattle.std.proofs.lemmas.List.{take-append-drop, drop_at, drop-drop, drop-take, take-take, take-append-le, take_min}
-use Rattle.cd_edges.specs.Disk.{Store}
-use Rattle.cd_edges.specs.Shelf.{ReadsFrom}
+use Rattle.commit_journal.specs.CdEdges.Disk.{Store}
+use Rattle.commit_journal.specs.CdEdges.Shelf.{ReadsFrom}
 use Rattle.commit_journal.specs.declared.errors.JournalErr.TheVariants as errors
 use Rattle.commit_journal.specs.Records.{sized, chain, IsDamage}
 use Rattle.commit_journal.specs.Frames.{IsClosed, IsRecord, HasBadLength, IsCutOff}
@@ -12,12 +12,12 @@ use Rattle.commit_journal.proofs.Taken.{bad_on, short_ahead}
 use Rattle.journal_halves.specs.Halves.{half_len, half_of}
 use Rattle.journal_halves.specs.Findings.{part_of}
 use Rattle.journal_halves.proofs.Looks.{part_short}
-use Rattle.journal_halves.specs.declared.errors.JournalErr.{JournalErr}
-use Rattle.journal_halves.specs.declared.errors.JournalErr.TheVariants.{Failed, Damaged}
-use Rattle.journal_halves.specs.States.{State, IsReading, IsEnded}
-use Rattle.journal_halves.specs.Outcomes.{IsWindow, gate_at, rest_of, StepsOver, StepIs, TakenIs, NextIs, DamageIs}
+use Rattle.journal_halves.specs.declared.errors.RecordErr.{RecordErr}
+use Rattle.journal_halves.specs.declared.errors.RecordErr.TheVariants.{Failed, Damaged}
+use Rattle.journal_halves.specs.States.{HalfState, IsReading, IsEnded}
+use Rattle.journal_halves.specs.Outcomes.{IsWindow, gate_at, rest_of, IsRecordFurther, StepIs, TakenIs, NextIs, DamageIs}
 
-pub rest_at : (state : State) (store : Store) (bodies : List (List ℕ)) (r : IsReading state store bodies) → r.rest ≡ rest_of state store
+pub rest_at : (state : HalfState) (store : Store) (bodies : List (List ℕ)) (r : IsReading state store bodies) → r.rest ≡ rest_of state store
 rest_at state store bodies r =
     sym (ap (λ (n : ℕ). drop n (part_of state.half store.read)) r.gate ∙ ap (λ (l : List ℕ). drop (length (chain bodies)) l) r.spelled ∙ drop_at (chain bodies) r.rest (length (chain bodies)) refl)
 
@@ -27,11 +27,11 @@ rest_in part front rest n e few = omega (arith, ap length e, length-append front
 front_in : (part front rest : List ℕ) (n gate : ℕ) → part ≡ front ++ rest → length part ≤ n → 0 < length rest → gate ≡ length front → gate + 1 ≤ n
 front_in part front rest n gate e few some at = omega (arith, ap length e, length-append front rest, few, some, at)
 
-pub rest_short : (state : State) (store : Store) (bodies : List (List ℕ)) (r : IsReading state store bodies) → length r.rest ≤ half_len
+pub rest_short : (state : HalfState) (store : Store) (bodies : List (List ℕ)) (r : IsReading state store bodies) → length r.rest ≤ half_len
 rest_short state store bodies r = rest_in (part_of state.half store.read) (chain bodies) r.rest half_len r.spelled (part_short state.half store.read)
 
-module _ (old mid new : State) (store : Store) (bodies : List (List ℕ)) (r : IsReading old store bodies) (half : mid.half ≡ old.half) (gate : mid.gate ≡ old.gate) where
-  next_record : IsRecord r.rest new.body → StepsOver mid new → IsWindow new (drop (5 + length new.body) r.rest) → IsReading new store (bodies ++ new.body ∷ [])
+module _ (old mid new : HalfState) (store : Store) (bodies : List (List ℕ)) (r : IsReading old store bodies) (half : mid.half ≡ old.half) (gate : mid.gate ≡ old.gate) where
+  next_record : IsRecord r.rest new.body → IsRecordFurther mid new → IsWindow new (drop (5 + length new.body) r.rest) → IsReading new store (bodies ++ new.body ∷ [])
   next_record one over window =
       let body = new.body in
       let tail = one.gate ∷ one.behind in
@@ -49,8 +49,8 @@ module _ (old mid new : State) (store : Store) (bodies : List (List ℕ)) (r : I
   next_closed : IsClosed r.rest → new ≡ mid → IsEnded new store bodies
   next_closed c same =
       let whole = half_of old.half store.read in
-      let new_half : new.half ≡ old.half = ap (λ (s : State). s.half) same ∙ half in
-      let new_gate : new.gate ≡ old.gate = ap (λ (s : State). s.gate) same ∙ gate in
+      let new_half : new.half ≡ old.half = ap (λ (s : HalfState). s.half) same ∙ half in
+      let new_gate : new.gate ≡ old.gate = ap (λ (s : HalfState). s.gate) same ∙ gate in
       record {
         synced = r.synced;
         chain_is = record {
@@ -69,7 +69,7 @@ module _ (old mid new : State) (store : Store) (bodies : List (List ℕ)) (r : I
   same_place : gate_at mid ≡ gate_at old
   same_place = ap (λ (h : ℕ). h * half_len + mid.gate) half ∙ ap (λ (n : ℕ). old.half * half_len + n) gate
 
-  pub next_is : (result : Result Bool JournalErr) → TakenIs mid new r.rest result → NextIs old new store bodies result
+  pub next_is : (result : Result Bool RecordErr) → TakenIs mid new r.rest result → NextIs old new store bodies result
   next_is (Ok true) taken = next_record taken.0 taken.1 taken.2
   next_is (Ok false) taken = next_closed taken.0 taken.1
   next_is (Err (Damaged at byte)) taken =
@@ -77,7 +77,7 @@ module _ (old mid new : State) (store : Store) (bodies : List (List ℕ)) (r : I
   next_is (Err Failed) taken = tt
 
 -- a step from a state at the same gate
-pub step_from : (old mid new : State) (result : Result Bool JournalErr) → mid.half ≡ old.half → mid.gate ≡ old.gate → StepIs mid new result → StepIs old new result
+pub step_from : (old mid new : HalfState) (result : Result Bool RecordErr) → mid.half ≡ old.half → mid.gate ≡ old.gate → StepIs mid new result → StepIs old new result
 step_from old mid new (Ok true) half gate over = record {
   is_body = over.is_body;
   half = over.half ∙ half;
@@ -93,12 +93,12 @@ as_before : (ahead : List ℕ) (gate at byte : ℕ) → gate + 1 < 2 ^ 64 → Da
 as_before ahead gate at byte small (inl d) = inl d
 as_before ahead gate at byte small (inr d) = inr (d.0, omega (arith, d.1, small), d.2)
 
-module _ (old new : State) (rest : List ℕ) (fits : gate_at old + length rest + 1 < 2 ^ 64) where
-  pub bad_taken : IsWindow old rest → HasBadLength old.ahead → (e : JournalErr) → DamageIs old.ahead (gate_at old) e → TakenIs old new rest (Err e)
+module _ (old new : HalfState) (rest : List ℕ) (fits : gate_at old + length rest + 1 < 2 ^ 64) where
+  pub bad_taken : IsWindow old rest → HasBadLength old.ahead → (e : RecordErr) → DamageIs old.ahead (gate_at old) e → TakenIs old new rest (Err e)
   bad_taken window bad (Damaged at byte) damage = bad_on old.ahead rest window (gate_at old) (omega (arith, fits)) bad at byte (as_before old.ahead (gate_at old) at byte (omega (arith, fits)) damage)
   bad_taken window bad Failed damage = damage
 
-  pub short_taken : old.ahead ≡ rest → 0 < length rest → IsCutOff old.ahead → (e : JournalErr) → DamageIs old.ahead (gate_at old) e → TakenIs old new rest (Err e)
+  pub short_taken : old.ahead ≡ rest → 0 < length rest → IsCutOff old.ahead → (e : RecordErr) → DamageIs old.ahead (gate_at old) e → TakenIs old new rest (Err e)
   short_taken same some cut (Damaged at byte) damage = short_ahead old.ahead rest (gate_at old) same (omega (arith, fits)) some cut at byte (as_before old.ahead (gate_at old) at byte (omega (arith, fits)) damage)
   short_taken same some cut Failed damage = damage
 

@@ -2,7 +2,7 @@
 use Rattle.std.specs.Prelude.{◌≡◌, ◌⊎◌, ℕ, ◌+◌, ◌*◌, ◌-◌, ◌%◌, Bool, false, List, drop}
 use Rattle.commit_journal.specs.Records.{is_begun}
 use Rattle.commit_journal.specs.Frames.{IsRecord}
-use Rattle.journal_start.specs.declared.rooms.Rooms.{Rooms}
+use Rattle.journal_start.specs.declared.rooms.UserRooms.{UserRooms}
 use Rattle.journal_start.specs.declared.start.Start.{Start}
 use Rattle.journal_start.specs.Ranges.{IsStart}
 use Rattle.journal_start.specs.Spelling.{start_bytes, epoch_of}
@@ -16,7 +16,7 @@ abbrev pub half_of : ℕ → List ℕ → List ℕ
 half_of half journal = drop (half * half_len) journal
 
 -- the most places of a half that a chain takes, with its closed gate: the longest checkpoint and one longest record more
-abbrev pub half_limit : Rooms → ℕ
+abbrev pub half_limit : UserRooms → ℕ
 half_limit rooms = 11595 + rooms.users * (97 * rooms.owners + 94 * rooms.files + 30)
 
 abbrev pub is_half_begun : ℕ → List ℕ → Bool

@@ -1,7 +1,7 @@
 -- The chain of a journal's current half, and a checkpoint that is laid in the other.
 use Rattle.std.specs.Prelude.{◌≡◌, ◌≢◌, ◌⊎◌, ℕ, ◌+◌, ◌-◌, ◌*◌, ◌%◌, ◌<◌, ◌≤◌, List, [], ◌∷◌, ◌++◌, length, drop, take, slice_index, All}
-use Rattle.cd_edges.specs.Disk.{Store}
-use Rattle.cd_edges.specs.Shelf.{stable}
+use Rattle.commit_journal.specs.CdEdges.Disk.{Store}
+use Rattle.commit_journal.specs.CdEdges.Shelf.{stable}
 use Rattle.commit_journal.specs.Records.{chain, AreBodies, IsJournal}
 use Rattle.journal_start.specs.declared.start.Start.{Start}
 use Rattle.journal_start.specs.Ranges.{IsStart}
@@ -72,7 +72,7 @@ pub record IsApart (store : Store) (w : Where) (half : ℕ) : Type 0 where
 
 -- A checkpoint is being laid in the other half. Behind its first gate these bytes are written, and others wait, which
 -- together are the chain of `next` without its first gate and its closed one.
-pub record IsLaid (store : Store) (w next : Where) (written waiting : List ℕ) : Type 0 where
+pub record IsCheckpointLaid (store : Store) (w next : Where) (written waiting : List ℕ) : Type 0 where
   pub apart : IsApart store w next.half
   pub follows : MayFollow w next.half next.start
   pub next_sizes : AreBodies (all_bodies next)

@@ -1,7 +1,11 @@
 pub mod Beginnings
+pub mod CdBase
+pub mod CdEdges
 pub mod Choices
+pub mod CommitJournal
 pub mod Findings
 pub mod Halves
+pub mod JournalStart
 pub mod Journals
 pub mod Outcomes
 pub mod States

@@ -2,7 +2,7 @@
 
 /// Why a record wasn't read.
 #[derive(Clone, Copy, Debug, PartialEq, Eq)]
-pub enum JournalErr {
+pub enum RecordErr {
     /// A device call failed.
     Failed,
     /// An open record is damaged: the place in the area that is wrong, and its byte.

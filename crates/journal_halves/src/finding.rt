@@ -2,8 +2,8 @@
 
 ghost use Rattle.std.specs.Prelude.{◌≡◌, ℕ, ◌≤◌, List, length, take, IsTrue, Option, Ok, IfOk, IfSome};
 ghost use Rattle.journal_start.specs.Ranges.{IsStart};
-ghost use Rattle.cd_edges.specs.declared.area.Area.{Area};
-ghost use Rattle.cd_edges.specs.Shelf.{IsCall, HasFailed, KeepsCounts, Stays};
+ghost use Rattle.commit_journal.specs.CdEdges.area.Area.{Area};
+ghost use Rattle.commit_journal.specs.CdEdges.Shelf.{IsCall, HasFailed, KeepsCounts, Stays};
 ghost use Rattle.commit_journal.specs.Records.{is_begun};
 ghost use Rattle.journal_halves.specs.Halves.{half_of};
 ghost use Rattle.journal_start.specs.declared.start.Start.{Start};
@@ -12,10 +12,9 @@ ghost use Rattle.journal_halves.specs.Findings as findings;
 ghost use Rattle.journal_halves.specs.Choices.{AnswerIs, IsChosen};
 
 use crate::choice::{Choice, choose};
-use crate::record::{Damage, read_start};
+use crate::record::{HalfDamage, read_start};
 use crate::{FindErr, Found, HALF_LEN};
-use cd_base::CloudNo;
-use cd_edges::{Area, Failed, Shelf};
+use commit_journal::{Area, CloudNo, Failed, Shelf};
 use journal_start::Start;
 
 /// How many bytes are read of a half at once: the longest record and its next gate.
@@ -43,7 +42,7 @@ fn judge(half: u8, ahead: &[u8]) -> Result<Option<Start>, FindErr>
     }
     match read_start(half, ahead) {
         Ok(start) => Ok(Some(start)),
-        Err(Damage { at, byte }) => Err(FindErr::Damaged {
+        Err(HalfDamage { at, byte }) => Err(FindErr::Damaged {
             at: half as u64 * HALF_LEN + at,
             byte,
         }),

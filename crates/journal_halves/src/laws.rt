@@ -1,8 +1,8 @@
 //! The laws of a journal in two halves, for the proofs of callers. The calls do nothing.
 
 ghost use Rattle.std.specs.Prelude.{◌≡◌, ℕ, ◌*◌, ◌-◌, List, [], ◌∷◌};
-ghost use Rattle.cd_edges.specs.Disk.{Store, MayLeave};
-ghost use Rattle.cd_edges.specs.Shelf.{wrote};
+ghost use Rattle.commit_journal.specs.CdEdges.Disk.{Store, MayLeave};
+ghost use Rattle.commit_journal.specs.CdEdges.Shelf.{wrote};
 ghost use Rattle.journal_halves.specs.Halves.{half_len};
 ghost use Rattle.journal_halves.specs.Journals.{Where, HasChain, IsEither, Stands, IsOpenAt, IsApart, IsLaidWhole};
 

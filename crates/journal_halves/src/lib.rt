@@ -11,8 +11,13 @@ mod limit;
 mod record;
 mod records;
 
-pub use errors::JournalErr;
+pub use commit_journal::{
+    Area, Bytes, CloudNo, Clouds, Failed, NoMemory, Place, Ports, RECIPE_LIMIT, Room, Shape, Shelf,
+    Sink, Source, UserId, Version, write_all, write_synced,
+};
+pub use errors::RecordErr;
 pub use finding::{WINDOW, find};
 pub use found::{FindErr, Found};
+pub use journal_start::{Checkpoint, Header, Start, UserRooms};
 pub use limit::{HALF_LEN, half_limit};
 pub use records::HalfRecords;

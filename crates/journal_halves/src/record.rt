@@ -15,31 +15,31 @@ use journal_start::{Start, StartFault};
 
 /// A place in a half that is wrong, and its byte.
 #[derive(Clone, Copy, Debug, PartialEq, Eq)]
-pub struct Damage {
+pub struct HalfDamage {
     pub at: u64,
     pub byte: u8,
 }
 
 // The damage of an open record with no body of a length and a next gate.
-fn frame_damage(ahead: &[u8]) -> Damage
+fn frame_damage(ahead: &[u8]) -> HalfDamage
     ensures small { result.at ≤ 1 }
     ensures damage { DamageIs ahead.now 0 (Damaged result.at result.byte) }
 {
     match ahead {
-        [_, byte, ..] => Damage { at: 1, byte: *byte },
-        _ => Damage { at: 0, byte: 1 },
+        [_, byte, ..] => HalfDamage { at: 1, byte: *byte },
+        _ => HalfDamage { at: 0, byte: 1 },
     }
 }
 
 // The damage of a body that is no start.
-fn body_damage(fault: StartFault) -> Damage
+fn body_damage(fault: StartFault) -> HalfDamage
     requires { IsPlaced 65535 fault }
     ensures small { result.at ≤ 65540 }
     ensures place { IsFaultAt fault result.at result.byte }
 {
     match fault {
-        StartFault::Short => Damage { at: 1, byte: 0 },
-        StartFault::Wrong { place, byte } => Damage {
+        StartFault::Short => HalfDamage { at: 1, byte: 0 },
+        StartFault::Wrong { place, byte } => HalfDamage {
             at: place as u64 + 5,
             byte,
         },
@@ -60,7 +60,7 @@ fn body_in(ahead: &[u8], len: usize) -> &[u8]
 /// holds 1; or its damage: where no length from 1 to 65,535 with so many bytes and a next gate follow in the half, the
 /// first place of the length and its byte, or where the first place is all there is, that and 1; else the first wrong place
 /// of the body, or the first place of the length where the body is too short.
-pub fn read_start(half: u8, ahead: &[u8]) -> Result<Start, Damage>
+pub fn read_start(half: u8, ahead: &[u8]) -> Result<Start, HalfDamage>
     ensures small { IfErr result (λ damage. damage.at ≤ 65540) }
     ensures is_start { IfOk result (λ start. IsStart half start) }
     ensures start { (rest : List ℕ) → ahead.now ≡ take 65541 rest → length rest ≤ 134217728 → is_begun rest ≡ true

@@ -1,18 +1,18 @@
 //! Records of one half, read one after another and added at the end.
 
 ghost use Rattle.std.specs.Prelude.{◌≡◌, ◌≢◌, ◌⊎◌, ℕ, ◌+◌, ◌-◌, ◌*◌, ◌<◌, ◌≤◌, List, [], ◌∷◌, ◌++◌, length, take, drop, vec_len, true, IsTrue, Ok, IfOk, OnOk, OnErr};
-ghost use Rattle.cd_edges.specs.declared.area.Area.{Area};
-ghost use Rattle.cd_edges.specs.Disk.{moment};
-ghost use Rattle.cd_edges.specs.Shelf.{IsCall, HasFailed, KeepsCounts, Stays};
+ghost use Rattle.commit_journal.specs.CdEdges.area.Area.{Area};
+ghost use Rattle.commit_journal.specs.CdEdges.Disk.{moment};
+ghost use Rattle.commit_journal.specs.CdEdges.Shelf.{IsCall, HasFailed, KeepsCounts, Stays};
 ghost use Rattle.commit_journal.specs.Records.{framed};
 ghost use Rattle.journal_start.specs.Ranges.{IsStart};
 ghost use Rattle.journal_halves.specs.Halves.{half_len};
 ghost use Rattle.journal_halves.specs.Findings.{FindIs, OnFault};
 
-use crate::{FindErr, Found, HALF_LEN, JournalErr, find};
-use cd_base::{CloudNo, NoMemory};
-use cd_edges::{Area, Failed, Shelf, write_synced};
-use commit_journal::{Frame, WINDOW, frame_of};
+use crate::{FindErr, Found, HALF_LEN, RecordErr, find};
+use commit_journal::{
+    Area, CloudNo, Failed, Frame, NoMemory, Shelf, WINDOW, frame_of, write_synced,
+};
 use std::alloc::Global;
 
 /// The records of one half of a cloud's journal, read up to a gate.
@@ -53,7 +53,7 @@ fn put_framed(buffer: &mut [u8], body: &[u8])
 impl HalfRecords {
     ghost use Rattle.commit_journal.specs.Frames.{IsFrame, IsRecord};
     ghost use Rattle.journal_halves.specs.States.{state_of, begun_at};
-    ghost use Rattle.journal_halves.specs.Outcomes.{IsWindow, StepsOver, gate_at, rest_of, TakenIs, DamageIs, StepIs, IsHandled, OnFailed, OthersStay, KeepsOrAdds, HasAdded, ReadsNext};
+    ghost use Rattle.journal_halves.specs.Outcomes.{IsWindow, IsRecordFurther, gate_at, rest_of, TakenIs, DamageIs, StepIs, IsHandled, OnFailed, OthersStay, KeepsOrAdds, HasAdded, ReadsNext};
 
     /// No records of half 0. It takes all its memory here, a window of 65,541 bytes, and the only error is want of memory.
     pub fn make(alloc: Global) -> Result<HalfRecords, NoMemory>
@@ -150,7 +150,7 @@ impl HalfRecords {
     ///
     /// It makes one device call at most, and none where the record was read ahead: by its body, no clause counts reads. A call
     /// reads from the record's gate on as much as the window takes, which is 64 KiB and a record's frame.
-    pub fn next<V: Shelf>(&mut self, shelf: &mut V, cloud: CloudNo) -> Result<bool, JournalErr>
+    pub fn next<V: Shelf>(&mut self, shelf: &mut V, cloud: CloudNo) -> Result<bool, RecordErr>
         ensures reads { ReadsNext (state_of self.old) (state_of self.new) (V.cloud_at shelf.old cloud.0) result }
         ensures step { StepIs (state_of self.old) (state_of self.new) result }
         ensures stays { Stays (V.cloud_at shelf.old cloud.0) (V.cloud_at shelf.new cloud.0) }
@@ -164,7 +164,7 @@ impl HalfRecords {
     {
         match self.look(shelf, cloud) {
             Ok(frame) => self.take(frame),
-            Err(Failed) => Err(JournalErr::Failed),
+            Err(Failed) => Err(RecordErr::Failed),
         }
     }
 
@@ -287,7 +287,7 @@ impl HalfRecords {
     }
 
     // Goes over what stands at the gate.
-    fn take(&mut self, frame: Frame) -> Result<bool, JournalErr>
+    fn take(&mut self, frame: Frame) -> Result<bool, RecordErr>
         requires frame { IsFrame (state_of self.old).ahead frame }
         ensures taken { (rest : List ℕ) → IsWindow (state_of self.old) rest
             → (frame ≡ Frame.Short → (state_of self.old).ahead ≡ rest) → 0 < length rest → length rest ≤ half_len
@@ -311,7 +311,7 @@ impl HalfRecords {
         requires { IsFrame (state_of self.old).ahead (Frame.Record len) }
         ensures found { (rest : List ℕ) → IsWindow (state_of self.old) rest → IsRecord rest (state_of self.new).body
             × IsWindow (state_of self.new) (drop (5 + length (state_of self.new).body) rest) }
-        ensures over { StepsOver (state_of self.old) (state_of self.new) }
+        ensures over { IsRecordFurther (state_of self.old) (state_of self.new) }
     {
         let place = self.gate_at();
         self.body_from = self.from + 5;
@@ -322,16 +322,16 @@ impl HalfRecords {
     }
 
     // The damage of the open record at the gate.
-    fn damage(&self) -> JournalErr
+    fn damage(&self) -> RecordErr
         ensures { DamageIs (state_of self.now).ahead (gate_at (state_of self.now)) result }
     {
         let place = self.gate_at();
         match self.ahead() {
-            [_, byte, ..] => JournalErr::Damaged {
+            [_, byte, ..] => RecordErr::Damaged {
                 at: place + 1,
                 byte: *byte,
             },
-            _ => JournalErr::Damaged { at: place, byte: 1 },
+            _ => RecordErr::Damaged { at: place, byte: 1 },
         }
     }
 }

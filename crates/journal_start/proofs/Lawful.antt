@@ -4,11 +4,11 @@ use Rattle.std.specs.Prelude.{⊤}
 use Rattle.std.specs.Int.{w32, w64, to_be_bytes}
 use Rattle.std.proofs.lemmas.Bool.{and_parts, leb-true, le-leb}
 use Rattle.std.proofs.lemmas.Option.{same_Some}
-use Rattle.grammar.proofs.Laws.{lawful_then, lawful_given}
-use Rattle.grammar.proofs.FieldLaws.{IsBytes, Anything, LawfulBytes}
+use Rattle.message_fields.proofs.Grammar.Laws.{lawful_then, lawful_given}
+use Rattle.message_fields.proofs.Grammar.FieldLaws.{IsBytes, Anything, LawfulBytes}
 use Rattle.message_fields.specs.Parts.{kept}
 use Rattle.message_fields.proofs.PartLaws.{lawful_made, lawful_kept, lawful_byte, lawful_u32, lawful_u64}
-use Rattle.journal_start.specs.declared.rooms.Rooms.{Rooms}
+use Rattle.journal_start.specs.declared.rooms.UserRooms.{UserRooms}
 use Rattle.journal_start.specs.declared.start.Checkpoint.{Checkpoint}
 use Rattle.journal_start.specs.Ranges.{AreRooms, IsCheckpoint, is_users, is_within, most_shares, most_recipes, most_owners, most_files}
 use Rattle.journal_start.specs.Spelling.{rooms_bytes, checkpoint_bytes}
@@ -51,7 +51,7 @@ no_more : (users each most : ℕ) → 1 ≤ users → users * each ≤ most → 
 no_more zero each most some le = absurd (omega arith)
 no_more (suc users) each most some le = omega (arith, le)
 
-abbrev unmake_rooms : Rooms → ℕ × (ℕ × (ℕ × (ℕ × ℕ)))
+abbrev unmake_rooms : UserRooms → ℕ × (ℕ × (ℕ × (ℕ × ℕ)))
 unmake_rooms r = (r.users, (r.shares, (r.recipes, (r.owners, r.files))))
 
 users_from : (n : ℕ) → IsTrue (is_users n) → (1 ≤ n) × (n ≤ 256)

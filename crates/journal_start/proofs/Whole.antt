@@ -4,12 +4,12 @@ use Rattle.std.specs.Prelude.{MatchResult}
 use Rattle.std.proofs.Props.{props}
 use Rattle.std.proofs.lemmas.Bool.{or_cases, ltb-true, le-leb, lt-ltb}
 use Rattle.std.proofs.lemmas.List.{append-nil, length-append}
-use Rattle.cd_base.specs.declared.shape.Shape.{Shape}
-use Rattle.grammar.specs.Readers.{◌>>=◌, ◌▷◌}
-use Rattle.grammar.proofs.Laws.{bind_ok, bind_err, ok_is, err_is, rest_fits}
-use Rattle.grammar.proofs.FieldLaws.{IsBytes, LawfulBytes}
+use Rattle.message_fields.specs.CdBase.shape.Shape.{Shape}
+use Rattle.message_fields.specs.Grammar.Readers.{◌>>=◌, ◌▷◌}
+use Rattle.message_fields.proofs.Grammar.Laws.{bind_ok, bind_err, ok_is, err_is, rest_fits}
+use Rattle.message_fields.proofs.Grammar.FieldLaws.{IsBytes, LawfulBytes}
 use Rattle.message_fields.specs.Parts.{made}
-use Rattle.journal_start.specs.declared.rooms.Rooms.{Rooms}
+use Rattle.journal_start.specs.declared.rooms.UserRooms.{UserRooms}
 use Rattle.journal_start.specs.declared.start.Header.{Header}
 use Rattle.journal_start.specs.declared.start.Checkpoint.{Checkpoint}
 use Rattle.journal_start.specs.declared.start.Start.{Start}
@@ -66,17 +66,17 @@ module _ (format : ℕ) (read : Read) (laws : LawfulBytes read (checkpoint_bytes
 
 -- ---- the rooms and what stands behind them
 
-abbrev tail_bytes : ℕ → Rooms → Option Checkpoint → List ℕ
+abbrev tail_bytes : ℕ → UserRooms → Option Checkpoint → List ℕ
 tail_bytes format rooms o = cond (eqb format 1) (behind_header format o) (rooms_bytes rooms ++ behind_header format o)
 
 -- in format 1 the rooms are the usual ones
-pub record FitsTail (half format : ℕ) (rooms : Rooms) (o : Option Checkpoint) : Type 0 where
+pub record FitsTail (half format : ℕ) (rooms : UserRooms) (o : Option Checkpoint) : Type 0 where
   pub are : AreRooms rooms
   pub usual : format ≡ 1 → rooms ≡ usual_rooms
   pub behind : IsBehind half format o
 
 abbrev Tail : Type 0
-Tail = Rooms × Option Checkpoint
+Tail = UserRooms × Option Checkpoint
 
 usual_are : AreRooms usual_rooms
 usual_are = record { some = omega arith; few = omega arith; shares = omega arith; recipes = omega arith; owners = omega arith; files = omega arith }
@@ -125,17 +125,17 @@ tail_fails half format bytes left is known e = elim is [
       ]
 ]
 
-first_again : (half : ℕ) (rooms : Rooms) (o : Option Checkpoint) (rest : List ℕ) → FitsTail half 1 rooms o → (o ≡ None → rest ≡ []) → tail_at half 1 (tail_bytes 1 rooms o ++ rest) ≡ Ok ((rooms, o), rest)
+first_again : (half : ℕ) (rooms : UserRooms) (o : Option Checkpoint) (rest : List ℕ) → FitsTail half 1 rooms o → (o ≡ None → rest ≡ []) → tail_at half 1 (tail_bytes 1 rooms o ++ rest) ≡ Ok ((rooms, o), rest)
 unfolding tail_at
 first_again half rooms o rest fits end =
     ap (λ (r : Result (Option Checkpoint × List ℕ) ℕ). r >>= λ x. Ok ((usual_rooms, x.0), x.1)) (plain_again 1 first_checkpoint_at lawful_first half o rest fits.behind end)
-    ∙ ap (λ (r : Rooms). Ok ((r, o), rest)) (sym (fits.usual refl))
+    ∙ ap (λ (r : UserRooms). Ok ((r, o), rest)) (sym (fits.usual refl))
 
-second_again : (half : ℕ) (rooms : Rooms) (o : Option Checkpoint) (rest : List ℕ) → FitsTail half 2 rooms o → (o ≡ None → rest ≡ []) → tail_at half 2 (tail_bytes 2 rooms o ++ rest) ≡ Ok ((rooms, o), rest)
+second_again : (half : ℕ) (rooms : UserRooms) (o : Option Checkpoint) (rest : List ℕ) → FitsTail half 2 rooms o → (o ≡ None → rest ≡ []) → tail_at half 2 (tail_bytes 2 rooms o ++ rest) ≡ Ok ((rooms, o), rest)
 unfolding tail_at
 second_again half rooms o rest fits end =
     let first = ap rooms_at (append_assoc (rooms_bytes rooms) (behind_header 2 o) rest) ∙ lawful_rooms.again rooms (behind_header 2 o ++ rest) fits.are tt in
-    ap (λ (r : Result (Rooms × List ℕ) ℕ). r >>= λ a. plain_or half second_checkpoint_at a.1 >>= λ b. Ok ((a.0, b.0), b.1)) first
+    ap (λ (r : Result (UserRooms × List ℕ) ℕ). r >>= λ a. plain_or half second_checkpoint_at a.1 >>= λ b. Ok ((a.0, b.0), b.1)) first
     ∙ ap (λ (r : Result (Option Checkpoint × List ℕ) ℕ). r >>= λ b. Ok ((rooms, b.0), b.1)) (plain_again 2 second_checkpoint_at lawful_second half o rest fits.behind end)
 
 -- ---- all of a start
@@ -157,7 +157,7 @@ tail_takes half format bytes t rest is known e = elim is [
   | inr two ↦ subst (λ (x : ℕ). (bytes ≡ tail_bytes x t.0 t.1 ++ rest) × FitsTail half x t.0 t.1) (sym two) (second_takes half bytes t rest known (subst (λ (x : ℕ). tail_at half x bytes ≡ Ok (t, rest)) two e))
 ]
 
-tail_again : (half format : ℕ) (rooms : Rooms) (o : Option Checkpoint) (rest : List ℕ) → (format ≡ 1) ⊎ (format ≡ 2) → FitsTail half format rooms o → (o ≡ None → rest ≡ [])
+tail_again : (half format : ℕ) (rooms : UserRooms) (o : Option Checkpoint) (rest : List ℕ) → (format ≡ 1) ⊎ (format ≡ 2) → FitsTail half format rooms o → (o ≡ None → rest ≡ [])
     → tail_at half format (tail_bytes format rooms o ++ rest) ≡ Ok ((rooms, o), rest)
 tail_again half format rooms o rest is fits end = elim is [
   | inl one ↦ subst (λ (x : ℕ). tail_at half x (tail_bytes x rooms o ++ rest) ≡ Ok ((rooms, o), rest)) (sym one) (first_again half rooms o rest (subst (λ (x : ℕ). FitsTail half x rooms o) one fits) end)

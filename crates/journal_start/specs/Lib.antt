@@ -1,3 +1,6 @@
+pub mod CdBase
+pub mod Grammar
+pub mod MessageFields
 pub mod Ranges
-pub mod Spelling
 pub mod Reading
+pub mod Spelling

@@ -1,6 +1,6 @@
 -- How many users a cloud has, how much each of them may hold, and what a start may say.
 use Rattle.std.specs.Prelude.{◌≡◌, ◌⊎◌, ℕ, ◌*◌, ◌<◌, ◌≤◌, ◌^◌, ◌&&◌, Bool, Option, Some, None, nat_le, if◌then◌else◌}
-use Rattle.journal_start.specs.declared.rooms.Rooms.{Rooms}
+use Rattle.journal_start.specs.declared.rooms.UserRooms.{UserRooms}
 use Rattle.journal_start.specs.declared.rooms.RoomsField.{RoomsField}
 use Rattle.journal_start.specs.declared.rooms.RoomsField.TheVariants as fields
 use Rattle.journal_start.specs.declared.start.Header.{Header}
@@ -23,7 +23,7 @@ abbrev pub most_files : ℕ
 most_files = 16384
 
 -- There are 1 to 256 users, and what they may hold together is bounded.
-pub record AreRooms (rooms : Rooms) : Type 0 where
+pub record AreRooms (rooms : UserRooms) : Type 0 where
   pub some : 1 ≤ rooms.users
   pub few : rooms.users ≤ 256
   pub shares : rooms.users * rooms.shares ≤ most_shares
@@ -39,7 +39,7 @@ abbrev pub is_within : ℕ → ℕ → ℕ → Bool
 is_within most users each = nat_le (users * each) most
 
 -- the first room, in this order, that breaks its range or its product
-abbrev pub first_broken : Rooms → Option RoomsField
+abbrev pub first_broken : UserRooms → Option RoomsField
 first_broken rooms =
     if is_users rooms.users then
     if is_within most_shares rooms.users rooms.shares then
@@ -53,11 +53,11 @@ first_broken rooms =
 
 -- the rooms that hold where none are named: 16 users, each with 512 MiB of shares, 64 MiB of recipes, 32,768 owned
 -- fingerprints and 1,024 files
-abbrev pub usual_rooms : Rooms
+abbrev pub usual_rooms : UserRooms
 usual_rooms = record { users = 16; shares = 536870912; recipes = 67108864; owners = 32768; files = 1024 }
 
 -- one user, who may hold nothing
-abbrev pub least_rooms : Rooms
+abbrev pub least_rooms : UserRooms
 least_rooms = record { users = 1; shares = 0; recipes = 0; owners = 0; files = 0 }
 
 -- ---- starts

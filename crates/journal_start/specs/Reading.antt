@@ -2,10 +2,10 @@
 -- place on, and so 0 where a field lacks bytes.
 use Rattle.std.specs.Prelude.{ℕ, zero, suc, ◌-◌, ◌<◌, ◌&&◌, ◌||◌, Bool, List, [], ◌∷◌, length, slice_index, ⊤, Option, Some, None, Result, Ok, Err, ◌==◌, nat_le, nat_lt, if◌then◌else◌}
 use Rattle.std.specs.Int.{w32, w64}
-use Rattle.grammar.specs.Readers.{◌>>=◌, ◌▷◌, ◌▷▷◌}
-use Rattle.grammar.specs.Fields.{number_at}
+use Rattle.message_fields.specs.Grammar.Readers.{◌>>=◌, ◌▷◌, ◌▷▷◌}
+use Rattle.message_fields.specs.Grammar.Fields.{number_at}
 use Rattle.message_fields.specs.Parts.{made, kept, byte_as}
-use Rattle.journal_start.specs.declared.rooms.Rooms.{Rooms}
+use Rattle.journal_start.specs.declared.rooms.UserRooms.{UserRooms}
 use Rattle.journal_start.specs.declared.start.Checkpoint.{Checkpoint}
 use Rattle.journal_start.specs.declared.start.Start.{Start}
 use Rattle.journal_start.specs.declared.fault.StartFault.{StartFault}
@@ -48,11 +48,11 @@ front_at = letters_at ▷ (kept is_format byte_at ▷ cloud_at)
 
 -- ---- rooms
 
-abbrev pub make_rooms : ℕ × (ℕ × (ℕ × (ℕ × ℕ))) → Rooms
+abbrev pub make_rooms : ℕ × (ℕ × (ℕ × (ℕ × ℕ))) → UserRooms
 make_rooms x = record { users = x.0; shares = x.1.0; recipes = x.1.1.0; owners = x.1.1.1.0; files = x.1.1.1.1 }
 
 -- The users, and what each may hold. The first that breaks its range or its product is wrong.
-unfoldable pub rooms_at : List ℕ → Result (Rooms × List ℕ) ℕ
+unfoldable pub rooms_at : List ℕ → Result (UserRooms × List ℕ) ℕ
 rooms_at = made make_rooms (kept is_users (number_at w32) ▷▷ λ users.
     kept (is_within most_shares users) (number_at w64) ▷ (kept (is_within most_recipes users) (number_at w64)
     ▷ (kept (is_within most_owners users) (number_at w32) ▷ kept (is_within most_files users) (number_at w32))))
@@ -97,7 +97,7 @@ pub record Fields : Type 0 where
   pub n : ℕ
   pub k : ℕ
   pub cloud : ℕ
-  pub rooms : Rooms
+  pub rooms : UserRooms
   pub checkpoint : Option Checkpoint
 
 abbrev pub fields_of : Start → Fields
@@ -111,12 +111,12 @@ fields_of start = record {
 }
 
 -- the rooms, which are the usual ones in format 1, and the checkpoint
-unfoldable pub tail_at : ℕ → ℕ → List ℕ → Result ((Rooms × Option Checkpoint) × List ℕ) ℕ
+unfoldable pub tail_at : ℕ → ℕ → List ℕ → Result ((UserRooms × Option Checkpoint) × List ℕ) ℕ
 tail_at half format bytes =
     if format == 1 then made (λ checkpoint. (usual_rooms, checkpoint)) (plain_or half first_checkpoint_at) bytes
     else (rooms_at ▷ plain_or half second_checkpoint_at) bytes
 
-abbrev pub make_fields : Front → Rooms × Option Checkpoint → Fields
+abbrev pub make_fields : Front → UserRooms × Option Checkpoint → Fields
 make_fields front tail = record { format = front.1.0; n = front.1.1.0.0; k = front.1.1.0.1; cloud = front.1.1.1; rooms = tail.0; checkpoint = tail.1 }
 
 -- a start in this half, and what follows it

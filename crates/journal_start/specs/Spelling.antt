@@ -1,14 +1,14 @@
 -- The bytes of a start.
 use Rattle.std.specs.Prelude.{◌≡◌, ℕ, ◌==◌, List, [], ◌∷◌, ◌++◌, Option, Some, None, codes, if◌then◌else◌}
 use Rattle.std.specs.Int.{w32, w64, to_be_bytes}
-use Rattle.journal_start.specs.declared.rooms.Rooms.{Rooms}
+use Rattle.journal_start.specs.declared.rooms.UserRooms.{UserRooms}
 use Rattle.journal_start.specs.declared.start.Header.{Header}
 use Rattle.journal_start.specs.declared.start.Checkpoint.{Checkpoint}
 use Rattle.journal_start.specs.declared.start.Start.{Start}
 use Rattle.journal_start.specs.Ranges.{IsStart}
 
 -- the users, and each user's shares, recipes, owned fingerprints and files
-abbrev pub rooms_bytes : Rooms → List ℕ
+abbrev pub rooms_bytes : UserRooms → List ℕ
 rooms_bytes rooms = to_be_bytes w32 rooms.users ++ (to_be_bytes w64 rooms.shares ++ (to_be_bytes w64 rooms.recipes ++ (to_be_bytes w32 rooms.owners ++ to_be_bytes w32 rooms.files)))
 
 -- the letters, the format, n, k and the cloud

@@ -2,16 +2,15 @@
 
 ghost use Rattle.std.specs.Prelude.{◌≡◌, ◌≤◌, ◌==◌, nat_lt};
 ghost use Rattle.std.specs.Int.{w32, w64};
-ghost use Rattle.grammar.specs.Fields.{number_at};
+ghost use Rattle.message_fields.specs.Grammar.Fields.{number_at};
 ghost use Rattle.message_fields.specs.Parts.{kept};
 ghost use Rattle.message_fields.specs.Readings.{IsReading};
 ghost use Rattle.journal_start.specs.Ranges.{is_users, is_within};
 ghost use Rattle.journal_start.specs.Reading.{byte_at, letter_at, letters_at, is_format, is_shape, shape_at, cloud_at, front_at, rooms_at, is_epoch, is_region, counts_at, first_checkpoint_at, second_checkpoint_at, plain_or};
 
 use crate::rooms::{MOST_FILES, MOST_OWNERS, MOST_RECIPES, MOST_SHARES, are_users, are_within};
-use crate::{Checkpoint, Rooms};
-use cd_base::{CloudNo, Shape};
-use message_fields::{Left, byte_of, u32_of, u64_of};
+use crate::{Checkpoint, UserRooms};
+use message_fields::{CloudNo, Left, Shape, byte_of, u32_of, u64_of};
 
 // One letter, and what follows. Another byte is wrong.
 fn letter_of(bytes: &[u8], letter: u8) -> Result<(u8, &[u8]), Left>
@@ -124,7 +123,7 @@ fn room_of(bytes: &[u8], most: u64, users: u32) -> Result<(u32, &[u8]), Left>
 
 /// The rooms, and what follows. The first that breaks its range or its product is wrong.
 #[tactic(auto, unfolding(crate::specs::Reading::rooms_at))]
-pub fn rooms_of(bytes: &[u8]) -> Result<(Rooms, &[u8]), Left>
+pub fn rooms_of(bytes: &[u8]) -> Result<(UserRooms, &[u8]), Left>
     ensures { IsReading (λ x. (x.0, x.1.now)) result (rooms_at bytes.now) }
 {
     let (users, rest) = users_of(bytes)?;
@@ -132,7 +131,7 @@ pub fn rooms_of(bytes: &[u8]) -> Result<(Rooms, &[u8]), Left>
     let (recipes, rest) = long_room_of(rest, MOST_RECIPES, users)?;
     let (owners, rest) = room_of(rest, MOST_OWNERS, users)?;
     let (files, rest) = room_of(rest, MOST_FILES, users)?;
-    let rooms = Rooms {
+    let rooms = UserRooms {
         users,
         shares,
         recipes,

@@ -1,7 +1,7 @@
 //! The laws of starts, for the proofs of callers. The calls do nothing.
 
 ghost use Rattle.std.specs.Prelude.{◌≡◌, ◌↔◌, ℕ, ◌<◌, ◌≤◌, List, ◌∷◌, ◌++◌, length, All, Some, None, Ok, Err};
-ghost use Rattle.journal_start.specs.declared.rooms.Rooms.{Rooms};
+ghost use Rattle.journal_start.specs.declared.rooms.UserRooms.{UserRooms};
 ghost use Rattle.journal_start.specs.declared.start.Checkpoint.{Checkpoint};
 ghost use Rattle.journal_start.specs.declared.start.Start.{Start};
 ghost use Rattle.journal_start.specs.declared.fault.StartFault.TheVariants.{Short, Wrong};
@@ -36,5 +36,5 @@ pub fn law_of_lengths()
 
 /// Rooms are allowed exactly where none of them breaks its range or its product.
 pub fn law_of_rooms()
-    ensures { (rooms : Rooms) → (first_broken rooms ≡ None) ↔ AreRooms rooms }
+    ensures { (rooms : UserRooms) → (first_broken rooms ≡ None) ↔ AreRooms rooms }
 {}

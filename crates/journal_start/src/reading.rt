@@ -8,17 +8,21 @@ ghost use Rattle.journal_start.specs.Spelling.{IsSpelled};
 ghost use Rattle.journal_start.specs.Reading.{tail_at};
 
 use crate::fields::{first_behind, front_of, rooms_of, second_behind};
-use crate::{Checkpoint, Header, Rooms, Start, StartFault};
+use crate::{Checkpoint, Header, Start, StartFault, UserRooms};
 use message_fields::Left;
 
 // The rooms and the checkpoint, and what follows.
 #[tactic(auto, unfolding(crate::specs::Reading::tail_at))]
-fn tail_of(half: u8, format: u8, bytes: &[u8]) -> Result<((Rooms, Option<Checkpoint>), &[u8]), Left>
+fn tail_of(
+    half: u8,
+    format: u8,
+    bytes: &[u8],
+) -> Result<((UserRooms, Option<Checkpoint>), &[u8]), Left>
     ensures { IsReading (λ x. ((x.0.0, x.0.1), x.1.now)) result (tail_at half format bytes.now) }
 {
     if format == 1 {
         let (checkpoint, rest) = first_behind(half, bytes)?;
-        Ok(((Rooms::usual(), checkpoint), rest))
+        Ok(((UserRooms::usual(), checkpoint), rest))
     } else {
         let (rooms, rest) = rooms_of(bytes)?;
         let (checkpoint, rest) = second_behind(half, rest)?;

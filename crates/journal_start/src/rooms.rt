@@ -7,7 +7,7 @@ ghost use Rattle.journal_start.specs.Ranges.{AreRooms, is_users, is_within, firs
 /// and files. There are 1 to 256 users, and together they may hold at most 8,589,934,592 bytes of shares, 1,073,741,824
 /// bytes of recipes, 524,288 owned fingerprints and 16,384 files.
 #[derive(Clone, Copy, Debug, PartialEq, Eq)]
-pub struct Rooms {
+pub struct UserRooms {
     /// How many users there are: those with the numbers below it.
     pub users: u32,
     /// The bytes of shares of one user.
@@ -54,7 +54,7 @@ pub(crate) fn are_within(most: u64, users: u32, each: u64) -> bool
     (users as u64).saturating_mul(each) <= most
 }
 
-impl Rooms {
+impl UserRooms {
     /// The rooms of these numbers, or the first of them, in this order, that is out of its range or with which all users
     /// together hold too much.
     pub fn of(
@@ -63,7 +63,7 @@ impl Rooms {
         recipes: u64,
         owners: u32,
         files: u32,
-    ) -> Result<Rooms, RoomsField>
+    ) -> Result<UserRooms, RoomsField>
         ensures { MatchResult result
             (λ rooms. (rooms
             ≡ record { users = users; shares = shares; recipes = recipes; owners = owners; files = files })
@@ -87,7 +87,7 @@ impl Rooms {
         if !are_within(MOST_FILES, users, files as u64) {
             return Err(RoomsField::Files);
         }
-        Ok(Rooms {
+        Ok(UserRooms {
             users,
             shares,
             recipes,
@@ -100,7 +100,7 @@ impl Rooms {
     pub fn are_allowed(&self) -> bool
         ensures { IsTrue result ↔ AreRooms self.now }
     {
-        Rooms::of(
+        UserRooms::of(
             self.users,
             self.shares,
             self.recipes,
@@ -112,11 +112,11 @@ impl Rooms {
 
     /// The rooms that hold where none are named: 16 users, each with 512 MiB of shares, 64 MiB of recipes, 32,768 owned
     /// fingerprints and 1,024 files.
-    pub fn usual() -> Rooms
+    pub fn usual() -> UserRooms
         ensures rooms { result ≡ usual_rooms }
         ensures allowed { AreRooms result }
     {
-        Rooms {
+        UserRooms {
             users: 16,
             shares: 536_870_912,
             recipes: 67_108_864,
@@ -126,11 +126,11 @@ impl Rooms {
     }
 
     /// The least rooms: one user, who may hold nothing.
-    pub fn least() -> Rooms
+    pub fn least() -> UserRooms
         ensures rooms { result ≡ least_rooms }
         ensures allowed { AreRooms result }
     {
-        Rooms {
+        UserRooms {
             users: 1,
             shares: 0,
             recipes: 0,

@@ -3,8 +3,8 @@
 ghost use Rattle.std.specs.Prelude.{◌≡◌};
 ghost use Rattle.journal_start.specs.Spelling.{epoch_of, commands_of, records_of, region_of, recipes_end_of};
 
-use crate::Rooms;
-use cd_base::{CloudNo, Shape};
+use crate::UserRooms;
+use message_fields::{CloudNo, Shape};
 
 /// Which store this is, in which format, which of its clouds, and in which rooms.
 #[derive(Clone, Copy, Debug, PartialEq, Eq)]
@@ -16,7 +16,7 @@ pub struct Header {
     /// The number of the cloud, below the shape's n.
     pub cloud: CloudNo,
     /// The rooms. In format 1 they are the usual ones, and aren't written.
-    pub rooms: Rooms,
+    pub rooms: UserRooms,
 }
 
 /// What the first record of a checkpoint says besides: its epoch, how many commands and how many records it stands for, and

@@ -3,7 +3,7 @@
 ghost use Rattle.std.specs.Prelude.{◌≡◌, ◌+◌, ◌≤◌, ◌++◌, [], length};
 ghost use Rattle.journal_start.specs.Spelling.{rooms_bytes, front_bytes, header_bytes, last_bytes, behind_header, start_bytes};
 
-use crate::{Checkpoint, Header, Rooms, Start};
+use crate::{Checkpoint, Header, Start, UserRooms};
 use std::marker::Model;
 
 /// The longest start: a checkpoint's in format 2.
@@ -77,7 +77,7 @@ impl StartBytes {
     }
 
     // Appends the rooms.
-    fn put_rooms(&mut self, rooms: &Rooms)
+    fn put_rooms(&mut self, rooms: &UserRooms)
         requires { length self.old + 28 ≤ 57 }
         ensures { self.new ≡ self.old ++ rooms_bytes rooms.now }
     {

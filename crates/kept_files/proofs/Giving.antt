@@ -7,32 +7,32 @@ use Rattle.std.proofs.lemmas.Nat.{xor_lt}
 use Rattle.std.proofs.lemmas.List.{get_or-map, length-map, take_at}
 use Rattle.std.proofs.lemmas.List.Elements.{All-get_or}
 use Rattle.std.proofs.lemmas.List.Concat.{flat_map-cons}
-use Rattle.cd_base.specs.Lengths.{share_len_of}
-use Rattle.cd_base.specs.Limits.{IsPath}
-use Rattle.cd_base.specs.Reading.{AreBytes}
-use Rattle.cd_base.specs.declared.ids.Tag.{Tag}
-use Rattle.cd_base.specs.declared.ids.UserId.{UserId}
-use Rattle.cd_base.specs.declared.ids.Version.{Version}
-use Rattle.cd_base.specs.declared.shape.Shape.{Shape}
+use Rattle.file_recipe.specs.CdBase.Lengths.{share_len_of}
+use Rattle.file_recipe.specs.CdBase.Limits.{IsPath}
+use Rattle.file_recipe.specs.CdBase.Reading.{AreBytes}
+use Rattle.file_recipe.specs.CdBase.ids.Tag.{Tag}
+use Rattle.file_recipe.specs.CdBase.ids.UserId.{UserId}
+use Rattle.file_recipe.specs.CdBase.ids.Version.{Version}
+use Rattle.file_recipe.specs.CdBase.shape.Shape.{Shape}
 use Rattle.gf256.proofs.Laws.{product_lt}
 use Rattle.gf256.specs.Field.{product}
-use Rattle.reed_solomon.specs.Interpolation.{combine, interpolant}
-use Rattle.reed_solomon.specs.Dispersal.{AreChoice, row, share_byte, share_of}
-use Rattle.caont_rs.specs.Opening.{opened}
-use Rattle.caont_rs.specs.Package.{share, package_of}
-use Rattle.caont_rs.proofs.Opened.{AreBytes-append, gives_back, length-share}
-use Rattle.recipe.specs.declared.items.Item.{Item}
-use Rattle.recipe.specs.declared.recipe.Recipe.{Recipe}
-use Rattle.recipe.specs.Reading.{recipe_at}
-use Rattle.recipe.proofs.Written.{again}
+use Rattle.file_recipe.specs.ReedSolomon.Interpolation.{combine, interpolant}
+use Rattle.file_recipe.specs.ReedSolomon.Dispersal.{AreChoice, row, share_byte, share_of}
+use Rattle.restore_job.specs.CaontRs.Opening.{opened}
+use Rattle.restore_job.specs.CaontRs.Package.{share, package_of}
+use Rattle.restore_job.proofs.CaontRs.Opened.{AreBytes-append, gives_back, length-share}
+use Rattle.restore_job.specs.Recipe.items.Item.{Item}
+use Rattle.restore_job.specs.Recipe.recipe.Recipe.{Recipe}
+use Rattle.restore_job.specs.Recipe.Reading.{recipe_at}
+use Rattle.restore_job.proofs.Recipe.Written.{again}
 use Rattle.file_recipe.specs.FileRecipe.{secrets, recipe_of, recipe_bytes, item_of as item_for}
 use Rattle.file_recipe.proofs.Recipes.{recipe_fits}
 use Rattle.file_recipe.proofs.Secrets.{secrets_joined}
-use Rattle.user_dedup.specs.Cloud.{fingerprint, user_view, held_string}
-use Rattle.user_dedup.specs.Pages.{entry_at}
-use Rattle.user_dedup.specs.declared.command.Command.{Command}
-use Rattle.user_dedup.specs.declared.file_list.FileEntry.{FileEntry}
-use Rattle.user_dedup.proofs.Owned.{contains_here, contains_later}
+use Rattle.restore_job.specs.UserDedup.Cloud.{fingerprint, user_view, held_string}
+use Rattle.restore_job.specs.UserDedup.Pages.{entry_at}
+use Rattle.restore_job.specs.UserDedup.command.Command.{Command}
+use Rattle.restore_job.specs.UserDedup.file_list.FileEntry.{FileEntry}
+use Rattle.restore_job.proofs.UserDedup.Owned.{contains_here, contains_later}
 use Rattle.restore_job.specs.Restored
 use Rattle.restore_job.specs.Restored.{Unrestored, Given, no_item, no_recipe, item_of, string_at, recipe_read, recipe_in, given_by, missing, items_difference, difference, differing, wrong_strings, wrong_length, or_else, unless, behind, of_secret, secret_opened, secrets_opened, batch_opened, batches_opened, batch_count, items_opened, agreed, restored_file}
 use Rattle.restore_job.proofs.Sharing.{all_fine}

@@ -6,31 +6,31 @@ use Rattle.std.specs.Option.{option_or}
 use Rattle.std.proofs.lemmas.List.Elements.{All-nil, All-cons, All-head, All-tail}
 use Rattle.std.proofs.lemmas.List.Folds.{find-append}
 use Rattle.std.proofs.lemmas.Slice.Eq.{bytes_eq-Decides}
-use Rattle.cd_base.specs.Limits.{IsPath}
-use Rattle.cd_base.specs.declared.ids.Fp.{Fp}
-use Rattle.cd_base.specs.declared.ids.Tag.{Tag}
-use Rattle.cd_base.specs.declared.ids.UserId.{UserId}
-use Rattle.cd_base.specs.declared.ids.Version.{Version}
-use Rattle.cd_base.specs.declared.shape.Shape.{Shape}
-use Rattle.caont_rs.specs.Package.{share, tag}
-use Rattle.recipe.proofs.Written.{again}
+use Rattle.file_recipe.specs.CdBase.Limits.{IsPath}
+use Rattle.file_recipe.specs.CdBase.ids.Fp.{Fp}
+use Rattle.file_recipe.specs.CdBase.ids.Tag.{Tag}
+use Rattle.file_recipe.specs.CdBase.ids.UserId.{UserId}
+use Rattle.file_recipe.specs.CdBase.ids.Version.{Version}
+use Rattle.file_recipe.specs.CdBase.shape.Shape.{Shape}
+use Rattle.restore_job.specs.CaontRs.Package.{share, tag}
+use Rattle.restore_job.proofs.Recipe.Written.{again}
 use Rattle.file_recipe.specs.FileRecipe.{secrets, recipe_of, recipe_bytes, item_of as item_for}
 use Rattle.file_recipe.proofs.Recipes.{recipe_fits}
-use Rattle.messages.specs.declared.request.Request.TheVariants as requests
-use Rattle.messages.specs.declared.reply.Reply.TheVariants as replies
-use Rattle.user_dedup.specs.declared.command.Command.{Command}
-use Rattle.user_dedup.specs.declared.command.Command.TheVariants as commands
-use Rattle.user_dedup.specs.declared.file_list.FileEntry.{FileEntry}
-use Rattle.user_dedup.specs.declared.view.View.{View}
-use Rattle.user_dedup.specs.Cloud.{fingerprint, user_view, strings_of, held_string}
-use Rattle.user_dedup.specs.Requests.{fps_read, fps_of}
-use Rattle.user_dedup.specs.Owning.{fps_in, first_lacking, FindsLacking}
-use Rattle.user_dedup.specs.Pages.{is_at, entry_at}
-use Rattle.user_dedup.specs.Dedup.{commit_outcome, answer_over, Ends}
-use Rattle.user_dedup.proofs.Owned.{contains_here, contains_later, finds}
-use Rattle.user_dedup.proofs.Deleting.{version_stays}
-use Rattle.user_dedup.proofs.Growing.{Each, IsNoDelete, ends_none}
-use Rattle.user_dedup.proofs.Views.{own_adds, held_is, owned_is_held, held_more}
+use Rattle.restore_job.specs.Messages.request.Request.TheVariants as requests
+use Rattle.restore_job.specs.Messages.reply.Reply.TheVariants as replies
+use Rattle.restore_job.specs.UserDedup.command.Command.{Command}
+use Rattle.restore_job.specs.UserDedup.command.Command.TheVariants as commands
+use Rattle.restore_job.specs.UserDedup.file_list.FileEntry.{FileEntry}
+use Rattle.restore_job.specs.UserDedup.view.View.{View}
+use Rattle.restore_job.specs.UserDedup.Cloud.{fingerprint, user_view, strings_of, held_string}
+use Rattle.restore_job.specs.UserDedup.Requests.{fps_read, fps_of}
+use Rattle.restore_job.specs.UserDedup.Owning.{fps_in, first_lacking, FindsLacking}
+use Rattle.restore_job.specs.UserDedup.Pages.{is_at, entry_at}
+use Rattle.restore_job.specs.UserDedup.Dedup.{commit_outcome, answer_over, Ends}
+use Rattle.restore_job.proofs.UserDedup.Owned.{contains_here, contains_later, finds}
+use Rattle.restore_job.proofs.UserDedup.Deleting.{version_stays}
+use Rattle.restore_job.proofs.UserDedup.Growing.{Each, IsNoDelete, ends_none}
+use Rattle.restore_job.proofs.UserDedup.Views.{own_adds, held_is, owned_is_held, held_more}
 use Rattle.kept_files.specs.Kept.{Keeps, IsApart, key_of, AreHarmless}
 
 -- ---- more commands

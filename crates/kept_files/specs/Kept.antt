@@ -1,18 +1,18 @@
 -- What a cloud keeps of a version of a file.
 use Rattle.std.specs.Prelude.{◌≡◌, ℕ, List, All, Some, option_map}
 use Rattle.std.specs.List.{Contains, flat_map}
-use Rattle.cd_base.specs.declared.ids.Tag.{Tag}
-use Rattle.cd_base.specs.declared.ids.UserId.{UserId}
-use Rattle.cd_base.specs.declared.ids.Version.{Version}
-use Rattle.cd_base.specs.declared.shape.Shape.{Shape}
-use Rattle.caont_rs.specs.Package.{share, tag}
+use Rattle.file_recipe.specs.CdBase.ids.Tag.{Tag}
+use Rattle.file_recipe.specs.CdBase.ids.UserId.{UserId}
+use Rattle.file_recipe.specs.CdBase.ids.Version.{Version}
+use Rattle.file_recipe.specs.CdBase.shape.Shape.{Shape}
+use Rattle.restore_job.specs.CaontRs.Package.{share, tag}
 use Rattle.file_recipe.specs.FileRecipe.{secrets, recipe_bytes}
-use Rattle.messages.specs.declared.request.Request.{Request}
-use Rattle.messages.specs.declared.request.Request.TheVariants as requests
-use Rattle.user_dedup.specs.Cloud.{fingerprint, user_view, strings_of, held_string}
-use Rattle.user_dedup.specs.Dedup.{Ends}
-use Rattle.user_dedup.specs.Pages.{entry_at}
-use Rattle.user_dedup.specs.declared.command.Command.{Command}
+use Rattle.restore_job.specs.Messages.request.Request.{Request}
+use Rattle.restore_job.specs.Messages.request.Request.TheVariants as requests
+use Rattle.restore_job.specs.UserDedup.Cloud.{fingerprint, user_view, strings_of, held_string}
+use Rattle.restore_job.specs.UserDedup.Dedup.{Ends}
+use Rattle.restore_job.specs.UserDedup.Pages.{entry_at}
+use Rattle.restore_job.specs.UserDedup.command.Command.{Command}
 
 -- what names a version of a file: the tag of its path, and its number
 abbrev pub key_of : Shape → List ℕ → Version → Tag × Version

@@ -4,17 +4,19 @@
 ghost use Rattle.std.specs.Prelude.{◌≡◌, ◌<◌, ◌≤◌, ◌++◌, ℕ, List, All, length, slice_index, option_to_list, Ok};
 ghost use Rattle.std.specs.List.{Contains};
 ghost use Rattle.std.specs.List.Sorted.{IsStrictlyIncreasing};
-ghost use Rattle.cd_base.specs.Limits.{IsPath};
-ghost use Rattle.cd_base.specs.declared.ids.UserId.{UserId};
-ghost use Rattle.cd_base.specs.declared.ids.Version.{Version};
-ghost use Rattle.cd_base.specs.declared.shape.Shape.{Shape};
-ghost use Rattle.recipe.specs.Spelling.{file_limit};
-ghost use Rattle.reed_solomon.specs.Dispersal.{AreChoice};
-ghost use Rattle.user_dedup.specs.declared.command.Command.{Command};
+ghost use Rattle.file_recipe.specs.CdBase.Limits.{IsPath};
+ghost use Rattle.file_recipe.specs.CdBase.ids.UserId.{UserId};
+ghost use Rattle.file_recipe.specs.CdBase.ids.Version.{Version};
+ghost use Rattle.file_recipe.specs.CdBase.shape.Shape.{Shape};
+ghost use Rattle.restore_job.specs.Recipe.Spelling.{file_limit};
+ghost use Rattle.file_recipe.specs.ReedSolomon.Dispersal.{AreChoice};
+ghost use Rattle.restore_job.specs.UserDedup.command.Command.{Command};
 ghost use Rattle.restore_job.specs.Restored.{restored_file};
-ghost use Rattle.messages.specs.declared.reply.Reply.TheVariants as replies;
-ghost use Rattle.user_dedup.specs.Dedup.{answer_over};
+ghost use Rattle.restore_job.specs.Messages.reply.Reply.TheVariants as replies;
+ghost use Rattle.restore_job.specs.UserDedup.Dedup.{answer_over};
 ghost use Rattle.kept_files.specs.Kept.{Keeps, IsApart, key_of, AreHarmless, commit_of};
+
+pub use restore_job::{RestoreErr, compare, fetch_version, restore, restore_agreed};
 
 /// Where each of k clouds keeps a version of a file, what they give is the file. No premise on SHA-256 is needed.
 pub fn law_of_kept_files()

@@ -1,16 +1,16 @@
 -- One ask of a lane.
 use Rattle.std.proofs.Common.{◌≡◌, inl, inr, ℕ, List, Option, Some, None, Result, Ok, Err, refl, sym, ap, ◌∙◌, subst}
 use Rattle.cd_edges.specs.Causes.{Rose}
-use Rattle.cd_base.specs.declared.shape.Shape.{Shape}
+use Rattle.grammar.specs.CdBase.shape.Shape.{Shape}
 use Rattle.grammar.proofs.FieldLaws.{IsBytes}
-use Rattle.messages.specs.declared.request.Request.{Request}
-use Rattle.messages.specs.declared.reply.Reply.{Reply}
-use Rattle.messages.specs.Replies.{IsReply}
-use Rattle.messages.specs.Requests.{request_bytes}
-use Rattle.messages.proofs.ReplyLaws.{reply_law}
-use Rattle.user_dedup.specs.Requests.{asked_at}
-use Rattle.user_dedup.specs.Exec.{Peer}
-use Rattle.user_dedup.specs.Link.{LinkTelling, Talk, Does, LosesAsk, LeavesOthers, SaysNothingElse, first_reply, said}
+use Rattle.upload_job.specs.Messages.request.Request.{Request}
+use Rattle.upload_job.specs.Messages.reply.Reply.{Reply}
+use Rattle.upload_job.specs.Messages.Replies.{IsReply}
+use Rattle.upload_job.specs.Messages.Requests.{request_bytes}
+use Rattle.upload_job.proofs.Messages.ReplyLaws.{reply_law}
+use Rattle.upload_job.specs.UserDedup.Requests.{asked_at}
+use Rattle.upload_job.specs.UserDedup.Exec.{Peer}
+use Rattle.upload_job.specs.UserDedup.Link.{LinkTelling, Talk, Does, LosesAsk, LeavesOthers, SaysNothingElse, first_reply, said}
 use Rattle.upload_job.specs.declared.news.LaneNews.{LaneNews}
 use Rattle.upload_job.specs.declared.news.LaneErr.TheVariants as lane_errors
 use Rattle.upload_job.specs.Lane.{IsAnswer}

@@ -1,15 +1,15 @@
 -- A lane on its way to its end.
 use Rattle.std.proofs.Common.{◌≡◌, inl, inr, ℕ, ◌<◌, ◌≤◌, Bool, true, false, ◌||◌, List, [], ◌∷◌, ◌++◌, length, Option, Some, None, Ok, Err, refl, sym, ap, ◌∙◌, subst, arith, append-nil, append_assoc}
 use Rattle.std.specs.Prelude.{IsTrue}
-use Rattle.cd_base.specs.declared.shape.Shape.{Shape}
-use Rattle.messages.specs.declared.request.Request.{Request}
-use Rattle.messages.specs.declared.reply.Reply.{Reply}
-use Rattle.user_dedup.specs.Link.{LinkTelling, Talk, LeavesOthers}
+use Rattle.grammar.specs.CdBase.shape.Shape.{Shape}
+use Rattle.upload_job.specs.Messages.request.Request.{Request}
+use Rattle.upload_job.specs.Messages.reply.Reply.{Reply}
+use Rattle.upload_job.specs.UserDedup.Link.{LinkTelling, Talk, LeavesOthers}
 use Rattle.upload_job.specs.declared.news.LaneNews.{LaneNews}
 use Rattle.upload_job.specs.Lane.{LaneState, news_of}
 use Rattle.upload_job.specs.Lanes.{LaneView, request_at, with_state}
 use Rattle.lane_steps.specs.Reached.{IsReached, IsOnItsWay}
-use Rattle.lane_steps.specs.Runs.{Turn, Progress, starting, moved, request_of, progress_after, LaneRun, LaneAlong, Tell, lane_at, left_of}
+use Rattle.lane_steps.specs.Runs.{LaneTurn, Progress, starting, moved, request_of, progress_after, LaneRun, LaneAlong, Tell, lane_at, left_of}
 use Rattle.lane_steps.proofs.Measure.{falls}
 use Rattle.lane_steps.specs.declared.error.StepErr.{StepErr}
 use Rattle.lane_steps.specs.declared.error.StepErr.TheVariants as errors
@@ -24,7 +24,7 @@ here now cloud lacked = record { lane = lane_at now cloud; lacked = lacked; stop
 
 -- The lane went on from the old link and views to these, and goes on.
 pub record Along {L : Type 0} (t : LinkTelling L) (talk : L → ℕ → Talk → Type 0) (cloud : ℕ) (old : L) (views : List LaneView) (before : List LaneNews) (mid : L) (now : List LaneView) (lacked : Bool) (told : List LaneNews) : Type 0 where
-  pub turns : List (Turn L)
+  pub turns : List (LaneTurn L)
   pub heard : List LaneNews
   pub along : LaneAlong (Heard t talk cloud) (starting (lane_at views cloud)) old turns (here now cloud lacked) mid
   pub tell : Tell (lane_at views cloud) turns heard
@@ -114,7 +114,7 @@ behind now after cloud lacked reply told stopped below e tells stops =
 
 -- the lane's turns with this one
 pub record OneMore {L : Type 0} (t : LinkTelling L) (talk : L → ℕ → Talk → Type 0) (cloud : ℕ) (old : L) (views : List LaneView) (before : List LaneNews) (last : Progress) (new : L) (after : List LaneView) (told : List LaneNews) : Type 0 where
-  pub turns : List (Turn L)
+  pub turns : List (LaneTurn L)
   pub heard : List LaneNews
   pub along : LaneAlong (Heard t talk cloud) (starting (lane_at views cloud)) old turns last new
   pub tell : Tell (lane_at views cloud) turns heard
@@ -137,7 +137,7 @@ one_more {L} t talk cloud old views before mid now lacked told first new after a
   below = let e = length_with now cloud (moved (lane_at now cloud) s.reply).state in let f = ap length s.after_is in let lt = a.below in omega arith;
 }
   where
-    turn : Turn L
+    turn : LaneTurn L
     turn = record { before = mid; request = s.request; reply = s.reply }
 
     at : progress_after (here now cloud lacked) s.reply ≡ record { lane = lane_at after cloud; lacked = lacked || tells_lack first; stopped = stopped }

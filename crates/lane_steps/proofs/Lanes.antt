@@ -5,20 +5,20 @@ use Rattle.std.specs.List.{list_all, AllByRecursion}
 use Rattle.std.proofs.lemmas.List.{length-map}
 use Rattle.std.proofs.lemmas.List.Elements.{All-nil, All-cons, All-head, All-tail, All-append, All-map, recursion_from_All}
 use Rattle.sha2.proofs.Facts256.{length-sha256}
-use Rattle.cd_base.specs.declared.ids.Fp.{Fp}
-use Rattle.cd_base.specs.declared.shape.Shape.{Shape}
-use Rattle.message_fields.specs.Fingerprints.{AreFps}
-use Rattle.message_fields.specs.Flags.{AreFlags}
-use Rattle.message_fields.specs.Shares.{IsShare, AreShares}
-use Rattle.message_fields.specs.Keys.{IsKey}
-use Rattle.messages.specs.declared.request.Request.{Request}
-use Rattle.messages.specs.declared.request.Request.TheVariants as requests
-use Rattle.messages.specs.declared.reply.Reply.{Reply}
-use Rattle.messages.specs.declared.reply.Reply.TheVariants as replies
-use Rattle.messages.specs.Replies.{FitsReply}
-use Rattle.recipe.specs.declared.recipe.Recipe.{Recipe}
-use Rattle.recipe.specs.Spelling.{IsRecipe}
-use Rattle.user_dedup.specs.Cloud.{fingerprint}
+use Rattle.grammar.specs.CdBase.ids.Fp.{Fp}
+use Rattle.grammar.specs.CdBase.shape.Shape.{Shape}
+use Rattle.upload_job.specs.MessageFields.Fingerprints.{AreFps}
+use Rattle.upload_job.specs.MessageFields.Flags.{AreFlags}
+use Rattle.upload_job.specs.MessageFields.Shares.{IsShare, AreShares}
+use Rattle.upload_job.specs.MessageFields.Keys.{IsKey}
+use Rattle.upload_job.specs.Messages.request.Request.{Request}
+use Rattle.upload_job.specs.Messages.request.Request.TheVariants as requests
+use Rattle.upload_job.specs.Messages.reply.Reply.{Reply}
+use Rattle.upload_job.specs.Messages.reply.Reply.TheVariants as replies
+use Rattle.upload_job.specs.Messages.Replies.{FitsReply}
+use Rattle.upload_job.specs.Recipe.recipe.Recipe.{Recipe}
+use Rattle.upload_job.specs.Recipe.Spelling.{IsRecipe}
+use Rattle.upload_job.specs.UserDedup.Cloud.{fingerprint}
 use Rattle.upload_job.specs.declared.news.LaneNews.{LaneNews}
 use Rattle.upload_job.specs.declared.news.LaneErr.{LaneErr}
 use Rattle.upload_job.specs.declared.news.LaneErr.TheVariants as errors

@@ -11,3 +11,8 @@ pub mod Suits
 pub mod Telling
 pub mod Views
 pub mod Works
+pub mod UploadJob
+pub mod RecipeLaws
+pub mod UserDedup
+pub mod FileRecipe
+pub mod CaontRs

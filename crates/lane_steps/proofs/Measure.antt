@@ -2,9 +2,9 @@
 use Rattle.std.proofs.Common.{◌≡◌, ℕ, ◌+◌, ◌*◌, ◌<◌, ◌≤◌, Bool, true, false, cond, List, [], ◌∷◌, length, Some, None, refl, arith}
 use Rattle.std.specs.List.{list_all}
 use Rattle.std.specs.Prelude.{◌==◌}
-use Rattle.messages.specs.declared.request.Request.{Request}
-use Rattle.messages.specs.declared.reply.Reply.{Reply}
-use Rattle.messages.specs.declared.reply.Reply.TheVariants as replies
+use Rattle.upload_job.specs.Messages.request.Request.{Request}
+use Rattle.upload_job.specs.Messages.reply.Reply.{Reply}
+use Rattle.upload_job.specs.Messages.reply.Reply.TheVariants as replies
 use Rattle.upload_job.specs.Upload.{Work}
 use Rattle.upload_job.specs.Lane.{LaneState, Asking, Sending, Committing, Done, Refused, onward, beginning, lane_request, lane_after}
 use Rattle.lane_steps.specs.Runs.{Progress, request_of, progress_after, is_lacking, stops_at, steps_left, left_of}

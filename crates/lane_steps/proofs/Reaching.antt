@@ -6,19 +6,19 @@ use Rattle.std.proofs.Math.Nat.{mul-le-mul_right}
 use Rattle.std.proofs.lemmas.List.{length-take, length-drop}
 use Rattle.std.proofs.lemmas.List.Elements.{All-nil, All-cons, All-head, All-tail, All-take, All-drop, All-map, All-from_get_or}
 use Rattle.sha2.proofs.Facts256.{length-sha256}
-use Rattle.cd_base.specs.Lengths.{share_len_of}
-use Rattle.cd_base.specs.Limits.{IsPath}
-use Rattle.cd_base.specs.declared.ids.Fp.{Fp}
-use Rattle.cd_base.specs.declared.shape.Shape.{Shape}
-use Rattle.caont_rs.specs.Package.{share, tag, package_of}
-use Rattle.caont_rs.proofs.Opened.{length-share, pad_fits}
-use Rattle.file_recipe.specs.FileRecipe.{secrets, recipe_of}
-use Rattle.file_recipe.proofs.Recipes.{recipe_fits}
-use Rattle.file_recipe.proofs.Secrets.{IsSecret, secret_at}
-use Rattle.message_fields.specs.Shares.{IsShare, AreShares}
-use Rattle.messages.specs.declared.request.Request.{Request}
-use Rattle.user_dedup.specs.Cloud.{fingerprint}
-use Rattle.user_dedup.specs.Owning.{is_among, new_strings}
+use Rattle.grammar.specs.CdBase.Lengths.{share_len_of}
+use Rattle.grammar.specs.CdBase.Limits.{IsPath}
+use Rattle.grammar.specs.CdBase.ids.Fp.{Fp}
+use Rattle.grammar.specs.CdBase.shape.Shape.{Shape}
+use Rattle.upload_job.specs.CaontRs.Package.{share, tag, package_of}
+use Rattle.upload_job.proofs.CaontRs.Opened.{length-share, pad_fits}
+use Rattle.upload_job.specs.FileRecipe.FileRecipe.{secrets, recipe_of}
+use Rattle.upload_job.proofs.FileRecipe.Recipes.{recipe_fits}
+use Rattle.upload_job.proofs.FileRecipe.Secrets.{IsSecret, secret_at}
+use Rattle.upload_job.specs.MessageFields.Shares.{IsShare, AreShares}
+use Rattle.upload_job.specs.Messages.request.Request.{Request}
+use Rattle.upload_job.specs.UserDedup.Cloud.{fingerprint}
+use Rattle.upload_job.specs.UserDedup.Owning.{is_among, new_strings}
 use Rattle.upload_job.specs.declared.news.LaneNews.{LaneNews}
 use Rattle.upload_job.specs.declared.news.LaneErr.{LaneErr}
 use Rattle.upload_job.specs.Upload.{FileVersion, in_batches, shares_for, wanted_for, work_of}

@@ -6,13 +6,13 @@ use Rattle.std.specs.List.{list_all, count_by, AllByRecursion, range_with_len}
 use Rattle.std.proofs.lemmas.Bool.{cases_lt}
 use Rattle.std.proofs.lemmas.List.{length-map}
 use Rattle.std.proofs.lemmas.List.Elements.{All-nil, All-cons, All-head, All-tail}
-use Rattle.cd_base.specs.Limits.{IsPath}
-use Rattle.cd_base.specs.declared.shape.Shape.{Shape}
-use Rattle.message_fields.specs.Flags.{AreFlags}
-use Rattle.message_fields.specs.Shares.{AreShares}
-use Rattle.messages.specs.declared.reply.Reply.TheVariants as replies
-use Rattle.messages.specs.Replies.{reply_bytes}
-use Rattle.user_dedup.specs.Cloud.{fingerprint}
+use Rattle.grammar.specs.CdBase.Limits.{IsPath}
+use Rattle.grammar.specs.CdBase.shape.Shape.{Shape}
+use Rattle.upload_job.specs.MessageFields.Flags.{AreFlags}
+use Rattle.upload_job.specs.MessageFields.Shares.{AreShares}
+use Rattle.upload_job.specs.Messages.reply.Reply.TheVariants as replies
+use Rattle.upload_job.specs.Messages.Replies.{reply_bytes}
+use Rattle.upload_job.specs.UserDedup.Cloud.{fingerprint}
 use Rattle.upload_job.specs.declared.news.LaneNews.{LaneNews}
 use Rattle.upload_job.specs.declared.news.LaneNews.TheVariants as news
 use Rattle.upload_job.specs.Lane.{LaneState, Asking, Sending, Committing, Done, onward}

@@ -4,31 +4,31 @@ use Rattle.std.specs.Int.{w32, w64, to_be_bytes}
 use Rattle.std.specs.List.{flat_map, AllByRecursion}
 use Rattle.std.proofs.lemmas.List.Concat.{flat_map-cons}
 use Rattle.std.proofs.lemmas.List.Elements.{recursion_from_All}
-use Rattle.cd_base.specs.declared.ids.Fp.{Fp}
-use Rattle.cd_base.specs.declared.ids.Tag.{Tag}
-use Rattle.cd_base.specs.declared.ids.UserId.{UserId}
-use Rattle.cd_base.specs.declared.ids.Version.{Version}
-use Rattle.cd_base.specs.declared.shape.Shape.{Shape}
+use Rattle.grammar.specs.CdBase.ids.Fp.{Fp}
+use Rattle.grammar.specs.CdBase.ids.Tag.{Tag}
+use Rattle.grammar.specs.CdBase.ids.UserId.{UserId}
+use Rattle.grammar.specs.CdBase.ids.Version.{Version}
+use Rattle.grammar.specs.CdBase.shape.Shape.{Shape}
 use Rattle.grammar.proofs.Laws.{Whole, lawful_then, lawful_whole}
 use Rattle.grammar.proofs.FieldLaws.{IsBytes, Anything}
-use Rattle.message_fields.specs.Fingerprints.{fps_bytes, AreFps}
-use Rattle.message_fields.specs.Shares.{share_bytes, shares_bytes, IsShare, AreShares}
-use Rattle.message_fields.specs.Keys.{key_bytes, IsKey}
-use Rattle.message_fields.proofs.PartLaws.{lawful_u32}
-use Rattle.message_fields.proofs.FpLaws.{lawful_fps}
-use Rattle.message_fields.proofs.ShareLaws.{lawful_shares}
-use Rattle.message_fields.proofs.KeyLaws.{lawful_key}
-use Rattle.messages.specs.declared.request.Request.{Request}
-use Rattle.messages.specs.declared.request.Request.TheVariants as requests
-use Rattle.messages.specs.Parts.{placed}
-use Rattle.messages.specs.Requests.{request_bytes, FitsRequest}
-use Rattle.messages.specs.RequestReading.{query_left, put_left, commit_left, fields_left, request_left, request_at}
-use Rattle.messages.proofs.ByKind.{whole_rest}
-use Rattle.recipe.specs.declared.recipe.Recipe.{Recipe}
-use Rattle.recipe.specs.Spelling.{IsRecipe}
-use Rattle.recipe.specs.Reading.{recipe_at}
-use Rattle.recipe.proofs.Written.{again, longest, length-spelling}
-use Rattle.user_dedup.specs.Requests.{HasRecipe, recipe_read, whole_read, asked_at}
+use Rattle.upload_job.specs.MessageFields.Fingerprints.{fps_bytes, AreFps}
+use Rattle.upload_job.specs.MessageFields.Shares.{share_bytes, shares_bytes, IsShare, AreShares}
+use Rattle.upload_job.specs.MessageFields.Keys.{key_bytes, IsKey}
+use Rattle.upload_job.proofs.MessageFields.PartLaws.{lawful_u32}
+use Rattle.upload_job.proofs.MessageFields.FpLaws.{lawful_fps}
+use Rattle.upload_job.proofs.MessageFields.ShareLaws.{lawful_shares}
+use Rattle.upload_job.proofs.MessageFields.KeyLaws.{lawful_key}
+use Rattle.upload_job.specs.Messages.request.Request.{Request}
+use Rattle.upload_job.specs.Messages.request.Request.TheVariants as requests
+use Rattle.upload_job.specs.Messages.Parts.{placed}
+use Rattle.upload_job.specs.Messages.Requests.{request_bytes, FitsRequest}
+use Rattle.upload_job.specs.Messages.RequestReading.{query_left, put_left, commit_left, fields_left, request_left, request_at}
+use Rattle.upload_job.proofs.Messages.ByKind.{whole_rest}
+use Rattle.upload_job.specs.Recipe.recipe.Recipe.{Recipe}
+use Rattle.upload_job.specs.Recipe.Spelling.{IsRecipe}
+use Rattle.upload_job.specs.Recipe.Reading.{recipe_at}
+use Rattle.upload_job.proofs.RecipeLaws.Written.{again, longest, length-spelling}
+use Rattle.upload_job.specs.UserDedup.Requests.{HasRecipe, recipe_read, whole_read, asked_at}
 
 -- A cloud of the shape reads the request from its bytes, which are a frame's.
 pub record IsSent (shape : Shape) (request : Request) : Type 0 where

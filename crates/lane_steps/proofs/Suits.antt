@@ -1,22 +1,22 @@
 -- A cloud that stands for something gives a reply that the lane's request may have.
 use Rattle.std.proofs.Common.{◌≡◌, inl, inr, ℕ, ◌<◌, Bool, true, false, List, length, map, Option, Some, None, refl, sym, subst}
 use Rattle.std.specs.Bool.{MatchBool}
-use Rattle.cd_base.specs.declared.ids.Fp.{Fp}
-use Rattle.cd_base.specs.declared.ids.UserId.{UserId}
-use Rattle.messages.specs.declared.request.Request.{Request}
-use Rattle.messages.specs.declared.request.Request.TheVariants as requests
-use Rattle.messages.specs.declared.reply.Reply.{Reply}
-use Rattle.messages.specs.declared.reply.Reply.TheVariants as replies
-use Rattle.messages.specs.Answering.{IsReplyTo}
-use Rattle.messages.specs.Requests.{FitsRequest}
-use Rattle.user_dedup.specs.Cloud.{fingerprint}
-use Rattle.user_dedup.specs.Requests.{HasRecipe, fps_of}
-use Rattle.user_dedup.specs.Exec.{Peer, ExecTold, ExecUntold, items_of}
-use Rattle.user_dedup.specs.Link.{LinkTelling, TellsSound, Does, serves}
-use Rattle.user_dedup.proofs.Suiting.{served_suits}
+use Rattle.grammar.specs.CdBase.ids.Fp.{Fp}
+use Rattle.grammar.specs.CdBase.ids.UserId.{UserId}
+use Rattle.upload_job.specs.Messages.request.Request.{Request}
+use Rattle.upload_job.specs.Messages.request.Request.TheVariants as requests
+use Rattle.upload_job.specs.Messages.reply.Reply.{Reply}
+use Rattle.upload_job.specs.Messages.reply.Reply.TheVariants as replies
+use Rattle.upload_job.specs.Messages.Answering.{IsReplyTo}
+use Rattle.upload_job.specs.Messages.Requests.{FitsRequest}
+use Rattle.upload_job.specs.UserDedup.Cloud.{fingerprint}
+use Rattle.upload_job.specs.UserDedup.Requests.{HasRecipe, fps_of}
+use Rattle.upload_job.specs.UserDedup.Exec.{Peer, ExecTold, ExecUntold, items_of}
+use Rattle.upload_job.specs.UserDedup.Link.{LinkTelling, TellsSound, Does, serves}
+use Rattle.upload_job.proofs.UserDedup.Suiting.{served_suits}
 use Rattle.upload_job.specs.Upload.{Work}
 use Rattle.upload_job.specs.Lane.{LaneState, Asking, Sending, Committing, Done, Refused, unflagged, lane_request, IsAnswer}
-use Rattle.cd_base.specs.declared.shape.Shape.{Shape}
+use Rattle.grammar.specs.CdBase.shape.Shape.{Shape}
 
 pub does_suit : {L : Type 0} (t : LinkTelling L) (cloud : ℕ) (old : L) (p q : Peer) (request : Request) (reply : Reply) → TellsSound t old → cloud < 256 → FitsRequest request → HasRecipe (t.shape old) request
     → t.stands old cloud p → Does t cloud old p request reply q → IsReplyTo (items_of (t.shape old) request) request reply

@@ -2,13 +2,13 @@
 use Rattle.std.proofs.Common.{◌≡◌, ℕ, zero, suc, ◌≤◌, List, [], ◌∷◌, length, map, Some, None, Result, sym, ap, ◌∙◌, subst}
 use Rattle.std.specs.List.{AllByRecursion, range_with_len}
 use Rattle.std.proofs.lemmas.List.{length-map}
-use Rattle.cd_base.specs.Limits.{IsPath}
-use Rattle.cd_base.specs.declared.shape.Shape.{Shape}
-use Rattle.caont_rs.specs.Package.{share}
-use Rattle.file_recipe.specs.FileRecipe.{secrets}
-use Rattle.messages.specs.declared.request.Request.{Request}
-use Rattle.user_dedup.specs.Cloud.{fingerprint}
-use Rattle.user_dedup.specs.Requests.{fps_of}
+use Rattle.grammar.specs.CdBase.Limits.{IsPath}
+use Rattle.grammar.specs.CdBase.shape.Shape.{Shape}
+use Rattle.upload_job.specs.CaontRs.Package.{share}
+use Rattle.upload_job.specs.FileRecipe.FileRecipe.{secrets}
+use Rattle.upload_job.specs.Messages.request.Request.{Request}
+use Rattle.upload_job.specs.UserDedup.Cloud.{fingerprint}
+use Rattle.upload_job.specs.UserDedup.Requests.{fps_of}
 use Rattle.upload_job.specs.declared.news.LaneNews.{LaneNews}
 use Rattle.upload_job.specs.declared.news.LaneErr.{LaneErr}
 use Rattle.upload_job.specs.Upload.{FileVersion, shares_for, work_of}

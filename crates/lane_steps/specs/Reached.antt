@@ -1,8 +1,8 @@
 -- The lanes to which a job comes: those of some version of a file, and then one reply after the other.
 use Rattle.std.specs.Prelude.{ℕ, ◌<◌, ◌≤◌, ◌^◌, List, length, Result}
-use Rattle.cd_base.specs.Limits.{IsPath}
-use Rattle.cd_base.specs.declared.shape.Shape.{Shape}
-use Rattle.recipe.specs.Spelling.{file_limit}
+use Rattle.grammar.specs.CdBase.Limits.{IsPath}
+use Rattle.grammar.specs.CdBase.shape.Shape.{Shape}
+use Rattle.upload_job.specs.Recipe.Spelling.{file_limit}
 use Rattle.upload_job.specs.declared.news.LaneNews.{LaneNews}
 use Rattle.upload_job.specs.declared.news.LaneErr.{LaneErr}
 use Rattle.upload_job.specs.Upload.{FileVersion}

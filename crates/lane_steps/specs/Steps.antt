@@ -1,19 +1,19 @@
 -- What a step of a lane does to a link and to the job, and a lane that goes on to its end.
 use Rattle.std.specs.Prelude.{◌≡◌, ◌⊎◌, ℕ, Bool, true, false, List, [], ◌∷◌, ◌++◌, Option, Some, None, Result, Ok, Err}
 use Rattle.cd_edges.specs.Causes.{Rose}
-use Rattle.messages.specs.declared.request.Request.{Request}
-use Rattle.messages.specs.declared.reply.Reply.{Reply}
-use Rattle.messages.specs.Replies.{IsReply}
-use Rattle.messages.specs.Requests.{request_bytes}
-use Rattle.user_dedup.specs.Requests.{asked_at}
-use Rattle.user_dedup.specs.Exec.{Peer}
-use Rattle.user_dedup.specs.Link.{LinkTelling, Talk, Does, LosesAsk, LeavesOthers, SaysNothingElse, first_reply, said}
+use Rattle.upload_job.specs.Messages.request.Request.{Request}
+use Rattle.upload_job.specs.Messages.reply.Reply.{Reply}
+use Rattle.upload_job.specs.Messages.Replies.{IsReply}
+use Rattle.upload_job.specs.Messages.Requests.{request_bytes}
+use Rattle.upload_job.specs.UserDedup.Requests.{asked_at}
+use Rattle.upload_job.specs.UserDedup.Exec.{Peer}
+use Rattle.upload_job.specs.UserDedup.Link.{LinkTelling, Talk, Does, LosesAsk, LeavesOthers, SaysNothingElse, first_reply, said}
 use Rattle.upload_job.specs.declared.news.LaneNews.{LaneNews}
 use Rattle.upload_job.specs.declared.news.LaneNews.TheVariants as news
 use Rattle.upload_job.specs.declared.news.LaneErr.TheVariants as lane_errors
 use Rattle.upload_job.specs.Lane.{Refused, news_of, IsAnswer}
-use Rattle.upload_job.specs.Lanes.{LaneView, with_state, first_byte, Says, AnswersAt}
-use Rattle.lane_steps.specs.Runs.{Turn, Progress, starting, moved, request_of, LaneRun, LaneAlong, Tell, lane_at}
+use Rattle.upload_job.specs.Lanes.{LaneView, with_state, first_byte, IsReplyToLane, AnswersAt}
+use Rattle.lane_steps.specs.Runs.{LaneTurn, Progress, starting, moved, request_of, LaneRun, LaneAlong, Tell, lane_at}
 use Rattle.lane_steps.specs.declared.error.StepErr.{StepErr}
 use Rattle.lane_steps.specs.declared.error.StepErr.TheVariants as errors
 
@@ -55,7 +55,7 @@ pub record LostAsk {L : Type 0} (t : LinkTelling L) (cloud : ℕ) (old : L) (req
 pub record StrangeAsk {L : Type 0} (t : LinkTelling L) (talk : Talks L) (cloud : ℕ) (lane : LaneView)
     (old : L) (request : Request) (kind : ℕ) (new : L) : Type 0 where
   pub bytes : List ℕ
-  pub none : (reply : Reply) → ¬ (Says lane bytes reply)
+  pub none : (reply : Reply) → ¬ (IsReplyToLane lane bytes reply)
   pub first : kind ≡ first_byte bytes
   pub passed : Passed t talk cloud old request bytes new
   pub unheard : (p : Peer) → ¬ (t.stands old cloud p)
@@ -132,12 +132,12 @@ LosesBy result before after = Unit {0}
 abbrev pub Finishes : {L : Type 0} → LinkTelling L → Talks L → ℕ → L
     → List LaneView → List LaneNews → Result (Unit {0}) StepErr → L → List LaneView → List LaneNews → Type 0
 Finishes {L} t talk cloud old views before (Ok u) new after now =
-    (turns : List (Turn L)) × (last : Progress) × (told : List LaneNews)
+    (turns : List (LaneTurn L)) × (last : Progress) × (told : List LaneNews)
     × LaneRun (Heard t talk cloud) (starting (lane_at views cloud)) old turns last new
     × Tell (lane_at views cloud) turns told
     × (now ≡ before ++ told) × (after ≡ with_state views cloud last.lane.state)
 Finishes {L} t talk cloud old views before (Err e) new after now =
-    (turns : List (Turn L)) × (at : Progress) × (told : List LaneNews) × (mid : L)
+    (turns : List (LaneTurn L)) × (at : Progress) × (told : List LaneNews) × (mid : L)
     × LaneAlong (Heard t talk cloud) (starting (lane_at views cloud)) old turns at mid
     × Tell (lane_at views cloud) turns told
     × (now ≡ before ++ told) × (at.stopped ≡ false)
@@ -160,14 +160,14 @@ stops_by lacked told = false
 -- ---- runs
 
 -- the same requests and replies
-abbrev pub SayTheSame : {S T : Type 0} → List (Turn S) → List (Turn T) → Type 0
+abbrev pub SayTheSame : {S T : Type 0} → List (LaneTurn S) → List (LaneTurn T) → Type 0
 SayTheSame [] [] = Unit {0}
 SayTheSame [] (t ∷ turns) = ⊥
 SayTheSame (s ∷ others) [] = ⊥
 SayTheSame (s ∷ others) (t ∷ turns) = (t.request ≡ s.request) × (t.reply ≡ s.reply) × SayTheSame others turns
 
 -- the requests were sent one after another, and the replies taken that were to come
-abbrev pub TalksBy : {S : Type 0} → List (Turn S) → Talk → Talk → Type 0
+abbrev pub TalksBy : {S : Type 0} → List (LaneTurn S) → Talk → Talk → Type 0
 TalksBy [] before after = after ≡ before
 TalksBy (t ∷ turns) before after =
     IsReply (first_reply before.coming) t.reply × TalksBy turns (said before (request_bytes t.request)) after

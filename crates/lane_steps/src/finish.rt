@@ -1,17 +1,15 @@
 //! A lane to its end.
 
 ghost use Rattle.std.specs.Prelude.{◌≡◌, ◌<◌, ◌≤◌, length, IsTrue};
-ghost use Rattle.user_dedup.specs.Link.{LeavesOthers};
+ghost use Rattle.upload_job.specs.UserDedup.Link.{LeavesOthers};
 ghost use Rattle.lane_steps.specs.Reached.{IsReached, IsOnItsWay};
 ghost use Rattle.lane_steps.specs.Steps.{Finishes, IsFound, LosesBy};
 
 use crate::StepErr;
 use crate::news::{has_lacked, make_room, stops, tell};
 use crate::step::step_any;
-use cd_base::{Bytes, CloudNo, NoMemory};
-use frames::ReplyBuf;
-use upload_job::{Job, LaneNews};
-use user_dedup::Link;
+use grammar::{Bytes, CloudNo, NoMemory};
+use upload_job::{Job, LaneNews, Link, ReplyBuf};
 
 /// The same as `finish_lane`, of a job for all clouds or for one alone, as `Job::for_lane` makes it.
 pub fn finish_any<L: Link>(

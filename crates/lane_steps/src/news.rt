@@ -3,7 +3,7 @@
 ghost use Rattle.std.specs.Prelude.{◌≡◌, ◌+◌, ◌<◌, ◌≤◌, ◌++◌, ◌∷◌, [], ◌||◌, vec_len, vec_capacity, OnOk};
 ghost use Rattle.lane_steps.specs.Steps.{stops_by, tells_lack};
 
-use cd_base::NoMemory;
+use grammar::NoMemory;
 use upload_job::LaneNews;
 
 /// Whether the news stop a lane whose cloud has lacked a share already, or hasn't.

@@ -1,14 +1,14 @@
 //! What a job asks, a cloud reads.
 
 ghost use Rattle.std.specs.Prelude.{◌≡◌, ◌<◌, ◌≤◌, ◌^◌, ℕ, List, length, Some, Ok, false};
-ghost use Rattle.cd_base.specs.Limits.{IsPath};
-ghost use Rattle.cd_base.specs.declared.shape.Shape.{Shape};
-ghost use Rattle.frames.specs.Frames.{frame_limit};
-ghost use Rattle.messages.specs.declared.request.Request.{Request};
-ghost use Rattle.messages.specs.declared.reply.Reply.{Reply};
-ghost use Rattle.messages.specs.Requests.{request_bytes, FitsRequest};
-ghost use Rattle.user_dedup.specs.Requests.{HasRecipe, asked_at};
-ghost use Rattle.recipe.specs.Spelling.{file_limit};
+ghost use Rattle.grammar.specs.CdBase.Limits.{IsPath};
+ghost use Rattle.grammar.specs.CdBase.shape.Shape.{Shape};
+ghost use Rattle.upload_job.specs.Frames.Frames.{frame_limit};
+ghost use Rattle.upload_job.specs.Messages.request.Request.{Request};
+ghost use Rattle.upload_job.specs.Messages.reply.Reply.{Reply};
+ghost use Rattle.upload_job.specs.Messages.Requests.{request_bytes, FitsRequest};
+ghost use Rattle.upload_job.specs.UserDedup.Requests.{HasRecipe, asked_at};
+ghost use Rattle.upload_job.specs.Recipe.Spelling.{file_limit};
 ghost use Rattle.upload_job.specs.Lanes.{LaneView, lanes_resumed, request_at};
 ghost use Rattle.upload_job.specs.Upload.{FileVersion};
 ghost use Rattle.lane_steps.specs.Reached.{IsReached, IsOnItsWay};

@@ -1,19 +1,17 @@
 //! One step of a lane.
 
 ghost use Rattle.std.specs.Prelude.{◌≡◌, ◌<◌, ◌≤◌, ℕ, List, length, IsTrue, IsSome, Some, Ok, Err};
-ghost use Rattle.cd_base.specs.Reading.{AreBytes};
-ghost use Rattle.messages.specs.declared.request.Request.{Request};
-ghost use Rattle.messages.specs.Requests.{request_bytes};
-ghost use Rattle.user_dedup.specs.Link.{LeavesOthers};
+ghost use Rattle.grammar.specs.CdBase.Reading.{AreBytes};
+ghost use Rattle.upload_job.specs.Messages.request.Request.{Request};
+ghost use Rattle.upload_job.specs.Messages.Requests.{request_bytes};
+ghost use Rattle.upload_job.specs.UserDedup.Link.{LeavesOthers};
 ghost use Rattle.upload_job.specs.Lanes.{request_at};
 ghost use Rattle.lane_steps.specs.Reached.{IsReached, IsOnItsWay};
 ghost use Rattle.lane_steps.specs.Steps.{AsksFor, LaneSteps, IsFound, Takes, TakesReply};
 
 use crate::StepErr;
-use cd_base::{Bytes, CloudNo, NoMemory};
-use frames::ReplyBuf;
-use upload_job::{Job, LaneErr, LaneNews};
-use user_dedup::{Link, Lost};
+use grammar::{Bytes, CloudNo, NoMemory};
+use upload_job::{Job, LaneErr, LaneNews, Link, Lost, ReplyBuf};
 
 // The lane takes the reply to its request.
 fn take_reply(job: &mut Job, lane: CloudNo, content: &[u8]) -> Result<LaneNews, StepErr>

@@ -2,11 +2,11 @@
 use Rattle.std.proofs.Common.{ap, refl}
 use Rattle.std.specs.Prelude.{option_map}
 use Rattle.std.specs.FinMap.{get}
-use Rattle.cloud_memory.specs.declared.cloud.CloudMemory.{CloudMemory}
-use Rattle.cloud_memory.specs.Fitting.{FitsRecords}
-use Rattle.cloud_memory.specs.Memory.{Memory, summary}
-use Rattle.cloud_memory.specs.Rooms.{memory_of}
-use Rattle.checkpoints.specs.Known.{AreListed}
+use Rattle.compact_memories.specs.CloudMemory.cloud.CloudMemory.{CloudMemory}
+use Rattle.compact_memories.specs.CloudMemory.Fitting.{FitsRecords}
+use Rattle.compact_memories.specs.CloudMemory.Memory.{Memory, summary}
+use Rattle.compact_memories.specs.CloudMemory.Rooms.{memory_of}
+use Rattle.compact_memories.specs.Checkpoints.Known.{AreListed}
 use Rattle.compact_memories.specs.Kept.{IsCompacted}
 use Rattle.compact_memories.proofs.Compacted.{IsLike}
 use Rattle.compact_memories.proofs.Fits.{like_fits}

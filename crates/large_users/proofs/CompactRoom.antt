@@ -4,33 +4,33 @@ use Rattle.std.specs.List.{Contains}
 use Rattle.std.proofs.lemmas.Bool.{cases_lt}
 use Rattle.std.proofs.lemmas.List.{get_or_past}
 use native.Mathlib.Nat.{mul-add, mul_left_comm, mul_comm}
-use Rattle.cd_base.specs.declared.ids.Fp.{Fp}
-use Rattle.cd_base.specs.declared.ids.UserId.{UserId}
-use Rattle.cd_base.specs.declared.place.Place.{Place}
-use Rattle.file_index.specs.declared.key.Entry.{Entry}
-use Rattle.file_index.specs.declared.key.FileKey.{FileKey}
-use Rattle.journal_halves.specs.Halves.{half_limit}
-use Rattle.journal_start.specs.declared.rooms.Rooms.{Rooms}
-use Rattle.pool_map.specs.Accounts.{keys_of}
+use Rattle.record_bodies.specs.CdBase.ids.Fp.{Fp}
+use Rattle.record_bodies.specs.CdBase.ids.UserId.{UserId}
+use Rattle.record_bodies.specs.CdBase.place.Place.{Place}
+use Rattle.compact_memories.specs.FileIndex.key.Entry.{Entry}
+use Rattle.compact_memories.specs.FileIndex.key.FileKey.{FileKey}
+use Rattle.migration_model.specs.JournalHalves.Halves.{half_limit}
+use Rattle.compact_memories.specs.JournalStart.rooms.UserRooms.{UserRooms}
+use Rattle.compact_memories.specs.PoolMap.Accounts.{keys_of}
 use Rattle.record_bodies.specs.declared.body.KeptItem.{KeptItem}
 use Rattle.record_bodies.specs.Spelling as bodies
 use Rattle.record_bodies.specs.Spelling.{Body}
-use Rattle.share_index.specs.declared.key.Owner.{Owner}
-use Rattle.share_index.specs.Shares.{owners_of}
-use Rattle.spent_table.specs.declared.Spent.{Spent as Row}
-use Rattle.spent_table.specs.Spending.{spent_by}
-use Rattle.spent_table.specs.Spending as rows
-use Rattle.user_dedup.proofs.Owned.{contains_here}
-use Rattle.user_dedup.specs.Spending.{Spent, limits_of}
-use Rattle.cloud_areas.specs.Checkpoints.{put_body}
-use Rattle.cloud_memory.specs.declared.cloud.CloudMemory.{CloudMemory}
-use Rattle.cloud_memory.specs.Rooms.{memory_of}
-use Rattle.checkpoints.specs.Laying.{records_len}
-use Rattle.checkpoints.specs.Picking.{batches}
-use Rattle.checkpoints.specs.Records.{owned_at, owned_in, kept_at, kept_from, puts_from, commits_from, spents_from, records_of}
-use Rattle.checkpoints.proofs.KeptLaw.{kept_gives}
-use Rattle.checkpoints.proofs.OwnLaw.{owned_gives}
-use Rattle.checkpoints.proofs.Sought.{from_picked}
+use Rattle.compact_memories.specs.ShareIndex.key.Owner.{Owner}
+use Rattle.compact_memories.specs.ShareIndex.Shares.{owners_of}
+use Rattle.compact_memories.specs.SpentTable.Spent.{Spent as Row}
+use Rattle.compact_memories.specs.SpentTable.Spending.{spent_by}
+use Rattle.compact_memories.specs.SpentTable.Spending as rows
+use Rattle.compact_memories.proofs.UserDedup.Owned.{contains_here}
+use Rattle.compact_memories.specs.UserDedup.Spending.{SpentByUser, limits_of}
+use Rattle.compact_memories.specs.CloudAreas.Checkpoints.{put_body}
+use Rattle.compact_memories.specs.CloudMemory.cloud.CloudMemory.{CloudMemory}
+use Rattle.compact_memories.specs.CloudMemory.Rooms.{memory_of}
+use Rattle.compact_memories.specs.Checkpoints.Laying.{records_len}
+use Rattle.compact_memories.specs.Checkpoints.Picking.{batches}
+use Rattle.compact_memories.specs.Checkpoints.Records.{owned_at, owned_in, kept_at, kept_from, puts_from, commits_from, spents_from, records_of}
+use Rattle.compact_memories.proofs.Checkpoints.KeptLaw.{kept_gives}
+use Rattle.compact_memories.proofs.Checkpoints.OwnLaw.{owned_gives}
+use Rattle.compact_memories.proofs.Checkpoints.Sought.{from_picked}
 use Rattle.compact_memories.specs.Kept.{live_at, kept_in, IsCompacted}
 use Rattle.compact_memories.specs.Passes.{entries_of, owned_len, recipes_len}
 use Rattle.compact_memories.proofs.KeptRows.{kept_row}
@@ -44,13 +44,13 @@ empty_list : {X : Type 0} (xs : List X) → ((x : X) → Contains xs x → ⊥) 
 empty_list [] none = refl
 empty_list (x ∷ xs) none = absurd (none x (contains_here x xs))
 
-spread : (rooms : Rooms) → half_limit rooms ≡ 11595 + (97 * (rooms.users * rooms.owners) + 94 * (rooms.users * rooms.files) + 30 * rooms.users)
+spread : (rooms : UserRooms) → half_limit rooms ≡ 11595 + (97 * (rooms.users * rooms.owners) + 94 * (rooms.users * rooms.files) + 30 * rooms.users)
 spread rooms =
     let a = mul-add rooms.users (97 * rooms.owners + 94 * rooms.files) 30 in
     let b = mul-add rooms.users (97 * rooms.owners) (94 * rooms.files) in
     omega (arith, a, b, mul_left_comm rooms.users 97 rooms.owners, mul_left_comm rooms.users 94 rooms.files, mul_comm rooms.users 30)
 
-module _ (rooms : Rooms) (old memory : CloudMemory) (is : IsCompacted old (memory_of memory)) (none : IsNonePassed rooms (memory_of old)) (sized : AreSized memory) where
+module _ (rooms : UserRooms) (old memory : CloudMemory) (is : IsCompacted old (memory_of memory)) (none : IsNonePassed rooms (memory_of old)) (sized : AreSized memory) where
   abbrev user_at : ℕ → UserId
   user_at u = record { 0 = u }
 
@@ -64,7 +64,7 @@ module _ (rooms : Rooms) (old memory : CloudMemory) (is : IsCompacted old (memor
         shares = owned_len memory.shares.places memory.shares.owner_slots u;
         recipes = recipes_len memory.files.slots u;
       } in
-      ap (λ (s : Spent). s.owners) (kept_row memory (user_at u) row sized.listed.owners sized.listed.entries (record { owned = refl; shares = refl; recipes = refl }))
+      ap (λ (s : SpentByUser). s.owners) (kept_row memory (user_at u) row sized.listed.owners sized.listed.entries (record { owned = refl; shares = refl; recipes = refl }))
       ∙ ap (λ o. keys_of (λ (k : Owner). k.user) o u) is.owners
 
   has : (u : ℕ) → length (entries_of u memory.files.slots) ≡ files_in (memory_of old) (user_at u)
@@ -82,7 +82,7 @@ module _ (rooms : Rooms) (old memory : CloudMemory) (is : IsCompacted old (memor
   owned_none u past =
       let w = within_limits rooms (user_at u) (kept_in (memory_of old) (user_at u)) (files_in (memory_of old) (user_at u)) (none (user_at u)) in
       let le = w.0 in
-      let limit : (limits_of rooms (user_at u)).owners ≡ 0 = ap (λ (s : Spent). s.owners) (no_limit rooms (user_at u) past) in
+      let limit : (limits_of rooms (user_at u)).owners ≡ 0 = ap (λ (s : SpentByUser). s.owners) (no_limit rooms (user_at u) past) in
       omega (arith, owned u, le, limit)
 
   has_few : (u : ℕ) → has_of memory.files.slots u ≤ rooms.files
@@ -106,12 +106,12 @@ module _ (rooms : Rooms) (old memory : CloudMemory) (is : IsCompacted old (memor
             let limit = no_limit rooms (user_at u) past in
             let row = is.spent (user_at u) below in
             let a = w.0 in let b = w.1 in let c = w.2 in
-            let no_owners : (limits_of rooms (user_at u)).owners ≡ 0 = ap (λ (s : Spent). s.owners) limit in
-            let no_shares : (limits_of rooms (user_at u)).shares ≡ 0 = ap (λ (s : Spent). s.shares) limit in
-            let no_recipes : (limits_of rooms (user_at u)).recipes ≡ 0 = ap (λ (s : Spent). s.recipes) limit in
-            let one : (spent_by memory.spent (user_at u)).owners ≡ 0 = ap (λ (s : Spent). s.owners) row ∙ (let z : (kept_in (memory_of old) (user_at u)).owners ≡ 0 = omega (arith, a, no_owners) in z) in
-            let two : (spent_by memory.spent (user_at u)).shares ≡ 0 = ap (λ (s : Spent). s.shares) row ∙ (let z : (kept_in (memory_of old) (user_at u)).shares ≡ 0 = omega (arith, b, no_shares) in z) in
-            let three : (spent_by memory.spent (user_at u)).recipes ≡ 0 = ap (λ (s : Spent). s.recipes) row ∙ (let z : (kept_in (memory_of old) (user_at u)).recipes ≡ 0 = omega (arith, c, no_recipes) in z) in
+            let no_owners : (limits_of rooms (user_at u)).owners ≡ 0 = ap (λ (s : SpentByUser). s.owners) limit in
+            let no_shares : (limits_of rooms (user_at u)).shares ≡ 0 = ap (λ (s : SpentByUser). s.shares) limit in
+            let no_recipes : (limits_of rooms (user_at u)).recipes ≡ 0 = ap (λ (s : SpentByUser). s.recipes) limit in
+            let one : (spent_by memory.spent (user_at u)).owners ≡ 0 = ap (λ (s : SpentByUser). s.owners) row ∙ (let z : (kept_in (memory_of old) (user_at u)).owners ≡ 0 = omega (arith, a, no_owners) in z) in
+            let two : (spent_by memory.spent (user_at u)).shares ≡ 0 = ap (λ (s : SpentByUser). s.shares) row ∙ (let z : (kept_in (memory_of old) (user_at u)).shares ≡ 0 = omega (arith, b, no_shares) in z) in
+            let three : (spent_by memory.spent (user_at u)).recipes ≡ 0 = ap (λ (s : SpentByUser). s.recipes) row ∙ (let z : (kept_in (memory_of old) (user_at u)).recipes ≡ 0 = omega (arith, c, no_recipes) in z) in
             λ i. record { owners = one i; shares = two i; recipes = three i }
         | inr le ↦ (let users = is.users in get_or_past memory.spent u rows.nothing (omega (arith, le, users)))
       ]

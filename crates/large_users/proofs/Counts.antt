@@ -8,22 +8,22 @@ use Rattle.std.specs.declared.cmp.Ordering.{Ordering}
 use Rattle.std.proofs.lemmas.Bool.{eqb-true, ne_eqb, cases_lt}
 use Rattle.std.proofs.lemmas.List.{length-map, take_all, take_more}
 use Rattle.std.proofs.lemmas.List.Sums.{sum_by-append}
-use Rattle.file_index.specs.declared.key.Entry.{Entry}
-use Rattle.file_index.specs.declared.key.FileKey.{FileKey}
-use Rattle.file_index.specs.Order.{key_cmp, key_exact}
-use Rattle.file_index.proofs.Order.{key_total}
-use Rattle.pool_map.specs.Accounts.{keys_of}
-use Rattle.pool_map.specs.Slots.{slot_of, IsListed}
-use Rattle.share_index.specs.declared.key.Owner.{Owner}
-use Rattle.share_index.proofs.Owning.{value-of}
-use Rattle.user_dedup.proofs.Once.{Once}
-use Rattle.user_dedup.proofs.Owned.{contains_nothing, contains_cases}
-use Rattle.cloud_memory.proofs.KeyCounts.{few_keys, many_keys}
-use Rattle.checkpoints.specs.Picking.{onto, picked}
-use Rattle.checkpoints.proofs.Picks.{picked-append}
-use Rattle.checkpoints.proofs.Apartness.{Apart, in_map, from_map}
-use Rattle.checkpoints.proofs.Sought.{from_picked, in_picked, apart_picked, map_picked}
-use Rattle.compact_lists.proofs.Sums.{sum_alike, sum_mapped}
+use Rattle.compact_memories.specs.FileIndex.key.Entry.{Entry}
+use Rattle.compact_memories.specs.FileIndex.key.FileKey.{FileKey}
+use Rattle.compact_memories.specs.FileIndex.Order.{key_cmp, key_exact}
+use Rattle.compact_memories.proofs.FileIndexLaws.Order.{key_total}
+use Rattle.compact_memories.specs.PoolMap.Accounts.{keys_of}
+use Rattle.compact_memories.specs.PoolMap.Slots.{slot_of, IsListed}
+use Rattle.compact_memories.specs.ShareIndex.key.Owner.{Owner}
+use Rattle.compact_memories.proofs.ShareIndexLaws.Owning.{value-of}
+use Rattle.compact_memories.proofs.UserDedup.Once.{Once}
+use Rattle.compact_memories.proofs.UserDedup.Owned.{contains_nothing, contains_cases}
+use Rattle.compact_memories.proofs.CloudMemoryLaws.KeyCounts.{few_keys, many_keys}
+use Rattle.compact_memories.specs.Checkpoints.Picking.{onto, picked}
+use Rattle.compact_memories.proofs.Checkpoints.Picks.{picked-append}
+use Rattle.compact_memories.proofs.Checkpoints.Apartness.{Apart, in_map, from_map}
+use Rattle.compact_memories.proofs.Checkpoints.Sought.{from_picked, in_picked, apart_picked, map_picked}
+use Rattle.compact_memories.proofs.CompactLists.Sums.{sum_alike, sum_mapped}
 use Rattle.compact_memories.specs.Passes.{entry_at, entries_of, recipes_len}
 use Rattle.compact_memories.proofs.Weights.{sum_keys}
 use Rattle.large_users.specs.declared.large.Entries.{Entries}

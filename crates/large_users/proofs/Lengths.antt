@@ -8,31 +8,31 @@ use Rattle.std.proofs.lemmas.List.{map-append}
 use Rattle.std.proofs.lemmas.List.Concat.{flat_map-cons}
 use Rattle.std.proofs.lemmas.List.Elements.{Contains-append_left, Contains-append_right}
 use native.Mathlib.Nat.{mul-add}
-use Rattle.cd_base.specs.declared.ids.Fp.{Fp}
-use Rattle.cd_base.specs.declared.place.Place.{Place}
-use Rattle.cd_base.specs.Order.{fp_cmp}
+use Rattle.record_bodies.specs.CdBase.ids.Fp.{Fp}
+use Rattle.record_bodies.specs.CdBase.place.Place.{Place}
+use Rattle.record_bodies.specs.CdBase.Order.{fp_cmp}
 use Rattle.std.specs.FinMap.{FinMap}
-use Rattle.file_index.specs.declared.key.Entry.{Entry}
-use Rattle.file_index.specs.declared.key.FileKey.{FileKey}
-use Rattle.share_index.specs.declared.key.Owner.{Owner}
-use Rattle.share_index.specs.Shares.{Shares}
-use Rattle.spent_table.specs.declared.Spent.{Spent as Row}
-use Rattle.spent_table.specs.Spending as rows
-use Rattle.record_body.specs.declared.body.PutItem.{PutItem}
-use Rattle.record_body.specs.declared.body.CommitBody.{CommitBody}
-use Rattle.record_body.specs.Spelling.{placed_bytes, item_bytes}
+use Rattle.compact_memories.specs.FileIndex.key.Entry.{Entry}
+use Rattle.compact_memories.specs.FileIndex.key.FileKey.{FileKey}
+use Rattle.compact_memories.specs.ShareIndex.key.Owner.{Owner}
+use Rattle.compact_memories.specs.ShareIndex.Shares.{Shares}
+use Rattle.compact_memories.specs.SpentTable.Spent.{Spent as Row}
+use Rattle.compact_memories.specs.SpentTable.Spending as rows
+use Rattle.record_bodies.specs.RecordBody.body.PutItem.{PutItem}
+use Rattle.record_bodies.specs.RecordBody.body.CommitBody.{CommitBody}
+use Rattle.record_bodies.specs.RecordBody.Spelling.{placed_bytes, item_bytes}
 use Rattle.record_bodies.specs.declared.body.SpentBody.{SpentBody}
 use Rattle.record_bodies.specs.Spelling as bodies
 use Rattle.record_bodies.specs.Spelling.{Body}
-use Rattle.user_dedup.proofs.Owned.{contains_here, contains_later}
-use Rattle.cloud_areas.specs.Checkpoints.{put_body}
-use Rattle.checkpoints.specs.Laying.{record_len, records_len}
-use Rattle.checkpoints.specs.Picking.{onto, picked, batched, batches}
-use Rattle.message_fields.specs.Fingerprints.{batch_limit}
-use Rattle.checkpoints.specs.Records.{owned_in, listed, items_of, items_from, put_of, puts_from, commit_at, spent_at, spents_of}
-use Rattle.checkpoints.proofs.Apartness.{in_map}
-use Rattle.checkpoints.proofs.FullBatches.{flat_batched}
-use Rattle.checkpoints.proofs.Owns.{fps_are}
+use Rattle.compact_memories.proofs.UserDedup.Owned.{contains_here, contains_later}
+use Rattle.compact_memories.specs.CloudAreas.Checkpoints.{put_body}
+use Rattle.compact_memories.specs.Checkpoints.Laying.{record_len, records_len}
+use Rattle.compact_memories.specs.Checkpoints.Picking.{onto, picked, batched, batches}
+use Rattle.record_bodies.specs.MessageFields.Fingerprints.{batch_limit}
+use Rattle.compact_memories.specs.Checkpoints.Records.{owned_in, listed, items_of, items_from, put_of, puts_from, commit_at, spent_at, spents_of}
+use Rattle.compact_memories.proofs.Checkpoints.Apartness.{in_map}
+use Rattle.compact_memories.proofs.Checkpoints.FullBatches.{flat_batched}
+use Rattle.compact_memories.proofs.Checkpoints.Owns.{fps_are}
 use Rattle.compact_memories.specs.Passes.{entries_of}
 
 -- ---- records behind one another

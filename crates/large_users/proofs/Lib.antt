@@ -3,3 +3,5 @@ pub mod CompactRoom
 pub mod Counts
 pub mod Lengths
 pub mod Passed
+pub mod MigrationModel
+pub mod CompactLists

@@ -7,26 +7,26 @@ use Rattle.std.proofs.lemmas.Bool.{cases_lt}
 use Rattle.std.proofs.lemmas.Bool.Decides.{Decides-ltb}
 use Rattle.std.proofs.lemmas.List.{get_or_past}
 use Rattle.std.proofs.lemmas.List.Sums.{sum_by-cons}
-use Rattle.cd_base.specs.declared.ids.UserId.{UserId}
-use Rattle.cd_base.specs.declared.rooms.Room.{Room}
-use Rattle.cd_base.specs.declared.rooms.Room.TheVariants as names
-use Rattle.cd_base.specs.declared.shape.Shape.{Shape}
-use Rattle.file_index.specs.declared.key.Entry.{Entry}
-use Rattle.file_index.specs.declared.key.FileKey.{FileKey}
-use Rattle.journal_start.specs.declared.rooms.Rooms.{Rooms}
-use Rattle.pool_map.specs.Accounts.{keys_of}
-use Rattle.share_index.specs.declared.key.Owner.{Owner}
-use Rattle.spent_table.specs.declared.Spent.{Spent as Row}
-use Rattle.spent_table.specs.Spending.{spent_by}
-use Rattle.spent_table.specs.Spending as rows
-use Rattle.user_dedup.specs.Dedup.{FullRoom, IsSound}
-use Rattle.user_dedup.specs.declared.command.Command.{Command}
-use Rattle.user_dedup.specs.Spending.{Spent, refusal, limits_of, files_limit, nothing}
-use Rattle.cloud_areas.specs.FormatOne.{passed_room, too_large_for}
-use Rattle.cloud_memory.specs.Memory.{Memory, Remembers, as_spent}
-use Rattle.cloud_memory.specs.Steps.{placed_len}
-use Rattle.cloud_memory.proofs.FullRooms.{files_counted}
-use Rattle.compact_lists.specs.Live.{live_of}
+use Rattle.record_bodies.specs.CdBase.ids.UserId.{UserId}
+use Rattle.record_bodies.specs.CdBase.rooms.Room.{Room}
+use Rattle.record_bodies.specs.CdBase.rooms.Room.TheVariants as names
+use Rattle.record_bodies.specs.CdBase.shape.Shape.{Shape}
+use Rattle.compact_memories.specs.FileIndex.key.Entry.{Entry}
+use Rattle.compact_memories.specs.FileIndex.key.FileKey.{FileKey}
+use Rattle.compact_memories.specs.JournalStart.rooms.UserRooms.{UserRooms}
+use Rattle.compact_memories.specs.PoolMap.Accounts.{keys_of}
+use Rattle.compact_memories.specs.ShareIndex.key.Owner.{Owner}
+use Rattle.compact_memories.specs.SpentTable.Spent.{Spent as Row}
+use Rattle.compact_memories.specs.SpentTable.Spending.{spent_by}
+use Rattle.compact_memories.specs.SpentTable.Spending as rows
+use Rattle.compact_memories.specs.UserDedup.Dedup.{FullRoom, IsSound}
+use Rattle.compact_memories.specs.UserDedup.command.Command.{Command}
+use Rattle.compact_memories.specs.UserDedup.Spending.{SpentByUser, refusal, limits_of, files_limit, nothing}
+use Rattle.compact_memories.specs.CloudAreas.FormatOne.{passed_room, too_large_for}
+use Rattle.compact_memories.specs.CloudMemory.Memory.{Memory, Remembers, as_spent}
+use Rattle.compact_memories.specs.CloudMemory.Steps.{placed_len}
+use Rattle.compact_memories.proofs.CloudMemoryLaws.FullRooms.{files_counted}
+use Rattle.compact_memories.specs.CompactLists.Live.{live_of}
 use Rattle.compact_memories.specs.Kept.{kept_in}
 use Rattle.compact_memories.specs.Tables.{with_table}
 use Rattle.compact_memories.proofs.Keeping.{kept}
@@ -82,8 +82,8 @@ not_below a b le = by_test (nat_lt a b) refl
     by_test true is = absurd (let lt = (Decides-ltb a b).0 is in omega (arith, lt, le))
     by_test false is = refl
 
-module _ (rooms : Rooms) (user : UserId) where
-  abbrev given : Spent
+module _ (rooms : UserRooms) (user : UserId) where
+  abbrev given : SpentByUser
   given = record { owners = rooms.owners; shares = rooms.shares; recipes = rooms.recipes }
 
   pub no_limit : rooms.users ≤ user.0 → limits_of rooms user ≡ nothing
@@ -107,7 +107,7 @@ module _ (rooms : Rooms) (user : UserId) where
       by_test false = omega arith
 
   -- where no room is passed, each use is within its limit
-  pub within_limits : (used : Spent) (files : ℕ) → passed_room rooms user used files ≡ None
+  pub within_limits : (used : SpentByUser) (files : ℕ) → passed_room rooms user used files ≡ None
       → (used.owners ≤ (limits_of rooms user).owners) × (used.shares ≤ (limits_of rooms user).shares) × (used.recipes ≤ (limits_of rooms user).recipes) × (files ≤ files_limit rooms user)
   within_limits used files e =
       let limits = limits_of rooms user in
@@ -121,7 +121,7 @@ module _ (rooms : Rooms) (user : UserId) where
       )
 
   -- where nothing is used, no room is passed
-  nothing_passed : (used : Spent) (files : ℕ) → used.owners ≡ 0 → used.shares ≡ 0 → used.recipes ≡ 0 → files ≡ 0 → passed_room rooms user used files ≡ None
+  nothing_passed : (used : SpentByUser) (files : ℕ) → used.owners ≡ 0 → used.shares ≡ 0 → used.recipes ≡ 0 → files ≡ 0 → passed_room rooms user used files ≡ None
   nothing_passed used files a b c d =
       let limits = limits_of rooms user in
       both_none (refusal names.Owners used.owners 0 limits.owners) _ (none_left names.Owners used.owners limits.owners (omega (arith, a)))
@@ -130,11 +130,11 @@ module _ (rooms : Rooms) (user : UserId) where
       (none_left names.Recipes used.recipes limits.recipes (omega (arith, c))) (none_left names.Files files (files_limit rooms user) (omega (arith, d)))))
 
   -- and where something is, one is
-  something_passed : (used : Spent) (files : ℕ) → rooms.users ≤ user.0 → (1 ≤ used.owners) ⊎ (1 ≤ files) → passed_room rooms user used files ≡ None → ⊥
+  something_passed : (used : SpentByUser) (files : ℕ) → rooms.users ≤ user.0 → (1 ≤ used.owners) ⊎ (1 ≤ files) → passed_room rooms user used files ≡ None → ⊥
   something_passed used files le some e =
       let w = within_limits used files e in
       let own = w.0 in let has = w.3 in
-      let none : (limits_of rooms user).owners ≡ 0 = ap (λ (s : Spent). s.owners) (no_limit le) in
+      let none : (limits_of rooms user).owners ≡ 0 = ap (λ (s : SpentByUser). s.owners) (no_limit le) in
       let no = no_files le in
       elim some [
         | inl one ↦ omega (arith, one, own, none)
@@ -142,10 +142,10 @@ module _ (rooms : Rooms) (user : UserId) where
       ]
 
   -- the owners decide where they pass
-  owners_decide : (one two : Spent) (files others : ℕ) → one.owners ≡ two.owners → rooms.users ≤ user.0 → 1 ≤ one.owners
+  owners_decide : (one two : SpentByUser) (files others : ℕ) → one.owners ≡ two.owners → rooms.users ≤ user.0 → 1 ≤ one.owners
       → passed_room rooms user one files ≡ passed_room rooms user two others
   owners_decide one two files others same le some =
-      let none : (limits_of rooms user).owners ≡ 0 = ap (λ (s : Spent). s.owners) (no_limit le) in
+      let none : (limits_of rooms user).owners ≡ 0 = ap (λ (s : SpentByUser). s.owners) (no_limit le) in
       let limit = (limits_of rooms user).owners in
       ap (λ (o : Option FullRoom). option_or o (option_or (refusal names.Shares one.shares 0 (limits_of rooms user).shares)
       (option_or (refusal names.Recipes one.recipes 0 (limits_of rooms user).recipes) (refusal names.Files files 0 (files_limit rooms user)))))
@@ -179,18 +179,18 @@ module _ (m : Memory) (user : UserId) where
   no_recipes : keys_of (λ (k : FileKey). k.user) m.files user.0 ≡ 0 → (kept_in m user).recipes ≡ 0
   no_recipes none = none_weigh (λ (e : FileKey × Entry). e.0.user == user.0) (λ (e : FileKey × Entry). e.1.len) (entries m.files) none
 
-  pub none_passed : (rooms : Rooms) → keys_of (λ (k : Owner). k.user) m.owners user.0 ≡ 0 → keys_of (λ (k : FileKey). k.user) m.files user.0 ≡ 0
+  pub none_passed : (rooms : UserRooms) → keys_of (λ (k : Owner). k.user) m.owners user.0 ≡ 0 → keys_of (λ (k : FileKey). k.user) m.files user.0 ≡ 0
       → passed_in rooms m user ≡ None
   none_passed rooms owners files = nothing_passed rooms user (kept_in m user) (files_in m user) owners (no_shares owners) (no_recipes files) files
 
   -- what a memory says that counts it, and what a pass over its entries says
-  pub room_is : (rooms : Rooms) (users : ℕ) (n : Memory) (used : Row) (files : ℕ) → IsCountedBy users m n → rooms.users ≤ users
+  pub room_is : (rooms : UserRooms) (users : ℕ) (n : Memory) (used : Row) (files : ℕ) → IsCountedBy users m n → rooms.users ≤ users
       → used.owners ≡ keys_of (λ (k : Owner). k.user) n.owners user.0 → used.shares ≡ (spent_by n.spent user).shares
       → used.recipes ≡ recipes_in n.files user.0 → files ≡ keys_of (λ (k : FileKey). k.user) n.files user.0
       → passed_room rooms user (as_spent used) files ≡ passed_in rooms m user
   room_is rooms users n used files is le owners shares recipes count =
       elim (cases_lt user.0 users) [
-        | inl inside ↦ with_shares (shares ∙ ap (λ (s : Spent). s.shares) (is.spent user inside))
+        | inl inside ↦ with_shares (shares ∙ ap (λ (s : SpentByUser). s.shares) (is.spent user inside))
         | inr past ↦ by_count past (keys_of (λ (k : Owner). k.user) m.owners user.0) refl
       ]
     where
@@ -206,7 +206,7 @@ module _ (m : Memory) (user : UserId) where
       with_shares : used.shares ≡ (kept_in m user).shares → passed_room rooms user (as_spent used) files ≡ passed_in rooms m user
       with_shares held =
           let same : as_spent used ≡ kept_in m user = λ i. record { owners = own i; shares = held i; recipes = sent i } in
-          ap (λ (s : Spent). passed_room rooms user s files) same ∙ ap (λ (f : ℕ). passed_room rooms user (kept_in m user) f) many
+          ap (λ (s : SpentByUser). passed_room rooms user s files) same ∙ ap (λ (f : ℕ). passed_room rooms user (kept_in m user) f) many
 
       none_spent : users ≤ user.0 → used.shares ≡ 0
       none_spent past =
@@ -220,11 +220,11 @@ module _ (m : Memory) (user : UserId) where
 
 -- ---- the first one
 
-pub first_here : (rooms : Rooms) (m : Memory) (large : TooLarge) (user : UserId) → Some (full_of large) ≡ passed_in rooms m user → large.user ≡ user
+pub first_here : (rooms : UserRooms) (m : Memory) (large : TooLarge) (user : UserId) → Some (full_of large) ≡ passed_in rooms m user → large.user ≡ user
     → passed_in rooms m large.user ≡ Some (full_of large)
 first_here rooms m large user full same = ap (passed_in rooms m) same ∙ sym full
 
-pub first_from : (rooms : Rooms) (m : Memory) (result : Option TooLarge) (user : UserId) → option_map full_of result ≡ passed_in rooms m user
+pub first_from : (rooms : UserRooms) (m : Memory) (result : Option TooLarge) (user : UserId) → option_map full_of result ≡ passed_in rooms m user
     → IfSome result (λ (large : TooLarge). large.user ≡ user) → rooms.users ≤ user.0
     → (1 ≤ keys_of (λ (k : Owner). k.user) m.owners user.0) ⊎ (1 ≤ keys_of (λ (k : FileKey). k.user) m.files user.0)
     → ((u : ℕ) → rooms.users ≤ u → u < user.0 → (keys_of (λ (k : Owner). k.user) m.owners u ≡ 0) × (keys_of (λ (k : FileKey). k.user) m.files u ≡ 0))
@@ -235,7 +235,7 @@ first_from rooms m (Some large) user full same le some none = (
   λ other from lt. let no = none other.0 from (subst (λ (u : UserId). other.0 < u.0) same lt) in none_passed m other rooms no.0 no.1,
 )
 
-pub first_of_all : (rooms : Rooms) (m : Memory) (result : Option TooLarge) → AreNoneBelow rooms.users rooms m → IsFirstFrom rooms.users rooms m result → IsFirstOf rooms m result
+pub first_of_all : (rooms : UserRooms) (m : Memory) (result : Option TooLarge) → AreNoneBelow rooms.users rooms m → IsFirstFrom rooms.users rooms m result → IsFirstOf rooms m result
 first_of_all rooms m None below from = λ user.
     elim (cases_lt user.0 rooms.users) [
       | inl lt ↦ below user lt
@@ -249,7 +249,7 @@ first_of_all rooms m (Some large) below from = record {
   ];
 }
 
-pub below_more : (rooms : Rooms) (m : Memory) (count : ℕ) → AreNoneBelow count rooms m → passed_in rooms m (record { 0 = count }) ≡ None → AreNoneBelow (count + 1) rooms m
+pub below_more : (rooms : UserRooms) (m : Memory) (count : ℕ) → AreNoneBelow count rooms m → passed_in rooms m (record { 0 = count }) ≡ None → AreNoneBelow (count + 1) rooms m
 below_more rooms m count below here user lt =
     elim (cases_lt user.0 count) [
       | inl less ↦ below user less
@@ -260,14 +260,14 @@ below_more rooms m count below here user lt =
 
 -- ---- by a list
 
-passed_by : (shape : Shape) (cloud : ℕ) (rooms : Rooms) (list : List Command) (table : List Row) (m : Memory) (user : UserId) → IsSound shape cloud list
+passed_by : (shape : Shape) (cloud : ℕ) (rooms : UserRooms) (list : List Command) (table : List Row) (m : Memory) (user : UserId) → IsSound shape cloud list
     → Remembers shape list (with_table table m) → passed_in rooms m user ≡ too_large_for shape rooms list user
 passed_by shape cloud rooms list table m user sound r =
-    ap (λ (s : Spent). passed_room rooms user s (files_in m user)) (kept shape cloud list (with_table table m) user sound r)
+    ap (λ (s : SpentByUser). passed_room rooms user s (files_in m user)) (kept shape cloud list (with_table table m) user sound r)
     ∙ ap (λ (n : ℕ). passed_room rooms user (live_of shape list user) n) (files_counted shape cloud list user (with_table table m) sound r)
     ∙ sym (by_kept shape cloud rooms list user sound)
 
-pub first_by : (shape : Shape) (cloud : ℕ) (rooms : Rooms) (list : List Command) (table : List Row) (m : Memory) (result : Option TooLarge) → IsSound shape cloud list
+pub first_by : (shape : Shape) (cloud : ℕ) (rooms : UserRooms) (list : List Command) (table : List Row) (m : Memory) (result : Option TooLarge) → IsSound shape cloud list
     → Remembers shape list (with_table table m) → IsFirstOf rooms m result → IsFirstBy shape rooms list result
 first_by shape cloud rooms list table m None sound r is = λ user. sym (passed_by shape cloud rooms list table m user sound r) ∙ is user
 first_by shape cloud rooms list table m (Some large) sound r is = record {
@@ -277,12 +277,12 @@ first_by shape cloud rooms list table m (Some large) sound r is = record {
 
 -- ---- what the calls say
 
-limit_is : (b : Bool) (s : Spent) (f : Spent → ℕ) → f nothing ≡ 0 → cond b (f s) 0 ≡ f (cond b s nothing)
+limit_is : (b : Bool) (s : SpentByUser) (f : SpentByUser → ℕ) → f nothing ≡ 0 → cond b (f s) 0 ≡ f (cond b s nothing)
 limit_is true s f none = refl
 limit_is false s f none = sym none
 
 -- the four refusals, one after another
-pub rooms_are : (rooms : Rooms) (user : UserId) (used : Spent) (files : ℕ) (o s r f : Option FullRoom)
+pub rooms_are : (rooms : UserRooms) (user : UserId) (used : SpentByUser) (files : ℕ) (o s r f : Option FullRoom)
     → o ≡ refusal names.Owners used.owners 0 (cond (nat_lt user.0 rooms.users) rooms.owners 0)
     → s ≡ refusal names.Shares used.shares 0 (cond (nat_lt user.0 rooms.users) rooms.shares 0)
     → r ≡ refusal names.Recipes used.recipes 0 (cond (nat_lt user.0 rooms.users) rooms.recipes 0)
@@ -291,9 +291,9 @@ pub rooms_are : (rooms : Rooms) (user : UserId) (used : Spent) (files : ℕ) (o 
 rooms_are rooms user used files o s r f eo es er ef =
     let t = nat_lt user.0 rooms.users in
     let g = given rooms user in
-    let one = eo ∙ ap (λ (n : ℕ). refusal names.Owners used.owners 0 n) (limit_is t g (λ (x : Spent). x.owners) refl) in
-    let two = es ∙ ap (λ (n : ℕ). refusal names.Shares used.shares 0 n) (limit_is t g (λ (x : Spent). x.shares) refl) in
-    let three = er ∙ ap (λ (n : ℕ). refusal names.Recipes used.recipes 0 n) (limit_is t g (λ (x : Spent). x.recipes) refl) in
+    let one = eo ∙ ap (λ (n : ℕ). refusal names.Owners used.owners 0 n) (limit_is t g (λ (x : SpentByUser). x.owners) refl) in
+    let two = es ∙ ap (λ (n : ℕ). refusal names.Shares used.shares 0 n) (limit_is t g (λ (x : SpentByUser). x.shares) refl) in
+    let three = er ∙ ap (λ (n : ℕ). refusal names.Recipes used.recipes 0 n) (limit_is t g (λ (x : SpentByUser). x.recipes) refl) in
     λ i. option_or (one i) (option_or (two i) (option_or (three i) (ef i)))
 
 pub owner_found : (o : Option ℕ) (from : ℕ) (m n : Memory) → n.owners ≡ m.owners

@@ -2,14 +2,14 @@
 use Rattle.std.specs.Prelude.{◌≡◌, ◌≤◌, ◌<◌, ◌*◌, ◌⊎◌, ◌==◌, ℕ, List, length, take, Option, Some, None, if◌then◌else◌}
 use Rattle.std.specs.List.{sum_by}
 use Rattle.std.specs.FinMap.{FinMap, entries}
-use Rattle.file_index.specs.declared.key.Entry.{Entry}
-use Rattle.file_index.specs.declared.key.FileKey.{FileKey}
-use Rattle.file_index.specs.Order.{key_cmp}
-use Rattle.pool_map.specs.Slots.{slot_of}
+use Rattle.compact_memories.specs.FileIndex.key.Entry.{Entry}
+use Rattle.compact_memories.specs.FileIndex.key.FileKey.{FileKey}
+use Rattle.compact_memories.specs.FileIndex.Order.{key_cmp}
+use Rattle.compact_memories.specs.PoolMap.Slots.{slot_of}
 use Rattle.compact_memories.specs.Passes.{entries_of, recipes_len}
-use Rattle.cd_base.specs.declared.ids.UserId.{UserId}
-use Rattle.journal_start.specs.declared.rooms.Rooms.{Rooms}
-use Rattle.cloud_memory.specs.Memory.{Memory}
+use Rattle.record_bodies.specs.CdBase.ids.UserId.{UserId}
+use Rattle.compact_memories.specs.JournalStart.rooms.UserRooms.{UserRooms}
+use Rattle.compact_memories.specs.CloudMemory.Memory.{Memory}
 use Rattle.large_users.specs.declared.large.Entries.{Entries}
 use Rattle.large_users.specs.declared.large.TooLarge.{TooLarge}
 use Rattle.large_users.specs.Large.{full_of, passed_in}
@@ -45,11 +45,11 @@ IfBelow None user = Unit {0}
 IfBelow (Some least) user = user < least
 
 -- no user below a number keeps more than it may
-abbrev pub AreNoneBelow : ℕ → Rooms → Memory → Type 0
+abbrev pub AreNoneBelow : ℕ → UserRooms → Memory → Type 0
 AreNoneBelow count rooms m = (user : UserId) → user.0 < count → passed_in rooms m user ≡ None
 
 -- of the users from a number on it is the least one that keeps more than it may
-abbrev pub IsFirstFrom : ℕ → Rooms → Memory → Option TooLarge → Type 0
+abbrev pub IsFirstFrom : ℕ → UserRooms → Memory → Option TooLarge → Type 0
 IsFirstFrom from rooms m None = (user : UserId) → from ≤ user.0 → passed_in rooms m user ≡ None
 IsFirstFrom from rooms m (Some large) = (passed_in rooms m large.user ≡ Some (full_of large))
     × ((user : UserId) → from ≤ user.0 → user.0 < large.user.0 → passed_in rooms m user ≡ None)

@@ -1,20 +1,20 @@
 -- Which user keeps too much, by the memory.
 use Rattle.std.specs.Prelude.{◌≡◌, ◌<◌, ℕ, length, List, Option, Some, None}
-use Rattle.cd_base.specs.declared.ids.UserId.{UserId}
-use Rattle.cd_base.specs.declared.shape.Shape.{Shape}
-use Rattle.file_index.specs.declared.key.Entry.{Entry}
-use Rattle.file_index.specs.declared.key.FileKey.{FileKey}
-use Rattle.journal_start.specs.declared.rooms.Rooms.{Rooms}
-use Rattle.pool_map.specs.Accounts.{keys_of}
-use Rattle.pool_map.specs.Slots.{slot_of}
-use Rattle.share_index.specs.declared.key.Owner.{Owner}
-use Rattle.spent_table.specs.Spending.{spent_by}
-use Rattle.user_dedup.specs.Dedup.{FullRoom}
-use Rattle.user_dedup.specs.declared.command.Command.{Command}
-use Rattle.cloud_areas.specs.FormatOne.{passed_room}
-use Rattle.cloud_memory.specs.declared.cloud.CloudMemory.{CloudMemory}
-use Rattle.cloud_memory.specs.Memory.{Memory, as_spent}
-use Rattle.checkpoints.specs.Known.{AreListed}
+use Rattle.record_bodies.specs.CdBase.ids.UserId.{UserId}
+use Rattle.record_bodies.specs.CdBase.shape.Shape.{Shape}
+use Rattle.compact_memories.specs.FileIndex.key.Entry.{Entry}
+use Rattle.compact_memories.specs.FileIndex.key.FileKey.{FileKey}
+use Rattle.compact_memories.specs.JournalStart.rooms.UserRooms.{UserRooms}
+use Rattle.compact_memories.specs.PoolMap.Accounts.{keys_of}
+use Rattle.compact_memories.specs.PoolMap.Slots.{slot_of}
+use Rattle.compact_memories.specs.ShareIndex.key.Owner.{Owner}
+use Rattle.compact_memories.specs.SpentTable.Spending.{spent_by}
+use Rattle.compact_memories.specs.UserDedup.Dedup.{FullRoom}
+use Rattle.compact_memories.specs.UserDedup.command.Command.{Command}
+use Rattle.compact_memories.specs.CloudAreas.FormatOne.{passed_room}
+use Rattle.compact_memories.specs.CloudMemory.cloud.CloudMemory.{CloudMemory}
+use Rattle.compact_memories.specs.CloudMemory.Memory.{Memory, as_spent}
+use Rattle.compact_memories.specs.Checkpoints.Known.{AreListed}
 use Rattle.compact_memories.specs.Kept.{kept_in}
 use Rattle.migration_model.specs.Migrating.{AreSmallEnough, IsTooLarge}
 use Rattle.large_users.specs.declared.large.TooLarge.{TooLarge}
@@ -24,16 +24,16 @@ abbrev pub files_in : Memory → UserId → ℕ
 files_in m user = keys_of (λ k. k.user) m.files user.0
 
 -- the first of a user's rooms that is passed by what it keeps by the memory
-abbrev pub passed_in : Rooms → Memory → UserId → Option FullRoom
+abbrev pub passed_in : UserRooms → Memory → UserId → Option FullRoom
 passed_in rooms m user = passed_room rooms user (kept_in m user) (files_in m user)
 
 -- The user is the least one that keeps more than it may by the memory, and this is its first room.
-pub record IsFirstPassed (rooms : Rooms) (m : Memory) (user : UserId) (full : FullRoom) : Type 0 where
+pub record IsFirstPassed (rooms : UserRooms) (m : Memory) (user : UserId) (full : FullRoom) : Type 0 where
   pub here : passed_in rooms m user ≡ Some full
   pub before : (other : UserId) → other.0 < user.0 → passed_in rooms m other ≡ None
 
 -- no user does
-abbrev pub IsNonePassed : Rooms → Memory → Type 0
+abbrev pub IsNonePassed : UserRooms → Memory → Type 0
 IsNonePassed rooms m = (user : UserId) → passed_in rooms m user ≡ None
 
 -- an answer as a room that is passed
@@ -41,12 +41,12 @@ abbrev pub full_of : TooLarge → FullRoom
 full_of large = record { room = large.room; used = large.used; need = 0; limit = large.limit }
 
 -- which user is the first that keeps too much by the memory
-abbrev pub IsFirstOf : Rooms → Memory → Option TooLarge → Type 0
+abbrev pub IsFirstOf : UserRooms → Memory → Option TooLarge → Type 0
 IsFirstOf rooms m None = IsNonePassed rooms m
 IsFirstOf rooms m (Some large) = IsFirstPassed rooms m large.user (full_of large)
 
 -- which one does by the list
-abbrev pub IsFirstBy : Shape → Rooms → List Command → Option TooLarge → Type 0
+abbrev pub IsFirstBy : Shape → UserRooms → List Command → Option TooLarge → Type 0
 IsFirstBy shape rooms list None = AreSmallEnough shape rooms list
 IsFirstBy shape rooms list (Some large) = IsTooLarge shape rooms list large.user (full_of large)
 

@@ -1,2 +1,4 @@
+pub mod CompactLists
 pub mod Counting
 pub mod Large
+pub mod MigrationModel

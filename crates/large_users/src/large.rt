@@ -2,30 +2,26 @@
 
 ghost use Rattle.std.specs.Prelude.{◌≡◌, ◌⊎◌, ◌<◌, ◌≤◌, ◌+◌, ℕ, List, length, nat_lt, option_map, None, Some, IfSome, if◌then◌else◌};
 ghost use Rattle.std.specs.Option.{option_or};
-ghost use Rattle.cd_base.specs.declared.ids.UserId.{UserId as Number};
-ghost use Rattle.cd_base.specs.declared.shape.Shape.{Shape};
-ghost use Rattle.file_index.specs.declared.key.FileKey.{FileKey};
-ghost use Rattle.pool_map.specs.Accounts.{keys_of};
-ghost use Rattle.pool_map.specs.Slots.{IsListed};
-ghost use Rattle.share_index.specs.declared.key.Owner.{Owner};
-ghost use Rattle.spent_table.specs.declared.Spent.{Spent as Row};
-ghost use Rattle.user_dedup.specs.Spending.{refusal};
-ghost use Rattle.user_dedup.specs.declared.command.Command.{Command};
-ghost use Rattle.user_dedup.specs.Dedup.{IsSound};
-ghost use Rattle.cloud_areas.specs.FormatOne.{passed_room};
-ghost use Rattle.cloud_memory.specs.Memory.{Memory, Remembers, as_spent};
-ghost use Rattle.cloud_memory.specs.Rooms.{memory_of};
+ghost use Rattle.record_bodies.specs.CdBase.ids.UserId.{UserId as Number};
+ghost use Rattle.record_bodies.specs.CdBase.shape.Shape.{Shape};
+ghost use Rattle.compact_memories.specs.FileIndex.key.FileKey.{FileKey};
+ghost use Rattle.compact_memories.specs.PoolMap.Accounts.{keys_of};
+ghost use Rattle.compact_memories.specs.PoolMap.Slots.{IsListed};
+ghost use Rattle.compact_memories.specs.ShareIndex.key.Owner.{Owner};
+ghost use Rattle.compact_memories.specs.SpentTable.Spent.{Spent as Row};
+ghost use Rattle.compact_memories.specs.UserDedup.Spending.{refusal};
+ghost use Rattle.compact_memories.specs.UserDedup.command.Command.{Command};
+ghost use Rattle.compact_memories.specs.UserDedup.Dedup.{IsSound};
+ghost use Rattle.compact_memories.specs.CloudAreas.FormatOne.{passed_room};
+ghost use Rattle.compact_memories.specs.CloudMemory.Memory.{Memory, Remembers, as_spent};
+ghost use Rattle.compact_memories.specs.CloudMemory.Rooms.{memory_of};
 ghost use Rattle.compact_memories.specs.Tables.{with_table};
 ghost use Rattle.large_users.specs.Counting.{IsCountOf, recipes_in, IsSeen, IsFound, AreSeen, IfBelow, IsFirstFrom, AreNoneBelow};
 ghost use Rattle.large_users.specs.Large.{full_of, passed_in, IsFirstPassed, IsFirstOf, IsFirstBy, IsCountedBy};
 ghost use Rattle.large_users.specs.Large.{IsOwnerSized, IsEntrySized, OfEach, AreSized};
 
-use cd_base::{Room, UserId};
-use cloud_memory::CloudMemory;
-use file_index::FileIndex;
-use journal_start::Rooms;
-use share_index::ShareIndex;
-use spent_table::Spent;
+use compact_memories::{CloudMemory, FileIndex, ShareIndex, Spent, UserRooms};
+use record_bodies::{Room, UserId};
 
 /// A user that keeps more than it may, and its first room, of which it uses so much.
 #[derive(Clone, Copy, Debug, PartialEq, Eq)]
@@ -79,7 +75,7 @@ fn entries_of(files: &FileIndex, user: UserId) -> Entries
 }
 
 // So much where a user's number is below that of the users, and else nothing.
-fn limit_for(rooms: &Rooms, user: UserId, each: u64) -> u64
+fn limit_for(rooms: &UserRooms, user: UserId, each: u64) -> u64
     ensures { result ≡ (if nat_lt user.0 rooms.now.users then each else 0) }
 {
     if user.0 < rooms.users { each } else { 0 }
@@ -115,7 +111,7 @@ fn first_of(first: Option<TooLarge>, second: Option<TooLarge>) -> Option<TooLarg
 }
 
 // The first room of a user that is passed by what it has spent, and by this number of files.
-fn passed_by(rooms: &Rooms, user: UserId, used: &Spent, files: u32) -> Option<TooLarge>
+fn passed_by(rooms: &UserRooms, user: UserId, used: &Spent, files: u32) -> Option<TooLarge>
     ensures full { option_map full_of result ≡ passed_room rooms.now user (as_spent used.now) files }
     ensures user { IfSome result (λ large. large.user ≡ user) }
 {
@@ -133,7 +129,7 @@ fn passed_by(rooms: &Rooms, user: UserId, used: &Spent, files: u32) -> Option<To
 }
 
 // The first room that a user passes. By the table of the memory it has spent the bytes of shares that it keeps.
-fn too_large(memory: &CloudMemory, rooms: &Rooms, user: UserId) -> Option<TooLarge>
+fn too_large(memory: &CloudMemory, rooms: &UserRooms, user: UserId) -> Option<TooLarge>
     ensures full { (m : Memory) (users : ℕ) → IsCountedBy users m (memory_of memory.now) → rooms.now.users ≤ users
         → option_map full_of result ≡ passed_in rooms.now m user }
     ensures user { IfSome result (λ large. large.user ≡ user) }
@@ -254,7 +250,7 @@ fn least_other(memory: &CloudMemory, from: u32) -> Option<u32>
 }
 
 // The least user from the number of users on that keeps anything, and its first room: it may have nothing.
-fn first_other(memory: &CloudMemory, rooms: &Rooms) -> Option<TooLarge>
+fn first_other(memory: &CloudMemory, rooms: &UserRooms) -> Option<TooLarge>
     ensures first { (m : Memory) (users : ℕ) → IsCountedBy users m (memory_of memory.now) → rooms.now.users ≤ users
         → IsFirstFrom rooms.now.users rooms.now m result }
     ensures sized { AreSized memory.now }
@@ -266,7 +262,7 @@ fn first_other(memory: &CloudMemory, rooms: &Rooms) -> Option<TooLarge>
 }
 
 // The first of the users that keeps more than it may, and its first room.
-fn first_user(memory: &CloudMemory, rooms: &Rooms) -> Option<TooLarge>
+fn first_user(memory: &CloudMemory, rooms: &UserRooms) -> Option<TooLarge>
     ensures none { (m : Memory) (users : ℕ) → IsCountedBy users m (memory_of memory.now) → rooms.now.users ≤ users
         → result ≡ None → AreNoneBelow rooms.now.users rooms.now m }
     ensures first { (m : Memory) (users : ℕ) → IsCountedBy users m (memory_of memory.now) → rooms.now.users ≤ users
@@ -284,7 +280,7 @@ fn first_user(memory: &CloudMemory, rooms: &Rooms) -> Option<TooLarge>
 /// The least user that keeps more than it may, and its first room, in the order owners, shares, recipes, files. A user
 /// whose number isn't below that of the users may have nothing. The table of the memory says what those users keep that
 /// have a row. It goes over the slots of owners once, and over those of entries once for each user; it takes no memory.
-pub fn first_too_large(memory: &CloudMemory, rooms: &Rooms) -> Option<TooLarge>
+pub fn first_too_large(memory: &CloudMemory, rooms: &UserRooms) -> Option<TooLarge>
     // by what any memory keeps that the table counts
     ensures first { (m : Memory) (users : ℕ) → IsCountedBy users m (memory_of memory.now) → rooms.now.users ≤ users
         → IsFirstOf rooms.now m result }

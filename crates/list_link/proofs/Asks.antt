@@ -3,19 +3,19 @@ use Rattle.std.proofs.Common.{◌≡◌, ℕ, ◌+◌, ◌-◌, ◌<◌, ◌≤�
 use Rattle.std.specs.Prelude.{option_to_list, nat_lt}
 use Rattle.std.proofs.lemmas.List.{get_or-set_same, get_or-set_other, length-set}
 use Rattle.std.specs.Int.{w32, to_be_bytes}
-use Rattle.cd_base.specs.Reading.{AreBytes}
-use Rattle.cd_base.specs.declared.shape.Shape.{Shape}
-use Rattle.message_fields.specs.Keys.{key_bytes}
-use Rattle.recipe.specs.declared.recipe.Recipe.{Recipe}
-use Rattle.recipe.specs.Reading.{placed as recipe_placed, recipe_left, recipe_at}
-use Rattle.messages.specs.Parts.{placed}
-use Rattle.messages.specs.declared.request.Request.{Request}
-use Rattle.messages.specs.declared.request.Request.TheVariants as requests
-use Rattle.messages.specs.declared.reply.Reply.TheVariants as replies
-use Rattle.messages.specs.Requests.{FitsRequest, request_bytes}
-use Rattle.messages.specs.Replies.{FitsReply, reply_bytes}
-use Rattle.messages.specs.RequestReading.{request_left, request_at}
-use Rattle.messages.proofs.RequestLaws.{request_law}
+use Rattle.user_dedup.specs.CdBase.Reading.{AreBytes}
+use Rattle.user_dedup.specs.CdBase.shape.Shape.{Shape}
+use Rattle.user_dedup.specs.MessageFields.Keys.{key_bytes}
+use Rattle.user_dedup.specs.Recipe.recipe.Recipe.{Recipe}
+use Rattle.user_dedup.specs.Recipe.Reading.{placed as recipe_placed, recipe_left, recipe_at}
+use Rattle.user_dedup.specs.Messages.Parts.{placed}
+use Rattle.user_dedup.specs.Messages.request.Request.{Request}
+use Rattle.user_dedup.specs.Messages.request.Request.TheVariants as requests
+use Rattle.user_dedup.specs.Messages.reply.Reply.TheVariants as replies
+use Rattle.user_dedup.specs.Messages.Requests.{FitsRequest, request_bytes}
+use Rattle.user_dedup.specs.Messages.Replies.{FitsReply, reply_bytes}
+use Rattle.user_dedup.specs.Messages.RequestReading.{request_left, request_at}
+use Rattle.user_dedup.proofs.Messages.RequestLaws.{request_law}
 use Rattle.user_dedup.specs.declared.command.Command.{Command}
 use Rattle.user_dedup.specs.Requests.{HasRecipe, recipe_read, whole_read, asked_at}
 use Rattle.user_dedup.specs.Dedup.{Outcome, only, answer_over, IsSound, Added, FullRoom, room_for, by_room}
@@ -23,10 +23,10 @@ use Rattle.user_dedup.specs.Exec.{Peer}
 use Rattle.user_dedup.specs.Link.{Asks, AsksNothing, LeavesOthers, serves}
 use Rattle.user_dedup.proofs.Asked.{asked_law}
 use Rattle.user_dedup.proofs.Suiting.{suits}
-use Rattle.list_link.specs.declared.answers.Served.{Served}
+use Rattle.list_link.specs.declared.answers.ServedReply.{ServedReply}
 use Rattle.list_link.specs.declared.store.ListLink.{ListLink}
 use Rattle.list_link.specs.Serving.{outcome_of, IsAnswer, HasFewBytes}
-use Rattle.list_link.specs.Tells.{list_of, telling, Takes}
+use Rattle.list_link.specs.Tells.{list_of, telling, HasTakenCommand}
 
 -- ---- places
 
@@ -94,12 +94,12 @@ place_fits shape content at known few e = go (request_at content) refl e
 
 -- ---- what is served
 
-served_by : (shape : Shape) (cloud : ℕ) (list : List Command) (read : Result Request ℕ) (s : Served) (r : Request) → IsAnswer shape cloud list read s → read ≡ Ok r
+served_by : (shape : Shape) (cloud : ℕ) (list : List Command) (read : Result Request ℕ) (s : ServedReply) (r : Request) → IsAnswer shape cloud list read s → read ≡ Ok r
     → outcome_of s ≡ answer_over shape cloud list r
 served_by shape cloud list (Ok q) s r is e = let f : Ok q ≡ good r = e in let same : q ≡ r = cc in subst (λ (x : Request). outcome_of s ≡ answer_over shape cloud list x) same is
 served_by shape cloud list (Err at) s r is e = absurd (let f : bad {A = Request} at ≡ Ok r = e in cc)
 
-refused_by : (shape : Shape) (cloud : ℕ) (list : List Command) (read : Result Request ℕ) (s : Served) (at : ℕ) → IsAnswer shape cloud list read s → read ≡ Err at
+refused_by : (shape : Shape) (cloud : ℕ) (list : List Command) (read : Result Request ℕ) (s : ServedReply) (at : ℕ) → IsAnswer shape cloud list read s → read ≡ Err at
     → outcome_of s ≡ only (replies.Malformed at)
 refused_by shape cloud list (Ok q) s at is e = absurd (let f : Ok q ≡ bad at = e in cc)
 refused_by shape cloud list (Err p) s at is e = let f : bad {A = Request} p ≡ bad at = e in let same : p ≡ at = cc in subst (λ (x : ℕ). outcome_of s ≡ only (replies.Malformed x)) same is
@@ -118,7 +118,7 @@ sound_next shape cloud list request (Some command) sound fits has e = Added list
 
 -- ---- the clauses
 
-module _ (old new : ListLink) (cloud : ℕ) (content reply : List ℕ) (t : Takes old new cloud content reply) (reached : cloud < length old.lists.items) where
+module _ (old new : ListLink) (cloud : ℕ) (content reply : List ℕ) (t : HasTakenCommand old new cloud content reply) (reached : cloud < length old.lists.items) where
   grown : list_of new cloud ≡ list_of old cloud ++ option_to_list t.served.adds
   grown =
       ap (λ (l : List (List Command)). get_or l cloud []) t.lists
@@ -186,6 +186,6 @@ module _ (old new : ListLink) (cloud : ℕ) (content reply : List ℕ) (t : Take
 
 -- ---- a recipe that is none
 
-pub malformed_answer : (shape : Shape) (cloud : ℕ) (list : List Command) (request : Request) (bytes : List ℕ) (at : ℕ) (s : Served) → recipe_at shape bytes ≡ Err at
+pub malformed_answer : (shape : Shape) (cloud : ℕ) (list : List Command) (request : Request) (bytes : List ℕ) (at : ℕ) (s : ServedReply) → recipe_at shape bytes ≡ Err at
     → outcome_of s ≡ only (replies.Malformed (45 + at)) → IsAnswer shape cloud list (recipe_read request (recipe_at shape bytes)) s
 malformed_answer shape cloud list request bytes at s e is = subst (λ (r : Result Recipe ℕ). IsAnswer shape cloud list (recipe_read request r) s) (sym e) is

@@ -6,9 +6,9 @@ use Rattle.user_dedup.specs.Dedup.{IsSound}
 use Rattle.user_dedup.specs.Exec.{Peer, MaySettleAs}
 use Rattle.user_dedup.specs.Link.{TellsSound}
 use Rattle.list_link.specs.declared.store.ListLink.{ListLink}
-use Rattle.list_link.specs.Tells.{IsPeer, telling}
+use Rattle.list_link.specs.Tells.{IsListPeer, telling}
 
-settled : (link : ListLink) (cloud : ℕ) (p : Peer) (list : List Command) → IsPeer link cloud p → MaySettleAs p list → IsSound link.shape cloud list
+settled : (link : ListLink) (cloud : ℕ) (p : Peer) (list : List Command) → IsListPeer link cloud p → MaySettleAs p list → IsSound link.shape cloud list
 settled link cloud p list is (inl same) = subst (IsSound link.shape cloud) (sym same) is.sound
 settled link cloud p list is (inr some) = absurd (subst (λ (o : Option Command). IsSomeAnd o (λ command. list ≡ p.list ++ command ∷ [])) is.pending some)
 

@@ -1,13 +1,13 @@
 //! The answers of a list of commands to requests.
 
 ghost use Rattle.std.specs.Prelude.{◌≡◌, ◌≤◌, ◌<◌, ◌^◌, length, map, unwrap_or, [], IfOk, Ok};
-ghost use Rattle.cd_base.specs.declared.shape.Shape.{Shape};
-ghost use Rattle.frames.specs.Frames.{frame_limit};
-ghost use Rattle.message_fields.specs.Fingerprints.{batch_limit};
-ghost use Rattle.messages.specs.declared.reply.Reply.TheVariants.{Known, Entries as EntriesReply};
-ghost use Rattle.messages.specs.declared.request.Request.TheVariants.{Commit as CommitRequest};
-ghost use Rattle.messages.specs.Requests.{FitsRequest};
-ghost use Rattle.recipe.specs.Reading.{recipe_at};
+ghost use Rattle.user_dedup.specs.CdBase.shape.Shape.{Shape};
+ghost use Rattle.user_dedup.specs.Frames.Frames.{frame_limit};
+ghost use Rattle.user_dedup.specs.MessageFields.Fingerprints.{batch_limit};
+ghost use Rattle.user_dedup.specs.Messages.reply.Reply.TheVariants.{Known, Entries as EntriesReply};
+ghost use Rattle.user_dedup.specs.Messages.request.Request.TheVariants.{Commit as CommitRequest};
+ghost use Rattle.user_dedup.specs.Messages.Requests.{FitsRequest};
+ghost use Rattle.user_dedup.specs.Recipe.Reading.{recipe_at};
 ghost use Rattle.user_dedup.specs.declared.command.Command.TheVariants.{Commit as CommitCommand, Delete as DeleteCommand};
 ghost use Rattle.user_dedup.specs.Cloud.{held_string};
 ghost use Rattle.user_dedup.specs.Owning.{flags, first_lacking, new_strings, fps_in};
@@ -19,28 +19,27 @@ ghost use Rattle.list_link.specs.Serving.{outcome_of, IsAnswer, HasFewBytes};
 use crate::keys::{entry_of, page};
 use crate::shares::{held_shares, lacking_place, new_shares};
 use crate::views::{copy_of, view_of};
-use cd_base::{Bytes, Fps, NoMemory, Shape, Tag, UserId, Version};
-use message_fields::ShareList;
-use messages::{Reply, Request};
-use recipe::{Recipe, RecipeErr};
 use std::alloc::Global;
-use user_dedup::{Command, View, known, missing_place};
+use user_dedup::{
+    Bytes, Command, Fps, NoMemory, Recipe, RecipeErr, Reply, Request, Shape, ShareList, Tag,
+    UserId, Version, View, known, missing_place,
+};
 
 /// A reply, and the command that it adds to the list.
 #[derive(Debug, Drop)]
-pub struct Served {
+pub struct ServedReply {
     pub reply: Reply,
     pub adds: Option<Command>,
 }
 
 /// A reply that adds nothing.
-pub fn only(reply: Reply) -> Served
+pub fn only(reply: Reply) -> ServedReply
     ensures { outcome_of result ≡ only_reply reply }
 {
-    Served { reply, adds: None }
+    ServedReply { reply, adds: None }
 }
 
-fn query(alloc: Global, view: &View, fps: &Fps) -> Result<Served, NoMemory>
+fn query(alloc: Global, view: &View, fps: &Fps) -> Result<ServedReply, NoMemory>
     ensures { IfOk result (λ s. outcome_of s ≡ only_reply (Known (flags view.now.own fps.now))) }
 {
     let mut flags = Bytes::new(alloc);
@@ -48,7 +47,12 @@ fn query(alloc: Global, view: &View, fps: &Fps) -> Result<Served, NoMemory>
     Ok(only(Reply::Known { flags }))
 }
 
-fn put(alloc: Global, view: &View, user: UserId, shares: &ShareList) -> Result<Served, NoMemory>
+fn put(
+    alloc: Global,
+    view: &View,
+    user: UserId,
+    shares: &ShareList,
+) -> Result<ServedReply, NoMemory>
     requires { length shares.now ≤ batch_limit }
     ensures { IfOk result (λ s. outcome_of s ≡ put_outcome user (new_strings view.now.own shares.now)) }
 {
@@ -56,7 +60,7 @@ fn put(alloc: Global, view: &View, user: UserId, shares: &ShareList) -> Result<S
     if new.is_empty() {
         return Ok(only(Reply::Stored { new: 0 }));
     }
-    Ok(Served {
+    Ok(ServedReply {
         reply: Reply::Stored {
             new: new.len() as u16,
         },
@@ -72,7 +76,7 @@ fn commit(
     version: Version,
     bytes: &Bytes,
     recipe: &Recipe,
-) -> Result<Served, NoMemory>
+) -> Result<ServedReply, NoMemory>
     requires { length recipe.now.items < 2 ^ 32 }
     ensures { IfOk result (λ s. outcome_of s
         ≡ commit_outcome (first_lacking view.now.own (fps_in recipe.now.items))
@@ -87,7 +91,7 @@ fn commit(
         } else {
             Reply::Exists
         })),
-        None => Ok(Served {
+        None => Ok(ServedReply {
             reply: Reply::Committed,
             adds: Some(Command::Commit {
                 user,
@@ -99,7 +103,12 @@ fn commit(
     }
 }
 
-fn get_recipe(alloc: Global, view: &View, tag: &Tag, version: Version) -> Result<Served, NoMemory>
+fn get_recipe(
+    alloc: Global,
+    view: &View,
+    tag: &Tag,
+    version: Version,
+) -> Result<ServedReply, NoMemory>
     ensures { IfOk result (λ s. outcome_of s ≡ only_reply (recipe_reply (entry_at view.now.files (tag.now, version)))) }
 {
     match entry_of(view.files.as_slice(), tag, version) {
@@ -110,7 +119,12 @@ fn get_recipe(alloc: Global, view: &View, tag: &Tag, version: Version) -> Result
     }
 }
 
-fn get_shares(alloc: Global, list: &[Command], view: &View, fps: &Fps) -> Result<Served, NoMemory>
+fn get_shares(
+    alloc: Global,
+    list: &[Command],
+    view: &View,
+    fps: &Fps,
+) -> Result<ServedReply, NoMemory>
     requires { length fps.now ≤ batch_limit }
     ensures { IfOk result (λ s. outcome_of s
         ≡ only_reply (shares_reply (first_lacking view.now.own fps.now)
@@ -128,7 +142,7 @@ fn list_files(
     alloc: Global,
     view: &View,
     after: &Option<(Tag, Version)>,
-) -> Result<Served, NoMemory>
+) -> Result<ServedReply, NoMemory>
     ensures { IfOk result (λ s. outcome_of s ≡ only_reply (EntriesReply (page_of view.now.files after.now))) }
 {
     Ok(only(Reply::Entries {
@@ -136,13 +150,13 @@ fn list_files(
     }))
 }
 
-fn delete(view: &View, user: UserId, tag: Tag, version: Version) -> Served
+fn delete(view: &View, user: UserId, tag: Tag, version: Version) -> ServedReply
     ensures { outcome_of result ≡ delete_outcome (entry_at view.now.files (tag, version))
         (DeleteCommand user tag version) }
 {
     let found = entry_of(view.files.as_slice(), &tag, version);
     match found {
-        Some(_) => Served {
+        Some(_) => ServedReply {
             reply: Reply::Deleted,
             adds: Some(Command::Delete { user, tag, version }),
         },
@@ -160,7 +174,7 @@ fn commit_read(
     tag: Tag,
     version: Version,
     bytes: &Bytes,
-) -> Result<Served, NoMemory>
+) -> Result<ServedReply, NoMemory>
     requires { length bytes.now ≤ frame_limit }
     ensures { IfOk result (IsAnswer shape cloud list.now
         (recipe_read (CommitRequest user tag version bytes.now) (recipe_at shape bytes.now))) }
@@ -184,7 +198,7 @@ pub fn serve(
     cloud: u8,
     list: &[Command],
     request: &Request,
-) -> Result<Served, NoMemory>
+) -> Result<ServedReply, NoMemory>
     requires fits { FitsRequest request.now }
     requires few { HasFewBytes request.now }
     ensures { IfOk result (IsAnswer shape cloud list.now (whole_read shape (Ok request.now))) }

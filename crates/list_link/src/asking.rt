@@ -1,16 +1,14 @@
 //! The answers of a list of commands to the content of frames.
 
 ghost use Rattle.std.specs.Prelude.{◌≤◌, length, IfOk};
-ghost use Rattle.cd_base.specs.declared.shape.Shape.{Shape};
-ghost use Rattle.frames.specs.Frames.{frame_limit};
+ghost use Rattle.user_dedup.specs.CdBase.shape.Shape.{Shape};
+ghost use Rattle.user_dedup.specs.Frames.Frames.{frame_limit};
 ghost use Rattle.user_dedup.specs.Requests.{asked_at};
 ghost use Rattle.list_link.specs.Serving.{IsAnswer};
 
-use crate::answers::{Served, only, serve};
-use cd_base::{NoMemory, Shape};
-use messages::{MsgErr, Reply, Request};
+use crate::answers::{ServedReply, only, serve};
 use std::alloc::Global;
-use user_dedup::Command;
+use user_dedup::{Command, MsgErr, NoMemory, Reply, Request, Shape};
 
 /// The answer to the content of a frame, by a list. The only error is want of memory.
 pub fn answered(
@@ -19,7 +17,7 @@ pub fn answered(
     cloud: u8,
     list: &[Command],
     content: &[u8],
-) -> Result<Served, NoMemory>
+) -> Result<ServedReply, NoMemory>
     requires { length content.now ≤ frame_limit }
     ensures { IfOk result (IsAnswer shape cloud list.now (asked_at shape content.now)) }
 {

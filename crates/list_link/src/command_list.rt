@@ -2,10 +2,9 @@
 
 ghost use Rattle.std.specs.Prelude.{◌≡◌, [], ◌∷◌, ◌++◌, length, OnOk, OnErr};
 
-use cd_base::NoMemory;
 use std::alloc::Global;
 use std::marker::Model;
-use user_dedup::Command;
+use user_dedup::{Command, NoMemory};
 
 /// The commands that changed a cloud, in order. The list keeps its allocator.
 #[derive(Debug, Drop)]

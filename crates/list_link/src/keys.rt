@@ -3,14 +3,12 @@
 ghost use Rattle.std.specs.Prelude.{◌≡◌, map, filter, take, IfOk, OnOk, find};
 ghost use Rattle.std.specs.Option.{option_copied};
 ghost use Rattle.std.specs.declared.cmp.Ordering.{Ordering};
-ghost use Rattle.message_fields.specs.Keys.{key_cmp, is_above, key_limit};
+ghost use Rattle.user_dedup.specs.MessageFields.Keys.{key_cmp, is_above, key_limit};
 ghost use Rattle.user_dedup.specs.Pages.{key_of, is_at, entry_at, with_key, sorted_keys, page_of};
 
-use cd_base::{NoMemory, Tag, Version};
-use message_fields::{Entries, KEY_LIMIT, is_key_above};
 use std::alloc::Global;
 use std::cmp::Ordering;
-use user_dedup::FileEntry;
+use user_dedup::{Entries, FileEntry, KEY_LIMIT, NoMemory, Tag, Version, is_key_above};
 
 // The order of two keys: by tag and then by version.
 fn order_of(one: &(Tag, Version), two: &(Tag, Version)) -> Ordering

@@ -14,3 +14,4 @@ mod views;
 
 pub use command_list::CommandList;
 pub use store::ListLink;
+pub use user_dedup::{Link, ReplyBuf};

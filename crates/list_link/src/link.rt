@@ -1,17 +1,15 @@
 //! Asking the clouds of the link.
 
 ghost use Rattle.std.specs.Prelude.{◌≡◌, ◌<◌, ◌≤◌, [], length, replicate, IfOk, OnOk, OnErr};
-ghost use Rattle.frames.specs.Frames.{frame_limit};
-ghost use Rattle.list_link.specs.Tells.{Takes, list_of, telling};
+ghost use Rattle.user_dedup.specs.Frames.Frames.{frame_limit};
+ghost use Rattle.list_link.specs.Tells.{HasTakenCommand, list_of, telling};
 ghost use Rattle.list_link.specs.Sounds.{tells_sound};
 
-use crate::answers::Served;
+use crate::answers::ServedReply;
 use crate::asking::answered;
 use crate::{CommandList, ListLink};
-use cd_base::{CloudNo, NoMemory, Shape};
-use frames::ReplyBuf;
 use std::alloc::Global;
-use user_dedup::{Command, Link, Lost};
+use user_dedup::{CloudNo, Command, Link, Lost, NoMemory, ReplyBuf, Shape};
 
 // So many lists with no commands.
 fn empty_lists(alloc: Global, count: u8) -> Result<Vec<CommandList>, NoMemory>
@@ -58,7 +56,7 @@ impl ListLink {
     fn take(&mut self, cloud: u8, content: &[u8], reply: &mut ReplyBuf) -> Result<(), Lost>
         requires reached { cloud < length self.old.lists.items }
         requires framed { length content.now ≤ frame_limit }
-        ensures ok { OnOk result (Takes self.old self.new cloud content.now reply.new) }
+        ensures ok { OnOk result (HasTakenCommand self.old self.new cloud content.now reply.new) }
         ensures err { OnErr result ((self.new.lists.items ≡ self.old.lists.items) × (self.new.shape ≡ self.old.shape)) }
         ensures losses { self.new.losses ≡ self.old.losses }
     {
@@ -67,7 +65,7 @@ impl ListLink {
         let Ok(served) = answered(self.alloc, self.shape, cloud, list, content) else {
             return Err(Lost);
         };
-        let Served {
+        let ServedReply {
             reply: answer,
             adds,
         } = served;

@@ -1,7 +1,7 @@
 //! The view of a user without an entry.
 
 ghost use Rattle.std.specs.Prelude.{◌≡◌, ◌++◌, OnOk, IfOk};
-ghost use Rattle.cd_base.specs.declared.shape.Shape.{Shape};
+ghost use Rattle.user_dedup.specs.CdBase.shape.Shape.{Shape};
 ghost use Rattle.user_dedup.specs.Cloud.{named_in, named_by, without_key, still_owned, without_entry};
 ghost use Rattle.user_dedup.specs.Owning.{fps_in};
 ghost use Rattle.user_dedup.specs.Pages.{entry_at};
@@ -10,10 +10,11 @@ ghost use Rattle.user_dedup.specs.Requests.{fps_of};
 use crate::keys::{entry_of, is_entry_at};
 use crate::shares::owns;
 use crate::views::copy_of;
-use cd_base::{Fp, Fps, NoMemory, RECIPE_LIMIT, Shape, Tag, Version};
-use recipe::{Item, Recipe, RecipeErr};
 use std::alloc::Global;
-use user_dedup::{FileEntry, FileList, View};
+use user_dedup::{
+    FileEntry, FileList, Fp, Fps, Item, NoMemory, RECIPE_LIMIT, Recipe, RecipeErr, Shape, Tag,
+    Version, View,
+};
 
 // Appends the fingerprints of the items.
 fn push_items(fps: &mut Fps, items: &[Item]) -> Result<(), NoMemory>

@@ -6,10 +6,8 @@ ghost use Rattle.user_dedup.specs.Cloud.{fingerprint, strings_of, has_fingerprin
 ghost use Rattle.user_dedup.specs.Owning.{is_among, first_lacking, new_strings};
 
 use crate::views::copy_of;
-use cd_base::{Bytes, Fp, Fps, NoMemory, sha256};
-use message_fields::ShareList;
 use std::alloc::Global;
-use user_dedup::Command;
+use user_dedup::{Bytes, Command, Fp, Fps, NoMemory, ShareList, sha256};
 
 /// Whether the fingerprint is one of these.
 pub fn owns(own: &[Fp], fp: &Fp) -> bool

@@ -1,8 +1,8 @@
 //! The state of the link.
 
 use crate::CommandList;
-use cd_base::Shape;
 use std::alloc::Global;
+use user_dedup::Shape;
 
 /// A link to the n clouds of a store, each of which is a list of commands in memory.
 #[derive(Drop)]

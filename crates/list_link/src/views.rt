@@ -1,13 +1,12 @@
 //! The view of a user, from a list of commands.
 
 ghost use Rattle.std.specs.Prelude.{◌≡◌, ◌++◌, map, OnOk, IfOk};
-ghost use Rattle.cd_base.specs.declared.shape.Shape.{Shape};
+ghost use Rattle.user_dedup.specs.CdBase.shape.Shape.{Shape};
 ghost use Rattle.user_dedup.specs.Cloud.{fingerprint, is_of, view_after, user_view};
 
 use crate::removing::without;
-use cd_base::{Bytes, Fps, NoMemory, Shape, UserId, sha256};
 use std::alloc::Global;
-use user_dedup::{Command, FileEntry, FileList, View};
+use user_dedup::{Bytes, Command, FileEntry, FileList, Fps, NoMemory, Shape, UserId, View, sha256};
 
 /// A copy of bytes.
 pub fn copy_of(alloc: Global, bytes: &[u8]) -> Result<Bytes, NoMemory>

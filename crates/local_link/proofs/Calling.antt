@@ -2,26 +2,26 @@
 use Rattle.std.proofs.Common.{◌≡◌, ℕ, ◌+◌, ◌-◌, ◌<◌, ◌≤◌, ◌^◌, Bool, true, false, List, [], ◌∷◌, ◌++◌, min, Option, Some, None, Result, Ok, Err, refl, sym, ap, ◌∙◌, subst, arith, inl, inr, ◌⊎◌}
 use Rattle.std.specs.Prelude.{IsTrue, IsSomeAnd, IfOk, OnOk, OnErr}
 use Rattle.std.specs.List.{Contains}
-use Rattle.cd_base.specs.declared.shape.Shape.{Shape}
-use Rattle.cd_edges.specs.declared.area.Area.{Area}
-use Rattle.cd_edges.specs.declared.area.Area.TheVariants.{Journal}
-use Rattle.cd_edges.specs.declared.stream.Failed.{Failed}
-use Rattle.cd_edges.specs.Causes.{Rose}
-use Rattle.cd_edges.specs.Disk.{Store, MayLeave, Cloud, Image, IsImage, reads}
-use Rattle.cd_edges.specs.Shelf.{stable, IsCall, HasFailed, KeepsCounts, IsFresh, Refreshes, Arms}
-use Rattle.cd_edges.specs.Shelf as shelves
-use Rattle.cd_edges.proofs.Moments.{moved, stayed}
-use Rattle.cd_edges.proofs.Torn.{only}
-use Rattle.journal_start.specs.declared.rooms.Rooms.{Rooms}
-use Rattle.journal_start.specs.declared.start.Header.{Header}
-use Rattle.half_journal.specs.declared.errors.OpenErr.{OpenErr}
-use Rattle.half_journal.specs.declared.errors.OpenErr.TheVariants as errors
-use Rattle.half_journal.specs.Openings.{OnFault}
-use Rattle.user_dedup.specs.declared.command.Command.{Command}
-use Rattle.user_dedup.specs.Cloud.{counted as number_in}
-use Rattle.user_dedup.specs.Dedup.{IsSound, Begun}
-use Rattle.user_dedup.specs.Exec.{Peer, MaySettleAs, Settles, Stays as PeerStays, CountsOn, StandsSound}
-use Rattle.user_dedup.specs.Spending.{IsWithin}
+use Rattle.cloud_server.specs.CdBase.shape.Shape.{Shape}
+use Rattle.cloud_server.specs.CdEdges.area.Area.{Area}
+use Rattle.cloud_server.specs.CdEdges.area.Area.TheVariants.{Journal}
+use Rattle.cloud_server.specs.CdEdges.stream.Failed.{Failed}
+use Rattle.cloud_server.specs.CdEdges.Causes.{Rose}
+use Rattle.cloud_server.specs.CdEdges.Disk.{Store, MayLeave, Cloud, Image, IsImage, reads}
+use Rattle.cloud_server.specs.CdEdges.Shelf.{stable, IsCall, HasFailed, KeepsCounts, IsFresh, Refreshes, Arms}
+use Rattle.cloud_server.specs.CdEdges.Shelf as shelves
+use Rattle.cloud_server.proofs.CdEdges.Moments.{moved, stayed}
+use Rattle.cloud_server.proofs.CdEdges.Torn.{only}
+use Rattle.cloud_server.specs.JournalStart.rooms.UserRooms.{UserRooms}
+use Rattle.cloud_server.specs.JournalStart.start.Header.{Header}
+use Rattle.cloud_server.specs.HalfJournal.errors.OpenErr.{OpenErr}
+use Rattle.cloud_server.specs.HalfJournal.errors.OpenErr.TheVariants as errors
+use Rattle.cloud_server.specs.HalfJournal.Openings.{OnFault}
+use Rattle.cloud_server.specs.UserDedup.command.Command.{Command}
+use Rattle.cloud_server.specs.UserDedup.Cloud.{counted as number_in}
+use Rattle.cloud_server.specs.UserDedup.Dedup.{IsSound, Begun}
+use Rattle.cloud_server.specs.UserDedup.Exec.{Peer, MaySettleAs, Settles, KeepsPeer as PeerStays, CountsOn, StandsSound}
+use Rattle.cloud_server.specs.UserDedup.Spending.{IsWithin}
 use Rattle.cloud_server.specs.CloudAreas.Peers.{ImagesNow, ImagesSince}
 use Rattle.cloud_server.specs.CloudAreas.Standing.{StandsFor}
 use Rattle.cloud_server.specs.CloudMemory.Rooms.{memory_of}
@@ -35,14 +35,14 @@ use Rattle.cloud_server.specs.Serving.{IsServing, ReopensAs, settled_with}
 use Rattle.local_link.specs.declared.servers.Servers.{Servers}
 use Rattle.local_link.specs.declared.link.LocalLink.{LocalLink}
 use Rattle.local_link.specs.Tells.{server_at, header_at, rooms_at, IsPeer, LeavesRest}
-use Rattle.local_link.specs.Steps.{Puts, IsClosedIn, Closes, Reopens}
+use Rattle.local_link.specs.Steps.{HasPutServer, IsClosedIn, IsServerClosed, Reopens}
 use Rattle.local_link.specs.Calls.{Replaces, Armed, WasBefore, no_commands, MayServe}
 use Rattle.local_link.proofs.Standing.{header_put, here_now, there_now, said_of, known_of, closed_serves, closed_stands, counted, ServesByAreas}
 
 -- ---- other rooms
 
-pub rooms_serve : {E : Type 0} (r : Result (Unit {0}) E) (old new : Servers) (cloud : ℕ) (rooms : Rooms) (c : Cloud) (p : Peer) → cloud < old.shape.n
-    → OnOk r ((before : Server) × (after : Server) × Puts old new cloud before after × IsClosedIn rooms after)
+pub rooms_serve : {E : Type 0} (r : Result (Unit {0}) E) (old new : Servers) (cloud : ℕ) (rooms : UserRooms) (c : Cloud) (p : Peer) → cloud < old.shape.n
+    → OnOk r ((before : Server) × (after : Server) × HasPutServer old new cloud before after × IsClosedIn rooms after)
     → MayServe old.shape cloud rooms c p → OnOk r (IsPeer new.shape cloud c (server_at new cloud) p)
 rooms_serve (Err e) old new cloud rooms c p lt put may = tt
 rooms_serve (Ok u) old new cloud rooms c p lt put may =
@@ -54,8 +54,8 @@ rooms_serve (Ok u) old new cloud rooms c p lt put may =
         let same : put.1 ≡ server = cc in
         subst (IsClosedIn rooms) same put.3
 
-pub rooms_rest : {E : Type 0} {V : Type 0} (r : Result (Unit {0}) E) (clouds : V → ℕ → Cloud) (cloud : ℕ) (rooms : Rooms) (old new : LocalLink V) → new.shelf.now ≡ old.shelf.now
-    → OnOk r ((before : Server) × (after : Server) × Puts old.servers new.servers cloud before after × IsClosedIn rooms after) → OnErr r (new.servers ≡ old.servers) → LeavesRest clouds cloud old new
+pub rooms_rest : {E : Type 0} {V : Type 0} (r : Result (Unit {0}) E) (clouds : V → ℕ → Cloud) (cloud : ℕ) (rooms : UserRooms) (old new : LocalLink V) → new.shelf.now ≡ old.shelf.now
+    → OnOk r ((before : Server) × (after : Server) × HasPutServer old.servers new.servers cloud before after × IsClosedIn rooms after) → OnErr r (new.servers ≡ old.servers) → LeavesRest clouds cloud old new
 rooms_rest (Ok u) clouds cloud rooms old new shelf put err = record {
   clouds_stay = λ other ne. ap (λ v. clouds v other) shelf;
   servers_stay = there_now old.servers new.servers cloud put.0 put.1 put.2;
@@ -92,7 +92,7 @@ stands_sound : (image : Image) (header : Header) (list : List Command) → Stand
 unfolding StandsFor
 stands_sound image header list s = s.0
 
-module _ (old_servers new_servers : Servers) (cloud : ℕ) (before after : Server) (put : Puts old_servers new_servers cloud before after) (lt : cloud < old_servers.shape.n)
+module _ (old_servers new_servers : Servers) (cloud : ℕ) (before after : Server) (put : HasPutServer old_servers new_servers cloud before after) (lt : cloud < old_servers.shape.n)
     (old new : ℕ → Cloud) (faults_before faults_now : ℕ) (begin : Bool) (result : Result ℕ OpenErr) (x : Reopens before after old new faults_before faults_now begin result) where
   h : before.store.header ≡ header_at old_servers cloud
   h = header_put old_servers new_servers cloud before after put
@@ -230,7 +230,7 @@ abbrev pub NoneStands : Type 0
 NoneStands = (image : Image) (header : Header) → HasNoJournal image → StandsFor image header []
 
 abbrev pub NoneWithin : Type 0
-NoneWithin = (shape : Shape) (rooms : Rooms) → IsWithin shape rooms []
+NoneWithin = (shape : Shape) (rooms : UserRooms) → IsWithin shape rooms []
 
 none_stands : EmptyStands → NoneStands → NoneWithin → (server : Server) (old new : Cloud) → ¬ (IsOpen server.store) → ((area : Area) → new.now area ≡ stable [])
     → new.faults ≡ old.faults → new.armings ≡ old.armings → IsServing server new (no_commands old)
@@ -240,7 +240,7 @@ none_stands unbegun none within server old new shut now faults armings = closed_
     (λ list settles. subst (IsWithin server.store.header.shape server.store.header.rooms) (sym (none_settles old list settles)) (within server.store.header.shape server.store.header.rooms))
 
 module _ (areas : ServesByAreas) (unbegun : EmptyStands) (none : NoneStands) (none_within : NoneWithin)
-    (old_servers new_servers : Servers) (cloud : ℕ) (before after : Server) (put : Puts old_servers new_servers cloud before after) (lt : cloud < old_servers.shape.n) (closes : Closes before after)
+    (old_servers new_servers : Servers) (cloud : ℕ) (before after : Server) (put : HasPutServer old_servers new_servers cloud before after) (lt : cloud < old_servers.shape.n) (closes : IsServerClosed before after)
     (old new : Cloud) (faults_before faults_now : ℕ) where
   here_after : server_at new_servers cloud ≡ Some after
   here_after = here_now old_servers new_servers cloud before after put lt

@@ -1,36 +1,36 @@
 -- What executing a request does to the peer that a cloud stands as.
 use Rattle.std.proofs.Common.{◌≡◌, ◌⊎◌, ℕ, ◌<◌, ◌≤◌, Bool, true, false, List, length, Option, Some, Ok, Err, refl, sym, ap, ◌∙◌, subst, arith, inl}
 use Rattle.std.specs.Prelude.{IsTrue, IsSomeAnd}
-use Rattle.cd_base.specs.Reading.{AreBytes}
-use Rattle.cd_base.specs.declared.ids.Fp.{Fp}
-use Rattle.cd_base.specs.declared.shape.Shape.{Shape}
-use Rattle.cd_edges.specs.Causes.{Rose}
-use Rattle.cd_edges.specs.Disk.{Cloud}
-use Rattle.cd_edges.specs.Shelf.{IsCall}
-use Rattle.cd_edges.proofs.Moments.{started}
-use Rattle.journal_start.specs.declared.rooms.Rooms.{Rooms}
-use Rattle.journal_start.specs.declared.start.Header.{Header}
-use Rattle.messages.specs.declared.request.Request.{Request}
-use Rattle.messages.specs.declared.reply.Reply.{Reply}
-use Rattle.messages.specs.declared.reply.Reply.TheVariants as replies
-use Rattle.messages.specs.Replies.{IsReply, reply_bytes}
-use Rattle.user_dedup.specs.declared.command.Command.{Command}
-use Rattle.user_dedup.specs.Requests.{asked_at}
-use Rattle.user_dedup.specs.Dedup.{Outcome}
-use Rattle.user_dedup.specs.Exec.{Peer, MaySettleAs, Exec, StandsSound, served}
-use Rattle.user_dedup.specs.Served.{served_by}
-use Rattle.user_dedup.proofs.Asked.{asked_law}
-use Rattle.user_dedup.proofs.Execs.{keeps_sound}
+use Rattle.cloud_server.specs.CdBase.Reading.{AreBytes}
+use Rattle.cloud_server.specs.CdBase.ids.Fp.{Fp}
+use Rattle.cloud_server.specs.CdBase.shape.Shape.{Shape}
+use Rattle.cloud_server.specs.CdEdges.Causes.{Rose}
+use Rattle.cloud_server.specs.CdEdges.Disk.{Cloud}
+use Rattle.cloud_server.specs.CdEdges.Shelf.{IsCall}
+use Rattle.cloud_server.proofs.CdEdges.Moments.{started}
+use Rattle.cloud_server.specs.JournalStart.rooms.UserRooms.{UserRooms}
+use Rattle.cloud_server.specs.JournalStart.start.Header.{Header}
+use Rattle.cloud_server.specs.Messages.request.Request.{Request}
+use Rattle.cloud_server.specs.Messages.reply.Reply.{Reply}
+use Rattle.cloud_server.specs.Messages.reply.Reply.TheVariants as replies
+use Rattle.cloud_server.specs.Messages.Replies.{IsReply, reply_bytes}
+use Rattle.cloud_server.specs.UserDedup.command.Command.{Command}
+use Rattle.cloud_server.specs.UserDedup.Requests.{asked_at}
+use Rattle.cloud_server.specs.UserDedup.Dedup.{Outcome}
+use Rattle.cloud_server.specs.UserDedup.Exec.{Peer, MaySettleAs, Exec, StandsSound, served}
+use Rattle.cloud_server.specs.UserDedup.Served.{served_by}
+use Rattle.cloud_server.proofs.UserDedup.Asked.{asked_law}
+use Rattle.cloud_server.proofs.UserDedup.Execs.{keeps_sound}
 use Rattle.cloud_server.specs.CloudAreas.Peers.{StandsForSome, ImagesNow, ImagesSince, MayBecome}
 use Rattle.cloud_server.specs.CloudMemory.Rooms.{memory_of}
 use Rattle.cloud_server.specs.OpenStore.Store.{IsOpen}
 use Rattle.cloud_server.specs.ServerCommands.Leaving.{IsFound}
 use Rattle.cloud_server.specs.declared.server.Server.{Server}
-use Rattle.cloud_server.specs.Serving.{IsServing, CanOpen, Refused, ChangesBehind, EntersBy, OpensFirst}
+use Rattle.cloud_server.specs.Serving.{IsServing, CanOpen, IsUnopenedReply, ChangesBehind, EntersBy, OpensFirst}
 use Rattle.local_link.specs.declared.servers.Servers.{Servers}
 use Rattle.local_link.specs.declared.link.LocalLink.{LocalLink}
 use Rattle.local_link.specs.Tells.{server_at, rooms_at, header_at, full_at, IsPeer}
-use Rattle.local_link.specs.Steps.{Puts, Executed, Replied, RepliesOpen, Executes}
+use Rattle.local_link.specs.Steps.{HasPutServer, Executed, Replied, RepliesOpen, HasServerExecuted}
 use Rattle.local_link.proofs.Standing.{header_put, here_now, said_of, known_of, peer_moves}
 use Rattle.local_link.proofs.Malformed.{place_fits}
 
@@ -42,8 +42,8 @@ pub record GoesOn (old_servers new_servers : Servers) (cloud : ℕ) (old new : C
   pub is : IsReply reply answer
   pub exec : Exec old_servers.shape old.told (served old_servers.shape cloud (full_at old_servers cloud)) p request answer peer
 
-module _ (old_servers new_servers : Servers) (cloud : ℕ) (before after : Server) (put : Puts old_servers new_servers cloud before after) (lt : cloud < old_servers.shape.n)
-    (old new : ℕ → Cloud) (faults_before faults_now : ℕ) (content reply : List ℕ) (x : Executes before after old new faults_before faults_now content reply) where
+module _ (old_servers new_servers : Servers) (cloud : ℕ) (before after : Server) (put : HasPutServer old_servers new_servers cloud before after) (lt : cloud < old_servers.shape.n)
+    (old new : ℕ → Cloud) (faults_before faults_now : ℕ) (content reply : List ℕ) (x : HasServerExecuted before after old new faults_before faults_now content reply) where
   h : before.store.header ≡ header_at old_servers cloud
   h = header_put old_servers new_servers cloud before after put
 
@@ -66,12 +66,12 @@ module _ (old_servers new_servers : Servers) (cloud : ℕ) (before after : Serve
   called_here = subst (λ (d : Header). IsCall old new d.cloud.0 faults_before faults_now) h x.call
 
   pub closed_here : (r : Request) → IsTrue (old cloud).told → asked_at old_servers.shape content ≡ Ok r
-      → IsSomeAnd (server_at old_servers cloud) (λ (s : Server). ¬ (IsOpen s.store) → CanOpen s.store (old cloud) ⊎ Refused s.store (old cloud) (new cloud) reply)
+      → IsSomeAnd (server_at old_servers cloud) (λ (s : Server). ¬ (IsOpen s.store) → CanOpen s.store (old cloud) ⊎ IsUnopenedReply s.store (old cloud) (new cloud) reply)
   closed_here r told asked =
       let at_cloud =
       subst (λ (d : Header). IsTrue (old d.cloud.0).told → ¬ (IsOpen before.store) → asked_at d.shape content ≡ Ok r
-      → CanOpen before.store (old d.cloud.0) ⊎ Refused before.store (old d.cloud.0) (new d.cloud.0) reply) h (x.closed r) in
-      said_of (server_at old_servers cloud) before (λ (s : Server). ¬ (IsOpen s.store) → CanOpen s.store (old cloud) ⊎ Refused s.store (old cloud) (new cloud) reply) put.here
+      → CanOpen before.store (old d.cloud.0) ⊎ IsUnopenedReply before.store (old d.cloud.0) (new d.cloud.0) reply) h (x.closed r) in
+      said_of (server_at old_servers cloud) before (λ (s : Server). ¬ (IsOpen s.store) → CanOpen s.store (old cloud) ⊎ IsUnopenedReply s.store (old cloud) (new cloud) reply) put.here
       (λ shut. at_cloud told shut asked)
 
   pub opened_here : (r : Request) → asked_at old_servers.shape content ≡ Ok r
@@ -109,15 +109,15 @@ module _ (old_servers new_servers : Servers) (cloud : ℕ) (before after : Serve
 
   pub first_here : (r : Request) → IsTrue (old cloud).told → asked_at old_servers.shape content ≡ Ok r
       → IsSomeAnd (server_at old_servers cloud) (λ (s : Server). ¬ (IsOpen s.store)
-      → IsSomeAnd (server_at new_servers cloud) (λ (t : Server). OpensFirst s.store t.store (old cloud) (new cloud) r reply ⊎ Refused s.store (old cloud) (new cloud) reply))
+      → IsSomeAnd (server_at new_servers cloud) (λ (t : Server). OpensFirst s.store t.store (old cloud) (new cloud) r reply ⊎ IsUnopenedReply s.store (old cloud) (new cloud) reply))
   first_here r told asked =
       said_of (server_at old_servers cloud) before (λ (s : Server). ¬ (IsOpen s.store)
-      → IsSomeAnd (server_at new_servers cloud) (λ (t : Server). OpensFirst s.store t.store (old cloud) (new cloud) r reply ⊎ Refused s.store (old cloud) (new cloud) reply)) put.here
+      → IsSomeAnd (server_at new_servers cloud) (λ (t : Server). OpensFirst s.store t.store (old cloud) (new cloud) r reply ⊎ IsUnopenedReply s.store (old cloud) (new cloud) reply)) put.here
       (λ shut.
       let at_cloud =
       subst (λ (d : Header). IsTrue (old d.cloud.0).told → ¬ (IsOpen before.store) → asked_at d.shape content ≡ Ok r
-      → OpensFirst before.store after.store (old d.cloud.0) (new d.cloud.0) r reply ⊎ Refused before.store (old d.cloud.0) (new d.cloud.0) reply) h (x.first r) in
-      said_of (server_at new_servers cloud) after (λ (t : Server). OpensFirst before.store t.store (old cloud) (new cloud) r reply ⊎ Refused before.store (old cloud) (new cloud) reply) here
+      → OpensFirst before.store after.store (old d.cloud.0) (new d.cloud.0) r reply ⊎ IsUnopenedReply before.store (old d.cloud.0) (new d.cloud.0) reply) h (x.first r) in
+      said_of (server_at new_servers cloud) after (λ (t : Server). OpensFirst before.store t.store (old cloud) (new cloud) r reply ⊎ IsUnopenedReply before.store (old cloud) (new cloud) reply) here
       (at_cloud told shut asked))
 
   told_goes : (p : Peer) (r : Request) → AreBytes content → (old cloud).told ≡ true → IsPeer old_servers.shape cloud (old cloud) (server_at old_servers cloud) p → asked_at old_servers.shape content ≡ Ok r
@@ -232,7 +232,7 @@ pub images_counted : {V : Type 0} (clouds : V → ℕ → Cloud) (a b : LocalLin
     → ImagesSince old (clouds a.shelf.now cloud) header P → ImagesSince old (clouds b.shelf.now cloud) header P
 images_counted {V} clouds a b cloud old header P e is = subst (λ (l : LocalLink V). ImagesSince old (clouds l.shelf.now cloud) header P) (sym e) is
 
-pub rooms_counted : {V : Type 0} (a b : LocalLink V) (cloud : ℕ) (rooms : Rooms) → b ≡ a → rooms_at a.servers cloud ≡ rooms → rooms_at b.servers cloud ≡ rooms
+pub rooms_counted : {V : Type 0} (a b : LocalLink V) (cloud : ℕ) (rooms : UserRooms) → b ≡ a → rooms_at a.servers cloud ≡ rooms → rooms_at b.servers cloud ≡ rooms
 rooms_counted {V} a b cloud rooms e is = ap (λ (l : LocalLink V). rooms_at l.servers cloud) e ∙ is
 
 pub clouds_counted : {V : Type 0} (clouds : V → ℕ → Cloud) (a b : LocalLink V) (old : ℕ → Cloud) → b ≡ a → clouds a.shelf.now ≡ old → clouds b.shelf.now ≡ old
@@ -252,10 +252,10 @@ pub replied_counted : {V : Type 0} (clouds : V → ℕ → Cloud) (faults : V �
 replied_counted {V} clouds faults a b cloud shape old before r reply e is = subst (λ (l : LocalLink V). Replied shape old (clouds l.shelf.now cloud) before (faults l.shelf.now) r reply) (sym e) is
 
 pub closed_counted : {V : Type 0} (clouds : V → ℕ → Cloud) (a b : LocalLink V) (cloud : ℕ) (server : Option Server) (old : Cloud) (reply : List ℕ) → b ≡ a
-    → IsSomeAnd server (λ (s : Server). ¬ (IsOpen s.store) → CanOpen s.store old ⊎ Refused s.store old (clouds a.shelf.now cloud) reply)
-    → IsSomeAnd server (λ (s : Server). ¬ (IsOpen s.store) → CanOpen s.store old ⊎ Refused s.store old (clouds b.shelf.now cloud) reply)
+    → IsSomeAnd server (λ (s : Server). ¬ (IsOpen s.store) → CanOpen s.store old ⊎ IsUnopenedReply s.store old (clouds a.shelf.now cloud) reply)
+    → IsSomeAnd server (λ (s : Server). ¬ (IsOpen s.store) → CanOpen s.store old ⊎ IsUnopenedReply s.store old (clouds b.shelf.now cloud) reply)
 closed_counted {V} clouds a b cloud server old reply e is =
-    subst (λ (l : LocalLink V). IsSomeAnd server (λ (s : Server). ¬ (IsOpen s.store) → CanOpen s.store old ⊎ Refused s.store old (clouds l.shelf.now cloud) reply)) (sym e) is
+    subst (λ (l : LocalLink V). IsSomeAnd server (λ (s : Server). ¬ (IsOpen s.store) → CanOpen s.store old ⊎ IsUnopenedReply s.store old (clouds l.shelf.now cloud) reply)) (sym e) is
 
 pub opened_counted : {V : Type 0} (clouds : V → ℕ → Cloud) (faults : V → ℕ) (a b : LocalLink V) (server : Option Server) (old : ℕ → Cloud) (before : ℕ) (r : Request) (reply : List ℕ) → b ≡ a
     → IsSomeAnd server (λ (s : Server). IsOpen s.store → RepliesOpen old (clouds a.shelf.now) before (faults a.shelf.now) r reply)
@@ -286,9 +286,9 @@ enters_counted {V} a b cloud server r reply e is =
 
 pub first_counted : {V : Type 0} (clouds : V → ℕ → Cloud) (a b : LocalLink V) (cloud : ℕ) (server : Option Server) (old : Cloud) (r : Request) (reply : List ℕ) → b ≡ a
     → IsSomeAnd server (λ (s : Server). ¬ (IsOpen s.store) → IsSomeAnd (server_at a.servers cloud) (λ (t : Server).
-    OpensFirst s.store t.store old (clouds a.shelf.now cloud) r reply ⊎ Refused s.store old (clouds a.shelf.now cloud) reply))
+    OpensFirst s.store t.store old (clouds a.shelf.now cloud) r reply ⊎ IsUnopenedReply s.store old (clouds a.shelf.now cloud) reply))
     → IsSomeAnd server (λ (s : Server). ¬ (IsOpen s.store) → IsSomeAnd (server_at b.servers cloud) (λ (t : Server).
-    OpensFirst s.store t.store old (clouds b.shelf.now cloud) r reply ⊎ Refused s.store old (clouds b.shelf.now cloud) reply))
+    OpensFirst s.store t.store old (clouds b.shelf.now cloud) r reply ⊎ IsUnopenedReply s.store old (clouds b.shelf.now cloud) reply))
 first_counted {V} clouds a b cloud server old r reply e is =
     subst (λ (l : LocalLink V). IsSomeAnd server (λ (s : Server). ¬ (IsOpen s.store) → IsSomeAnd (server_at l.servers cloud) (λ (t : Server).
-    OpensFirst s.store t.store old (clouds l.shelf.now cloud) r reply ⊎ Refused s.store old (clouds l.shelf.now cloud) reply))) (sym e) is
+    OpensFirst s.store t.store old (clouds l.shelf.now cloud) r reply ⊎ IsUnopenedReply s.store old (clouds l.shelf.now cloud) reply))) (sym e) is

@@ -1,18 +1,18 @@
 -- The place at which content is no request fits its field.
 use Rattle.std.proofs.Common.{◌≡◌, ℕ, ◌+◌, ◌-◌, ◌<◌, ◌≤◌, ◌^◌, List, ◌++◌, length, Result, Ok, Err, refl, sym, ap, arith, length-append}
 use Rattle.std.specs.Int.{w32, to_be_bytes}
-use Rattle.cd_base.specs.Reading.{AreBytes}
-use Rattle.cd_base.specs.declared.shape.Shape.{Shape}
-use Rattle.message_fields.specs.Keys.{key_bytes}
-use Rattle.recipe.specs.declared.recipe.Recipe.{Recipe}
-use Rattle.recipe.specs.Reading.{placed as recipe_placed, recipe_left, recipe_at}
-use Rattle.messages.specs.Parts.{placed}
-use Rattle.messages.specs.declared.request.Request.{Request}
-use Rattle.messages.specs.declared.request.Request.TheVariants as requests
-use Rattle.messages.specs.Requests.{request_bytes}
-use Rattle.messages.specs.RequestReading.{request_left, request_at}
-use Rattle.messages.proofs.RequestLaws.{request_law}
-use Rattle.user_dedup.specs.Requests.{recipe_read, whole_read, asked_at}
+use Rattle.cloud_server.specs.CdBase.Reading.{AreBytes}
+use Rattle.cloud_server.specs.CdBase.shape.Shape.{Shape}
+use Rattle.cloud_server.specs.MessageFields.Keys.{key_bytes}
+use Rattle.cloud_server.specs.Recipe.recipe.Recipe.{Recipe}
+use Rattle.cloud_server.specs.Recipe.Reading.{placed as recipe_placed, recipe_left, recipe_at}
+use Rattle.cloud_server.specs.Messages.Parts.{placed}
+use Rattle.cloud_server.specs.Messages.request.Request.{Request}
+use Rattle.cloud_server.specs.Messages.request.Request.TheVariants as requests
+use Rattle.cloud_server.specs.Messages.Requests.{request_bytes}
+use Rattle.cloud_server.specs.Messages.RequestReading.{request_left, request_at}
+use Rattle.cloud_server.proofs.Messages.RequestLaws.{request_law}
+use Rattle.cloud_server.specs.UserDedup.Requests.{recipe_read, whole_read, asked_at}
 
 abbrev bad : {A : Type 0} → ℕ → Result A ℕ
 bad at = Err at

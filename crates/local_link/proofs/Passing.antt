@@ -4,23 +4,23 @@ use Rattle.std.specs.Prelude.{◌≢◌, IsTrue, IsSomeAnd, option_to_list}
 use Rattle.std.specs.Bool.{MatchBool}
 use Rattle.std.specs.List.{Contains}
 use Rattle.std.proofs.lemmas.Bool.{cases_eq}
-use Rattle.cd_base.specs.declared.shape.Shape.{Shape}
-use Rattle.cd_edges.specs.Disk.{Cloud}
-use Rattle.cd_edges.proofs.Moments.{started, joined, weaker, left_alone}
-use Rattle.journal_start.specs.declared.start.Header.{Header}
-use Rattle.messages.specs.declared.request.Request.{Request}
-use Rattle.messages.specs.declared.request.Request.TheVariants as requests
-use Rattle.messages.specs.declared.reply.Reply.{Reply}
-use Rattle.user_dedup.specs.declared.command.Command.{Command}
-use Rattle.user_dedup.specs.Dedup.{FullRoom}
-use Rattle.user_dedup.specs.Requests.{asked_at, HasRecipe}
-use Rattle.user_dedup.specs.Exec.{Peer, MaySettleAs, Stays, CountsOn, Exec, ExecTold, ExecUntold, IsCut, served}
-use Rattle.user_dedup.proofs.Asked.{asked_law}
+use Rattle.cloud_server.specs.CdBase.shape.Shape.{Shape}
+use Rattle.cloud_server.specs.CdEdges.Disk.{Cloud}
+use Rattle.cloud_server.proofs.CdEdges.Moments.{started, joined, weaker, left_alone}
+use Rattle.cloud_server.specs.JournalStart.start.Header.{Header}
+use Rattle.cloud_server.specs.Messages.request.Request.{Request}
+use Rattle.cloud_server.specs.Messages.request.Request.TheVariants as requests
+use Rattle.cloud_server.specs.Messages.reply.Reply.{Reply}
+use Rattle.cloud_server.specs.UserDedup.command.Command.{Command}
+use Rattle.cloud_server.specs.UserDedup.Dedup.{FullRoom}
+use Rattle.cloud_server.specs.UserDedup.Requests.{asked_at, HasRecipe}
+use Rattle.cloud_server.specs.UserDedup.Exec.{Peer, MaySettleAs, KeepsPeer, CountsOn, Exec, ExecTold, ExecUntold, IsCut, served}
+use Rattle.cloud_server.proofs.UserDedup.Asked.{asked_law}
 use Rattle.cloud_server.specs.CloudAreas.Peers.{StandsForSome, ImagesSince, MayBecome}
 use Rattle.local_link.specs.declared.link.LocalLink.{LocalLink}
 use Rattle.local_link.specs.Tells.{server_at, header_at, rooms_at, full_at, IsPeer, LeavesRest, serving_at, StandsAt, PassesOn, telling}
-use Rattle.user_dedup.specs.Link.{Exchange, exchange_of, AddsNothing, Passes, ReadsFrom, Asks, serves}
-use Rattle.cd_base.specs.Reading.{AreBytes}
+use Rattle.cloud_server.specs.UserDedup.Link.{Exchange, exchange_of, AddsNothing, Passes, ReadsFrom, Asks, serves}
+use Rattle.cloud_server.specs.CdBase.Reading.{AreBytes}
 use Rattle.local_link.specs.declared.fate.Fate.TheVariants.{Deliver}
 use Rattle.local_link.proofs.Standing.{images_now, header_stays, peer_moves}
 
@@ -55,7 +55,7 @@ module _ (shape : Shape) (cloud : ℕ) (full : List Command → Command → Opti
   nothing_pending p list is (inl same) = same
   nothing_pending p list is (inr some) = absurd (subst (λ (o : Option Command). IsSomeAnd o (λ command. list ≡ p.list ++ command ∷ [])) is some)
 
-  stays_in : (p q : Peer) → Stays p q → (list : List Command) → MaySettleAs q list → MaySettleAs p list
+  stays_in : (p q : Peer) → KeepsPeer p q → (list : List Command) → MaySettleAs q list → MaySettleAs p list
   stays_in p q stays list (inl same) = inl (same ∙ stays.list)
   stays_in p q stays list (inr some) =
       inr (subst (λ (l : List Command). IsSomeAnd p.pending (λ command. list ≡ l ++ command ∷ [])) stays.list
@@ -68,7 +68,7 @@ module _ (shape : Shape) (cloud : ℕ) (full : List Command → Command → Opti
       subst (MaySettleAs p) (sym (is ∙ same)) a.settled
   executed_in p q answer (inr f) list settles = failed f.left
     where
-      failed : Stays p q ⊎ IsCut (served shape cloud full) p r q → MaySettleAs p list
+      failed : KeepsPeer p q ⊎ IsCut (served shape cloud full) p r q → MaySettleAs p list
       failed (inl stays) = stays_in p q stays list settles
       failed (inr cut) = subst (MaySettleAs p) (sym (nothing_pending q list (cut.pending ∙ adds_none shape cloud full q.list r none) settles)) cut.list
 
@@ -105,7 +105,7 @@ module _ {V : Type 0} (clouds : V → ℕ → Cloud) where
           joined (clouds old.shelf.now cloud) (clouds mid.shelf.now cloud) (clouds new.shelf.now cloud) (StandsForSome header (MaySettleAs p)) first
           (weaker (clouds mid.shelf.now cloud) (clouds new.shelf.now cloud) (StandsForSome header (MaySettleAs q)) (StandsForSome header (MaySettleAs p)) rest_here (λ image some. (some.0, fewer some.0 some.1, some.2)))
 
-      fewer : (q : Peer) → IsTrue (clouds old.shelf.now e.cloud).told → (Stays p q × CountsOn p q) ⊎ ((answer : Reply) × Exec old.servers.shape (clouds old.shelf.now e.cloud).told (serving_at old e.cloud) p r answer q)
+      fewer : (q : Peer) → IsTrue (clouds old.shelf.now e.cloud).told → (KeepsPeer p q × CountsOn p q) ⊎ ((answer : Reply) × Exec old.servers.shape (clouds old.shelf.now e.cloud).told (serving_at old e.cloud) p r answer q)
           → (list : List Command) → MaySettleAs q list → MaySettleAs p list
       fewer q t (inl x) = stays_in old.servers.shape e.cloud (full_at old.servers e.cloud) r none p q x.0
       fewer q t (inr x) =

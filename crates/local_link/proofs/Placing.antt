@@ -4,10 +4,10 @@ use Rattle.std.specs.Prelude.{◌≢◌, slice_get, slice_set}
 use Rattle.std.proofs.lemmas.Bool.{cases_eq}
 use Rattle.std.proofs.lemmas.List.{get_or-set_same, get_or-set_other, length-set, length-append, get_or_append_left, get_or_push}
 use Rattle.std.proofs.lemmas.Option.{slice_get_within, slice_get_cases, slice_get_past, slice_get-get_or, get_or_from_slice_get}
-use Rattle.cd_base.specs.declared.ids.CloudNo.{CloudNo}
-use Rattle.cd_base.specs.declared.shape.Shape.{Shape}
-use Rattle.journal_start.specs.declared.rooms.Rooms.{Rooms}
-use Rattle.journal_start.specs.declared.start.Header.{Header}
+use Rattle.cloud_server.specs.CdBase.ids.CloudNo.{CloudNo}
+use Rattle.cloud_server.specs.CdBase.shape.Shape.{Shape}
+use Rattle.cloud_server.specs.JournalStart.rooms.UserRooms.{UserRooms}
+use Rattle.cloud_server.specs.JournalStart.start.Header.{Header}
 use Rattle.cloud_server.specs.OpenStore.Store.{IsOpen}
 use Rattle.cloud_server.specs.Names.{header_of}
 use Rattle.cloud_server.specs.declared.server.Server.{Server}
@@ -54,25 +54,25 @@ stands_at shape list cloud server are lt e = let n = are.count in slice_get-get_
 
 -- ---- servers that are made
 
-pub server_made : (shape : Shape) (number : ℕ) (rooms : Rooms) (server : Server) → server.store.header ≡ header_of shape rooms number → IsServerOf shape number server
+pub server_made : (shape : Shape) (number : ℕ) (rooms : UserRooms) (server : Server) → server.store.header ≡ header_of shape rooms number → IsServerOf shape number server
 server_made shape number rooms server of = record { header_is = of ∙ ap (λ (h : Header). header_of shape h.rooms number) (sym of) }
 
 -- in its rooms, where it is closed
-pub closed_made : (shape : Shape) (number : ℕ) (rooms : Rooms) (server : Server) → server.store.header ≡ header_of shape rooms number → ¬ (IsOpen server.store) → IsClosedIn rooms server
+pub closed_made : (shape : Shape) (number : ℕ) (rooms : UserRooms) (server : Server) → server.store.header ≡ header_of shape rooms number → ¬ (IsOpen server.store) → IsClosedIn rooms server
 closed_made shape number rooms server of shut = record { rooms_are = ap (λ (h : Header). h.rooms) of; shut = shut }
 
 -- so many servers are made, each of its own number, and closed
-pub record Made (shape : Shape) (rooms : Rooms) (list : List Server) (count : ℕ) : Type 0 where
+pub record Made (shape : Shape) (rooms : UserRooms) (list : List Server) (count : ℕ) : Type 0 where
   pub long : length list ≡ count
   pub each : (number : ℕ) (server : Server) → slice_get list number ≡ Some server → IsServerOf shape number server × IsClosedIn rooms server
 
-pub none_made : (shape : Shape) (rooms : Rooms) (list : List Server) → list ≡ [] → Made shape rooms list 0
+pub none_made : (shape : Shape) (rooms : UserRooms) (list : List Server) → list ≡ [] → Made shape rooms list 0
 none_made shape rooms list e = record {
   long = ap length e;
   each = λ number server g. absurd (let n = slice_get_within list number server g in let l = ap length e in omega arith);
 }
 
-pub one_made : (shape : Shape) (rooms : Rooms) (list : List Server) (count : ℕ) (cloud : CloudNo) (server : Server) → Made shape rooms list count → cloud.0 ≡ count
+pub one_made : (shape : Shape) (rooms : UserRooms) (list : List Server) (count : ℕ) (cloud : CloudNo) (server : Server) → Made shape rooms list count → cloud.0 ≡ count
     → server.store.header ≡ header_of shape rooms cloud.0 → ¬ (IsOpen server.store) → Made shape rooms (list ++ server ∷ []) (count + 1)
 one_made shape rooms list count cloud server made here of shut = record {
   long = omega (arith, length-append list (server ∷ []), made.long);

@@ -3,15 +3,15 @@ use Rattle.std.proofs.Common.{◌≡◌, ℕ, ◌<◌, List, Option, Some, sym, 
 use Rattle.std.specs.Prelude.{◌≢◌, IsTrue, IsSomeAnd, slice_get, nat_lt}
 use Rattle.std.proofs.lemmas.Bool.{cases_eq}
 use Rattle.std.proofs.lemmas.Option.{slice_get_cases}
-use Rattle.cd_base.specs.declared.shape.Shape.{Shape}
-use Rattle.cd_edges.specs.Disk.{Cloud}
-use Rattle.cd_edges.specs.Shelf.{IsCall}
-use Rattle.journal_start.specs.declared.rooms.Rooms.{Rooms}
-use Rattle.journal_start.specs.declared.start.Header.{Header}
-use Rattle.user_dedup.specs.declared.command.Command.{Command}
-use Rattle.user_dedup.specs.Exec.{Peer, MaySettleAs}
-use Rattle.user_dedup.specs.Link.{LeavesOthers}
-use Rattle.user_dedup.specs.Spending.{full_for, IsWithin}
+use Rattle.cloud_server.specs.CdBase.shape.Shape.{Shape}
+use Rattle.cloud_server.specs.CdEdges.Disk.{Cloud}
+use Rattle.cloud_server.specs.CdEdges.Shelf.{IsCall}
+use Rattle.cloud_server.specs.JournalStart.rooms.UserRooms.{UserRooms}
+use Rattle.cloud_server.specs.JournalStart.start.Header.{Header}
+use Rattle.cloud_server.specs.UserDedup.command.Command.{Command}
+use Rattle.cloud_server.specs.UserDedup.Exec.{Peer, MaySettleAs}
+use Rattle.cloud_server.specs.UserDedup.Link.{LeavesOthers}
+use Rattle.cloud_server.specs.UserDedup.Spending.{full_for, IsWithin}
 use Rattle.cloud_server.specs.CloudAreas.Peers.{ImagesNow}
 use Rattle.cloud_server.specs.OpenStore.Store.{IsOpen}
 use Rattle.cloud_server.specs.Names.{header_of}
@@ -20,7 +20,7 @@ use Rattle.cloud_server.specs.Serving.{number_of, IsServing}
 use Rattle.local_link.specs.declared.servers.Servers.{Servers}
 use Rattle.local_link.specs.declared.link.LocalLink.{LocalLink}
 use Rattle.local_link.specs.Tells.{server_at, rooms_of, rooms_at, header_at, IsPeer, telling, LeavesRest}
-use Rattle.local_link.specs.Steps.{Puts, IsClosedIn}
+use Rattle.local_link.specs.Steps.{HasPutServer, IsClosedIn}
 use Rattle.local_link.specs.Calls.{MayServe}
 use Rattle.local_link.proofs.Placing.{set_here, set_there}
 
@@ -33,7 +33,7 @@ header_is servers cloud server here =
 
 -- ---- one server in place of another
 
-module _ (old new : Servers) (cloud : ℕ) (before after : Server) (put : Puts old new cloud before after) where
+module _ (old new : Servers) (cloud : ℕ) (before after : Server) (put : HasPutServer old new cloud before after) where
   pub header_put : before.store.header ≡ header_at old cloud
   header_put = header_is old cloud before put.here
 
@@ -69,7 +69,7 @@ told_by old new number before now call other = elim (cases_eq other number) [
 ]
 
 pub rest_at : {V : Type 0} (clouds : V → ℕ → Cloud) (cloud : ℕ) (old new : LocalLink V) (before after : Server) (faults_before faults_now : ℕ)
-    → Puts old.servers new.servers cloud before after → IsCall (clouds old.shelf.now) (clouds new.shelf.now) cloud faults_before faults_now → LeavesRest clouds cloud old new
+    → HasPutServer old.servers new.servers cloud before after → IsCall (clouds old.shelf.now) (clouds new.shelf.now) cloud faults_before faults_now → LeavesRest clouds cloud old new
 rest_at clouds cloud old new before after faults_before faults_now put call = record {
   clouds_stay = call.others;
   servers_stay = there_now old.servers new.servers cloud before after put;
@@ -79,7 +79,7 @@ rest_at clouds cloud old new before after faults_before faults_now put call = re
 
 -- of a call on the cloud of the server that stood there
 pub rest_by : {V : Type 0} (clouds : V → ℕ → Cloud) (cloud : ℕ) (old new : LocalLink V) (before after : Server) (faults_before faults_now : ℕ)
-    → Puts old.servers new.servers cloud before after → IsCall (clouds old.shelf.now) (clouds new.shelf.now) (number_of before) faults_before faults_now
+    → HasPutServer old.servers new.servers cloud before after → IsCall (clouds old.shelf.now) (clouds new.shelf.now) (number_of before) faults_before faults_now
     → LeavesRest clouds cloud old new
 rest_by clouds cloud old new before after faults_before faults_now put call =
     rest_at clouds cloud old new before after faults_before faults_now put
@@ -131,12 +131,12 @@ closed_serves server cloud p shut images faults armings within = record {
   ready = λ is_open. absurd (shut is_open);
 }
 
-pub closed_stands : (servers : Servers) (cloud : ℕ) (rooms : Rooms) (c : Cloud) (p : Peer) → cloud < servers.shape.n → ((server : Server) → server_at servers cloud ≡ Some server → IsClosedIn rooms server)
+pub closed_stands : (servers : Servers) (cloud : ℕ) (rooms : UserRooms) (c : Cloud) (p : Peer) → cloud < servers.shape.n → ((server : Server) → server_at servers cloud ≡ Some server → IsClosedIn rooms server)
     → MayServe servers.shape cloud rooms c p → IsPeer servers.shape cloud c (server_at servers cloud) p
 closed_stands servers cloud rooms c p lt closed may =
     let here = some_server servers cloud lt in
     let is = closed here.0 here.1 in
-    let header : here.0.store.header ≡ header_of servers.shape rooms cloud = (servers.are_servers.each cloud here.0 here.1).header_is ∙ ap (λ (r : Rooms). header_of servers.shape r cloud) is.rooms_are in
+    let header : here.0.store.header ≡ header_of servers.shape rooms cloud = (servers.are_servers.each cloud here.0 here.1).header_is ∙ ap (λ (r : UserRooms). header_of servers.shape r cloud) is.rooms_are in
     record {
       faults = may.faults;
       armings = may.armings;

@@ -1,20 +1,20 @@
 -- What the calls of the link do to a cloud's peer.
 use Rattle.std.specs.Prelude.{◌≡◌, ◌⊎◌, ℕ, ◌+◌, ◌-◌, ◌^◌, min, IsTrue, List, [], None, Result, Ok, Err}
-use Rattle.journal_start.specs.declared.rooms.Rooms.{Rooms}
-use Rattle.cd_base.specs.declared.shape.Shape.{Shape}
-use Rattle.cd_edges.specs.declared.area.Area.{Area}
-use Rattle.cd_edges.specs.declared.stream.Failed.{Failed}
-use Rattle.cd_edges.specs.Causes.{Rose}
-use Rattle.cd_edges.specs.Disk.{Cloud, Image, IsImage, LeavesOnly}
-use Rattle.user_dedup.specs.declared.command.Command.{Command}
-use Rattle.user_dedup.specs.Exec.{Peer, MaySettleAs, Stays, StandsSound}
-use Rattle.user_dedup.specs.Spending.{IsWithin}
+use Rattle.cloud_server.specs.JournalStart.rooms.UserRooms.{UserRooms}
+use Rattle.cloud_server.specs.CdBase.shape.Shape.{Shape}
+use Rattle.cloud_server.specs.CdEdges.area.Area.{Area}
+use Rattle.cloud_server.specs.CdEdges.stream.Failed.{Failed}
+use Rattle.cloud_server.specs.CdEdges.Causes.{Rose}
+use Rattle.cloud_server.specs.CdEdges.Disk.{Cloud, Image, IsImage, LeavesOnly}
+use Rattle.cloud_server.specs.UserDedup.command.Command.{Command}
+use Rattle.cloud_server.specs.UserDedup.Exec.{Peer, MaySettleAs, KeepsPeer, StandsSound}
+use Rattle.cloud_server.specs.UserDedup.Spending.{IsWithin}
 use Rattle.cloud_server.specs.CloudAreas.Peers.{ImagesNow}
 pub use Rattle.cloud_server.specs.Names.{header_of}
 
 -- A cloud may be served as this peer, in these rooms: its counts are the peer's, and where it is told each image now stands for a list that
 -- the peer may settle as, all of which are sound and within the rooms.
-pub record MayServe (shape : Shape) (number : ℕ) (rooms : Rooms) (cloud : Cloud) (p : Peer) : Type 0 where
+pub record MayServe (shape : Shape) (number : ℕ) (rooms : UserRooms) (cloud : Cloud) (p : Peer) : Type 0 where
   pub faults : p.faults ≡ cloud.faults
   pub armings : p.armings ≡ cloud.armings
   pub images : IsTrue cloud.told → ImagesNow cloud (header_of shape rooms number) (MaySettleAs p)
@@ -29,11 +29,11 @@ no_commands cloud = record { list = []; pending = None; faults = cloud.faults; a
 -- count of faults rose.
 abbrev pub Replaces : Peer → Peer → Result (Unit {0}) Failed → Type 0
 Replaces old new (Ok u) = (new.list ≡ []) × (new.pending ≡ None) × (new.faults ≡ old.faults) × (new.armings ≡ old.armings)
-Replaces old new (Err e) = Stays old new × Rose old.faults new.faults × (new.armings ≡ old.armings)
+Replaces old new (Err e) = KeepsPeer old new × Rose old.faults new.faults × (new.armings ≡ old.armings)
 
 -- One arming more, and else the peer that it was.
 pub record Armed (old new : Peer) : Type 0 where
-  pub stays : Stays old new
+  pub stays : KeepsPeer old new
   pub faults : new.faults ≡ old.faults
   pub armings : new.armings ≡ min (old.armings + 1) (2 ^ 64 - 1)
 

@@ -2,6 +2,8 @@ pub mod Calls
 pub mod CloudAreas
 pub mod CloudMemory
 pub mod CloudServer
+pub mod HalfJournal
+pub mod JournalStart
 pub mod Members
 pub mod Sounds
 pub mod Steps

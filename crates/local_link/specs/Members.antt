@@ -1,6 +1,6 @@
 -- The servers of all clouds of a store.
 use Rattle.std.specs.Prelude.{◌≡◌, ℕ, List, length, Some, slice_get}
-use Rattle.cd_base.specs.declared.shape.Shape.{Shape}
+use Rattle.cloud_server.specs.CdBase.shape.Shape.{Shape}
 use Rattle.cloud_server.specs.Names.{header_of}
 use Rattle.cloud_server.specs.declared.server.Server.{Server}
 

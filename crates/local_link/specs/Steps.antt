@@ -1,50 +1,50 @@
 -- What a call does to one of the servers.
 use Rattle.std.specs.Prelude.{◌≡◌, ◌≢◌, ◌⊎◌, ℕ, Bool, true, IsTrue, List, Some, Result, Ok, Err, IfOk, OnOk, OnErr, slice_set}
 use Rattle.std.specs.List.{Contains}
-use Rattle.cd_base.specs.declared.ids.Fp.{Fp}
-use Rattle.journal_start.specs.declared.rooms.Rooms.{Rooms}
-use Rattle.cd_base.specs.declared.shape.Shape.{Shape}
-use Rattle.cd_edges.specs.declared.area.Area.TheVariants.{Journal}
-use Rattle.cd_edges.specs.Disk.{Cloud, reads}
-use Rattle.cd_edges.specs.Shelf.{IsCall, HasFailed, KeepsCounts}
-use Rattle.half_journal.specs.declared.errors.OpenErr.{OpenErr}
-use Rattle.messages.specs.declared.request.Request.{Request}
-use Rattle.messages.specs.declared.reply.Reply.{Reply}
-use Rattle.messages.specs.declared.reply.Reply.TheVariants as replies
-use Rattle.messages.specs.Answering.{IsReplyTo}
-use Rattle.messages.specs.Replies.{IsReply, reply_bytes}
-use Rattle.user_dedup.specs.declared.command.Command.{Command}
-use Rattle.user_dedup.specs.Requests.{asked_at}
-use Rattle.user_dedup.specs.Exec.{Peer, Exec, items_of}
-use Rattle.half_journal.specs.Openings.{OnFault, HasBegun}
+use Rattle.cloud_server.specs.CdBase.ids.Fp.{Fp}
+use Rattle.cloud_server.specs.JournalStart.rooms.UserRooms.{UserRooms}
+use Rattle.cloud_server.specs.CdBase.shape.Shape.{Shape}
+use Rattle.cloud_server.specs.CdEdges.area.Area.TheVariants.{Journal}
+use Rattle.cloud_server.specs.CdEdges.Disk.{Cloud, reads}
+use Rattle.cloud_server.specs.CdEdges.Shelf.{IsCall, HasFailed, KeepsCounts}
+use Rattle.cloud_server.specs.HalfJournal.errors.OpenErr.{OpenErr}
+use Rattle.cloud_server.specs.Messages.request.Request.{Request}
+use Rattle.cloud_server.specs.Messages.reply.Reply.{Reply}
+use Rattle.cloud_server.specs.Messages.reply.Reply.TheVariants as replies
+use Rattle.cloud_server.specs.Messages.Answering.{IsReplyTo}
+use Rattle.cloud_server.specs.Messages.Replies.{IsReply, reply_bytes}
+use Rattle.cloud_server.specs.UserDedup.command.Command.{Command}
+use Rattle.cloud_server.specs.UserDedup.Requests.{asked_at}
+use Rattle.cloud_server.specs.UserDedup.Exec.{Peer, Exec, items_of}
+use Rattle.cloud_server.specs.HalfJournal.Openings.{OnFault, HasBegun}
 use Rattle.cloud_server.specs.StoreOpening.Spared.{IsOkOrFault, MayBegin, Spares}
 use Rattle.cloud_server.specs.Openings.{NotBegunIs, OtherStoreIs}
 use Rattle.cloud_server.specs.StoreOpening.Exact.{Opens}
-use Rattle.user_dedup.specs.Spending.{IsWithin}
+use Rattle.cloud_server.specs.UserDedup.Spending.{IsWithin}
 use Rattle.cloud_server.specs.OpenStore.Store.{IsOpen}
 use Rattle.cloud_server.specs.CloudAreas.Peers.{ImagesNow, ImagesSince, MayBecome}
 use Rattle.cloud_server.specs.CloudAreas.Standing.{StandsFor}
 use Rattle.cloud_server.specs.CloudMemory.Rooms.{memory_of}
 use Rattle.cloud_server.specs.ServerCommands.Leaving.{IsFound, LeavesAll}
 use Rattle.cloud_server.specs.declared.server.Server.{Server}
-use Rattle.user_dedup.specs.Cloud.{counted}
-use Rattle.cloud_server.specs.Serving.{number_of, IsServing, server_serves, settled_with, ReopensAs, CanOpen, Refused, ChangesBehind, EntersBy, OpensFirst}
+use Rattle.cloud_server.specs.UserDedup.Cloud.{counted}
+use Rattle.cloud_server.specs.Serving.{number_of, IsServing, server_serves, settled_with, ReopensAs, CanOpen, IsUnopenedReply, ChangesBehind, EntersBy, OpensFirst}
 use Rattle.local_link.specs.declared.servers.Servers.{Servers}
 use Rattle.local_link.specs.Tells.{server_at}
 
 -- One server stood at this place, and another stands there now. The others are as they were.
-pub record Puts (old new : Servers) (cloud : ℕ) (before after : Server) : Type 0 where
+pub record HasPutServer (old new : Servers) (cloud : ℕ) (before after : Server) : Type 0 where
   pub here : server_at old cloud ≡ Some before
   pub list : new.list.items ≡ slice_set old.list.items cloud after
   pub shape : new.shape ≡ old.shape
 
 -- A closed server in these rooms.
-pub record IsClosedIn (rooms : Rooms) (server : Server) : Type 0 where
+pub record IsClosedIn (rooms : UserRooms) (server : Server) : Type 0 where
   pub rooms_are : server.store.header.rooms ≡ rooms
   pub shut : ¬ (IsOpen server.store)
 
 -- The server is closed, and else what it was.
-pub record Closes (before after : Server) : Type 0 where
+pub record IsServerClosed (before after : Server) : Type 0 where
   pub same : after.store.header ≡ before.store.header
   pub shut : ¬ (IsOpen after.store)
 
@@ -73,7 +73,7 @@ pub record RepliesOpen (old new : ℕ → Cloud) (faults_before faults_after : �
       × (faults_after ≡ faults_before)
 
 -- A server executed the content, over the clouds of a shelf.
-pub record Executes (before after : Server) (old new : ℕ → Cloud) (faults_before faults_after : ℕ) (content reply : List ℕ) : Type 0 where
+pub record HasServerExecuted (before after : Server) (old new : ℕ → Cloud) (faults_before faults_after : ℕ) (content reply : List ℕ) : Type 0 where
   pub same : after.store.header ≡ before.store.header
   pub exec : (p : Peer) (request : Request) → IsTrue (old (number_of before)).told → IsServing before (old (number_of before)) p
       → asked_at before.store.header.shape content ≡ Ok request → Executed before after (new (number_of before)) p request reply
@@ -86,10 +86,10 @@ pub record Executes (before after : Server) (old new : ℕ → Cloud) (faults_be
   pub untold : (request : Request) → asked_at before.store.header.shape content ≡ Ok request
       → Replied before.store.header.shape (old (number_of before)) (new (number_of before)) faults_before faults_after request reply
   pub closed : (request : Request) → IsTrue (old (number_of before)).told → ¬ IsOpen before.store → asked_at before.store.header.shape content ≡ Ok request
-      → CanOpen before.store (old (number_of before)) ⊎ Refused before.store (old (number_of before)) (new (number_of before)) reply
+      → CanOpen before.store (old (number_of before)) ⊎ IsUnopenedReply before.store (old (number_of before)) (new (number_of before)) reply
   pub first : (request : Request) → IsTrue (old (number_of before)).told → ¬ (IsOpen before.store) → asked_at before.store.header.shape content ≡ Ok request
       → OpensFirst before.store after.store (old (number_of before)) (new (number_of before)) request reply
-      ⊎ Refused before.store (old (number_of before)) (new (number_of before)) reply
+      ⊎ IsUnopenedReply before.store (old (number_of before)) (new (number_of before)) reply
   pub behind : (request : Request) → IsOpen before.store → asked_at before.store.header.shape content ≡ Ok request
       → ChangesBehind before.store after.store (old (number_of before)) (new (number_of before)) request
   pub enters : (request : Request) → IsOpen before.store → asked_at before.store.header.shape content ≡ Ok request

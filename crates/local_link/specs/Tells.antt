@@ -1,21 +1,21 @@
 -- What the link tells of its clouds.
 use Rattle.std.specs.Prelude.{◌≡◌, ◌≢◌, ◌⊎◌, ℕ, ◌<◌, Bool, true, false, IsTrue, List, Option, Some, None, Ok, IsSomeAnd, nat_lt, slice_get}
-use Rattle.cd_base.specs.Reading.{AreBytes}
-use Rattle.cd_base.specs.declared.shape.Shape.{Shape}
-use Rattle.cd_edges.specs.Disk.{Cloud}
-use Rattle.user_dedup.specs.declared.command.Command.{Command}
-use Rattle.messages.specs.declared.request.Request.{Request}
-use Rattle.messages.specs.declared.reply.Reply.{Reply}
-use Rattle.user_dedup.specs.Dedup.{Outcome, FullRoom}
-use Rattle.user_dedup.specs.Requests.{asked_at}
-use Rattle.user_dedup.specs.Exec.{Peer, Stays, CountsOn, Exec, StandsSound, served}
-use Rattle.user_dedup.specs.Link.{LinkTelling, Exchange}
+use Rattle.cloud_server.specs.CdBase.Reading.{AreBytes}
+use Rattle.cloud_server.specs.CdBase.shape.Shape.{Shape}
+use Rattle.cloud_server.specs.CdEdges.Disk.{Cloud}
+use Rattle.cloud_server.specs.UserDedup.command.Command.{Command}
+use Rattle.cloud_server.specs.Messages.request.Request.{Request}
+use Rattle.cloud_server.specs.Messages.reply.Reply.{Reply}
+use Rattle.cloud_server.specs.UserDedup.Dedup.{Outcome, FullRoom}
+use Rattle.cloud_server.specs.UserDedup.Requests.{asked_at}
+use Rattle.cloud_server.specs.UserDedup.Exec.{Peer, KeepsPeer, CountsOn, Exec, StandsSound, served}
+use Rattle.cloud_server.specs.UserDedup.Link.{LinkTelling, Exchange}
 use Rattle.cloud_server.specs.CloudAreas.Peers.{ImagesSince, MayBecome}
-use Rattle.journal_start.specs.declared.rooms.Rooms.{Rooms}
-use Rattle.journal_start.specs.declared.start.Header.{Header}
-use Rattle.journal_start.specs.Ranges.{usual_rooms}
+use Rattle.cloud_server.specs.JournalStart.rooms.UserRooms.{UserRooms}
+use Rattle.cloud_server.specs.JournalStart.start.Header.{Header}
+use Rattle.cloud_server.specs.JournalStart.Ranges.{usual_rooms}
 use Rattle.cloud_server.specs.Names.{header_of}
-use Rattle.user_dedup.specs.Spending.{full_for}
+use Rattle.cloud_server.specs.UserDedup.Spending.{full_for}
 use Rattle.cloud_server.specs.declared.server.Server.{Server}
 use Rattle.cloud_server.specs.Serving.{IsServing}
 use Rattle.local_link.specs.declared.fate.Fate.{Fate}
@@ -29,12 +29,12 @@ abbrev pub server_at : Servers → ℕ → Option Server
 server_at servers cloud = slice_get servers.list.items cloud
 
 -- the rooms of a server; where there is none, the usual ones
-abbrev pub rooms_of : Option Server → Rooms
+abbrev pub rooms_of : Option Server → UserRooms
 rooms_of None = usual_rooms
 rooms_of (Some server) = server.store.header.rooms
 
 -- the rooms of a cloud's server
-abbrev pub rooms_at : Servers → ℕ → Rooms
+abbrev pub rooms_at : Servers → ℕ → UserRooms
 rooms_at servers cloud = rooms_of (server_at servers cloud)
 
 -- the header of a cloud of the servers' store, in the rooms of its server
@@ -84,7 +84,7 @@ pub record PassesOn {V : Type 0} (clouds : V → ℕ → Cloud) (old : LocalLink
   pub fate : new.fate ≡ Deliver
   pub same_reference : new.shelf.ghost_name ≡ old.shelf.ghost_name
   pub goes : (p : Peer) (r : Request) → asked_at old.servers.shape e.content ≡ Ok r → StandsAt clouds old e.cloud p
-      → (q : Peer) × StandsAt clouds new e.cloud q × ((Stays p q × CountsOn p q)
+      → (q : Peer) × StandsAt clouds new e.cloud q × ((KeepsPeer p q × CountsOn p q)
       ⊎ ((answer : Reply) × Exec old.servers.shape (clouds old.shelf.now e.cloud).told (serving_at old e.cloud) p r answer q))
   pub images : (p : Peer) (r : Request) → IsTrue (clouds old.shelf.now e.cloud).told → StandsAt clouds old e.cloud p → asked_at old.servers.shape e.content ≡ Ok r
       → ImagesSince (clouds old.shelf.now e.cloud) (clouds new.shelf.now e.cloud) (header_at old.servers e.cloud) (MayBecome (serving_at old e.cloud) p r)

@@ -2,25 +2,22 @@
 
 ghost use Rattle.std.specs.Prelude.{◌≡◌, ◌<◌, ℕ, List, Some, IsTrue};
 ghost use Rattle.std.specs.List.{Contains};
-ghost use Rattle.user_dedup.specs.Exec.{Peer, MaySettleAs};
+ghost use Rattle.cloud_server.specs.UserDedup.Exec.{Peer, MaySettleAs};
 ghost use Rattle.cloud_server.specs.declared.server.Server.{Server};
 ghost use Rattle.local_link.specs.declared.servers.Servers.{Servers};
 ghost use Rattle.cloud_server.specs.CloudAreas.Peers.{ImagesSince};
 ghost use Rattle.local_link.specs.declared.link.LocalLink.{LocalLink};
-ghost use Rattle.user_dedup.specs.Link.{Exchange, Passes, ReadsFrom};
+ghost use Rattle.cloud_server.specs.UserDedup.Link.{Exchange, Passes, ReadsFrom};
 ghost use Rattle.local_link.specs.Tells.{server_at, header_at, telling, StandsAt};
 
 use crate::Fate;
 use crate::servers::Servers;
-use cd_base::{CloudNo, NoMemory, Shape};
-use cd_edges::{Failed, Shelf};
-use cloud_server::OpenErr;
 use cloud_server::laws::{law_of_areas, law_of_no_commands};
-use frames::ReplyBuf;
-use journal_halves::{FindErr, Found, find};
-use journal_start::Rooms;
+use cloud_server::{
+    CloudNo, Failed, FindErr, Found, Link, Lost, NoMemory, OpenErr, ReplyBuf, Shape, Shelf,
+    UserRooms, find,
+};
 use std::alloc::Global;
-use user_dedup::{Link, Lost};
 
 /// A link to the n clouds of a shelf, with their servers in this process.
 ///
@@ -38,36 +35,36 @@ impl<'a, V: Shelf> LocalLink<'a, V> {
     ghost use Rattle.std.specs.Prelude.{◌≡◌, ◌≢◌, ◌⊎◌, ◌↔◌, ℕ, false, ◌+◌, ◌-◌, ◌^◌, ◌<◌, ◌≤◌, List, [], length, min};
     ghost use Rattle.std.specs.Prelude.{IsTrue, IsOk, IfOk, OnOk, OnErr, IsSomeAnd, Some, Ok, Err, if◌then◌else◌};
     ghost use Rattle.std.specs.List.{Contains};
-    ghost use Rattle.cd_edges.specs.Shelf.{IsCall, HasFailed, KeepsCounts, Arms, Refreshes};
-    ghost use Rattle.cd_edges.specs.Shelf as device;
-    ghost use Rattle.journal_halves.specs.Findings as findings;
-    ghost use Rattle.frames.specs.Frames.{frame_limit};
-    ghost use Rattle.messages.specs.declared.request.Request.{Request};
-    ghost use Rattle.messages.specs.declared.reply.Reply.{Reply};
-    ghost use Rattle.messages.specs.declared.reply.Reply.TheVariants as replies;
-    ghost use Rattle.messages.specs.Replies.{IsReply};
-    ghost use Rattle.cd_base.specs.declared.ids.Fp.{Fp};
+    ghost use Rattle.cloud_server.specs.CdEdges.Shelf.{IsCall, HasFailed, KeepsCounts, Arms, Refreshes};
+    ghost use Rattle.cloud_server.specs.CdEdges.Shelf as device;
+    ghost use Rattle.cloud_server.specs.JournalHalves.Findings as findings;
+    ghost use Rattle.cloud_server.specs.Frames.Frames.{frame_limit};
+    ghost use Rattle.cloud_server.specs.Messages.request.Request.{Request};
+    ghost use Rattle.cloud_server.specs.Messages.reply.Reply.{Reply};
+    ghost use Rattle.cloud_server.specs.Messages.reply.Reply.TheVariants as replies;
+    ghost use Rattle.cloud_server.specs.Messages.Replies.{IsReply};
+    ghost use Rattle.cloud_server.specs.CdBase.ids.Fp.{Fp};
     ghost use Rattle.cloud_server.specs.CloudMemory.Rooms.{memory_of};
     ghost use Rattle.cloud_server.specs.ServerCommands.Leaving.{IsFound};
-    ghost use Rattle.user_dedup.specs.declared.command.Command.{Command};
-    ghost use Rattle.user_dedup.specs.Requests.{asked_at};
-    ghost use Rattle.user_dedup.specs.Exec.{Peer, MaySettleAs, Stays, CountsOn};
-    ghost use Rattle.user_dedup.specs.Link.{Asks, AsksNothing, LeavesOthers, Does, serves};
-    ghost use Rattle.half_journal.specs.Openings.{OnFault, HasBegun};
-    ghost use Rattle.cd_edges.specs.declared.area.Area.TheVariants.{Journal};
+    ghost use Rattle.cloud_server.specs.UserDedup.command.Command.{Command};
+    ghost use Rattle.cloud_server.specs.UserDedup.Requests.{asked_at};
+    ghost use Rattle.cloud_server.specs.UserDedup.Exec.{Peer, MaySettleAs, KeepsPeer, CountsOn};
+    ghost use Rattle.cloud_server.specs.UserDedup.Link.{Asks, AsksNothing, LeavesOthers, Does, serves};
+    ghost use Rattle.cloud_server.specs.HalfJournal.Openings.{OnFault, HasBegun};
+    ghost use Rattle.cloud_server.specs.CdEdges.area.Area.TheVariants.{Journal};
     ghost use Rattle.cloud_server.specs.StoreOpening.Spared.{IsOkOrFault, MayBegin, Spares};
     ghost use Rattle.cloud_server.specs.Openings.{NotBegunIs, OtherStoreIs};
     ghost use Rattle.cloud_server.specs.StoreOpening.Exact.{Opens};
     ghost use Rattle.cloud_server.specs.OpenStore.Store.{IsOpen};
-    ghost use Rattle.journal_start.specs.Ranges.{AreRooms, IsStart};
-    ghost use Rattle.user_dedup.specs.Spending.{IsWithin};
+    ghost use Rattle.cloud_server.specs.JournalStart.Ranges.{AreRooms, IsStart};
+    ghost use Rattle.cloud_server.specs.UserDedup.Spending.{IsWithin};
     ghost use Rattle.cloud_server.specs.CloudAreas.Peers.{ImagesNow, ImagesSince, MayBecome};
     ghost use Rattle.cloud_server.specs.declared.server.Server.{Server};
-    ghost use Rattle.journal_start.specs.declared.rooms.Rooms.{Rooms};
-    ghost use Rattle.user_dedup.specs.Cloud.{counted};
-    ghost use Rattle.cloud_server.specs.Serving.{ReopensAs, settled_with, CanOpen, Refused, ChangesBehind, EntersBy, OpensFirst};
+    ghost use Rattle.cloud_server.specs.JournalStart.rooms.UserRooms.{UserRooms};
+    ghost use Rattle.cloud_server.specs.UserDedup.Cloud.{counted};
+    ghost use Rattle.cloud_server.specs.Serving.{ReopensAs, settled_with, CanOpen, IsUnopenedReply, ChangesBehind, EntersBy, OpensFirst};
     ghost use Rattle.cloud_server.specs.CloudAreas.Standing.{StandsFor};
-    ghost use Rattle.cd_edges.specs.Disk.{reads};
+    ghost use Rattle.cloud_server.specs.CdEdges.Disk.{reads};
     ghost use Rattle.local_link.specs.declared.fate.Fate.TheVariants.{Deliver, LoseRequest};
     ghost use Rattle.local_link.specs.Tells.{server_at, rooms_at, header_at, is_delivered, telling, LeavesRest};
     ghost use Rattle.local_link.specs.Steps.{IsClosedIn, Replied, RepliesOpen};
@@ -79,7 +76,7 @@ impl<'a, V: Shelf> LocalLink<'a, V> {
         alloc: Global,
         shelf: &'a mut V,
         shape: Shape,
-        rooms: Rooms,
+        rooms: UserRooms,
     ) -> Result<LocalLink<'a, V>, NoMemory>
         requires { AreRooms rooms }
         ensures shape { IfOk result (λ link. (telling V.cloud_at).shape link ≡ shape) }
@@ -111,7 +108,7 @@ impl<'a, V: Shelf> LocalLink<'a, V> {
         ensures delivers { (result.fate ≡ Deliver) × (result.losses ≡ 0) }
         ensures shelf { result.shelf.now ≡ shelf.old }
         ensures same_reference { result.shelf.ghost_name ≡ shelf.entry.ghost_name }
-        ensures stands { (rooms : Rooms)
+        ensures stands { (rooms : UserRooms)
             → ((cloud : ℕ) (server : Server) → server_at servers cloud ≡ Some server → IsClosedIn rooms server)
             → (cloud : ℕ) (p : Peer) → cloud < servers.shape.n
             → MayServe servers.shape cloud rooms (V.cloud_at shelf.old cloud) p
@@ -166,7 +163,7 @@ impl<'a, V: Shelf> LocalLink<'a, V> {
     /// Puts a closed server in these rooms in the cloud's place. Nothing else changes, and for want of memory nothing
     /// does. The cloud stands for each peer that it may be served as in the new rooms; its images then name just these
     /// rooms in their header.
-    pub fn set_rooms(&mut self, cloud: CloudNo, rooms: Rooms) -> Result<(), NoMemory>
+    pub fn set_rooms(&mut self, cloud: CloudNo, rooms: UserRooms) -> Result<(), NoMemory>
         requires reached { IsTrue ((telling V.cloud_at).reaches self.old cloud.0) }
         requires rooms { AreRooms rooms }
         ensures closed { OnOk result (IsSomeAnd (server_at self.new.servers cloud.0) (IsClosedIn rooms)) }
@@ -262,7 +259,7 @@ impl<'a, V: Shelf> LocalLink<'a, V> {
             (settled_with list (V.cloud_at self.new.shelf.now cloud.0))) }
         ensures untold { (p : Peer) → (telling V.cloud_at).told self.old cloud.0 ≡ false
             → (telling V.cloud_at).stands self.old cloud.0 p
-            → (q : Peer) × (telling V.cloud_at).stands self.new cloud.0 q × Stays p q × CountsOn p q }
+            → (q : Peer) × (telling V.cloud_at).stands self.new cloud.0 q × KeepsPeer p q × CountsOn p q }
 
         // Whenever a crash comes it leaves a list that it might have left before.
         ensures images { IsTrue ((telling V.cloud_at).told self.old cloud.0) → (lists : List (List Command))
@@ -400,7 +397,7 @@ impl<'a, V: Shelf> LocalLink<'a, V> {
             → (content : List ℕ) × OnOk result (reply.new ≡ content)
             × IsSomeAnd (server_at self.old.servers cloud.0) (λ server. ¬ (IsOpen server.store)
             → CanOpen server.store (V.cloud_at self.old.shelf.now cloud.0)
-            ⊎ Refused server.store (V.cloud_at self.old.shelf.now cloud.0)
+            ⊎ IsUnopenedReply server.store (V.cloud_at self.old.shelf.now cloud.0)
             (V.cloud_at self.new.shelf.now cloud.0) content) }
 
         // An open server never replies Damaged; and a reply that says that nothing is stored, entered or read comes
@@ -465,7 +462,7 @@ impl<'a, V: Shelf> LocalLink<'a, V> {
             × IsSomeAnd (server_at self.old.servers cloud.0) (λ before. ¬ (IsOpen before.store)
             → IsSomeAnd (server_at self.new.servers cloud.0) (λ after. OpensFirst before.store after.store
             (V.cloud_at self.old.shelf.now cloud.0) (V.cloud_at self.new.shelf.now cloud.0) r content
-            ⊎ Refused before.store (V.cloud_at self.old.shelf.now cloud.0)
+            ⊎ IsUnopenedReply before.store (V.cloud_at self.old.shelf.now cloud.0)
             (V.cloud_at self.new.shelf.now cloud.0) content)) }
 
         ensures rest { LeavesRest V.cloud_at cloud.0 self.old self.new }

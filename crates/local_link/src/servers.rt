@@ -2,11 +2,7 @@
 
 ghost use Rattle.local_link.specs.Members.{AreServers};
 
-use cd_base::{CloudNo, NoMemory, Shape};
-use cd_edges::Shelf;
-use cloud_server::{OpenErr, Server};
-use frames::ReplyBuf;
-use journal_start::Rooms;
+use cloud_server::{CloudNo, NoMemory, OpenErr, ReplyBuf, Server, Shape, Shelf, UserRooms};
 use std::alloc::Global;
 
 /// The servers of all clouds of a store, each at the place of its cloud's number and all of one shape.
@@ -19,14 +15,14 @@ pub struct Servers {
 
 impl Servers {
     ghost use Rattle.std.specs.Prelude.{◌≡◌, ◌<◌, ◌≤◌, ℕ, length, IfOk, OnOk, OnErr, Some};
-    ghost use Rattle.frames.specs.Frames.{frame_limit};
-    ghost use Rattle.journal_start.specs.Ranges.{AreRooms};
+    ghost use Rattle.cloud_server.specs.Frames.Frames.{frame_limit};
+    ghost use Rattle.cloud_server.specs.JournalStart.Ranges.{AreRooms};
     ghost use Rattle.cloud_server.specs.declared.server.Server.{Server};
     ghost use Rattle.local_link.specs.Tells.{server_at};
-    ghost use Rattle.local_link.specs.Steps.{Puts, IsClosedIn, Closes, Executes, Reopens};
+    ghost use Rattle.local_link.specs.Steps.{HasPutServer, IsClosedIn, IsServerClosed, HasServerExecuted, Reopens};
 
     /// A closed server for each cloud, all in these rooms. The only error is want of memory.
-    pub fn make(alloc: Global, shape: Shape, rooms: Rooms) -> Result<Servers, NoMemory>
+    pub fn make(alloc: Global, shape: Shape, rooms: UserRooms) -> Result<Servers, NoMemory>
         requires { AreRooms rooms }
         ensures shape { IfOk result (λ servers. servers.shape ≡ shape) }
         ensures closed { IfOk result (λ servers. (cloud : ℕ) (server : Server) → server_at servers cloud ≡ Some server
@@ -40,10 +36,11 @@ impl Servers {
     }
 
     /// Puts a closed server in these rooms in the cloud's place. For want of memory nothing changes.
-    pub fn renew(&mut self, alloc: Global, cloud: CloudNo, rooms: Rooms) -> Result<(), NoMemory>
+    pub fn renew(&mut self, alloc: Global, cloud: CloudNo, rooms: UserRooms) -> Result<(), NoMemory>
         requires reached { cloud.0 < self.old.shape.n }
         requires rooms { AreRooms rooms }
-        ensures put { OnOk result ((before : Server) × (after : Server) × Puts self.old self.new cloud.0 before after
+        ensures put { OnOk result ((before : Server) × (after : Server)
+            × HasPutServer self.old self.new cloud.0 before after
             × IsClosedIn rooms after) }
         ensures err { OnErr result (self.new ≡ self.old) }
     {
@@ -55,8 +52,8 @@ impl Servers {
     /// Closes the cloud's server.
     pub fn close(&mut self, cloud: CloudNo)
         requires { cloud.0 < self.old.shape.n }
-        ensures { (before : Server) × (after : Server) × Puts self.old self.new cloud.0 before after
-            × Closes before after }
+        ensures { (before : Server) × (after : Server) × HasPutServer self.old self.new cloud.0 before after
+            × IsServerClosed before after }
     {
         self.list[cloud.0 as usize].close();
     }
@@ -69,7 +66,7 @@ impl Servers {
         begin: bool,
     ) -> Result<u64, OpenErr>
         requires { cloud.0 < self.old.shape.n }
-        ensures { (before : Server) × (after : Server) × Puts self.old self.new cloud.0 before after
+        ensures { (before : Server) × (after : Server) × HasPutServer self.old self.new cloud.0 before after
             × Reopens before after (V.cloud_at shelf.old) (V.cloud_at shelf.new) (V.faults shelf.old)
             (V.faults shelf.new) begin result }
     {
@@ -86,8 +83,8 @@ impl Servers {
     )
         requires reached { cloud.0 < self.old.shape.n }
         requires framed { length request.now ≤ frame_limit }
-        ensures { (before : Server) × (after : Server) × Puts self.old self.new cloud.0 before after
-            × Executes before after (V.cloud_at shelf.old) (V.cloud_at shelf.new) (V.faults shelf.old)
+        ensures { (before : Server) × (after : Server) × HasPutServer self.old self.new cloud.0 before after
+            × HasServerExecuted before after (V.cloud_at shelf.old) (V.cloud_at shelf.new) (V.faults shelf.old)
             (V.faults shelf.new) request.now reply.new }
     {
         self.list[cloud.0 as usize].execute(shelf, request, reply);

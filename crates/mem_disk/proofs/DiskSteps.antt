@@ -14,7 +14,7 @@ use Rattle.mem_disk.specs.declared.areas.MemAreas.{MemAreas}
 use Rattle.mem_disk.specs.declared.numbers.PerArea.{PerArea}
 use Rattle.mem_disk.specs.Areas.{joined, held, area_of, held_of, log_of}
 use Rattle.mem_disk.specs.Crashed.{is_in, filled_from, crashed, same_area, with_note, ranges_in}
-use Rattle.mem_disk.specs.History.{Step, Write, Sync, Empty, Crash, meaning, history, all_lie, lies, with_area, nothing, after, now_of}
+use Rattle.mem_disk.specs.History.{DiskStep, Write, Sync, Empty, Crash, meaning, history, all_lie, lies, with_area, nothing, after, now_of}
 use Rattle.mem_disk.specs.Numbers.{number_of}
 use Rattle.mem_disk.specs.Tracks.{IsTracked, is_end, is_apart}
 use Rattle.mem_disk.proofs.Joined.{joined_long}
@@ -96,7 +96,7 @@ tracked_wrote old new mark store place bytes has same grows covers was = record 
 }
 
 -- what is known of each area
-abbrev pub Tracks : MemAreas → PerArea → List Step → Type 0
+abbrev pub Tracks : MemAreas → PerArea → List DiskStep → Type 0
 Tracks areas synced steps = (area : Area) → IsTracked (area_of areas area) (number_of synced area) (now_of nothing steps area)
 
 module _ (old new : MemAreas) (notes more : List Note) (lie : IsTrue (all_lie (log_of old) notes)) (area : Area) (place start len : ℕ) (bytes : List ℕ) (starts : start ≡ length (log_of old area)) (long : len ≡ length bytes) (log : log_of new area ≡ log_of old area ++ bytes) (others : (other : Area) → other ≢ area → area_of new other ≡ area_of old other) (noted : more ≡ notes ++ Wrote area place start len ∷ []) where
@@ -124,7 +124,7 @@ module _ (old new : MemAreas) (notes more : List Note) (lie : IsTrue (all_lie (l
       (tracked_wrote (area_of old area) (area_of new area) (number_of synced area) (now_of nothing (history (log_of old) notes) area) place bytes has same grows covers)
       (λ other ne was. subst (λ (a : MemArea). IsTracked a (number_of synced other) (now_of nothing (history (log_of old) notes) other)) (sym (others other ne)) was)
 
-pub synced_tracks : (areas : MemAreas) (synced later : PerArea) (steps more : List Step) (area : Area) → more ≡ steps ++ Sync area ∷ [] → number_of later area ≡ length (held_of areas area) → ((other : Area) → other ≢ area → number_of later other ≡ number_of synced other) → Tracks areas synced steps → Tracks areas later more
+pub synced_tracks : (areas : MemAreas) (synced later : PerArea) (steps more : List DiskStep) (area : Area) → more ≡ steps ++ Sync area ∷ [] → number_of later area ≡ length (held_of areas area) → ((other : Area) → other ≢ area → number_of later other ≡ number_of synced other) → Tracks areas synced steps → Tracks areas later more
 synced_tracks areas synced later steps more area is here others before = one_area
     (λ a s. IsTracked (area_of areas a) (number_of synced a) s) (λ a s. IsTracked (area_of areas a) (number_of later a) s)
     steps more (Sync area) area (stable (now_of nothing steps area).read) is refl before
@@ -132,7 +132,7 @@ synced_tracks areas synced later steps more area is here others before = one_are
     (λ other ne was. subst (λ (n : ℕ). IsTracked (area_of areas other) n (now_of nothing steps other)) (sym (others other ne)) was)
 
 -- all areas are as a crash leaves them
-pub stable_tracks : (areas : MemAreas) (synced : PerArea) (steps more : List Step) (step : Step) (left : Image) → more ≡ steps ++ step ∷ [] → ((area : Area) → after (now_of nothing steps) step area ≡ stable (left area))
+pub stable_tracks : (areas : MemAreas) (synced : PerArea) (steps more : List DiskStep) (step : DiskStep) (left : Image) → more ≡ steps ++ step ∷ [] → ((area : Area) → after (now_of nothing steps) step area ≡ stable (left area))
     → ((area : Area) → held_of areas area ≡ left area) → ((area : Area) → number_of synced area ≡ length (held_of areas area)) → Tracks areas synced more
 stable_tracks areas synced steps more step left is leads has lens = all_areas (λ a s. IsTracked (area_of areas a) (number_of synced a) s) steps more step is
     (λ area. subst (λ (s : Store). IsTracked (area_of areas area) (number_of synced area) s) (sym (leads area)) (tracked_stable (area_of areas area) (number_of synced area) (left area) (has area) (lens area)))

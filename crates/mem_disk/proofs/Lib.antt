@@ -5,3 +5,4 @@ pub mod Filled
 mod Joined
 pub mod Noted
 mod Reading
+pub mod CdEdges

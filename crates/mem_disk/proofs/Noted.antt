@@ -11,7 +11,7 @@ use Rattle.cd_edges.specs.Shelf.{wrote, stable}
 use Rattle.cd_edges.proofs.Shrinks.{area_cases}
 use Rattle.mem_disk.specs.declared.note.Note.{Note}
 use Rattle.mem_disk.specs.declared.note.Note.TheVariants.{Wrote, Synced, Emptied, Crashed}
-use Rattle.mem_disk.specs.History.{Step, Write, Sync, Empty, meaning, history, lies, all_lie, with_area, nothing, after, now_of, past_of}
+use Rattle.mem_disk.specs.History.{DiskStep, Write, Sync, Empty, meaning, history, lies, all_lie, with_area, nothing, after, now_of, past_of}
 
 -- every log has grown, or not
 abbrev pub Grows : Image → Image → Type 0
@@ -55,7 +55,7 @@ pub history_stays : (logs later : Image) (notes : List Note) → Grows logs late
 history_stays logs later [] grows lie = refl
 history_stays logs later (note ∷ notes) grows lie =
     let both = both_true (lies logs note) (all_lie logs notes) lie in
-    ap (λ (s : Step). s ∷ history later notes) (meaning_stays logs later note grows both.0) ∙ ap (λ (l : List Step). meaning logs note ∷ l) (history_stays logs later notes grows both.1)
+    ap (λ (s : DiskStep). s ∷ history later notes) (meaning_stays logs later note grows both.0) ∙ ap (λ (l : List DiskStep). meaning logs note ∷ l) (history_stays logs later notes grows both.1)
 
 pub all_lie_more : (logs later : Image) (notes : List Note) (note : Note) → Grows logs later → IsTrue (all_lie logs notes) → IsTrue (lies later note) → IsTrue (all_lie later (notes ++ note ∷ []))
 all_lie_more logs later [] note grows lie here = and_true (lies later note) true here refl
@@ -65,10 +65,10 @@ all_lie_more logs later (n ∷ notes) note grows lie here =
 
 history-more : (logs : Image) (notes : List Note) (note : Note) → history logs (notes ++ note ∷ []) ≡ history logs notes ++ meaning logs note ∷ []
 history-more logs [] note = refl
-history-more logs (n ∷ notes) note = ap (λ (l : List Step). meaning logs n ∷ l) (history-more logs notes note)
+history-more logs (n ∷ notes) note = ap (λ (l : List DiskStep). meaning logs n ∷ l) (history-more logs notes note)
 
 pub history_grows : (logs later : Image) (notes : List Note) (note : Note) → Grows logs later → IsTrue (all_lie logs notes) → history later (notes ++ note ∷ []) ≡ history logs notes ++ meaning later note ∷ []
-history_grows logs later notes note grows lie = history-more later notes note ∙ ap (λ (l : List Step). l ++ meaning later note ∷ []) (history_stays logs later notes grows lie)
+history_grows logs later notes note grows lie = history-more later notes note ∙ ap (λ (l : List DiskStep). l ++ meaning later note ∷ []) (history_stays logs later notes grows lie)
 
 -- the note of what was just put at the end of the log
 pub last_put : (log later bytes : List ℕ) → later ≡ log ++ bytes → take (length bytes) (drop (length log) later) ≡ bytes
@@ -83,11 +83,11 @@ one_log logs later changed bytes here others area = elim (area_cases changed are
   | inr ne ↦ ([], others area ne ∙ sym (append-nil (logs area)))
 ]
 
-pub now_more : (areas : Areas) (steps : List Step) (step : Step) → now_of areas (steps ++ step ∷ []) ≡ after (now_of areas steps) step
+pub now_more : (areas : Areas) (steps : List DiskStep) (step : DiskStep) → now_of areas (steps ++ step ∷ []) ≡ after (now_of areas steps) step
 now_more areas [] step = refl
 now_more areas (s ∷ steps) step = now_more (after areas s) steps step
 
-pub past_more : (areas : Areas) (steps : List Step) (step : Step) → past_of areas (steps ++ step ∷ []) ≡ past_of areas steps ++ now_of areas steps ∷ []
+pub past_more : (areas : Areas) (steps : List DiskStep) (step : DiskStep) → past_of areas (steps ++ step ∷ []) ≡ past_of areas steps ++ now_of areas steps ∷ []
 past_more areas [] step = refl
 past_more areas (s ∷ steps) step = ap (λ (l : List Areas). areas ∷ l) (past_more (after areas s) steps step)
 
@@ -108,10 +108,10 @@ with_area_there areas Recipes Shares store ne = refl
 with_area_there areas Recipes Recipes store ne = absurd (ne refl)
 
 -- what holds of each area as the steps lead to it, one step of one area later
-pub one_area : (P Q : Area → Store → Type 0) (steps more : List Step) (step : Step) (changed : Area) (store : Store) → more ≡ steps ++ step ∷ [] → after (now_of nothing steps) step ≡ with_area (now_of nothing steps) changed store
+pub one_area : (P Q : Area → Store → Type 0) (steps more : List DiskStep) (step : DiskStep) (changed : Area) (store : Store) → more ≡ steps ++ step ∷ [] → after (now_of nothing steps) step ≡ with_area (now_of nothing steps) changed store
     → ((area : Area) → P area (now_of nothing steps area)) → (P changed (now_of nothing steps changed) → Q changed store) → ((other : Area) → other ≢ changed → P other (now_of nothing steps other) → Q other (now_of nothing steps other)) → (area : Area) → Q area (now_of nothing more area)
 one_area P Q steps more step changed store is leads old here others area =
-    let now : now_of nothing more ≡ with_area (now_of nothing steps) changed store = ap (λ (l : List Step). now_of nothing l) is ∙ now_more nothing steps step ∙ leads in
+    let now : now_of nothing more ≡ with_area (now_of nothing steps) changed store = ap (λ (l : List DiskStep). now_of nothing l) is ∙ now_more nothing steps step ∙ leads in
     elim (area_cases changed area) [
       | inl same ↦ subst (λ (a : Area). Q a (now_of nothing more a)) same
           (subst (λ (s : Store). Q changed s) (sym (ap (λ (x : Areas). x changed) now ∙ with_area_here (now_of nothing steps) changed store)) (here (old changed)))
@@ -119,5 +119,5 @@ one_area P Q steps more step changed store is leads old here others area =
     ]
 
 -- one step of all areas later
-pub all_areas : (Q : Area → Store → Type 0) (steps more : List Step) (step : Step) → more ≡ steps ++ step ∷ [] → ((area : Area) → Q area (after (now_of nothing steps) step area)) → (area : Area) → Q area (now_of nothing more area)
-all_areas Q steps more step is here area = subst (λ (x : Areas). Q area (x area)) (sym (ap (λ (l : List Step). now_of nothing l) is ∙ now_more nothing steps step)) (here area)
+pub all_areas : (Q : Area → Store → Type 0) (steps more : List DiskStep) (step : DiskStep) → more ≡ steps ++ step ∷ [] → ((area : Area) → Q area (after (now_of nothing steps) step area)) → (area : Area) → Q area (now_of nothing more area)
+all_areas Q steps more step is here area = subst (λ (x : Areas). Q area (x area)) (sym (ap (λ (l : List DiskStep). now_of nothing l) is ∙ now_more nothing steps step)) (here area)

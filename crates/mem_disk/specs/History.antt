@@ -8,20 +8,20 @@ use Rattle.mem_disk.specs.declared.note.Note.TheVariants.{Wrote, Synced, Emptied
 use Rattle.mem_disk.specs.Crashed.{same_area, crashed}
 
 -- one thing that was done
-pub data Step : Type 0 where
-  Write : (area : Area) (place : ℕ) (bytes : List ℕ) → Step
-  Sync : (area : Area) → Step
-  Empty : Step
-  Crash : (fill : ℕ) (whole : Bool) → Step
+pub data DiskStep : Type 0 where
+  Write : (area : Area) (place : ℕ) (bytes : List ℕ) → DiskStep
+  Sync : (area : Area) → DiskStep
+  Empty : DiskStep
+  Crash : (fill : ℕ) (whole : Bool) → DiskStep
 
 -- what a note says, its bytes from the log of its area
-abbrev pub meaning : Image → Note → Step
+abbrev pub meaning : Image → Note → DiskStep
 meaning logs (Wrote area place start len) = Write area place (take len (drop start (logs area)))
 meaning logs (Synced area) = Sync area
 meaning logs Emptied = Empty
 meaning logs (Crashed fill whole) = Crash fill whole
 
-abbrev pub history : Image → List Note → List Step
+abbrev pub history : Image → List Note → List DiskStep
 history logs [] = []
 history logs (note ∷ notes) = meaning logs note ∷ history logs notes
 
@@ -44,18 +44,18 @@ with_area areas changed store area = cond (same_area changed area) store (areas 
 abbrev pub nothing : Areas
 nothing area = stable []
 
-abbrev pub after : Areas → Step → Areas
+abbrev pub after : Areas → DiskStep → Areas
 after areas (Write area place bytes) = with_area areas area (wrote (areas area) place bytes)
 after areas (Sync area) = with_area areas area (stable (areas area).read)
 after areas Empty = nothing
 after areas (Crash fill whole) = λ area. stable (crashed fill whole (areas area))
 
 -- the areas after all steps
-abbrev pub now_of : Areas → List Step → Areas
+abbrev pub now_of : Areas → List DiskStep → Areas
 now_of areas [] = areas
 now_of areas (step ∷ steps) = now_of (after areas step) steps
 
 -- the areas before each of the steps
-abbrev pub past_of : Areas → List Step → List Areas
+abbrev pub past_of : Areas → List DiskStep → List Areas
 past_of areas [] = []
 past_of areas (step ∷ steps) = areas ∷ past_of (after areas step) steps

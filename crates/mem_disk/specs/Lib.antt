@@ -1,4 +1,6 @@
 pub mod Areas
+pub mod CdBase
+pub mod CdEdges
 pub mod Crashed
 pub mod Disks
 pub mod History

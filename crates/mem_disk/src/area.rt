@@ -6,8 +6,7 @@ ghost use Rattle.cd_edges.specs.Shelf.{ReadsFrom};
 ghost use Rattle.mem_disk.specs.Crashed.{is_in, filled_from, same_area};
 
 use crate::Note;
-use cd_base::NoMemory;
-use cd_edges::Area;
+use cd_edges::{Area, NoMemory};
 use std::alloc::Global;
 
 /// The bytes of an area, and a log of all bytes that were put into it. All have their memory from the start. There are

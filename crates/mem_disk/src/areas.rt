@@ -8,8 +8,7 @@ ghost use Rattle.mem_disk.specs.Places.{second_of};
 ghost use Rattle.cd_edges.specs.declared.area.Area.TheVariants.{Journal, Shares, Recipes};
 
 use crate::{MemArea, Note, PerArea};
-use cd_base::NoMemory;
-use cd_edges::Area;
+use cd_edges::{Area, NoMemory};
 use std::alloc::Global;
 
 /// The three areas.

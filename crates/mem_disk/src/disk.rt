@@ -9,8 +9,7 @@ ghost use Rattle.mem_disk.specs.Numbers.{number_of};
 ghost use Rattle.mem_disk.specs.Tracks.{IsTracked};
 
 use crate::{MemAreas, Note, PerArea};
-use cd_base::NoMemory;
-use cd_edges::Area;
+use cd_edges::{Area, NoMemory};
 use std::alloc::Global;
 
 /// A cloud's areas, with a note of each write, sync, fresh and crash. The areas at earlier moments are found from the

@@ -7,7 +7,7 @@ use Rattle.std.proofs.lemmas.List.{take_at, drop_at, take-append-drop, length-ap
 use Rattle.std.proofs.lemmas.List.Concat.{flat_map-cons}
 use Rattle.std.proofs.lemmas.List.Elements.{All-nil, All-cons, All-head, All-tail}
 use Rattle.std.proofs.lemmas.Option.{slice_get-get_or, slice_get_past}
-use Rattle.cd_base.specs.declared.ids.Fp.{Fp}
+use Rattle.grammar.specs.CdBase.ids.Fp.{Fp}
 use Rattle.grammar.proofs.FieldLaws.{LawfulBytes, lawful_bytes, guard_ok}
 use Rattle.grammar.specs.Fields.{bytes_at}
 use Rattle.message_fields.specs.Parts.{made}

@@ -9,8 +9,8 @@ use Rattle.std.specs.declared.cmp.Ordering.TheVariants.{Less, Equal, Greater}
 use Rattle.std.proofs.lemmas.Bool.{leb-true, le-leb}
 use Rattle.std.proofs.lemmas.List.{append-nil}
 use Rattle.std.proofs.lemmas.List.Concat.{flat_map-cons}
-use Rattle.cd_base.specs.declared.ids.Tag.{Tag}
-use Rattle.cd_base.specs.declared.ids.Version.{Version}
+use Rattle.grammar.specs.CdBase.ids.Tag.{Tag}
+use Rattle.grammar.specs.CdBase.ids.Version.{Version}
 use Rattle.grammar.specs.Readers.{◌>>=◌}
 use Rattle.grammar.proofs.Laws.{Takes, bind_ok, bind_err, ok_is, takes_both, rest_fits, lawful_given}
 use Rattle.grammar.proofs.FieldLaws.{IsBytes, Anything, LawfulBytes, lawful_bytes}

@@ -3,3 +3,4 @@ pub mod Loops
 pub mod FpLaws
 pub mod ShareLaws
 pub mod KeyLaws
+pub mod Grammar

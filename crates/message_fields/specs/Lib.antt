@@ -1,6 +1,8 @@
+pub mod CdBase
+pub mod Fingerprints
+pub mod Flags
+pub mod Grammar
+pub mod Keys
 pub mod Parts
 pub mod Readings
-pub mod Keys
-pub mod Fingerprints
 pub mod Shares
-pub mod Flags

@@ -3,7 +3,7 @@
 ghost use Rattle.std.specs.Prelude.{◌≡◌, List, [], ◌∷◌, ◌++◌, length, slice_get, OnOk, OnErr, IsTrue, ◌↔◌};
 ghost use Rattle.std.specs.Option.{option_copied};
 
-use cd_base::{NoMemory, Tag, Version};
+use grammar::{NoMemory, Tag, Version};
 use std::alloc::Global;
 use std::marker::Model;
 
@@ -15,8 +15,8 @@ pub struct Entries {
 
 impl Model for Entries {
     ghost use Rattle.std.specs.Prelude.{List};
-    ghost use Rattle.cd_base.specs.declared.ids.Tag.{Tag};
-    ghost use Rattle.cd_base.specs.declared.ids.Version.{Version};
+    ghost use Rattle.grammar.specs.CdBase.ids.Tag.{Tag};
+    ghost use Rattle.grammar.specs.CdBase.ids.Version.{Version};
 
     ghost Value = { List (Tag × Version) };
 

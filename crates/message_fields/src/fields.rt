@@ -8,7 +8,7 @@ ghost use Rattle.message_fields.specs.Parts.{byte_as};
 ghost use Rattle.message_fields.specs.Readings.{IsReading};
 
 use crate::Left;
-use cd_base::{Fp, UserId};
+use grammar::{Fp, UserId};
 
 /// The next n bytes, and what follows. Where fewer are left the end is wrong.
 pub fn bytes_of(bytes: &[u8], n: usize) -> Result<(&[u8], &[u8]), Left>

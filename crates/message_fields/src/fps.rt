@@ -8,7 +8,7 @@ ghost use Rattle.message_fields.specs.Fingerprints.{is_batch, fps_in, fps_at};
 
 use crate::fields::{bytes_of, fp_of, u16_of};
 use crate::{BATCH_LIMIT, Left};
-use cd_base::Fp;
+use grammar::Fp;
 use std::marker::Model;
 
 /// Fingerprints, in the bytes that they came in: 32 bytes each. Contracts see the list.
@@ -20,7 +20,7 @@ pub struct FpsView<'a> {
 
 impl<'a> Model for FpsView<'a> {
     ghost use Rattle.std.specs.Prelude.{◌≡◌, ◌*◌, List, length};
-    ghost use Rattle.cd_base.specs.declared.ids.Fp.{Fp};
+    ghost use Rattle.grammar.specs.CdBase.ids.Fp.{Fp};
     ghost use Rattle.message_fields.specs.Fingerprints.{fps_in};
 
     ghost Value = { List Fp };

@@ -9,8 +9,7 @@ ghost use Rattle.grammar.specs.Fields.{number_at, checked};
 
 use crate::fields::{array_of, u16_of, u64_of};
 use crate::{Entries, KEY_LIMIT, Left};
-use cd_base::{Tag, Version};
-use grammar::Stop;
+use grammar::{Stop, Tag, Version};
 use std::alloc::Global;
 use std::cmp::Ordering;
 

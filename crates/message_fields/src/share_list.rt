@@ -3,7 +3,7 @@
 ghost use Rattle.std.specs.Prelude.{◌≡◌, List, [], ◌∷◌, ◌++◌, length, slice_get, OnOk, OnErr, IsTrue, ◌↔◌};
 ghost use Rattle.std.specs.Option.{option_copied};
 
-use cd_base::{Bytes, NoMemory};
+use grammar::{Bytes, NoMemory};
 use std::alloc::Global;
 use std::marker::Model;
 

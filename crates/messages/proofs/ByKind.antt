@@ -1,11 +1,11 @@
 -- Readers of all the bytes, by kind: what is read is spelled so, and what is spelled so is read.
 use Rattle.std.proofs.Common.{◌≡◌, ◌⊎◌, ℕ, suc, ◌≤◌, Bool, true, false, cond, eqb, List, [], ◌∷◌, ◌++◌, length, Option, Some, None, Result, Ok, Err, refl, sym, ap, subst, ◌∙◌, arith, inl, inr, eqb-true}
 use Rattle.std.specs.Prelude.{IfSome}
-use Rattle.cd_base.specs.declared.ids.Tag.{Tag}
-use Rattle.cd_base.specs.declared.ids.Version.{Version}
-use Rattle.grammar.specs.Readers.{◌>>=◌, done_at}
-use Rattle.grammar.proofs.Laws.{Takes, Whole, bind_ok, bind_err, ok_is, err_is, rest_fits}
-use Rattle.grammar.proofs.FieldLaws.{IsBytes, LawfulBytes}
+use Rattle.message_fields.specs.CdBase.ids.Tag.{Tag}
+use Rattle.message_fields.specs.CdBase.ids.Version.{Version}
+use Rattle.message_fields.specs.Grammar.Readers.{◌>>=◌, done_at}
+use Rattle.message_fields.proofs.Grammar.Laws.{Takes, Whole, bind_ok, bind_err, ok_is, err_is, rest_fits}
+use Rattle.message_fields.proofs.Grammar.FieldLaws.{IsBytes, LawfulBytes}
 use Rattle.message_fields.specs.Parts.{made}
 use Rattle.message_fields.specs.Keys.{IsKey, key_at}
 use Rattle.message_fields.proofs.PartLaws.{bytes_tail}

@@ -2,11 +2,11 @@
 use Rattle.std.proofs.Common.{◌≡◌, ℕ, ◌<◌, ◌≤◌, ◌^◌, true, eqb, List, [], ◌∷◌, ◌++◌, length, Option, Some, None, Ok, refl, sym, ap, ◌∙◌, inl, inr, arith, eqb-true}
 use Rattle.std.proofs.lemmas.Bool.{leb-true, le-leb}
 use Rattle.std.specs.Int.{w16, w32, w64, to_be_bytes}
-use Rattle.cd_base.specs.declared.rooms.Room.{Room}
-use Rattle.cd_base.specs.declared.rooms.Room.TheVariants as rooms
-use Rattle.grammar.specs.Readers.{done_at}
-use Rattle.grammar.proofs.Laws.{Whole, lawful_then, lawful_whole}
-use Rattle.grammar.proofs.FieldLaws.{IsBytes, Anything, LawfulBytes, lawful_bytes, lawful_checked, wide16}
+use Rattle.message_fields.specs.CdBase.rooms.Room.{Room}
+use Rattle.message_fields.specs.CdBase.rooms.Room.TheVariants as rooms
+use Rattle.message_fields.specs.Grammar.Readers.{done_at}
+use Rattle.message_fields.proofs.Grammar.Laws.{Whole, lawful_then, lawful_whole}
+use Rattle.message_fields.proofs.Grammar.FieldLaws.{IsBytes, Anything, LawfulBytes, lawful_bytes, lawful_checked, wide16}
 use Rattle.message_fields.specs.Parts.{byte_as}
 use Rattle.message_fields.specs.Flags.{flags_bytes, AreFlags}
 use Rattle.message_fields.specs.Shares.{shares_bytes, AreShares}

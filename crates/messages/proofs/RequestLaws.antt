@@ -2,15 +2,15 @@
 use Rattle.std.proofs.Common.{◌≡◌, ℕ, ◌<◌, ◌≤◌, ◌^◌, eqb, List, [], ◌∷◌, ◌++◌, length, Option, Ok, refl, ap, ◌∙◌, inl, inr}
 use Rattle.std.specs.Int.{w32, to_be_bytes}
 use Rattle.std.specs.Prelude.{IfSome}
-use Rattle.cd_base.specs.declared.ids.Fp.{Fp}
-use Rattle.cd_base.specs.declared.ids.Tag.{Tag}
-use Rattle.cd_base.specs.declared.ids.Version.{Version}
+use Rattle.message_fields.specs.CdBase.ids.Fp.{Fp}
+use Rattle.message_fields.specs.CdBase.ids.Tag.{Tag}
+use Rattle.message_fields.specs.CdBase.ids.Version.{Version}
 use Rattle.message_fields.specs.Fingerprints.{fps_bytes, AreFps}
 use Rattle.message_fields.specs.Shares.{shares_bytes, AreShares}
 use Rattle.message_fields.specs.Keys.{key_bytes, IsKey}
-use Rattle.grammar.specs.Readers.{done_at}
-use Rattle.grammar.proofs.Laws.{Whole, lawful_then, lawful_whole}
-use Rattle.grammar.proofs.FieldLaws.{IsBytes, Anything}
+use Rattle.message_fields.specs.Grammar.Readers.{done_at}
+use Rattle.message_fields.proofs.Grammar.Laws.{Whole, lawful_then, lawful_whole}
+use Rattle.message_fields.proofs.Grammar.FieldLaws.{IsBytes, Anything}
 use Rattle.message_fields.proofs.PartLaws.{bytes_tail, lawful_u32}
 use Rattle.message_fields.proofs.FpLaws.{lawful_fps}
 use Rattle.message_fields.proofs.ShareLaws.{lawful_shares}

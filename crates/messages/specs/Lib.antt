@@ -1,9 +1,11 @@
-pub mod Parts
+pub mod Answering
+pub mod Frames
+pub mod MessageFields
 pub mod Outcome
-pub mod Requests
-pub mod RequestReading
-pub mod Seen
+pub mod Parts
 pub mod Replies
 pub mod ReplyReading
 pub mod ReplyViews
-pub mod Answering
+pub mod RequestReading
+pub mod Requests
+pub mod Seen

@@ -1,8 +1,8 @@
 -- The fields of messages that stand in no list, and the places of faults.
 use Rattle.std.specs.Prelude.{ℕ, ◌-◌, List, [], ◌∷◌, length, Option, Some, None, Result, Ok, Err, ◌==◌, if◌then◌else◌}
-use Rattle.cd_base.specs.declared.ids.Tag.{Tag}
-use Rattle.cd_base.specs.declared.ids.Version.{Version}
-use Rattle.grammar.specs.Readers.{◌>>=◌}
+use Rattle.message_fields.specs.CdBase.ids.Tag.{Tag}
+use Rattle.message_fields.specs.CdBase.ids.Version.{Version}
+use Rattle.message_fields.specs.Grammar.Readers.{◌>>=◌}
 use Rattle.message_fields.specs.Parts.{made}
 use Rattle.message_fields.specs.Keys.{key_bytes, key_at}
 

@@ -1,8 +1,8 @@
 -- The one spelling of each reply, and its ranges.
 use Rattle.std.specs.Prelude.{◌≡◌, ℕ, ◌<◌, ◌≤◌, ◌^◌, List, [], ◌∷◌, ◌++◌, length}
 use Rattle.std.specs.Int.{w16, w32, w64, to_be_bytes}
-use Rattle.cd_base.specs.declared.rooms.Room.{Room}
-use Rattle.cd_base.specs.declared.rooms.Room.TheVariants as rooms
+use Rattle.message_fields.specs.CdBase.rooms.Room.{Room}
+use Rattle.message_fields.specs.CdBase.rooms.Room.TheVariants as rooms
 use Rattle.frames.specs.Frames.{frame_limit}
 use Rattle.message_fields.specs.Shares.{shares_bytes, AreShares}
 use Rattle.message_fields.specs.Flags.{flags_bytes, AreFlags}

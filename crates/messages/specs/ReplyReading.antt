@@ -1,10 +1,10 @@
 -- What reading the content of a reply gives: fields from left to right.
 use Rattle.std.specs.Prelude.{ℕ, Bool, false, List, [], ◌∷◌, length, Option, Some, None, Result, Err, ◌==◌, nat_le, if◌then◌else◌}
 use Rattle.std.specs.Int.{w16, w32, w64}
-use Rattle.cd_base.specs.declared.rooms.Room.{Room}
-use Rattle.cd_base.specs.declared.rooms.Room.TheVariants as rooms
-use Rattle.grammar.specs.Readers.{◌▷◌, whole, done_at}
-use Rattle.grammar.specs.Fields.{number_at, bytes_at, checked}
+use Rattle.message_fields.specs.CdBase.rooms.Room.{Room}
+use Rattle.message_fields.specs.CdBase.rooms.Room.TheVariants as rooms
+use Rattle.message_fields.specs.Grammar.Readers.{◌▷◌, whole, done_at}
+use Rattle.message_fields.specs.Grammar.Fields.{number_at, bytes_at, checked}
 use Rattle.message_fields.specs.Parts.{byte_as}
 use Rattle.message_fields.specs.Fingerprints.{batch_limit}
 use Rattle.message_fields.specs.Flags.{flags_at}

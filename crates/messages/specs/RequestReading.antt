@@ -1,8 +1,8 @@
 -- What reading the content of a request gives: fields from left to right.
 use Rattle.std.specs.Prelude.{ℕ, List, [], ◌∷◌, length, Result, Err, ◌==◌, if◌then◌else◌}
 use Rattle.std.specs.Int.{w32}
-use Rattle.grammar.specs.Readers.{◌▷◌, whole, done_at}
-use Rattle.grammar.specs.Fields.{number_at}
+use Rattle.message_fields.specs.Grammar.Readers.{◌▷◌, whole, done_at}
+use Rattle.message_fields.specs.Grammar.Fields.{number_at}
 use Rattle.message_fields.specs.Fingerprints.{fps_at}
 use Rattle.message_fields.specs.Shares.{shares_at}
 use Rattle.message_fields.specs.Keys.{key_at}

@@ -2,8 +2,7 @@
 
 ghost use Rattle.std.specs.Prelude.{◌≡◌, IfOk};
 
-use cd_base::{Bytes, Fps, NoMemory};
-use message_fields::{FpsView, ShareList, SharesView};
+use message_fields::{Bytes, Fps, FpsView, NoMemory, ShareList, SharesView};
 use std::alloc::Global;
 
 /// A copy of bytes.

@@ -13,7 +13,10 @@ mod request_writing;
 mod view;
 
 pub use fault::MsgErr;
-pub use message_fields::{Entries, FpsView, ShareList, SharesView};
+pub use frames::{FRAME_LIMIT, FrameErr, Framer, ReplyBuf, header, is_length};
+pub use message_fields::{
+    Entries, FpsView, KEY_LIMIT, SHARE_LIMIT, ShareList, SharesView, is_key_above,
+};
 pub use reply::Reply;
 pub use reply_view::{ReplyView, kind_of};
 pub use reply_writing::{

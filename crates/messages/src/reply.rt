@@ -1,7 +1,6 @@
 //! Replies.
 
-use cd_base::{Bytes, Fp, Room};
-use message_fields::{Entries, ShareList};
+use message_fields::{Bytes, Entries, Fp, Room, ShareList};
 
 /// What a cloud answers.
 #[derive(Debug, Drop)]

@@ -2,8 +2,8 @@
 
 ghost use Rattle.std.specs.Prelude.{◌≡◌, ◌≢◌, ◌<◌, ◌^◌, ℕ, false, length, IsErr, IfErr, IfOk, Ok, Err, ◌↔◌};
 ghost use Rattle.std.specs.Int.{w16};
-ghost use Rattle.grammar.specs.Readers.{Gives, done_at};
-ghost use Rattle.grammar.specs.Fields.{number_at, checked};
+ghost use Rattle.message_fields.specs.Grammar.Readers.{Gives, done_at};
+ghost use Rattle.message_fields.specs.Grammar.Fields.{number_at, checked};
 ghost use Rattle.message_fields.specs.Parts.{byte_as};
 ghost use Rattle.message_fields.specs.Readings.{IsReading};
 ghost use Rattle.messages.specs.declared.reply.Reply.{Reply};
@@ -14,11 +14,9 @@ ghost use Rattle.messages.specs.ReplyViews.{IsInPlace, IsSmall, IsViewed, seen_r
 
 use crate::copies::{bytes_copy, shares_copy};
 use crate::{MsgErr, Reply, ReplyView};
-use cd_base::{NoMemory, Room};
-use grammar::Stop;
 use message_fields::{
-    BATCH_LIMIT, Left, byte_of, ended, entries_of, flags_of, fp_of, shares_of, u16_of, u32_of,
-    u64_of,
+    BATCH_LIMIT, Left, NoMemory, Room, Stop, byte_of, ended, entries_of, flags_of, fp_of,
+    shares_of, u16_of, u32_of, u64_of,
 };
 use std::alloc::Global;
 

@@ -13,9 +13,8 @@ ghost use Rattle.messages.specs.Replies.{IsReply, IsWritableReply, reply_bytes, 
 
 use crate::Reply;
 use crate::request_writing::are_few;
-use cd_base::{Bytes, Fp, Room, Tag, Version};
 use frames::{FRAME_LIMIT, ReplyBuf};
-use message_fields::{BATCH_LIMIT, KEY_LIMIT};
+use message_fields::{BATCH_LIMIT, Bytes, Fp, KEY_LIMIT, Room, Tag, Version};
 
 // The kind of a reply that is a list, and the number of its items.
 fn write_head(out: &mut ReplyBuf, kind: u8, count: usize)

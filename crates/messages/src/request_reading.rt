@@ -9,7 +9,7 @@ ghost use Rattle.messages.specs.Outcome.{IsRead};
 
 use crate::copies::{bytes_copy, fps_copy, shares_copy};
 use crate::{MsgErr, Request, RequestView};
-use cd_base::NoMemory;
+use message_fields::NoMemory;
 use std::alloc::Global;
 
 impl<'a> RequestView<'a> {

@@ -10,8 +10,7 @@ ghost use Rattle.messages.specs.Parts.{after_bytes};
 ghost use Rattle.messages.specs.Requests.{AreFew, IsWritable, request_bytes};
 
 use crate::Request;
-use cd_base::{Bytes, Fp, NoMemory, Tag, UserId, Version};
-use message_fields::{BATCH_LIMIT, SHARE_LIMIT};
+use message_fields::{BATCH_LIMIT, Bytes, Fp, NoMemory, SHARE_LIMIT, Tag, UserId, Version};
 
 // Whether each share is short enough.
 fn are_short(shares: &[Bytes]) -> bool

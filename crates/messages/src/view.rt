@@ -8,8 +8,9 @@ ghost use Rattle.messages.specs.Requests.{IsRequest};
 ghost use Rattle.messages.specs.RequestReading.{query_left, put_left, commit_left, delete_left, get_recipe_left, get_shares_left, list_left, fields_left, request_left, request_at};
 ghost use Rattle.messages.specs.Seen.{seen};
 
-use cd_base::{Tag, UserId, Version};
-use message_fields::{FpsView, Left, SharesView, ended, fps_of, key_of, shares_of, user_of};
+use message_fields::{
+    FpsView, Left, SharesView, Tag, UserId, Version, ended, fps_of, key_of, shares_of, user_of,
+};
 
 /// A request in the bytes that it came in. It takes no memory.
 #[derive(Debug, Drop)]

@@ -1,18 +1,18 @@
 -- Where nothing fails and no user keeps too much, a migration answers 0 or runs out of memory: each other status has a cause that isn't there.
 use Rattle.std.proofs.Common.{◌≡◌, ◌⊎◌, inl, inr, ℕ, List, None, Some, Result, Ok, Err, sym, ◌∙◌}
-use Rattle.backup_command.specs.Writing.{Output, Writes, InFull, InPart, NotAtAll}
+use Rattle.cloud_opening.specs.BackupCommand.Writing.{Output, HasWrittenOrCause, InFull, InPart, NotAtAll}
 use Rattle.cloud_opening.specs.Opened.{CloudCall}
 use Rattle.cloud_opening.proofs.Completing.{not_risen}
-use Rattle.journal_start.specs.declared.rooms.Rooms.{Rooms}
-use Rattle.migration_model.specs.Migrating.{AreSmallEnough}
+use Rattle.store_migration.specs.JournalStart.rooms.UserRooms.{UserRooms}
+use Rattle.store_migration.specs.MigrationModel.Migrating.{AreSmallEnough}
 use Rattle.store_migration.specs.Answers.{MigratedAs, OnFault}
 use Rattle.store_migration.specs.declared.errors.MigrateErr.{MigrateErr}
 use Rattle.store_migration.specs.declared.errors.MigrateErr.TheVariants as why
-use Rattle.user_dedup.specs.declared.command.Command.{Command}
+use Rattle.store_migration.specs.UserDedup.command.Command.{Command}
 use Rattle.migrate_command.specs.Said.{migrate_status, migrate_text}
-use Rattle.migrate_command.specs.TakenOver.{IsMigrationOf, IsTakenOver, IsUnhindered}
+use Rattle.migrate_command.specs.TakenOver.{IsMigrationOf, IsTakenOver, IsMigrationUnhindered}
 
-module _ (rooms : Rooms) (list : List Command) (call : CloudCall) (out : Output) (well : IsUnhindered list call out)
+module _ (rooms : UserRooms) (list : List Command) (call : CloudCall) (out : Output) (well : IsMigrationUnhindered list call out)
     (small : AreSmallEnough call.shape rooms list) where
   due_of : (result : Result ℕ MigrateErr) → IsMigrationOf rooms call result → (migrate_status result ≡ 0) ⊎ (migrate_status result ≡ 6)
   due_of (Ok commands) of = inl (λ i. 0)
@@ -24,7 +24,7 @@ module _ (rooms : Rooms) (list : List Command) (call : CloudCall) (out : Output)
   due_of (Err why.NoMemory) of = inr (λ i. 6)
 
   -- a text that is due with 0 or 6
-  status_of : (text : List ℕ) (due status : ℕ) → (due ≡ 0) ⊎ (due ≡ 6) → Writes text due out status → (status ≡ 0) ⊎ (status ≡ 6)
+  status_of : (text : List ℕ) (due status : ℕ) → (due ≡ 0) ⊎ (due ≡ 6) → HasWrittenOrCause text due out status → (status ≡ 0) ⊎ (status ≡ 6)
   status_of text due status (inl is) (InFull same appends still) = inl (same ∙ is)
   status_of text due status (inr is) (InFull same appends still) = inr (same ∙ is)
   status_of text due status is (InPart front rest same parts appends rose) =

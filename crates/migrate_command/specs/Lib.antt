@@ -1,3 +1,4 @@
 pub mod MigrationModel
 pub mod Said
+pub mod ServeCommand
 pub mod TakenOver

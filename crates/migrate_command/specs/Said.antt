@@ -1,15 +1,15 @@
 -- What is written of a migration, and the status that is due with it.
 use Rattle.std.specs.Prelude.{ℕ, List, [], ◌∷◌, Result, Ok, Err, codes, decimal}
-use Rattle.cd_base.specs.declared.ids.CloudNo.{CloudNo}
-use Rattle.cd_base.specs.declared.ids.UserId.{UserId}
-use Rattle.cd_base.specs.declared.rooms.Room.{Room}
+use Rattle.store_migration.specs.CdBase.ids.CloudNo.{CloudNo}
+use Rattle.store_migration.specs.CdBase.ids.UserId.{UserId}
+use Rattle.store_migration.specs.CdBase.rooms.Room.{Room}
 use Rattle.store_migration.specs.declared.errors.OldErr.{OldErr}
 use Rattle.store_migration.specs.declared.errors.OldErr.TheVariants.{NotBegun, Damaged, OtherStore, RoomsTooSmall}
 use Rattle.store_migration.specs.declared.errors.MigrateErr.{MigrateErr}
 use Rattle.store_migration.specs.declared.errors.MigrateErr.TheVariants as why
-use Rattle.transcript.specs.declared.ending.Ending.TheVariants as endings
-use Rattle.transcript.specs.Endings.{ending_text}
-use Rattle.transcript.specs.Transcript.{ended, room_word}
+use Rattle.cloud_opening.specs.Transcript.ending.Ending.TheVariants as endings
+use Rattle.cloud_opening.specs.Transcript.Endings.{ending_text}
+use Rattle.cloud_opening.specs.Transcript.Transcript.{ended, room_word}
 
 -- `migrated CLOUD COMMANDS`
 abbrev pub migrated_text : CloudNo → ℕ → List ℕ

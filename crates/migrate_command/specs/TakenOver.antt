@@ -1,16 +1,16 @@
 -- What the migration of a cloud in a place promises.
 use Rattle.std.specs.Prelude.{◌≡◌, ◌<◌, ℕ, IsTrue, List, Result}
-use Rattle.backup_command.specs.Writing.{Output, Writes}
-use Rattle.cd_edges.specs.Disk.{LeavesOnly, reads}
+use Rattle.cloud_opening.specs.BackupCommand.Writing.{Output, HasWrittenOrCause}
+use Rattle.store_migration.specs.CdEdges.Disk.{LeavesOnly, reads}
 use Rattle.cloud_opening.specs.Opened.{CloudCall, CloudFails, IsUnchanged, IsUnfailing}
-use Rattle.journal_start.specs.declared.rooms.Rooms.{Rooms}
-use Rattle.migration_model.specs.Migrating.{IsBetween, MayBeMigrated}
-use Rattle.serve_command.specs.Complete.{IsStill}
+use Rattle.store_migration.specs.JournalStart.rooms.UserRooms.{UserRooms}
+use Rattle.store_migration.specs.MigrationModel.Migrating.{IsBetween, MayBeMigrated}
+use Rattle.cloud_opening.specs.ServeCommand.Complete.{IsStill}
 use Rattle.store_migration.specs.Answers.{IfAnswered, IfNoMemory, IfRefused, MigratedAs, OnFault}
 use Rattle.store_migration.specs.Exact.{Migrates}
 use Rattle.store_migration.specs.declared.errors.MigrateErr.{MigrateErr}
-use Rattle.store_opening.specs.Synced.{AreSynced, BeginsSynced}
-use Rattle.user_dedup.specs.declared.command.Command.{Command}
+use Rattle.store_migration.specs.StoreOpening.Synced.{AreSynced, BeginsSynced}
+use Rattle.store_migration.specs.UserDedup.command.Command.{Command}
 use Rattle.migrate_command.specs.Said.{migrate_status, migrate_text}
 
 -- What the migration of a cloud into these rooms answers, and what it leaves.
@@ -20,7 +20,7 @@ use Rattle.migrate_command.specs.Said.{migrate_status, migrate_text}
 -- Whatever a told cloud's bytes are: they give the answer, but where a device failed or memory ran out. The three areas are synced first;
 -- and where the cloud isn't migrated, nothing else was done to it.
 -- Whatever is known of the cloud: it is as it was where memory ran out, and `shelf` comes only where its count of faults rose.
-pub record IsMigrationOf (rooms : Rooms) (call : CloudCall) (result : Result ℕ MigrateErr) : Type 0 where
+pub record IsMigrationOf (rooms : UserRooms) (call : CloudCall) (result : Result ℕ MigrateErr) : Type 0 where
   pub any_moment : (list : List Command) → MayBeMigrated call.shape call.cloud list call.old
       → LeavesOnly call.old call.new (IsBetween call.shape call.cloud rooms list)
   pub migrated : (list : List Command) → MayBeMigrated call.shape call.cloud list call.old
@@ -32,13 +32,13 @@ pub record IsMigrationOf (rooms : Rooms) (call : CloudCall) (result : Result ℕ
   pub counts : OnFault result (CloudFails call) (IsUnfailing call)
 
 -- The whole promise: what is written is what came of the migration.
-pub record IsTakenOver (rooms : Rooms) (status : ℕ) (call : CloudCall) (out : Output) : Type 0 where
+pub record IsTakenOver (rooms : UserRooms) (status : ℕ) (call : CloudCall) (out : Output) : Type 0 where
   pub result : Result ℕ MigrateErr
   pub of : IsMigrationOf rooms call result
-  pub writes : Writes (migrate_text call.cloud result) (migrate_status result) out status
+  pub writes : HasWrittenOrCause (migrate_text call.cloud result) (migrate_status result) out status
 
 -- Nothing fails in the call: the told cloud stands for the list in format 1, within the rooms that this had, and no count rises.
-pub record IsUnhindered (list : List Command) (call : CloudCall) (out : Output) : Type 0 where
+pub record IsMigrationUnhindered (list : List Command) (call : CloudCall) (out : Output) : Type 0 where
   pub stands : MayBeMigrated call.shape call.cloud list call.old
   pub cloud : IsStill call.old.faults call.new.faults
   pub sink : IsStill out.faults_before out.faults_after

@@ -4,4 +4,5 @@
 mod lines;
 mod migrating;
 
+pub use cloud_opening::{OpenErr, Server, serve};
 pub use migrating::migrate_cloud;

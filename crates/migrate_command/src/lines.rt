@@ -1,18 +1,15 @@
 //! What is written, with the status.
 
 ghost use Rattle.std.specs.Prelude.{◌≡◌, ◌++◌, OnOk};
-ghost use Rattle.backup_command.specs.Writing.{Writes, output_of};
-ghost use Rattle.transcript.specs.Endings.{ending_text};
-ghost use Rattle.transcript.specs.Transcript.{room_word};
+ghost use Rattle.cloud_opening.specs.BackupCommand.Writing.{HasWrittenOrCause, output_of};
+ghost use Rattle.cloud_opening.specs.Transcript.Endings.{ending_text};
+ghost use Rattle.cloud_opening.specs.Transcript.Transcript.{room_word};
 ghost use Rattle.migrate_command.specs.Said.{already_text, large_text, migrate_status, migrate_text, migrated_text, old_text};
 
-use cd_base::{Bytes, CloudNo, NoMemory, Room, UserId};
-use cd_edges::Sink;
-use cloud_opening::write_text;
+use cloud_opening::Word::Number;
+use cloud_opening::{Ending, put_first, write_ending, write_text};
 use std::alloc::Global;
-use store_migration::{MigrateErr, OldErr};
-use transcript::Word::Number;
-use transcript::{Ending, put_first, write_ending};
+use store_migration::{Bytes, CloudNo, MigrateErr, NoMemory, OldErr, Room, Sink, UserId};
 
 // Appends the line of a cloud that is migrated. For want of memory a part of it may stand there.
 #[tactic(auto, using(transcript::proofs::Joined::joined))]
@@ -126,7 +123,7 @@ pub fn write_migrated<K: Sink>(
     cloud: CloudNo,
     came: Result<u64, MigrateErr>,
 ) -> u8
-    ensures { Writes (migrate_text cloud came) (migrate_status came)
+    ensures { HasWrittenOrCause (migrate_text cloud came) (migrate_status came)
         (output_of (K.written sink.old) (K.written sink.new) (K.faults sink.old) (K.faults sink.new)) result }
 {
     let mut line = Bytes::new(alloc);

@@ -1,20 +1,17 @@
 //! The migration of a cloud in a place.
 
 ghost use Rattle.std.specs.Prelude.{◌≡◌, ◌⊎◌, ◌<◌, List};
-ghost use Rattle.cd_edges.specs.Shelf.{IsCall};
-ghost use Rattle.journal_start.specs.Ranges.{AreRooms};
-ghost use Rattle.user_dedup.specs.declared.command.Command.{Command};
-ghost use Rattle.backup_command.specs.Writing.{output_of};
+ghost use Rattle.store_migration.specs.CdEdges.Shelf.{IsCall};
+ghost use Rattle.store_migration.specs.JournalStart.Ranges.{AreRooms};
+ghost use Rattle.store_migration.specs.UserDedup.command.Command.{Command};
+ghost use Rattle.cloud_opening.specs.BackupCommand.Writing.{output_of};
 ghost use Rattle.cloud_opening.specs.Opened.{cloud_call};
-ghost use Rattle.migration_model.specs.Migrating.{AreSmallEnough};
-ghost use Rattle.migrate_command.specs.TakenOver.{IsTakenOver, IsUnhindered};
+ghost use Rattle.store_migration.specs.MigrationModel.Migrating.{AreSmallEnough};
+ghost use Rattle.migrate_command.specs.TakenOver.{IsTakenOver, IsMigrationUnhindered};
 
 use crate::lines::write_migrated;
-use cd_base::{CloudNo, Shape};
-use cd_edges::{Shelf, Sink};
-use journal_start::Rooms;
 use std::alloc::Global;
-use store_migration::migrate;
+use store_migration::{CloudNo, Shape, Shelf, Sink, UserRooms, migrate};
 
 /// Takes a cloud of a store of this shape, which was written in format 1, over into format 2, with these rooms from then on: its
 /// areas are synced, its journal is read, and a checkpoint of what is kept takes the place of the journal's chain. Shares and
@@ -41,7 +38,7 @@ pub fn migrate_cloud<K: Sink, V: Shelf>(
     alloc: Global,
     shape: Shape,
     cloud: CloudNo,
-    rooms: Rooms,
+    rooms: UserRooms,
     sink: &mut K,
     shelf: &mut V,
 ) -> u8
@@ -52,7 +49,8 @@ pub fn migrate_cloud<K: Sink, V: Shelf>(
         (output_of (K.written sink.old) (K.written sink.new) (K.faults sink.old) (K.faults sink.new)) }
     ensures call { IsCall (V.cloud_at shelf.old) (V.cloud_at shelf.new) cloud.0
         (V.faults shelf.old) (V.faults shelf.new) }
-    ensures complete { (list : List Command) → IsUnhindered list (cloud_call shape cloud (V.cloud_at shelf.old cloud.0)
+    ensures complete { (list : List Command)
+        → IsMigrationUnhindered list (cloud_call shape cloud (V.cloud_at shelf.old cloud.0)
         (V.cloud_at shelf.new cloud.0) (V.faults shelf.old) (V.faults shelf.new))
         (output_of (K.written sink.old) (K.written sink.new) (K.faults sink.old) (K.faults sink.new))
         → AreSmallEnough shape rooms list → (result ≡ 0) ⊎ (result ≡ 6) }

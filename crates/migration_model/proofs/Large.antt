@@ -4,25 +4,25 @@ use Rattle.std.specs.Prelude.{◌↔◌, nat_lt}
 use Rattle.std.specs.Option.{option_or}
 use Rattle.std.proofs.lemmas.Bool.{cases_lt}
 use Rattle.std.proofs.lemmas.Bool.Decides.{Decides-ltb}
-use Rattle.cd_base.specs.declared.ids.UserId.{UserId}
-use Rattle.cd_base.specs.declared.rooms.Room.{Room}
-use Rattle.cd_base.specs.declared.rooms.Room.TheVariants as names
-use Rattle.cd_base.specs.declared.shape.Shape.{Shape}
-use Rattle.journal_start.specs.declared.rooms.Rooms.{Rooms}
-use Rattle.user_dedup.specs.Dedup.{FullRoom, IsSound}
-use Rattle.user_dedup.specs.declared.command.Command.{Command}
-use Rattle.user_dedup.specs.Compact.{compact}
-use Rattle.user_dedup.specs.Spending.{Spent, refusal, spent_of, files_of, limits_of, files_limit, UsesWithin, IsWithin}
-use Rattle.cloud_areas.specs.FormatOne.{passed_room, too_large_for}
+use Rattle.compact_lists.specs.CdBase.ids.UserId.{UserId}
+use Rattle.compact_lists.specs.CdBase.rooms.Room.{Room}
+use Rattle.compact_lists.specs.CdBase.rooms.Room.TheVariants as names
+use Rattle.compact_lists.specs.CdBase.shape.Shape.{Shape}
+use Rattle.compact_lists.specs.JournalStart.rooms.UserRooms.{UserRooms}
+use Rattle.compact_lists.specs.UserDedup.Dedup.{FullRoom, IsSound}
+use Rattle.compact_lists.specs.UserDedup.command.Command.{Command}
+use Rattle.compact_lists.specs.UserDedup.Compact.{compact}
+use Rattle.compact_lists.specs.UserDedup.Spending.{SpentByUser, refusal, spent_of, files_of, limits_of, files_limit, UsesWithin, IsWithin}
+use Rattle.fresh_checkpoints.specs.CloudAreas.FormatOne.{passed_room, too_large_for}
 use Rattle.compact_lists.specs.Live.{live_of}
-use Rattle.compact_lists.proofs.Rooms.{by_end}
+use Rattle.compact_lists.proofs.RoomLaws.{by_end}
 use Rattle.compact_lists.proofs.Spent.{spent_kept, files_kept}
 use Rattle.migration_model.specs.Migrating.{AreSmallEnough}
 
-pub by_kept : (shape : Shape) (cloud : ℕ) (rooms : Rooms) (list : List Command) (user : UserId) → IsSound shape cloud list
+pub by_kept : (shape : Shape) (cloud : ℕ) (rooms : UserRooms) (list : List Command) (user : UserId) → IsSound shape cloud list
     → too_large_for shape rooms list user ≡ passed_room rooms user (live_of shape list user) (files_of shape list user)
 by_kept shape cloud rooms list user sound =
-    ap (λ (s : Spent). passed_room rooms user s (files_of shape (compact shape list) user)) (spent_kept shape cloud list sound user)
+    ap (λ (s : SpentByUser). passed_room rooms user s (files_of shape (compact shape list) user)) (spent_kept shape cloud list sound user)
     ∙ ap (λ (n : ℕ). passed_room rooms user (live_of shape list user) n) (files_kept shape cloud list sound user)
 
 -- ---- refusals that need nothing more
@@ -74,11 +74,11 @@ either (Some room) two full e = inl e
 
 -- ---- a user
 
-module _ (shape : Shape) (rooms : Rooms) (list : List Command) (user : UserId) where
-  abbrev used : Spent
+module _ (shape : Shape) (rooms : UserRooms) (list : List Command) (user : UserId) where
+  abbrev used : SpentByUser
   used = spent_of (compact shape list) user
 
-  abbrev limits : Spent
+  abbrev limits : SpentByUser
   limits = limits_of rooms user
 
   abbrev many : ℕ
@@ -119,5 +119,5 @@ module _ (shape : Shape) (rooms : Rooms) (list : List Command) (user : UserId) w
         ]
       ]
 
-pub all_within : (shape : Shape) (rooms : Rooms) (list : List Command) → AreSmallEnough shape rooms list → IsWithin shape rooms (compact shape list)
+pub all_within : (shape : Shape) (rooms : UserRooms) (list : List Command) → AreSmallEnough shape rooms list → IsWithin shape rooms (compact shape list)
 all_within shape rooms list small = by_end shape rooms list (λ user. (exact shape rooms list user).0 (small user))

@@ -3,34 +3,34 @@ use Rattle.std.proofs.Common.{◌≡◌, ◌≢◌, ℕ, false, ◌+◌, ◌≤�
 use Rattle.std.specs.Prelude.{All, option_map}
 use Rattle.std.specs.List.{Contains}
 use Rattle.std.specs.FinMap.{get}
-use Rattle.cd_base.specs.declared.ids.Fp.{Fp}
-use Rattle.cd_base.specs.declared.ids.Tag.{Tag}
-use Rattle.cd_base.specs.declared.ids.UserId.{UserId}
-use Rattle.cd_base.specs.declared.ids.Version.{Version}
-use Rattle.cd_edges.specs.declared.area.Area.{Area}
-use Rattle.cd_edges.specs.declared.area.Area.TheVariants.{Journal, Shares, Recipes}
-use Rattle.cd_edges.specs.Disk.{Store, Cloud, reads}
-use Rattle.container_log.specs.Laying.{Placed, IsAt}
-use Rattle.file_index.specs.declared.key.Entry.{Entry}
-use Rattle.file_index.specs.Files.{key_of}
-use Rattle.journal_start.specs.declared.start.Header.{Header}
-use Rattle.record_body.specs.declared.body.CommitBody.{CommitBody}
-use Rattle.record_bodies.specs.Spelling.{Body, Commit}
-use Rattle.cd_base.specs.declared.place.Place.{Place}
-use Rattle.user_dedup.specs.declared.file_list.FileEntry.{FileEntry}
-use Rattle.user_dedup.specs.Pages.{entry_at}
-use Rattle.user_dedup.proofs.Owned.{contains_here}
-use Rattle.user_dedup.specs.declared.command.Command.{Command}
-use Rattle.user_dedup.specs.Cloud.{counted, user_view, held_bytes}
-use Rattle.user_dedup.specs.Spending.{IsWithin}
-use Rattle.user_dedup.proofs.Filtered.{in_flat}
-use Rattle.user_dedup.proofs.Spending.{front_within}
-use Rattle.cloud_areas.specs.Adding.{with_record}
-use Rattle.cloud_areas.specs.Chains.{IsRecord}
-use Rattle.cloud_areas.specs.Placing.{region_start, recipes_in, recipes_placed, shares_end, recipes_end}
-use Rattle.cloud_areas.specs.Standing.{Chain}
-use Rattle.cloud_areas.proofs.Ends.{end_each}
-use Rattle.cloud_areas.proofs.Entries.{share_lies}
+use Rattle.recipe.specs.CdBase.ids.Fp.{Fp}
+use Rattle.recipe.specs.CdBase.ids.Tag.{Tag}
+use Rattle.recipe.specs.CdBase.ids.UserId.{UserId}
+use Rattle.recipe.specs.CdBase.ids.Version.{Version}
+use Rattle.checkpoints.specs.CdEdges.area.Area.{Area}
+use Rattle.checkpoints.specs.CdEdges.area.Area.TheVariants.{Journal, Shares, Recipes}
+use Rattle.checkpoints.specs.CdEdges.Disk.{Store, Cloud, reads}
+use Rattle.checkpoints.specs.ContainerLog.Laying.{Placed, IsAt}
+use Rattle.checkpoints.specs.FileIndex.key.Entry.{Entry}
+use Rattle.checkpoints.specs.FileIndex.Files.{key_of}
+use Rattle.checkpoints.specs.JournalStart.start.Header.{Header}
+use Rattle.checkpoints.specs.RecordBody.body.CommitBody.{CommitBody}
+use Rattle.checkpoints.specs.RecordBodies.Spelling.{Body, Commit}
+use Rattle.recipe.specs.CdBase.place.Place.{Place}
+use Rattle.checkpoints.specs.UserDedup.file_list.FileEntry.{FileEntry}
+use Rattle.checkpoints.specs.UserDedup.Pages.{entry_at}
+use Rattle.checkpoints.proofs.UserDedup.Owned.{contains_here}
+use Rattle.checkpoints.specs.UserDedup.command.Command.{Command}
+use Rattle.checkpoints.specs.UserDedup.Cloud.{counted, user_view, held_bytes}
+use Rattle.checkpoints.specs.UserDedup.Spending.{IsWithin}
+use Rattle.checkpoints.proofs.UserDedup.Filtered.{in_flat}
+use Rattle.checkpoints.proofs.UserDedup.Spending.{front_within}
+use Rattle.checkpoints.specs.CloudAreas.Adding.{with_record}
+use Rattle.checkpoints.specs.CloudAreas.Chains.{IsRecord}
+use Rattle.checkpoints.specs.CloudAreas.Placing.{region_start, recipes_in, recipes_placed, shares_end, recipes_end}
+use Rattle.checkpoints.specs.CloudAreas.Standing.{Chain}
+use Rattle.checkpoints.proofs.CloudAreas.Ends.{end_each}
+use Rattle.checkpoints.proofs.CloudAreas.Entries.{share_lies}
 use Rattle.checkpoints.specs.CloudDisk.Disk.{Disk, IsOn, KeepsFronts}
 use Rattle.checkpoints.specs.CloudMemory.cloud.CloudMemory.{CloudMemory}
 use Rattle.checkpoints.specs.CloudMemory.Memory.{Memory, Remembers, IsPlacedBy, HasEnds, Stand, summary, summary_of, commit_of}

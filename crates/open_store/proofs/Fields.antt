@@ -2,29 +2,29 @@
 use Rattle.std.proofs.Common.{◌≡◌, ℕ, ◌^◌, ◌<◌, ◌≤◌, List, [], ◌∷◌, ◌++◌, length, map, Some, None, sym, ap, ◌∙◌, subst, arith}
 use Rattle.std.specs.Prelude.{All}
 use Rattle.std.proofs.lemmas.List.Elements.{All-nil, All-cons}
-use Rattle.cd_base.specs.declared.ids.Fp.{Fp}
-use Rattle.cd_base.specs.declared.ids.Tag.{Tag}
-use Rattle.cd_base.specs.declared.ids.UserId.{UserId}
-use Rattle.cd_base.specs.declared.ids.Version.{Version}
-use Rattle.cd_base.specs.declared.shape.Shape.{Shape}
-use Rattle.container_log.specs.Places.{container_len, place_of}
-use Rattle.record_bodies.specs.Spelling as bodies
-use Rattle.record_bodies.specs.Spelling.{FitsBody}
+use Rattle.recipe.specs.CdBase.ids.Fp.{Fp}
+use Rattle.recipe.specs.CdBase.ids.Tag.{Tag}
+use Rattle.recipe.specs.CdBase.ids.UserId.{UserId}
+use Rattle.recipe.specs.CdBase.ids.Version.{Version}
+use Rattle.recipe.specs.CdBase.shape.Shape.{Shape}
+use Rattle.checkpoints.specs.ContainerLog.Places.{container_len, place_of}
+use Rattle.checkpoints.specs.RecordBodies.Spelling as bodies
+use Rattle.checkpoints.specs.RecordBodies.Spelling.{FitsBody}
 use Rattle.sha2.proofs.Facts256.{length-sha256}
-use Rattle.user_dedup.specs.Cloud.{fingerprint}
-use Rattle.user_dedup.specs.Pages.{entry_at}
-use Rattle.user_dedup.specs.declared.command.Command.{Command}
-use Rattle.user_dedup.specs.declared.command.Command.TheVariants as asked
+use Rattle.checkpoints.specs.UserDedup.Cloud.{fingerprint}
+use Rattle.checkpoints.specs.UserDedup.Pages.{entry_at}
+use Rattle.checkpoints.specs.UserDedup.command.Command.{Command}
+use Rattle.checkpoints.specs.UserDedup.command.Command.TheVariants as asked
 use Rattle.messages.specs.declared.request.Request.{Request}
 use Rattle.messages.specs.declared.request.Request.TheVariants as requests
 use Rattle.messages.specs.Requests.{FitsRequest}
-use Rattle.user_dedup.specs.Owning.{first_lacking, new_strings}
-use Rattle.user_dedup.specs.Requests.{fps_of}
-use Rattle.user_dedup.specs.Dedup.{answer_over, IsSound}
-use Rattle.user_dedup.specs.Cloud.{user_of, user_view}
-use Rattle.user_dedup.proofs.CompactSound.{all_fit, FitsAll}
-use Rattle.user_dedup.proofs.Sound.{sound_before, deletes_from, put_adds, commit_adds}
-use Rattle.user_dedup.proofs.Owned.{contains_here}
+use Rattle.checkpoints.specs.UserDedup.Owning.{first_lacking, new_strings}
+use Rattle.checkpoints.specs.UserDedup.Requests.{fps_of}
+use Rattle.checkpoints.specs.UserDedup.Dedup.{answer_over, IsSound}
+use Rattle.checkpoints.specs.UserDedup.Cloud.{user_of, user_view}
+use Rattle.checkpoints.proofs.UserDedup.CompactSound.{all_fit, FitsAll}
+use Rattle.checkpoints.proofs.UserDedup.Sound.{sound_before, deletes_from, put_adds, commit_adds}
+use Rattle.checkpoints.proofs.UserDedup.Owned.{contains_here}
 use Rattle.std.proofs.lemmas.List.Elements.{Contains-append_right}
 use Rattle.checkpoints.specs.CloudMemory.rooms.New.{New}
 use Rattle.checkpoints.specs.CloudMemory.News.{AreOf}

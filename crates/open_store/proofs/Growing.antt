@@ -1,13 +1,13 @@
 -- What a command leaves of areas whose records may say anything.
 use Rattle.std.proofs.Common.{◌≡◌, ◌≢◌, ◌⊎◌, inl, inr, ℕ, ◌+◌, List, IsTrue, Ok, refl, sym, subst}
-use Rattle.cd_edges.specs.declared.area.Area.{Area}
-use Rattle.cd_edges.specs.declared.area.Area.TheVariants.{Journal, Shares, Recipes}
-use Rattle.cd_edges.specs.Disk.{Store, Cloud, Image, IsAtArea, LeavesOnly}
-use Rattle.cd_edges.proofs.Moments.{weaker, joined}
-use Rattle.container_log.specs.Kept.{KeepsBelow}
-use Rattle.container_log.specs.States as logs
-use Rattle.journal_halves.specs.Journals.{Where, with_body, IsEither}
-use Rattle.half_journal.specs.States.{IsEnded}
+use Rattle.checkpoints.specs.CdEdges.area.Area.{Area}
+use Rattle.checkpoints.specs.CdEdges.area.Area.TheVariants.{Journal, Shares, Recipes}
+use Rattle.checkpoints.specs.CdEdges.Disk.{Store, Cloud, Image, IsAtArea, LeavesOnly}
+use Rattle.checkpoints.proofs.CdEdges.Moments.{weaker, joined}
+use Rattle.checkpoints.specs.ContainerLog.Kept.{KeepsBelow}
+use Rattle.checkpoints.specs.ContainerLog.States as logs
+use Rattle.checkpoints.specs.JournalHalves.Journals.{Where, with_body, IsEither}
+use Rattle.checkpoints.specs.HalfJournal.States.{IsJournalEnded}
 use Rattle.checkpoints.specs.CloudDisk.Disk as disks
 use Rattle.checkpoints.proofs.DiskProofs.Grown.{below}
 use Rattle.checkpoints.proofs.InPlace.{ended_still}
@@ -58,7 +58,7 @@ module _ (s mid : OpenStore) (body : List ℕ) (c0 c1 c2 : Cloud) (shares : mid.
   recipes_are : mid.disk.recipes.area ≡ Recipes
   recipes_are = subst (λ (l : logs.State). l.area ≡ Recipes) (sym recipes) is_recipes
 
-  after : IsTrue c0.told → (w : Where) → IsEnded mid.disk.journal (c1.now Journal) w ⊎ IsEnded mid.disk.journal (c1.now Journal) (summed s w)
+  after : IsTrue c0.told → (w : Where) → IsJournalEnded mid.disk.journal (c1.now Journal) w ⊎ IsJournalEnded mid.disk.journal (c1.now Journal) (summed s w)
       → ((other : Area) → other ≢ Journal → c1.now other ≡ c0.now other) → LeavesOnly c1 c2 (IsLeftOf s c0 w body)
   after told w (inl ended) others =
       weaker c1 c2 _ _ (grows (told1 told) shares_are recipes_are w ended) (λ image g. fronts others w image (from_first s w body (image Journal) g.0) g.1 g.2)

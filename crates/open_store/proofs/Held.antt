@@ -5,23 +5,23 @@ use Rattle.std.specs.List.{Contains}
 use Rattle.std.proofs.lemmas.Bool.{false≢true}
 use Rattle.std.specs.Option.{option_or}
 use Rattle.std.specs.FinMap.{FinMap, get}
-use Rattle.cd_base.specs.declared.ids.Fp.{Fp}
-use Rattle.cd_base.specs.declared.ids.UserId.{UserId}
-use Rattle.cd_base.specs.declared.place.Place.{Place}
-use Rattle.cd_base.specs.Order.{fp_cmp}
-use Rattle.container_log.specs.Laying.{Placed, placed, lengths}
-use Rattle.container_log.specs.Places.{place_of, end_after}
-use Rattle.container_log.specs.States.{HasStaged}
-use Rattle.cd_edges.specs.Disk.{Cloud}
-use Rattle.record_body.specs.declared.body.PutItem.{PutItem}
-use Rattle.record_bodies.specs.Spelling as bodies
-use Rattle.user_dedup.specs.Cloud.{fingerprint, has_fingerprint, strings_in}
-use Rattle.user_dedup.specs.declared.command.Command.{Command}
-use Rattle.user_dedup.specs.declared.command.Command.TheVariants as asked
-use Rattle.user_dedup.specs.Dedup.{IsSound}
-use Rattle.user_dedup.proofs.Owned.{fp_same, among_contains}
-use Rattle.cloud_areas.specs.Placing.{end_of, places_given}
-use Rattle.cloud_areas.specs.Standing.{Chain}
+use Rattle.recipe.specs.CdBase.ids.Fp.{Fp}
+use Rattle.recipe.specs.CdBase.ids.UserId.{UserId}
+use Rattle.recipe.specs.CdBase.place.Place.{Place}
+use Rattle.recipe.specs.CdBase.Order.{fp_cmp}
+use Rattle.checkpoints.specs.ContainerLog.Laying.{Placed, placed, lengths}
+use Rattle.checkpoints.specs.ContainerLog.Places.{place_of, end_after}
+use Rattle.checkpoints.specs.ContainerLog.States.{HasStaged}
+use Rattle.checkpoints.specs.CdEdges.Disk.{Cloud}
+use Rattle.checkpoints.specs.RecordBody.body.PutItem.{PutItem}
+use Rattle.checkpoints.specs.RecordBodies.Spelling as bodies
+use Rattle.checkpoints.specs.UserDedup.Cloud.{fingerprint, has_fingerprint, strings_in}
+use Rattle.checkpoints.specs.UserDedup.command.Command.{Command}
+use Rattle.checkpoints.specs.UserDedup.command.Command.TheVariants as asked
+use Rattle.checkpoints.specs.UserDedup.Dedup.{IsSound}
+use Rattle.checkpoints.proofs.UserDedup.Owned.{fp_same, among_contains}
+use Rattle.checkpoints.specs.CloudAreas.Placing.{end_of, places_given}
+use Rattle.checkpoints.specs.CloudAreas.Standing.{Chain}
 use Rattle.checkpoints.specs.CloudDisk.Disk.{Stages, shares_laid}
 use Rattle.checkpoints.specs.CloudMemory.rooms.New.{New}
 use Rattle.checkpoints.specs.CloudMemory.Memory.{Memory}

@@ -1,18 +1,18 @@
 -- What a store serves stays while its logs are read or nothing is staged, and while its cloud's areas stay.
 use Rattle.std.proofs.Common.{◌≡◌, ℕ, ◌+◌, ◌<◌, ◌≤◌, List, Result, Ok, Err, IsTrue, refl, sym, ap, ◌∙◌, subst, arith}
 use Rattle.std.specs.Prelude.{MatchResult, IsOk}
-use Rattle.cd_edges.specs.declared.area.Area.{Area}
-use Rattle.cd_edges.specs.declared.area.Area.TheVariants.{Journal, Shares, Recipes}
-use Rattle.cd_edges.specs.Disk.{Areas, Cloud, reads}
-use Rattle.cd_edges.specs.Shelf.{stable}
-use Rattle.container_log.specs.Places.{container_len}
-use Rattle.container_log.specs.States as logs
-use Rattle.half_journal.specs.States as journals
-use Rattle.journal_start.specs.declared.start.Header.{Header}
-use Rattle.journal_halves.specs.Halves.{half_limit}
-use Rattle.user_dedup.specs.declared.command.Command.{Command}
-use Rattle.cloud_areas.specs.Placing.{greatest_end, region_start, shares_in, recipes_in, places_of}
-use Rattle.cloud_areas.specs.Standing.{Chain, where_of, IsChain, Holds}
+use Rattle.checkpoints.specs.CdEdges.area.Area.{Area}
+use Rattle.checkpoints.specs.CdEdges.area.Area.TheVariants.{Journal, Shares, Recipes}
+use Rattle.checkpoints.specs.CdEdges.Disk.{Areas, Cloud, reads}
+use Rattle.checkpoints.specs.CdEdges.Shelf.{stable}
+use Rattle.checkpoints.specs.ContainerLog.Places.{container_len}
+use Rattle.checkpoints.specs.ContainerLog.States as logs
+use Rattle.checkpoints.specs.HalfJournal.States as journals
+use Rattle.checkpoints.specs.JournalStart.start.Header.{Header}
+use Rattle.checkpoints.specs.JournalHalves.Halves.{half_limit}
+use Rattle.checkpoints.specs.UserDedup.command.Command.{Command}
+use Rattle.checkpoints.specs.CloudAreas.Placing.{greatest_end, region_start, shares_in, recipes_in, places_of}
+use Rattle.checkpoints.specs.CloudAreas.Standing.{Chain, where_of, IsChain, Holds}
 use Rattle.checkpoints.specs.CloudDisk.Disk.{Disk, IsOn, IsReadThrough, without_staged, regions_end}
 use Rattle.checkpoints.proofs.DiskProofs.Standing.{on_read}
 use Rattle.checkpoints.specs.CloudMemory.Memory.{Stand}
@@ -54,13 +54,13 @@ reads_serve list c old new before after serves same read =
 pub settled_on : (s : OpenStore) (disk : Disk) → IsSettled s → disk.journal ≡ s.disk.journal → disk.shares.area ≡ s.disk.shares.area → disk.shares.limit ≡ s.disk.shares.limit
     → disk.recipes.area ≡ s.disk.recipes.area → disk.recipes.limit ≡ s.disk.recipes.limit → IsSettled (record s { disk = disk })
 settled_on s disk settled journal shares shares_limit recipes recipes_limit =
-    let opened : IsOpen (record s { disk = disk }) → IsOpen s = (λ at_end. ap (λ (j : journals.State). j.stage) (sym journal) ∙ at_end) in record {
+    let opened : IsOpen (record s { disk = disk }) → IsOpen s = (λ at_end. ap (λ (j : journals.JournalState). j.stage) (sym journal) ∙ at_end) in record {
       header = settled.header;
       format = settled.format;
       rooms = settled.rooms;
       fit = λ at_end. settled.fit (opened at_end);
       roomy = λ at_end. settled.roomy (opened at_end);
-      disk = record { limit = ap (λ (j : journals.State). j.limit) journal ∙ settled.disk.limit; shares = shares ∙ settled.disk.shares; recipes = recipes ∙ settled.disk.recipes };
+      disk = record { limit = ap (λ (j : journals.JournalState). j.limit) journal ∙ settled.disk.limit; shares = shares ∙ settled.disk.shares; recipes = recipes ∙ settled.disk.recipes };
       shares_limit = shares_limit ∙ settled.shares_limit;
       recipes_limit = recipes_limit ∙ settled.recipes_limit;
       region = settled.region;
@@ -88,7 +88,7 @@ on_areas header list c disk old new told now on = record {
     sound = on.read.sound;
     on_disk = subst (λ (a : Areas). (area : Area) → a area ≡ stable (a area).read) (sym now) on.read.on_disk;
     limit = on.read.limit;
-    ended = subst (λ (a : Areas). journals.IsEnded disk.journal (a Journal) (where_of c)) (sym now) on.read.ended;
+    ended = subst (λ (a : Areas). journals.IsJournalEnded disk.journal (a Journal) (where_of c)) (sym now) on.read.ended;
     is_chain = subst (λ (a : Areas). IsChain header (half_limit header.rooms) (a Journal).read c) (sym now) on.read.is_chain;
     holds = subst (λ (a : Areas). Holds header (reads a) list c) (sym now) on.read.holds;
   };

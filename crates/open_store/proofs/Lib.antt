@@ -10,3 +10,6 @@ pub mod Preparing
 pub mod Putting
 pub mod Rooming
 pub mod Stepping
+pub mod JournalStart
+pub mod StoreOpening
+pub mod Checkpoints

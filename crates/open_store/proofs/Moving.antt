@@ -1,23 +1,23 @@
 -- What is to be added to a store is to be added to it once room was made.
 use Rattle.std.proofs.Common.{◌≡◌, ℕ, List, [], ◌∷◌, ◌++◌, Some, Result, Ok, Err, sym, ap, subst}
 use Rattle.std.specs.Prelude.{OnOk}
-use Rattle.cd_base.specs.declared.ids.Fp.{Fp}
-use Rattle.cd_base.specs.declared.ids.Tag.{Tag}
-use Rattle.cd_base.specs.declared.ids.UserId.{UserId}
-use Rattle.cd_base.specs.declared.ids.Version.{Version}
-use Rattle.cd_edges.specs.Disk.{Cloud}
-use Rattle.container_log.specs.Places.{place_of}
-use Rattle.container_log.specs.States as logs
-use Rattle.journal_start.specs.declared.start.Header.{Header}
-use Rattle.record_bodies.specs.Spelling as bodies
-use Rattle.user_dedup.specs.declared.file_list.FileEntry.{FileEntry}
-use Rattle.user_dedup.specs.Pages.{entry_at}
-use Rattle.user_dedup.specs.Requests.{fps_of}
-use Rattle.user_dedup.specs.declared.command.Command.{Command}
-use Rattle.user_dedup.specs.declared.command.Command.TheVariants as asked
-use Rattle.user_dedup.specs.Dedup.{IsSound}
-use Rattle.user_dedup.specs.Cloud.{user_view}
-use Rattle.cloud_areas.specs.Standing.{Chain}
+use Rattle.recipe.specs.CdBase.ids.Fp.{Fp}
+use Rattle.recipe.specs.CdBase.ids.Tag.{Tag}
+use Rattle.recipe.specs.CdBase.ids.UserId.{UserId}
+use Rattle.recipe.specs.CdBase.ids.Version.{Version}
+use Rattle.checkpoints.specs.CdEdges.Disk.{Cloud}
+use Rattle.checkpoints.specs.ContainerLog.Places.{place_of}
+use Rattle.checkpoints.specs.ContainerLog.States as logs
+use Rattle.checkpoints.specs.JournalStart.start.Header.{Header}
+use Rattle.checkpoints.specs.RecordBodies.Spelling as bodies
+use Rattle.checkpoints.specs.UserDedup.file_list.FileEntry.{FileEntry}
+use Rattle.checkpoints.specs.UserDedup.Pages.{entry_at}
+use Rattle.checkpoints.specs.UserDedup.Requests.{fps_of}
+use Rattle.checkpoints.specs.UserDedup.command.Command.{Command}
+use Rattle.checkpoints.specs.UserDedup.command.Command.TheVariants as asked
+use Rattle.checkpoints.specs.UserDedup.Dedup.{IsSound}
+use Rattle.checkpoints.specs.UserDedup.Cloud.{user_view}
+use Rattle.checkpoints.specs.CloudAreas.Standing.{Chain}
 use Rattle.checkpoints.specs.CloudDisk.Disk.{Stages, shares_laid}
 use Rattle.checkpoints.specs.CloudMemory.cloud.CloudMemory.{CloudMemory}
 use Rattle.checkpoints.specs.CloudMemory.rooms.New.{New}

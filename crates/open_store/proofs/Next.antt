@@ -3,35 +3,35 @@ use Rattle.std.proofs.Common.{◌≡◌, inl, ℕ, ◌+◌, ◌-◌, ◌^◌, fa
 use Rattle.std.specs.Prelude.{min}
 use Rattle.std.specs.FinMap.{FinMap, get}
 use Rattle.std.proofs.lemmas.List.Elements.{All-head, All-tail}
-use Rattle.cd_base.specs.declared.ids.Fp.{Fp}
-use Rattle.cd_base.specs.declared.ids.Tag.{Tag}
-use Rattle.cd_base.specs.declared.ids.UserId.{UserId}
-use Rattle.cd_base.specs.declared.ids.Version.{Version}
-use Rattle.cd_edges.specs.declared.area.Area.TheVariants.{Recipes}
-use Rattle.cd_edges.specs.Disk.{Cloud, reads}
-use Rattle.cd_edges.proofs.Moments.{weaker, joined}
-use Rattle.container_log.specs.Laying.{Placed, placed, lengths, IsAt}
-use Rattle.container_log.specs.Places.{end_after, end_of_laid}
-use Rattle.container_log.specs.States as logs
-use Rattle.container_log.proofs.Staged.{staged_end_of}
-use Rattle.file_index.specs.declared.key.Entry.{Entry}
-use Rattle.file_index.specs.Files.{key_of}
-use Rattle.file_index.specs.Order.{key_cmp}
-use Rattle.journal_start.specs.declared.start.Header.{Header}
-use Rattle.journal_start.specs.Ranges.{AreRooms}
-use Rattle.record_bodies.specs.Spelling.{Body, FitsBody, IsBody}
-use Rattle.cd_base.specs.declared.place.Place.{Place}
-use Rattle.user_dedup.specs.declared.command.Command.{Command}
-use Rattle.user_dedup.specs.Dedup.{IsSound}
-use Rattle.user_dedup.specs.Cloud.{counted, held_bytes}
-use Rattle.user_dedup.specs.Spending.{full_for, IsWithin}
-use Rattle.user_dedup.proofs.Within.{next_within}
-use Rattle.cloud_areas.specs.Adding.{with_record}
-use Rattle.cloud_areas.specs.Chains.{IsRecord, AreLong, BothHaveRoom, laid_shares}
-use Rattle.cloud_areas.specs.Laid.{IsLaidBehind, HaveEnds, end_behind, place_by}
-use Rattle.cloud_areas.specs.Placing.{shares_in, shares_placed, recipes_placed, places_of}
-use Rattle.cloud_areas.specs.Standing.{Chain, StandsFor}
-use Rattle.cloud_areas.proofs.Placed.{shares_more}
+use Rattle.recipe.specs.CdBase.ids.Fp.{Fp}
+use Rattle.recipe.specs.CdBase.ids.Tag.{Tag}
+use Rattle.recipe.specs.CdBase.ids.UserId.{UserId}
+use Rattle.recipe.specs.CdBase.ids.Version.{Version}
+use Rattle.checkpoints.specs.CdEdges.area.Area.TheVariants.{Recipes}
+use Rattle.checkpoints.specs.CdEdges.Disk.{Cloud, reads}
+use Rattle.checkpoints.proofs.CdEdges.Moments.{weaker, joined}
+use Rattle.checkpoints.specs.ContainerLog.Laying.{Placed, placed, lengths, IsAt}
+use Rattle.checkpoints.specs.ContainerLog.Places.{end_after, end_of_laid}
+use Rattle.checkpoints.specs.ContainerLog.States as logs
+use Rattle.checkpoints.proofs.ContainerLog.Staged.{staged_end_of}
+use Rattle.checkpoints.specs.FileIndex.key.Entry.{Entry}
+use Rattle.checkpoints.specs.FileIndex.Files.{key_of}
+use Rattle.checkpoints.specs.FileIndex.Order.{key_cmp}
+use Rattle.checkpoints.specs.JournalStart.start.Header.{Header}
+use Rattle.checkpoints.specs.JournalStart.Ranges.{AreRooms}
+use Rattle.checkpoints.specs.RecordBodies.Spelling.{Body, FitsBody, IsBody}
+use Rattle.recipe.specs.CdBase.place.Place.{Place}
+use Rattle.checkpoints.specs.UserDedup.command.Command.{Command}
+use Rattle.checkpoints.specs.UserDedup.Dedup.{IsSound}
+use Rattle.checkpoints.specs.UserDedup.Cloud.{counted, held_bytes}
+use Rattle.checkpoints.specs.UserDedup.Spending.{full_for, IsWithin}
+use Rattle.checkpoints.proofs.UserDedup.Within.{next_within}
+use Rattle.checkpoints.specs.CloudAreas.Adding.{with_record}
+use Rattle.checkpoints.specs.CloudAreas.Chains.{IsRecord, AreLong, BothHaveRoom, laid_shares}
+use Rattle.checkpoints.specs.CloudAreas.Laid.{IsLaidBehind, HaveEnds, end_behind, place_by}
+use Rattle.checkpoints.specs.CloudAreas.Placing.{shares_in, shares_placed, recipes_placed, places_of}
+use Rattle.checkpoints.specs.CloudAreas.Standing.{Chain, StandsFor}
+use Rattle.checkpoints.proofs.CloudAreas.Placed.{shares_more}
 use Rattle.checkpoints.specs.CloudDisk.Disk.{Disk, IsOn, IsPrepared, KeepsFronts, KeepsOrAdds, StandsForEither, EndsBehind, Stages, shares_laid}
 use Rattle.checkpoints.proofs.DiskProofs.Blobs.{all_right}
 use Rattle.checkpoints.specs.CloudMemory.cloud.CloudMemory.{CloudMemory}

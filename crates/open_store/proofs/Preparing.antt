@@ -1,16 +1,16 @@
 -- What a command to be added needs of a store that serves a list.
 use Rattle.std.proofs.Common.{ℕ, ◌≤◌, List, [], ◌∷◌, ◌++◌, sym, subst, arith}
-use Rattle.cd_edges.specs.Disk.{Cloud}
-use Rattle.container_log.specs.Laying.{Placed}
-use Rattle.journal_start.specs.declared.start.Header.{Header}
-use Rattle.journal_start.specs.Ranges.{AreRooms}
-use Rattle.record_bodies.specs.Spelling.{Body, IsBody}
-use Rattle.user_dedup.specs.declared.command.Command.{Command}
-use Rattle.user_dedup.specs.Dedup.{IsSound}
-use Rattle.cloud_areas.specs.Chains.{IsRecord, BothHaveRoom}
-use Rattle.cloud_areas.specs.Laid.{IsLaidBehind, HaveEnds}
-use Rattle.cloud_areas.specs.Standing.{Chain, region_in}
-use Rattle.cloud_areas.proofs.Room.{shares_few, recipes_few}
+use Rattle.checkpoints.specs.CdEdges.Disk.{Cloud}
+use Rattle.checkpoints.specs.ContainerLog.Laying.{Placed}
+use Rattle.checkpoints.specs.JournalStart.start.Header.{Header}
+use Rattle.checkpoints.specs.JournalStart.Ranges.{AreRooms}
+use Rattle.checkpoints.specs.RecordBodies.Spelling.{Body, IsBody}
+use Rattle.checkpoints.specs.UserDedup.command.Command.{Command}
+use Rattle.checkpoints.specs.UserDedup.Dedup.{IsSound}
+use Rattle.checkpoints.specs.CloudAreas.Chains.{IsRecord, BothHaveRoom}
+use Rattle.checkpoints.specs.CloudAreas.Laid.{IsLaidBehind, HaveEnds}
+use Rattle.checkpoints.specs.CloudAreas.Standing.{Chain, region_in}
+use Rattle.checkpoints.proofs.CloudAreas.Room.{shares_few, recipes_few}
 use Rattle.checkpoints.specs.CloudDisk.Disk.{Disk, Stages, shares_laid, IsPrepared, regions_end}
 use Rattle.checkpoints.specs.CloudMemory.cloud.CloudMemory.{CloudMemory}
 use Rattle.open_store.specs.Store.{ServesBy}

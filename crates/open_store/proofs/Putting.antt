@@ -4,15 +4,15 @@ use Rattle.std.specs.Prelude.{All, is_some, nat_le}
 use Rattle.std.specs.FinMap.{get}
 use Rattle.std.proofs.lemmas.List.Elements.{All-nil, All-cons, All-head, All-tail}
 use Rattle.std.proofs.lemmas.List.Sums.{count_by-le-length}
-use Rattle.cd_base.specs.declared.ids.UserId.{UserId}
-use Rattle.container_log.specs.Places.{container_len, place_of}
-use Rattle.record_body.specs.declared.body.PutItem.{PutItem}
-use Rattle.record_body.specs.Spelling.{FitsItem, FitsPlaced}
-use Rattle.record_body.proofs.Spelled.{has_place, length-put}
-use Rattle.record_bodies.specs.Spelling.{Put, FitsBody, body_bytes}
-use Rattle.cd_base.specs.declared.place.Place.{Place}
-use Rattle.cloud_areas.specs.Laid.{AreSmall, IsLaidBehind}
-use Rattle.cloud_areas.specs.Placing.{places_given, places_of}
+use Rattle.recipe.specs.CdBase.ids.UserId.{UserId}
+use Rattle.checkpoints.specs.ContainerLog.Places.{container_len, place_of}
+use Rattle.checkpoints.specs.RecordBody.body.PutItem.{PutItem}
+use Rattle.checkpoints.specs.RecordBody.Spelling.{FitsItem, FitsPlaced}
+use Rattle.checkpoints.proofs.RecordBody.Spelled.{has_place, length-put}
+use Rattle.checkpoints.specs.RecordBodies.Spelling.{Put, FitsBody, body_bytes}
+use Rattle.recipe.specs.CdBase.place.Place.{Place}
+use Rattle.checkpoints.specs.CloudAreas.Laid.{AreSmall, IsLaidBehind}
+use Rattle.checkpoints.specs.CloudAreas.Placing.{places_given, places_of}
 use Rattle.checkpoints.specs.CloudMemory.rooms.New.{New}
 use Rattle.checkpoints.specs.CloudMemory.Memory.{Memory}
 use Rattle.checkpoints.specs.CloudMemory.Steps.{part_in, parts_of, with_item, end_with}

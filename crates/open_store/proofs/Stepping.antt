@@ -3,34 +3,34 @@ use Rattle.std.proofs.Common.{◌≡◌, ℕ, ◌+◌, ◌*◌, ◌/◌, ◌%◌
 use Rattle.std.specs.Prelude.{All, nat_le}
 use Rattle.std.specs.FinMap.{FinMap, insert, remove}
 use Rattle.std.proofs.lemmas.List.Elements.{All-nil, All-cons, All-head}
-use Rattle.cd_base.specs.declared.ids.Fp.{Fp}
-use Rattle.cd_base.specs.declared.ids.Tag.{Tag}
-use Rattle.cd_base.specs.declared.ids.UserId.{UserId}
-use Rattle.cd_base.specs.declared.ids.Version.{Version}
-use Rattle.cd_edges.specs.Disk.{Cloud}
-use Rattle.container_log.specs.Laying.{Placed, placed}
-use Rattle.container_log.specs.Places.{container_len, place_of, end_after}
-use Rattle.container_log.specs.States as logs
-use Rattle.file_index.specs.declared.key.Entry.{Entry}
-use Rattle.file_index.specs.Files.{key_of}
-use Rattle.file_index.specs.Order.{key_cmp}
-use Rattle.journal_start.specs.declared.start.Header.{Header}
-use Rattle.record_body.specs.declared.body.CommitBody.{CommitBody}
-use Rattle.record_body.specs.declared.body.PutItem.{PutItem}
-use Rattle.record_bodies.specs.declared.body.DeleteBody.{DeleteBody}
-use Rattle.record_bodies.specs.Spelling as bodies
-use Rattle.record_bodies.specs.Spelling.{Body, FitsBody}
-use Rattle.cd_base.specs.declared.place.Place.{Place}
-use Rattle.user_dedup.specs.Cloud.{fingerprint}
-use Rattle.user_dedup.specs.declared.command.Command.{Command}
-use Rattle.user_dedup.specs.declared.command.Command.TheVariants as asked
-use Rattle.user_dedup.specs.Dedup.{IsSound}
-use Rattle.user_dedup.specs.Spending.{full_for}
-use Rattle.user_dedup.proofs.Spending.{never_full}
-use Rattle.cloud_areas.specs.Chains.{IsRecord, commit_of}
-use Rattle.cloud_areas.specs.Laid.{AreLaid, end_behind}
-use Rattle.cloud_areas.specs.Placing.{end_of, places_given, places_of}
-use Rattle.cloud_areas.specs.Standing.{Chain}
+use Rattle.recipe.specs.CdBase.ids.Fp.{Fp}
+use Rattle.recipe.specs.CdBase.ids.Tag.{Tag}
+use Rattle.recipe.specs.CdBase.ids.UserId.{UserId}
+use Rattle.recipe.specs.CdBase.ids.Version.{Version}
+use Rattle.checkpoints.specs.CdEdges.Disk.{Cloud}
+use Rattle.checkpoints.specs.ContainerLog.Laying.{Placed, placed}
+use Rattle.checkpoints.specs.ContainerLog.Places.{container_len, place_of, end_after}
+use Rattle.checkpoints.specs.ContainerLog.States as logs
+use Rattle.checkpoints.specs.FileIndex.key.Entry.{Entry}
+use Rattle.checkpoints.specs.FileIndex.Files.{key_of}
+use Rattle.checkpoints.specs.FileIndex.Order.{key_cmp}
+use Rattle.checkpoints.specs.JournalStart.start.Header.{Header}
+use Rattle.checkpoints.specs.RecordBody.body.CommitBody.{CommitBody}
+use Rattle.checkpoints.specs.RecordBody.body.PutItem.{PutItem}
+use Rattle.checkpoints.specs.RecordBodies.body.DeleteBody.{DeleteBody}
+use Rattle.checkpoints.specs.RecordBodies.Spelling as bodies
+use Rattle.checkpoints.specs.RecordBodies.Spelling.{Body, FitsBody}
+use Rattle.recipe.specs.CdBase.place.Place.{Place}
+use Rattle.checkpoints.specs.UserDedup.Cloud.{fingerprint}
+use Rattle.checkpoints.specs.UserDedup.command.Command.{Command}
+use Rattle.checkpoints.specs.UserDedup.command.Command.TheVariants as asked
+use Rattle.checkpoints.specs.UserDedup.Dedup.{IsSound}
+use Rattle.checkpoints.specs.UserDedup.Spending.{full_for}
+use Rattle.checkpoints.proofs.UserDedup.Spending.{never_full}
+use Rattle.checkpoints.specs.CloudAreas.Chains.{IsRecord, commit_of}
+use Rattle.checkpoints.specs.CloudAreas.Laid.{AreLaid, end_behind}
+use Rattle.checkpoints.specs.CloudAreas.Placing.{end_of, places_given, places_of}
+use Rattle.checkpoints.specs.CloudAreas.Standing.{Chain}
 use Rattle.checkpoints.specs.CloudDisk.Disk.{Disk, Stages}
 use Rattle.checkpoints.specs.CloudMemory.cloud.CloudMemory.{CloudMemory}
 use Rattle.checkpoints.specs.CloudMemory.rooms.New.{New}

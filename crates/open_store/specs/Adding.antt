@@ -1,37 +1,37 @@
 -- One command more in an open store: when it may be added, and what comes of it.
 use Rattle.std.specs.Prelude.{◌≡◌, ◌≢◌, ◌⊎◌, ℕ, ◌+◌, ◌<◌, ◌≤◌, List, [], ◌∷◌, ◌++◌, length, IsTrue, is_some, Some, Result, Ok, Err, OnOk, if◌then◌else◌}
 use Rattle.std.specs.FinMap.{FinMap, get}
-use Rattle.cd_base.specs.Order.{fp_cmp}
-use Rattle.cd_base.specs.declared.place.Place.{Place}
-use Rattle.cd_base.specs.declared.ids.Fp.{Fp}
-use Rattle.cd_base.specs.declared.ids.Tag.{Tag}
-use Rattle.cd_base.specs.declared.ids.UserId.{UserId}
-use Rattle.cd_base.specs.declared.ids.Version.{Version}
-use Rattle.cd_edges.specs.declared.area.Area.{Area}
-use Rattle.cd_edges.specs.declared.area.Area.TheVariants.{Journal, Shares, Recipes}
-use Rattle.cd_edges.specs.Disk.{Cloud, Image, LeavesOnly, IsAtArea}
-use Rattle.container_log.specs.Laying.{Placed}
-use Rattle.container_log.specs.Places.{place_of}
-use Rattle.container_log.specs.Kept.{KeepsBelow}
-use Rattle.container_log.specs.States.{HasStaged, staged_end}
-use Rattle.journal_halves.specs.Journals.{Where, with_body, IsEither}
-use Rattle.half_journal.specs.States.{IsEnded}
-use Rattle.half_journal.specs.declared.journal.Stage.{Stage}
-use Rattle.half_journal.specs.declared.journal.Stage.TheVariants.{AtEnd, Shut}
-use Rattle.message_fields.specs.Shares.{share_limit}
-use Rattle.record_body.specs.declared.body.CommitBody.{CommitBody}
-use Rattle.record_bodies.specs.Spelling as bodies
-use Rattle.record_bodies.specs.Spelling.{Body, body_bytes}
-use Rattle.user_dedup.specs.declared.file_list.FileEntry.{FileEntry}
-use Rattle.user_dedup.specs.Cloud.{fingerprint}
-use Rattle.user_dedup.specs.Pages.{entry_at}
-use Rattle.user_dedup.specs.Requests.{fps_of}
-use Rattle.user_dedup.specs.declared.command.Command.{Command}
-use Rattle.user_dedup.specs.declared.command.Command.TheVariants as commands
-use Rattle.user_dedup.specs.Dedup.{IsSound}
-use Rattle.user_dedup.specs.Cloud.{user_view}
-use Rattle.cloud_areas.specs.Adding.{with_record}
-use Rattle.cloud_areas.specs.Standing.{Chain}
+use Rattle.recipe.specs.CdBase.Order.{fp_cmp}
+use Rattle.recipe.specs.CdBase.place.Place.{Place}
+use Rattle.recipe.specs.CdBase.ids.Fp.{Fp}
+use Rattle.recipe.specs.CdBase.ids.Tag.{Tag}
+use Rattle.recipe.specs.CdBase.ids.UserId.{UserId}
+use Rattle.recipe.specs.CdBase.ids.Version.{Version}
+use Rattle.checkpoints.specs.CdEdges.area.Area.{Area}
+use Rattle.checkpoints.specs.CdEdges.area.Area.TheVariants.{Journal, Shares, Recipes}
+use Rattle.checkpoints.specs.CdEdges.Disk.{Cloud, Image, LeavesOnly, IsAtArea}
+use Rattle.checkpoints.specs.ContainerLog.Laying.{Placed}
+use Rattle.checkpoints.specs.ContainerLog.Places.{place_of}
+use Rattle.checkpoints.specs.ContainerLog.Kept.{KeepsBelow}
+use Rattle.checkpoints.specs.ContainerLog.States.{HasStaged, staged_end}
+use Rattle.checkpoints.specs.JournalHalves.Journals.{Where, with_body, IsEither}
+use Rattle.checkpoints.specs.HalfJournal.States.{IsJournalEnded}
+use Rattle.checkpoints.specs.HalfJournal.journal.Stage.{Stage}
+use Rattle.checkpoints.specs.HalfJournal.journal.Stage.TheVariants.{AtEnd, Shut}
+use Rattle.messages.specs.MessageFields.Shares.{share_limit}
+use Rattle.checkpoints.specs.RecordBody.body.CommitBody.{CommitBody}
+use Rattle.checkpoints.specs.RecordBodies.Spelling as bodies
+use Rattle.checkpoints.specs.RecordBodies.Spelling.{Body, body_bytes}
+use Rattle.checkpoints.specs.UserDedup.file_list.FileEntry.{FileEntry}
+use Rattle.checkpoints.specs.UserDedup.Cloud.{fingerprint}
+use Rattle.checkpoints.specs.UserDedup.Pages.{entry_at}
+use Rattle.checkpoints.specs.UserDedup.Requests.{fps_of}
+use Rattle.checkpoints.specs.UserDedup.command.Command.{Command}
+use Rattle.checkpoints.specs.UserDedup.command.Command.TheVariants as commands
+use Rattle.checkpoints.specs.UserDedup.Dedup.{IsSound}
+use Rattle.checkpoints.specs.UserDedup.Cloud.{user_view}
+use Rattle.checkpoints.specs.CloudAreas.Adding.{with_record}
+use Rattle.checkpoints.specs.CloudAreas.Standing.{Chain}
 use Rattle.checkpoints.specs.CloudDisk.Disk.{Disk, IsOn, KeepsOrAdds, Stages, shares_laid, without_staged}
 use Rattle.checkpoints.specs.CloudMemory.rooms.Full.{Full}
 use Rattle.checkpoints.specs.CloudMemory.rooms.New.{New}
@@ -122,13 +122,13 @@ summed s w = checkpoint_behind w s.header s.commands (length (records_of s.memor
 -- Whatever the chain that was read says: each image since has it, or the memory's checkpoint in its place, and all other areas as they might
 -- have been left.
 abbrev pub KeepsOrSums : OpenStore → Cloud → Cloud → Type 0
-KeepsOrSums s old new = IsTrue old.told → (w : Where) → IsEnded s.disk.journal (old.now Journal) w
+KeepsOrSums s old new = IsTrue old.told → (w : Where) → IsJournalEnded s.disk.journal (old.now Journal) w
     → LeavesOnly old new (IsAtArea old.now Journal (IsEither w (summed s w)))
 
 -- After Ok the chain that was read is there, or the checkpoint's, and no other area has changed.
 abbrev pub HasRoomMade : {T E : Type 0} → OpenStore → OpenStore → Cloud → Cloud → Result T E → Type 0
-HasRoomMade before after old new result = IsTrue old.told → (w : Where) → IsEnded before.disk.journal (old.now Journal) w
-    → OnOk result ((IsEnded after.disk.journal (new.now Journal) w ⊎ IsEnded after.disk.journal (new.now Journal) (summed before w))
+HasRoomMade before after old new result = IsTrue old.told → (w : Where) → IsJournalEnded before.disk.journal (old.now Journal) w
+    → OnOk result ((IsJournalEnded after.disk.journal (new.now Journal) w ⊎ IsJournalEnded after.disk.journal (new.now Journal) (summed before w))
     × ((other : Area) → other ≢ Journal → new.now other ≡ old.now other))
 
 -- the journal has the chain that was read, or the memory's checkpoint in its place; or one of the two with this record
@@ -142,7 +142,7 @@ IsLeftOf s old w body image = IsOneOf s w body (image Journal) × KeepsBelow s.d
 
 -- Whatever the chain that was read says: each image since is one.
 abbrev pub KeepsOrGrows : OpenStore → List ℕ → Cloud → Cloud → Type 0
-KeepsOrGrows s body old new = IsTrue old.told → (w : Where) → IsEnded s.disk.journal (old.now Journal) w → LeavesOnly old new (IsLeftOf s old w body)
+KeepsOrGrows s body old new = IsTrue old.told → (w : Where) → IsJournalEnded s.disk.journal (old.now Journal) w → LeavesOnly old new (IsLeftOf s old w body)
 
 -- ---- a Put
 

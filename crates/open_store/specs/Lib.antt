@@ -1,5 +1,10 @@
 pub mod Adding
+pub mod Checkpoints
 pub mod CloudAreas
 pub mod CloudDisk
 pub mod CloudMemory
+pub mod HalfJournal
+pub mod JournalHalves
+pub mod JournalStart
 pub mod Store
+pub mod StoreOpening

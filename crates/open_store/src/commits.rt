@@ -2,28 +2,28 @@
 
 ghost use Rattle.std.specs.Prelude.{◌+◌, ◌-◌, ◌^◌, min};
 ghost use Rattle.std.specs.Prelude.{◌≡◌, ◌≤◌, ℕ, List, [], ◌∷◌, ◌++◌, length, Some, None, IsTrue, OnOk, OnErr};
-ghost use Rattle.cd_base.specs.Limits.{recipe_limit};
-ghost use Rattle.cd_edges.specs.Disk.{Cloud, moment};
+ghost use Rattle.recipe.specs.CdBase.Limits.{recipe_limit};
+ghost use Rattle.checkpoints.specs.CdEdges.Disk.{Cloud, moment};
 ghost use Rattle.checkpoints.specs.CloudDisk.Held.{flush_moments};
 ghost use Rattle.checkpoints.specs.CloudDisk.Disk.{KeepsOrGrows as GrowsBy};
 ghost use Rattle.std.specs.FinMap.{get};
-ghost use Rattle.cd_edges.specs.Shelf.{IsCall, HasFailed, KeepsCounts};
-ghost use Rattle.container_log.specs.Places.{place_of};
-ghost use Rattle.file_index.specs.Files.{key_of};
-ghost use Rattle.record_bodies.specs.Spelling as bodies;
-ghost use Rattle.record_bodies.specs.Spelling.{body_bytes};
-ghost use Rattle.user_dedup.specs.Owning.{fps_in};
-ghost use Rattle.user_dedup.specs.declared.command.Command.{Command};
-ghost use Rattle.user_dedup.specs.declared.command.Command.TheVariants as commands;
-ghost use Rattle.user_dedup.specs.Spending.{full_for};
-ghost use Rattle.cloud_areas.specs.Standing.{Chain};
+ghost use Rattle.checkpoints.specs.CdEdges.Shelf.{IsCall, HasFailed, KeepsCounts};
+ghost use Rattle.checkpoints.specs.ContainerLog.Places.{place_of};
+ghost use Rattle.checkpoints.specs.FileIndex.Files.{key_of};
+ghost use Rattle.checkpoints.specs.RecordBodies.Spelling as bodies;
+ghost use Rattle.checkpoints.specs.RecordBodies.Spelling.{body_bytes};
+ghost use Rattle.checkpoints.specs.UserDedup.Owning.{fps_in};
+ghost use Rattle.checkpoints.specs.UserDedup.command.Command.{Command};
+ghost use Rattle.checkpoints.specs.UserDedup.command.Command.TheVariants as commands;
+ghost use Rattle.checkpoints.specs.UserDedup.Spending.{full_for};
+ghost use Rattle.checkpoints.specs.CloudAreas.Standing.{Chain};
 ghost use Rattle.checkpoints.specs.CloudDisk.Disk.{KeepsOrAdds, regions_end};
 ghost use Rattle.checkpoints.specs.CloudMemory.News.{seen};
 ghost use Rattle.checkpoints.specs.CloudMemory.Rooms.{memory_of, full_commit};
 ghost use Rattle.checkpoints.specs.CloudMemory.Sharing.{AreOwned};
-ghost use Rattle.half_journal.specs.declared.journal.Stage.TheVariants.{AtEnd};
-ghost use Rattle.half_journal.specs.Outcomes.{stage_after as journal_after};
-ghost use Rattle.cloud_areas.specs.Adding.{with_record};
+ghost use Rattle.checkpoints.specs.HalfJournal.journal.Stage.TheVariants.{AtEnd};
+ghost use Rattle.checkpoints.specs.HalfJournal.Outcomes.{stage_after as journal_after};
+ghost use Rattle.checkpoints.specs.CloudAreas.Adding.{with_record};
 ghost use Rattle.checkpoints.specs.CloudMemory.Steps.{with_commit};
 ghost use Rattle.open_store.specs.Store.{IsOpen, IsSettled, Serves, Fits};
 ghost use Rattle.open_store.specs.Adding.{IsCommit, commit_body, ServesMore, MadeFirst, unstaged, NoneStaged};
@@ -33,11 +33,8 @@ ghost use Rattle.open_store.specs.Adding.{OnAdded, MatchFull, MatchFailed, NotLo
 use crate::room::have_room;
 use crate::writing::add_record;
 use crate::{OpenStore, Unadded};
-use cd_base::{Fp, Tag, UserId, Version};
-use cd_edges::{Failed, Shelf};
-use checkpoints::Unsettled;
-use cloud_areas::laws::law_of_laying;
-use recipe::RecipeView;
+use checkpoints::{Failed, Shelf, Unsettled, law_of_laying};
+use recipe::{Fp, RecipeView, Tag, UserId, Version};
 
 // The bytes of a Commit's body.
 const COMMIT_LEN: u32 = 89;

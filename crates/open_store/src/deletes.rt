@@ -2,28 +2,28 @@
 
 ghost use Rattle.std.specs.Prelude.{◌+◌, ◌-◌, min};
 ghost use Rattle.std.specs.Prelude.{◌≡◌, ◌<◌, ◌^◌, ℕ, List, [], ◌∷◌, ◌++◌, length, IsSome, Some, IsTrue, OnOk, OnErr};
-ghost use Rattle.cd_edges.specs.Disk.{moment};
+ghost use Rattle.checkpoints.specs.CdEdges.Disk.{moment};
 ghost use Rattle.checkpoints.specs.CloudDisk.Held.{flush_moments};
 ghost use Rattle.checkpoints.specs.CloudDisk.Disk.{KeepsOrGrows as GrowsBy};
 ghost use Rattle.std.specs.FinMap.{get};
-ghost use Rattle.cd_edges.specs.Shelf.{IsCall, HasFailed, KeepsCounts};
-ghost use Rattle.file_index.specs.Files.{key_of};
-ghost use Rattle.record_bodies.specs.Spelling as bodies;
-ghost use Rattle.record_bodies.specs.Spelling.{body_bytes};
-ghost use Rattle.user_dedup.specs.declared.file_list.FileEntry.{FileEntry};
-ghost use Rattle.user_dedup.specs.declared.command.Command.{Command};
-ghost use Rattle.user_dedup.specs.declared.command.Command.TheVariants as commands;
-ghost use Rattle.cloud_areas.specs.Standing.{Chain};
+ghost use Rattle.checkpoints.specs.CdEdges.Shelf.{IsCall, HasFailed, KeepsCounts};
+ghost use Rattle.checkpoints.specs.FileIndex.Files.{key_of};
+ghost use Rattle.checkpoints.specs.RecordBodies.Spelling as bodies;
+ghost use Rattle.checkpoints.specs.RecordBodies.Spelling.{body_bytes};
+ghost use Rattle.checkpoints.specs.UserDedup.file_list.FileEntry.{FileEntry};
+ghost use Rattle.checkpoints.specs.UserDedup.command.Command.{Command};
+ghost use Rattle.checkpoints.specs.UserDedup.command.Command.TheVariants as commands;
+ghost use Rattle.checkpoints.specs.CloudAreas.Standing.{Chain};
 ghost use Rattle.checkpoints.specs.CloudDisk.Disk.{KeepsOrAdds};
 ghost use Rattle.checkpoints.specs.CloudMemory.Rooms.{memory_of, HasRooms};
-ghost use Rattle.half_journal.specs.declared.journal.Stage.TheVariants.{AtEnd};
-ghost use Rattle.half_journal.specs.Outcomes.{stage_after as journal_after};
-ghost use Rattle.journal_start.specs.declared.rooms.Rooms.{Rooms};
-ghost use Rattle.user_dedup.specs.Pages.{entry_at};
-ghost use Rattle.user_dedup.specs.Requests.{fps_of};
-ghost use Rattle.user_dedup.specs.Dedup.{IsSound};
-ghost use Rattle.user_dedup.specs.Cloud.{user_view};
-ghost use Rattle.cloud_areas.specs.Adding.{with_record};
+ghost use Rattle.checkpoints.specs.HalfJournal.journal.Stage.TheVariants.{AtEnd};
+ghost use Rattle.checkpoints.specs.HalfJournal.Outcomes.{stage_after as journal_after};
+ghost use Rattle.checkpoints.specs.JournalStart.rooms.UserRooms.{UserRooms};
+ghost use Rattle.checkpoints.specs.UserDedup.Pages.{entry_at};
+ghost use Rattle.checkpoints.specs.UserDedup.Requests.{fps_of};
+ghost use Rattle.checkpoints.specs.UserDedup.Dedup.{IsSound};
+ghost use Rattle.checkpoints.specs.UserDedup.Cloud.{user_view};
+ghost use Rattle.checkpoints.specs.CloudAreas.Adding.{with_record};
 ghost use Rattle.checkpoints.specs.CloudMemory.Memory.{Remembers};
 ghost use Rattle.checkpoints.specs.CloudMemory.Steps.{without_entry};
 ghost use Rattle.open_store.specs.Store.{IsOpen, IsSettled, Serves, Fits};
@@ -34,12 +34,8 @@ ghost use Rattle.open_store.specs.Adding.{OnAdded, MatchFull, MatchFailed, NotLo
 use crate::room::have_room;
 use crate::writing::add_record;
 use crate::{OpenStore, Unadded};
-use cd_base::{Shape, Tag, UserId, Version};
-use cd_edges::{Failed, Shelf};
-use checkpoints::{CloudMemory, Unsettled};
-use cloud_areas::laws::law_of_laying;
-use recipe::RecipeView;
-use record_bodies::DeleteBody;
+use checkpoints::{CloudMemory, DeleteBody, Failed, Shelf, Unsettled, law_of_laying};
+use recipe::{RecipeView, Shape, Tag, UserId, Version};
 
 // The bytes of a Delete's body.
 const DELETE_LEN: u32 = 45;
@@ -61,7 +57,7 @@ fn forget(
         → Remembers shape (list ++ commands.Delete user tag.now version ∷ []) (memory_of memory.new) }
     ensures taken { memory_of memory.new
         ≡ without_entry (fps_of shape recipe.now) user (key_of user.0 tag.now.0 version.0) (memory_of memory.old) }
-    ensures rooms { (rooms : Rooms) → HasRooms rooms memory.old → HasRooms rooms memory.new }
+    ensures rooms { (rooms : UserRooms) → HasRooms rooms memory.old → HasRooms rooms memory.new }
 {
     match RecipeView::check(shape, recipe) {
         Ok(view) => memory.delete(user, tag, version, &view),

@@ -1,18 +1,18 @@
 //! The laws of an open store, for the proofs of callers. The calls do nothing.
 
 ghost use Rattle.std.specs.Prelude.{◌≡◌, ℕ, List, [], ◌∷◌, ◌++◌, length};
-ghost use Rattle.cd_base.specs.declared.ids.UserId.{UserId};
-ghost use Rattle.container_log.specs.Laying.{placed};
-ghost use Rattle.container_log.specs.Places.{place_of};
-ghost use Rattle.container_log.specs.States.{HasStaged};
-ghost use Rattle.user_dedup.specs.Dedup.{IsSound};
-ghost use Rattle.user_dedup.specs.declared.command.Command.TheVariants as commands;
+ghost use Rattle.recipe.specs.CdBase.ids.UserId.{UserId};
+ghost use Rattle.checkpoints.specs.ContainerLog.Laying.{placed};
+ghost use Rattle.checkpoints.specs.ContainerLog.Places.{place_of};
+ghost use Rattle.checkpoints.specs.ContainerLog.States.{HasStaged};
+ghost use Rattle.checkpoints.specs.UserDedup.Dedup.{IsSound};
+ghost use Rattle.checkpoints.specs.UserDedup.command.Command.TheVariants as commands;
 ghost use Rattle.checkpoints.specs.CloudMemory.rooms.New.{New};
 ghost use Rattle.checkpoints.specs.CloudMemory.News.{AreOf, AreNewTo};
 ghost use Rattle.checkpoints.specs.CloudMemory.Rooms.{memory_of};
-ghost use Rattle.cd_edges.specs.Disk.{Cloud};
-ghost use Rattle.user_dedup.specs.declared.command.Command.{Command};
-ghost use Rattle.cloud_areas.specs.Standing.{Chain};
+ghost use Rattle.checkpoints.specs.CdEdges.Disk.{Cloud};
+ghost use Rattle.checkpoints.specs.UserDedup.command.Command.{Command};
+ghost use Rattle.checkpoints.specs.CloudAreas.Standing.{Chain};
 ghost use Rattle.checkpoints.specs.CloudDisk.Disk.{IsReadThrough, Stages, shares_laid};
 ghost use Rattle.open_store.specs.Adding.{IsPut, put_record, unplaced};
 ghost use Rattle.open_store.specs.declared.store.OpenStore.{OpenStore};

@@ -11,6 +11,10 @@ mod room;
 mod store;
 mod writing;
 
-pub use checkpoints::{CloudDisk, CloudMemory, New};
+pub use checkpoints::{
+    BodyBuf, CloudDisk, CloudMemory, CommitBody, DeleteBody, Header, New, OpenErr, PutItem, Start,
+    UserRooms,
+};
+pub use recipe::RecipeView;
 pub use store::{OpenStore, Unadded};
 pub use store_opening::reopen;

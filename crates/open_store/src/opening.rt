@@ -1,15 +1,15 @@
 //! An opening.
 
 ghost use Rattle.std.specs.Prelude.{◌≡◌, ◌≤◌, ℕ, List, length, IsTrue, IfOk, OnOk, OnErr};
-ghost use Rattle.cd_base.specs.Limits.{recipe_limit};
-ghost use Rattle.cd_edges.specs.declared.area.Area.{Area};
-ghost use Rattle.cd_edges.specs.Disk.{reads};
-ghost use Rattle.cd_edges.specs.Shelf.{IsCall, HasFailed, KeepsCounts};
-ghost use Rattle.half_journal.specs.declared.journal.Stage.{Stage};
-ghost use Rattle.half_journal.specs.Openings.{OnFault, HasBegun};
-ghost use Rattle.half_journal.specs.Outcomes.{stage_after};
-ghost use Rattle.user_dedup.specs.declared.command.Command.{Command};
-ghost use Rattle.cloud_areas.specs.Standing.{StandsFor};
+ghost use Rattle.recipe.specs.CdBase.Limits.{recipe_limit};
+ghost use Rattle.checkpoints.specs.CdEdges.area.Area.{Area};
+ghost use Rattle.checkpoints.specs.CdEdges.Disk.{reads};
+ghost use Rattle.checkpoints.specs.CdEdges.Shelf.{IsCall, HasFailed, KeepsCounts};
+ghost use Rattle.checkpoints.specs.HalfJournal.journal.Stage.{Stage};
+ghost use Rattle.checkpoints.specs.HalfJournal.Openings.{OnFault, HasBegun};
+ghost use Rattle.checkpoints.specs.HalfJournal.Outcomes.{stage_after};
+ghost use Rattle.checkpoints.specs.UserDedup.command.Command.{Command};
+ghost use Rattle.checkpoints.specs.CloudAreas.Standing.{StandsFor};
 ghost use Rattle.checkpoints.specs.CloudMemory.Rooms.{memory_of};
 ghost use Rattle.store_opening.specs.RecordLaws.Leaving.{MayHold};
 ghost use Rattle.store_opening.specs.Exact.{Opens};
@@ -18,8 +18,7 @@ ghost use Rattle.open_store.specs.Adding.{NoneStaged};
 ghost use Rattle.open_store.specs.Store.{IsSettled, EndsMeet, ServesSome};
 
 use crate::OpenStore;
-use cd_edges::Shelf;
-use half_journal::OpenErr;
+use checkpoints::{OpenErr, Shelf};
 use store_opening::reopen;
 
 impl OpenStore {

@@ -2,22 +2,22 @@
 
 ghost use Rattle.std.specs.Prelude.{◌+◌, ◌-◌, ◌^◌, min};
 ghost use Rattle.std.specs.Prelude.{◌≡◌, ◌<◌, ◌≤◌, ℕ, List, [], ◌∷◌, ◌++◌, length, All, Some, None, IsTrue, OnOk, OnErr};
-ghost use Rattle.cd_edges.specs.Disk.{Cloud, moment};
+ghost use Rattle.checkpoints.specs.CdEdges.Disk.{Cloud, moment};
 ghost use Rattle.checkpoints.specs.CloudDisk.Held.{flush_moments};
 ghost use Rattle.checkpoints.specs.CloudDisk.Disk.{KeepsOrGrows as GrowsBy};
-ghost use Rattle.cd_edges.specs.Shelf.{IsCall, HasFailed, KeepsCounts};
-ghost use Rattle.user_dedup.specs.Dedup.{FullRoom};
-ghost use Rattle.user_dedup.specs.declared.command.Command.{Command};
-ghost use Rattle.user_dedup.specs.declared.command.Command.TheVariants as commands;
-ghost use Rattle.user_dedup.specs.Spending.{full_for};
-ghost use Rattle.cloud_areas.specs.Standing.{Chain};
+ghost use Rattle.checkpoints.specs.CdEdges.Shelf.{IsCall, HasFailed, KeepsCounts};
+ghost use Rattle.checkpoints.specs.UserDedup.Dedup.{FullRoom};
+ghost use Rattle.checkpoints.specs.UserDedup.command.Command.{Command};
+ghost use Rattle.checkpoints.specs.UserDedup.command.Command.TheVariants as commands;
+ghost use Rattle.checkpoints.specs.UserDedup.Spending.{full_for};
+ghost use Rattle.checkpoints.specs.CloudAreas.Standing.{Chain};
 ghost use Rattle.checkpoints.specs.CloudDisk.Disk.{KeepsOrAdds, regions_end};
 ghost use Rattle.checkpoints.specs.CloudMemory.News.{AreNewTo, seen};
 ghost use Rattle.checkpoints.specs.CloudMemory.Rooms.{memory_of, full_news};
-ghost use Rattle.half_journal.specs.declared.journal.Stage.TheVariants.{AtEnd};
-ghost use Rattle.half_journal.specs.Outcomes.{stage_after as journal_after};
-ghost use Rattle.record_bodies.specs.Spelling.{body_bytes};
-ghost use Rattle.cloud_areas.specs.Adding.{with_record};
+ghost use Rattle.checkpoints.specs.HalfJournal.journal.Stage.TheVariants.{AtEnd};
+ghost use Rattle.checkpoints.specs.HalfJournal.Outcomes.{stage_after as journal_after};
+ghost use Rattle.checkpoints.specs.RecordBodies.Spelling.{body_bytes};
+ghost use Rattle.checkpoints.specs.CloudAreas.Adding.{with_record};
 ghost use Rattle.checkpoints.specs.CloudMemory.Steps.{parts_of, with_put};
 ghost use Rattle.open_store.specs.Store.{IsOpen, IsSettled, Serves, Fits};
 ghost use Rattle.open_store.specs.Adding.{IsShareNew, HasFp, IsPut, put_record, ServesMore, MadeFirst, unstaged, NoneStaged};
@@ -27,11 +27,8 @@ ghost use Rattle.open_store.specs.Adding.{OnAdded, MatchFull, MatchFailed, NotLo
 use crate::room::have_room;
 use crate::writing::{add_record, write_put};
 use crate::{OpenStore, Unadded};
-use cd_base::{Fp, UserId};
-use cd_edges::{Failed, Shelf};
-use checkpoints::{New, Unsettled};
-use cloud_areas::laws::law_of_laying;
-use record_body::PutItem;
+use checkpoints::{Failed, New, PutItem, Shelf, Unsettled, law_of_laying};
+use recipe::{Fp, UserId};
 
 // Adds the Put where there is room for it.
 fn add_roomy<V: Shelf>(

@@ -1,9 +1,9 @@
 //! Room in the journal for one record more.
 
 ghost use Rattle.std.specs.Prelude.{◌≡◌, ◌<◌, ◌≤◌, ◌+◌, List, IsOk, OnOk, OnErr};
-ghost use Rattle.cd_edges.specs.Shelf.{IsCall, HasFailed, KeepsCounts};
-ghost use Rattle.user_dedup.specs.declared.command.Command.{Command};
-ghost use Rattle.cloud_areas.specs.Standing.{Chain};
+ghost use Rattle.checkpoints.specs.CdEdges.Shelf.{IsCall, HasFailed, KeepsCounts};
+ghost use Rattle.checkpoints.specs.UserDedup.command.Command.{Command};
+ghost use Rattle.checkpoints.specs.CloudAreas.Standing.{Chain};
 ghost use Rattle.checkpoints.specs.Laying.{records_len, longest_record};
 ghost use Rattle.checkpoints.specs.Settling.{KeepsList, KeepsOthers};
 ghost use Rattle.checkpoints.specs.Records.{records_of};
@@ -13,8 +13,7 @@ ghost use Rattle.open_store.specs.Adding.{NoneStaged, IsTooLong, Unmoved, KeepsO
 ghost use Rattle.open_store.specs.Store.{IsOpen, IsSettled, Serves, Fits, chain_with_room, KeepsServing};
 
 use crate::OpenStore;
-use cd_edges::Shelf;
-use checkpoints::{Unsettled, checkpoint_of_memory};
+use checkpoints::{Shelf, Unsettled, checkpoint_of_memory};
 
 impl OpenStore {
     /// Makes room for a record whose body has so many bytes: where it doesn't fit the journal's current half, and only

@@ -1,23 +1,20 @@
 //! An open store.
 
 ghost use Rattle.std.specs.Prelude.{◌≡◌, ◌↔◌, ◌+◌, ◌<◌, ◌≤◌, List, [], ◌∷◌, ◌++◌, length, IsOk, IfOk, OnOk, OnErr, IsTrue, MatchResult};
-ghost use Rattle.cd_edges.specs.Disk.{Cloud};
-ghost use Rattle.container_log.specs.Laying.{Placed};
-ghost use Rattle.container_log.specs.Places.{container_len, place_of};
-ghost use Rattle.container_log.specs.States.{staged_end, need_of, with_blob};
-ghost use Rattle.journal_start.specs.Ranges.{IsHeader};
-ghost use Rattle.half_journal.specs.declared.journal.Stage.TheVariants.{Shut};
-ghost use Rattle.user_dedup.specs.declared.command.Command.{Command};
-ghost use Rattle.cloud_areas.specs.Standing.{Chain};
+ghost use Rattle.checkpoints.specs.CdEdges.Disk.{Cloud};
+ghost use Rattle.checkpoints.specs.ContainerLog.Laying.{Placed};
+ghost use Rattle.checkpoints.specs.ContainerLog.Places.{container_len, place_of};
+ghost use Rattle.checkpoints.specs.ContainerLog.States.{staged_end, need_of, with_blob};
+ghost use Rattle.checkpoints.specs.JournalStart.Ranges.{IsHeader};
+ghost use Rattle.checkpoints.specs.HalfJournal.journal.Stage.TheVariants.{Shut};
+ghost use Rattle.checkpoints.specs.UserDedup.command.Command.{Command};
+ghost use Rattle.checkpoints.specs.CloudAreas.Standing.{Chain};
 ghost use Rattle.checkpoints.specs.CloudDisk.Disk.{Stages};
 ghost use Rattle.open_store.specs.Store.{IsOpen, IsSettled, EndsMeet, Serves, closed};
 ghost use Rattle.open_store.specs.Adding.{NoneStaged, unstaged};
 
-use cd_base::NoMemory;
-use checkpoints::{CloudDisk, CloudMemory, Full, Marks, OwnerChains};
-use container_log::LogFull;
-use journal_start::Header;
-use record_bodies::BodyBuf;
+use checkpoints::{BodyBuf, CloudDisk, CloudMemory, Full, Header, LogFull, Marks, OwnerChains};
+use recipe::NoMemory;
 use std::alloc::Global;
 
 /// Why a command isn't added.

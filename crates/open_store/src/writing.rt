@@ -1,26 +1,24 @@
 //! A command's record, written.
 
 ghost use Rattle.std.specs.Prelude.{◌≡◌, ◌+◌, ◌-◌, ◌≤◌, ◌++◌, ◌^◌, ◌∷◌, [], ℕ, List, min, length, IsTrue, OnOk, OnErr};
-ghost use Rattle.cd_edges.specs.Disk.{moment};
+ghost use Rattle.checkpoints.specs.CdEdges.Disk.{moment};
 ghost use Rattle.checkpoints.specs.CloudDisk.Held.{flush_moments};
-ghost use Rattle.cd_edges.specs.Shelf.{IsCall, HasFailed, KeepsCounts};
-ghost use Rattle.container_log.specs.Laying.{Placed};
-ghost use Rattle.record_body.specs.Spelling.{item_bytes};
-ghost use Rattle.record_bodies.specs.Spelling.{Body, Put, body_bytes};
-ghost use Rattle.user_dedup.specs.declared.command.Command.{Command};
-ghost use Rattle.cloud_areas.specs.Adding.{with_record};
-ghost use Rattle.cloud_areas.specs.Standing.{Chain};
+ghost use Rattle.checkpoints.specs.CdEdges.Shelf.{IsCall, HasFailed, KeepsCounts};
+ghost use Rattle.checkpoints.specs.ContainerLog.Laying.{Placed};
+ghost use Rattle.checkpoints.specs.RecordBody.Spelling.{item_bytes};
+ghost use Rattle.checkpoints.specs.RecordBodies.Spelling.{Body, Put, body_bytes};
+ghost use Rattle.checkpoints.specs.UserDedup.command.Command.{Command};
+ghost use Rattle.checkpoints.specs.CloudAreas.Adding.{with_record};
+ghost use Rattle.checkpoints.specs.CloudAreas.Standing.{Chain};
 ghost use Rattle.checkpoints.specs.CloudDisk.Disk.{IsOn, IsPrepared, KeepsOrAdds, KeepsOrGrows, KeepsFronts, EndsBehind, SameRooms};
 ghost use Rattle.open_store.specs.Store.{IsOpen, IsSettled, Fits};
-ghost use Rattle.half_journal.specs.declared.journal.Stage.TheVariants.{AtEnd};
-ghost use Rattle.half_journal.specs.Outcomes.{stage_after};
+ghost use Rattle.checkpoints.specs.HalfJournal.journal.Stage.TheVariants.{AtEnd};
+ghost use Rattle.checkpoints.specs.HalfJournal.Outcomes.{stage_after};
 ghost use Rattle.open_store.specs.Adding.{NoneStaged};
 
 use crate::OpenStore;
-use cd_base::UserId;
-use cd_edges::{Failed, Shelf};
-use record_bodies::BodyBuf;
-use record_body::PutItem;
+use checkpoints::{BodyBuf, Failed, PutItem, Shelf};
+use recipe::UserId;
 
 // Appends a share.
 fn put_one(buffer: &mut BodyBuf, item: PutItem)

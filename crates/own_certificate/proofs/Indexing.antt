@@ -1,13 +1,13 @@
 -- The own certificate's lines, by their places.
 use Rattle.std.proofs.Common.{◌≡◌, ℕ, zero, suc, ◌+◌, ◌-◌, ◌<◌, ◌≤◌, ◌^◌, List, [], ◌∷◌, ◌++◌, length, map, slice_get, slice_index_or, Option, Some, None, refl, sym, ap, ◌∙◌, subst, arith, append_assoc}
 use Rattle.std.specs.FinMap.{entries}
-use Rattle.certificate.specs.declared.line.Heading.{Heading}
-use Rattle.certificate.specs.declared.line.ShareLine.{ShareLine}
-use Rattle.certificate.specs.declared.line.FileLine.{FileLine}
-use Rattle.certificate.specs.declared.line.CertificateLine.{CertificateLine}
-use Rattle.certificate.specs.declared.line.CertificateLine.TheVariants as lines
-use Rattle.certificate.specs.Lines.{certificate_lines}
-use Rattle.cloud_memory.specs.declared.cloud.CloudMemory.{CloudMemory}
+use Rattle.audit_base.specs.Certificate.line.Heading.{Heading}
+use Rattle.audit_base.specs.Certificate.line.ShareLine.{ShareLine}
+use Rattle.audit_base.specs.Certificate.line.FileLine.{FileLine}
+use Rattle.audit_base.specs.Certificate.line.CertificateLine.{CertificateLine}
+use Rattle.audit_base.specs.Certificate.line.CertificateLine.TheVariants as lines
+use Rattle.audit_base.specs.Certificate.Lines.{certificate_lines}
+use Rattle.audit_base.specs.CloudMemory.cloud.CloudMemory.{CloudMemory}
 use Rattle.audit_base.specs.Own.{share_line, file_line, live_shares}
 use Rattle.audit_base.specs.Whole.{tables_of}
 use Rattle.own_certificate.specs.Own.{own_by}

@@ -3,18 +3,18 @@ use Rattle.std.proofs.Common.{◌≡◌, ℕ, ◌<◌, Bool, true, false, cond, 
 use Rattle.std.specs.List.Sorted.{IsPermutation, IsSortedByKey}
 use Rattle.std.specs.FinMap.{FinMap, get, entries, get-retain_keys}
 use Rattle.std.specs.declared.cmp.Ordering.TheVariants.{Equal}
-use Rattle.cd_base.specs.declared.place.Place.{Place}
-use Rattle.cd_base.specs.Order.{fp_cmp, fp_exact}
+use Rattle.audit_base.specs.CdBase.place.Place.{Place}
+use Rattle.audit_base.specs.CdBase.Order.{fp_cmp, fp_exact}
 use Rattle.pool_map.specs.Slots.{slot_of, IsListed}
-use Rattle.share_index.specs.Shares.{Shares, owners_of}
-use Rattle.share_index.proofs.Placing.{fp_total}
-use Rattle.file_index.specs.declared.key.Entry.{Entry}
-use Rattle.file_index.specs.declared.key.FileKey.{FileKey}
-use Rattle.file_index.specs.Files.{Files}
-use Rattle.file_index.specs.Order.{key_cmp, key_exact}
-use Rattle.file_index.proofs.Order.{key_total}
-use Rattle.cloud_memory.specs.Live.{live_at, IsEachLive}
-use Rattle.cloud_memory.specs.declared.cloud.CloudMemory.{CloudMemory}
+use Rattle.audit_base.specs.ShareIndex.Shares.{Shares, owners_of}
+use Rattle.audit_base.proofs.ShareIndex.Placing.{fp_total}
+use Rattle.audit_base.specs.FileIndex.key.Entry.{Entry}
+use Rattle.audit_base.specs.FileIndex.key.FileKey.{FileKey}
+use Rattle.audit_base.specs.FileIndex.Files.{Files}
+use Rattle.audit_base.specs.FileIndex.Order.{key_cmp, key_exact}
+use Rattle.audit_base.proofs.FileIndex.Order.{key_total}
+use Rattle.audit_base.specs.CloudMemory.Live.{live_at, IsEachLive}
+use Rattle.audit_base.specs.CloudMemory.cloud.CloudMemory.{CloudMemory}
 use Rattle.audit_base.specs.Own.{is_live, live, live_shares}
 use Rattle.audit_base.specs.Whole.{Tables, tables_of}
 use Rattle.own_certificate.specs.Inner.{some_below, share_at, file_at, no_share, no_file}

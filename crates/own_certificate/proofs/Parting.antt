@@ -6,12 +6,12 @@ use Rattle.std.proofs.lemmas.Option.{same_Some}
 use Rattle.std.proofs.Props.{props}
 use Rattle.std.proofs.lemmas.List.{flat_map_more}
 use Rattle.std.proofs.lemmas.List.Elements.{All-nil, All-head, All-tail, All-push}
-use Rattle.cd_base.specs.declared.shape.Shape.{Shape}
-use Rattle.certificate.specs.declared.line.Heading.{Heading}
-use Rattle.certificate.specs.declared.line.CertificateLine.{CertificateLine}
-use Rattle.certificate.specs.declared.line.CertificateLine.TheVariants as lines
-use Rattle.certificate.specs.Lines.{Certificate, certificate_line, certificate_lines, certificate_text, FitsLine, FitsCertificate}
-use Rattle.certificate.specs.Reading.{certificate_at}
+use Rattle.audit_base.specs.CdBase.shape.Shape.{Shape}
+use Rattle.audit_base.specs.Certificate.line.Heading.{Heading}
+use Rattle.audit_base.specs.Certificate.line.CertificateLine.{CertificateLine}
+use Rattle.audit_base.specs.Certificate.line.CertificateLine.TheVariants as lines
+use Rattle.audit_base.specs.Certificate.Lines.{Certificate, certificate_line, certificate_lines, certificate_text, FitsLine, FitsCertificate}
+use Rattle.audit_base.specs.Certificate.Reading.{certificate_at}
 use Rattle.audit_base.specs.Judged.{Differ}
 use Rattle.audit_base.specs.Own.{DifferAt}
 use Rattle.own_certificate.specs.Inner.{PartsAt}

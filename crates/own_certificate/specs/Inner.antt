@@ -3,16 +3,16 @@ use Rattle.std.specs.Prelude.{◌≡◌, ◌≢◌, ℕ, zero, suc, ◌+◌, ◌
 use Rattle.std.specs.Prelude.{Option, Some, None, is_some, unwrap_or, if◌then◌else◌}
 use Rattle.std.specs.List.{flat_map}
 use Rattle.std.specs.FinMap.{entries}
-use Rattle.cd_base.specs.declared.place.Place.{Place}
+use Rattle.audit_base.specs.CdBase.place.Place.{Place}
 use Rattle.pool_map.specs.Slots.{slot_of}
-use Rattle.share_index.specs.Shares.{Shares}
-use Rattle.file_index.specs.declared.key.Entry.{Entry}
-use Rattle.file_index.specs.declared.key.FileKey.{FileKey}
-use Rattle.file_index.specs.Files.{Files}
-use Rattle.cloud_memory.specs.Live.{live_at}
-use Rattle.cloud_memory.specs.declared.cloud.CloudMemory.{CloudMemory}
-use Rattle.certificate.specs.declared.line.CertificateLine.{CertificateLine}
-use Rattle.certificate.specs.Lines.{certificate_line, FitsLine}
+use Rattle.audit_base.specs.ShareIndex.Shares.{Shares}
+use Rattle.audit_base.specs.FileIndex.key.Entry.{Entry}
+use Rattle.audit_base.specs.FileIndex.key.FileKey.{FileKey}
+use Rattle.audit_base.specs.FileIndex.Files.{Files}
+use Rattle.audit_base.specs.CloudMemory.Live.{live_at}
+use Rattle.audit_base.specs.CloudMemory.cloud.CloudMemory.{CloudMemory}
+use Rattle.audit_base.specs.Certificate.line.CertificateLine.{CertificateLine}
+use Rattle.audit_base.specs.Certificate.Lines.{certificate_line, FitsLine}
 use Rattle.audit_base.specs.Own.{live_shares}
 use Rattle.audit_base.specs.Whole.{tables_of}
 

@@ -1,2 +1,3 @@
-pub mod Own
+pub mod Certificate
 pub mod Inner
+pub mod Own

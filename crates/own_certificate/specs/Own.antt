@@ -1,9 +1,9 @@
 -- What is judged of a text by memory alone.
 use Rattle.std.specs.Prelude.{◌≡◌, ℕ, List, ◌++◌, Result, Ok, Err}
-use Rattle.cd_base.specs.declared.ids.CloudNo.{CloudNo}
-use Rattle.cd_base.specs.declared.shape.Shape.{Shape}
-use Rattle.certificate.specs.Lines.{Certificate, certificate_text}
-use Rattle.cloud_memory.specs.declared.cloud.CloudMemory.{CloudMemory}
+use Rattle.audit_base.specs.CdBase.ids.CloudNo.{CloudNo}
+use Rattle.audit_base.specs.CdBase.shape.Shape.{Shape}
+use Rattle.audit_base.specs.Certificate.Lines.{Certificate, certificate_text}
+use Rattle.audit_base.specs.CloudMemory.cloud.CloudMemory.{CloudMemory}
 use Rattle.audit_base.specs.Own.{own}
 use Rattle.audit_base.specs.Whole.{tables_of}
 

@@ -2,17 +2,17 @@
 
 ghost use Rattle.std.specs.Prelude.{◌≡◌, ◌≢◌, ◌<◌, ◌≤◌, ◌+◌, ◌^◌, ◌↔◌, ◌++◌, ℕ, List, []};
 ghost use Rattle.std.specs.Prelude.{IsTrue, IfOk, IfErr, IfSome, MatchOption, Err};
-ghost use Rattle.cd_base.specs.declared.ids.Fp.{Fp};
-ghost use Rattle.certificate.specs.Lines.{Certificate, certificate_lines, certificate_text};
+ghost use Rattle.audit_base.specs.CdBase.ids.Fp.{Fp};
+ghost use Rattle.audit_base.specs.Certificate.Lines.{Certificate, certificate_lines, certificate_text};
 ghost use Rattle.audit_base.specs.Judged.{JudgedIs};
 ghost use Rattle.own_certificate.specs.Own.{own_by};
 ghost use Rattle.own_certificate.specs.Inner.{AreLinesOf, PartsAt};
 
 use crate::lines::OwnLines;
-use audit_base::CheckErr;
-use cd_base::{Bytes, CloudNo, NoMemory, Shape};
-use certificate::{Heading, law_of_certificates, read_certificate, write_line};
-use cloud_memory::CloudMemory;
+use audit_base::{
+    Bytes, CheckErr, CloudMemory, CloudNo, Heading, NoMemory, Shape, law_of_certificates,
+    read_certificate, write_line,
+};
 use std::alloc::Global;
 
 // What follows a line in a text that begins with it.

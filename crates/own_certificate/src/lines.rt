@@ -1,15 +1,15 @@
 //! The lines of the own certificate, one by one.
 
 ghost use Rattle.std.specs.Prelude.{◌≡◌, ◌<◌, ◌+◌, ◌^◌, All, IfOk, Some, length, slice_get};
-ghost use Rattle.certificate.specs.Lines.{certificate_lines, FitsLine, FitsShareLine, FitsFileLine};
+ghost use Rattle.audit_base.specs.Certificate.Lines.{certificate_lines, FitsLine, FitsShareLine, FitsFileLine};
 ghost use Rattle.audit_base.specs.Own.{share_line, file_line};
 ghost use Rattle.own_certificate.specs.Own.{own_by};
 ghost use Rattle.own_certificate.specs.Inner.{AreLinesOf, share_at, file_at};
 
 use crate::slots::{file_in, files_in_order, share_in, shares_in_order};
-use cd_base::{Fp, NoMemory, Tag, UserId, Version};
-use certificate::{CertificateLine, FileLine, Heading, ShareLine};
-use cloud_memory::CloudMemory;
+use audit_base::{
+    CertificateLine, CloudMemory, FileLine, Fp, Heading, NoMemory, ShareLine, Tag, UserId, Version,
+};
 use std::alloc::Global;
 
 // The lines of a cloud's own certificate but its heading: the slots of its shares and of its entries, each in the order of

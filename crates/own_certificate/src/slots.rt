@@ -2,17 +2,15 @@
 
 ghost use Rattle.std.specs.Prelude.{◌≡◌, ◌≤◌, ◌<◌, ◌^◌, IfOk, length, map};
 ghost use Rattle.std.specs.FinMap.{entries};
-ghost use Rattle.file_index.specs.Files.{entry_with};
-ghost use Rattle.share_index.specs.Shares.{place_with};
+ghost use Rattle.audit_base.specs.FileIndex.Files.{entry_with};
+ghost use Rattle.audit_base.specs.ShareIndex.Shares.{place_with};
 ghost use Rattle.pool_map.specs.Slots.{slot_of, IsListed};
-ghost use Rattle.cloud_memory.specs.Live.{live_at, IsEachLive};
+ghost use Rattle.audit_base.specs.CloudMemory.Live.{live_at, IsEachLive};
 ghost use Rattle.audit_base.specs.Own.{live_shares};
 ghost use Rattle.audit_base.specs.Whole.{tables_of};
 ghost use Rattle.own_certificate.specs.Inner.{some_below, share_at, file_at};
 
-use cd_base::{Fp, NoMemory, Place};
-use cloud_memory::CloudMemory;
-use file_index::{Entry, FileKey};
+use audit_base::{CloudMemory, Entry, FileKey, Fp, NoMemory, Place};
 use std::alloc::Global;
 
 // The share in a slot.

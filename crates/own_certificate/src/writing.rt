@@ -1,14 +1,12 @@
 //! The own certificate as text.
 
 ghost use Rattle.std.specs.Prelude.{◌≡◌, ◌++◌, IfOk, OnOk, OnErr, length, take};
-ghost use Rattle.certificate.specs.Lines.{certificate_text};
+ghost use Rattle.audit_base.specs.Certificate.Lines.{certificate_text};
 ghost use Rattle.own_certificate.specs.Own.{own_by};
 ghost use Rattle.own_certificate.specs.Inner.{AreLinesOf};
 
 use crate::lines::OwnLines;
-use cd_base::{Bytes, CloudNo, NoMemory, Shape};
-use certificate::{Heading, write_line};
-use cloud_memory::CloudMemory;
+use audit_base::{Bytes, CloudMemory, CloudNo, Heading, NoMemory, Shape, write_line};
 use std::alloc::Global;
 
 // Appends all lines. For want of memory a part of them may stand there.

@@ -9,8 +9,8 @@ use Rattle.std.specs.Cmp.{IsTotalOrder, tied_itself}
 use Rattle.std.specs.FinMap.{from_entries, get, insert, get-from_entries, get-insert, same_map, IsAntisymmetric}
 use Rattle.slot_pool.specs.declared.Content.{Content}
 use Rattle.slot_pool.specs.declared.Content.TheVariants.{Empty, Held}
-use Rattle.slot_pool.specs.Pool.{Pool, IsHeld, value_of, with_value, with_content}
-use Rattle.pool_map.specs.declared.Entry.{Entry}
+use Rattle.slot_pool.specs.Pool.{PoolContents, IsHeld, value_of, with_value, with_content}
+use Rattle.pool_map.specs.declared.KeyedValue.{KeyedValue}
 use Rattle.pool_map.specs.Table.{pairs, is_held, with_value_at, rewritten, Rewrites}
 use Rattle.pool_map.specs.Chains.{IsHashed, HasKey, bucket}
 use Rattle.pool_map.specs.Index.{IsOrdered, IsRing}
@@ -20,18 +20,18 @@ use Rattle.pool_map.proofs.Steps.{read-value}
 
 module _ {K W : Type 0} where
   -- the content that the code writes
-  pub new-content : (c : Content (Entry K W)) (a : ℕ) (e f : Entry K W) (v w : W) → c ≡ Held a e → value_of c ≡ Some f → v ≡ w → with_value c (record { key = f.key; value = v }) ≡ Held a (record { key = e.key; value = w })
+  pub new-content : (c : Content (KeyedValue K W)) (a : ℕ) (e f : KeyedValue K W) (v w : W) → c ≡ Held a e → value_of c ≡ Some f → v ≡ w → with_value c (record { key = f.key; value = v }) ≡ Held a (record { key = e.key; value = w })
   new-content c a e f v w is read given =
       let same : e ≡ f = read-value c a e f is read in
-      let x : Entry K W = record { key = f.key; value = v } in
-      let write : K → W → Content (Entry K W) = λ k y. Held a (record { key = k; value = y }) in
-      ap (λ y. with_value y x) is ∙ ap (λ k. write k v) (ap (λ (y : Entry K W). y.key) (sym same)) ∙ ap (write e.key) given
+      let x : KeyedValue K W = record { key = f.key; value = v } in
+      let write : K → W → Content (KeyedValue K W) = λ k y. Held a (record { key = k; value = y }) in
+      ap (λ y. with_value y x) is ∙ ap (λ k. write k v) (ap (λ (y : KeyedValue K W). y.key) (sym same)) ∙ ap (write e.key) given
 
-module _ {K W : Type 0} (R : K → K → Ordering) (total : IsTotalOrder R) (exact : IsAntisymmetric R) (word : K → ℕ) (cells : List (Content (Entry K W))) (heads next : List ℕ) (hashed : IsHashed R word cells heads next) (key : K) (n : ℕ) (here : HasKey R cells key n) (v : W) where
-  abbrev entry : Entry K W
+module _ {K W : Type 0} (R : K → K → Ordering) (total : IsTotalOrder R) (exact : IsAntisymmetric R) (word : K → ℕ) (cells : List (Content (KeyedValue K W))) (heads next : List ℕ) (hashed : IsHashed R word cells heads next) (key : K) (n : ℕ) (here : HasKey R cells key n) (v : W) where
+  abbrev entry : KeyedValue K W
   entry = record { key = here.entry.key; value = v }
 
-  abbrev new : Content (Entry K W)
+  abbrev new : Content (KeyedValue K W)
   new = Held here.account entry
 
   within : n < length cells
@@ -44,12 +44,12 @@ module _ {K W : Type 0} (R : K → K → Ordering) (total : IsTotalOrder R) (exa
   written = get_or-set_same cells n new Empty within
 
   -- each pair had its key and its account before
-  before : (t b : ℕ) (f : Entry K W) → get_or (set cells n new) t Empty ≡ Held b f → (g : Entry K W) × (get_or cells t Empty ≡ Held b g) × (g.key ≡ f.key)
+  before : (t b : ℕ) (f : KeyedValue K W) → get_or (set cells n new) t Empty ≡ Held b f → (g : KeyedValue K W) × (get_or cells t Empty ≡ Held b g) × (g.key ≡ f.key)
   before t b f at =
       elim (cases_eq t n) [
         | inl same ↦
             let two = same-account here.account b entry f (sym written ∙ ap (λ y. get_or (set cells n new) y Empty) (sym same) ∙ at) in
-            (here.entry, ap (λ y. get_or cells y Empty) same ∙ here.holds ∙ ap (λ y. Held y here.entry) two.0, ap (λ (y : Entry K W). y.key) two.1)
+            (here.entry, ap (λ y. get_or cells y Empty) same ∙ here.holds ∙ ap (λ y. Held y here.entry) two.0, ap (λ (y : KeyedValue K W). y.key) two.1)
         | inr other ↦ (f, sym (get_or-set_other cells n t new Empty other) ∙ at, refl)
       ]
 
@@ -69,7 +69,7 @@ module _ {K W : Type 0} (R : K → K → Ordering) (total : IsTotalOrder R) (exa
               elim (cases_eq t n) [
                 | inl same ↦
                     let two = same-account here.account x.0 here.entry x.1 (sym here.holds ∙ ap (λ y. get_or cells y Empty) (sym same) ∙ x.2) in
-                    (here.account, entry, ap (λ y. get_or (set cells n new) y Empty) same ∙ written, ap (λ (y : Entry K W). bucket word (length heads) y.key) two.1 ∙ x.3)
+                    (here.account, entry, ap (λ y. get_or (set cells n new) y Empty) same ∙ written, ap (λ (y : KeyedValue K W). bucket word (length heads) y.key) two.1 ∙ x.3)
                 | inr other ↦ (x.0, x.1, get_or-set_other cells n t new Empty other ∙ x.2, x.3)
               ];
           complete = λ t b' f at in_b. let g = before t b' f at in old.complete t b' g.0 g.1 (ap (bucket word (length heads)) g.2 ∙ in_b);
@@ -82,8 +82,8 @@ module _ {K W : Type 0} (R : K → K → Ordering) (total : IsTotalOrder R) (exa
 
   pub rewrite-count : count_by is_held cells ≡ count_by is_held (set cells n new)
   rewrite-count =
-      let counts = sum_by-set (λ (c : Content (Entry K W)). cond (is_held c) 1 0) cells n new Empty within in
-      let one : cond {A = ℕ} (is_held (get_or cells n Empty)) 1 0 ≡ 1 = ap (λ (c : Content (Entry K W)). cond (is_held c) 1 0) here.holds in
+      let counts = sum_by-set (λ (c : Content (KeyedValue K W)). cond (is_held c) 1 0) cells n new Empty within in
+      let one : cond {A = ℕ} (is_held (get_or cells n Empty)) 1 0 ≡ 1 = ap (λ (c : Content (KeyedValue K W)). cond (is_held c) 1 0) here.holds in
       omega arith
 
   -- the order of the keys is as it was
@@ -145,7 +145,7 @@ module _ {K W : Type 0} (R : K → K → Ordering) (total : IsTotalOrder R) (exa
       ])
       ∙ ap (rewritten (from_entries (pairs cells)) key v) (sym found)
 
-pub rewrites : {K W : Type 0} (R : K → K → Ordering) (p : Pool (Entry K W)) (key : K) (n : ℕ) (here : HasKey R p.slots key n) (v : W) (c : Content (Entry K W)) → c ≡ Held here.account (record { key = here.entry.key; value = v }) → Rewrites R p (with_content p n c) key v
+pub rewrites : {K W : Type 0} (R : K → K → Ordering) (p : PoolContents (KeyedValue K W)) (key : K) (n : ℕ) (here : HasKey R p.slots key n) (v : W) (c : Content (KeyedValue K W)) → c ≡ Held here.account (record { key = here.entry.key; value = v }) → Rewrites R p (with_content p n c) key v
 rewrites R p key n here v c is = record {
   slot = n;
   account = here.account;

@@ -11,7 +11,7 @@ use Rattle.std.specs.Cmp.{IsTotalOrder}
 use Rattle.slot_pool.specs.declared.Content.{Content}
 use Rattle.slot_pool.specs.declared.Content.TheVariants.{Empty, Held}
 use Rattle.slot_pool.specs.Pool.{IsHeld, value_of}
-use Rattle.pool_map.specs.declared.Entry.{Entry}
+use Rattle.pool_map.specs.declared.KeyedValue.{KeyedValue}
 use Rattle.pool_map.specs.Table.{is_held}
 use Rattle.pool_map.specs.Chains.{HasKey}
 use Rattle.pool_map.specs.Index.{IsIndex, IsRing, IsOrdered, IsStart, IsSeek, IsBeforeKey, IsBeforeGap, IsLeastAbove, HasNoneAbove, before, placed}
@@ -25,7 +25,7 @@ linked next p s = set (set next s (get_or next p 0)) p s
 at_zero : (i : ℕ) → i ≤ 0 → i ≡ 0
 at_zero i l = omega arith
 
-module _ {K W : Type 0} (R : K → K → Ordering) (total : IsTotalOrder R) (cells : List (Content (Entry K W))) (order : List ℕ) (index : IsIndex R cells order) where
+module _ {K W : Type 0} (R : K → K → Ordering) (total : IsTotalOrder R) (cells : List (Content (KeyedValue K W))) (order : List ℕ) (index : IsIndex R cells order) where
   -- a place's slot, whatever is read past the end
   pub order-below : (i d : ℕ) → i < length order → get_or order i d < length cells
   order-below i d l = subst (λ x. x < length cells) (get_or_default order i 0 d l) (place-in-range R total cells order index i l)
@@ -172,7 +172,7 @@ module _ {K W : Type 0} (R : K → K → Ordering) (total : IsTotalOrder R) (cel
           ]
 
 -- the slot is that of the least greater key, and the number of slots where there is none
-pub record IsNext {K W : Type 0} (R : K → K → Ordering) (cells : List (Content (Entry K W))) (key : K) (at : ℕ) : Type 0 where
+pub record IsNext {K W : Type 0} (R : K → K → Ordering) (cells : List (Content (KeyedValue K W))) (key : K) (at : ℕ) : Type 0 where
   pub order : List ℕ
   pub index : IsIndex R cells order
   pub place : ℕ
@@ -180,7 +180,7 @@ pub record IsNext {K W : Type 0} (R : K → K → Ordering) (cells : List (Conte
   pub here : at ≡ get_or order place (length cells)
 
 module _ {K W : Type 0} (R : K → K → Ordering) (total : IsTotalOrder R) where
-  module _ (cells : List (Content (Entry K W))) (next : List ℕ) (key : K) where
+  module _ (cells : List (Content (KeyedValue K W))) (next : List ℕ) (key : K) where
     pub start-seek : (start : ℕ) → IsOrdered R cells next → IsStart R cells key start → IsSeek R cells next key start 0
     start-seek start o (inl e) = record {
       ordered = o;
@@ -243,15 +243,15 @@ module _ {K W : Type 0} (R : K → K → Ordering) (total : IsTotalOrder R) wher
         pub seek-in : seek.place < length order
         seek-in = elim (cases_lt seek.place (length order)) [ inl l ↦ l | inr g ↦ absurd (more (seek-next ∙ get_or_past order seek.place (length cells) g)) ]
 
-        pub seek-live : (a : ℕ) × (e : Entry K W) × (get_or cells (get_or next at 0) Empty ≡ Held a e)
+        pub seek-live : (a : ℕ) × (e : KeyedValue K W) × (get_or cells (get_or next at 0) Empty ≡ Held a e)
         seek-live =
             let is : get_or next at 0 ≡ get_or order seek.place 0 = seek-next ∙ get_or_default order seek.place (length cells) 0 seek-in in
             held-parts _ (subst (λ t. IsHeld (get_or cells t Empty)) (sym is) (seek.ordered.index.live seek.place seek-in))
 
-        seek-placed : (a : ℕ) (e : Entry K W) → get_or cells (get_or next at 0) Empty ≡ Held a e → placed R cells order seek.place ≡ Held a e
+        seek-placed : (a : ℕ) (e : KeyedValue K W) → get_or cells (get_or next at 0) Empty ≡ Held a e → placed R cells order seek.place ≡ Held a e
         seek-placed a e is = ap (λ t. get_or cells t Empty) (sym (seek-next ∙ get_or_default order seek.place (length cells) 0 seek-in)) ∙ is
 
-        module _ (a : ℕ) (e : Entry K W) (is : get_or cells (get_or next at 0) Empty ≡ Held a e) where
+        module _ (a : ℕ) (e : KeyedValue K W) (is : get_or cells (get_or next at 0) Empty ≡ Held a e) where
           pub seek-step : R e.key key ≡ Less → IsSeek R cells next key (get_or next at 0) (step + 1)
           seek-step less =
               let l = seek-in in
@@ -272,7 +272,7 @@ module _ {K W : Type 0} (R : K → K → Ordering) (total : IsTotalOrder R) wher
             here = seek.here;
             found = record {
               in_range = seek-in;
-              has_key = λ b f at_place. ap (λ (x : Entry K W). R x.key key) (same-account b a f e (sym at_place ∙ seek-placed a e is)).1 ∙ equal;
+              has_key = λ b f at_place. ap (λ (x : KeyedValue K W). R x.key key) (same-account b a f e (sym at_place ∙ seek-placed a e is)).1 ∙ equal;
             };
           }
 
@@ -288,7 +288,7 @@ module _ {K W : Type 0} (R : K → K → Ordering) (total : IsTotalOrder R) wher
             };
           }
 
-  module _ (cells : List (Content (Entry K W))) (next : List ℕ) (key : K) (at : ℕ) where
+  module _ (cells : List (Content (KeyedValue K W))) (next : List ℕ) (key : K) (at : ℕ) where
     module _ (h : IsBeforeKey R cells next key at) where
       pub key-below : at < length next
       key-below =
@@ -395,7 +395,7 @@ module _ {K W : Type 0} (R : K → K → Ordering) (total : IsTotalOrder R) wher
         here = read ∙ get_or_default next at m 0 gap-below ∙ gap-after;
       }
 
-  module _ (cells : List (Content (Entry K W))) (key : K) (at : ℕ) (h : IsNext R cells key at) where
+  module _ (cells : List (Content (KeyedValue K W))) (key : K) (at : ℕ) (h : IsNext R cells key at) where
     next-in : at < length cells → h.place < length h.order
     next-in l = elim (cases_lt h.place (length h.order)) [
       | inl i ↦ i
@@ -405,7 +405,7 @@ module _ {K W : Type 0} (R : K → K → Ordering) (total : IsTotalOrder R) wher
     pub next-held : at < length cells → IsHeld (get_or cells at Empty)
     next-held l = subst (λ t. IsHeld (get_or cells t Empty)) (sym (h.here ∙ get_or_default h.order h.place (length cells) 0 (next-in l))) (h.index.live h.place (next-in l))
 
-    pub next-least : at < length cells → (f : Entry K W) → value_of (get_or cells at Empty) ≡ Some f → IsLeastAbove R cells key f.key
+    pub next-least : at < length cells → (f : KeyedValue K W) → value_of (get_or cells at Empty) ≡ Some f → IsLeastAbove R cells key f.key
     next-least l f value = least-above R total cells h.order h.index key h.place at f h.splits (next-in l) (h.here ∙ get_or_default h.order h.place (length cells) at (next-in l)) value
 
     pub next-none : length cells ≤ at → HasNoneAbove R cells key
@@ -415,7 +415,7 @@ module _ {K W : Type 0} (R : K → K → Ordering) (total : IsTotalOrder R) wher
     ])
 
   -- a pair in an empty slot, linked where its key goes
-  pub ordered-insert : (cells : List (Content (Entry K W))) (next : List ℕ) (at s a : ℕ) (e : Entry K W) → IsBeforeGap R cells next e.key at → s < length cells → get_or cells s Empty ≡ Empty → IsOrdered R (set cells s (Held a e)) (set (set next s (get_or next at 0)) at s)
+  pub ordered-insert : (cells : List (Content (KeyedValue K W))) (next : List ℕ) (at s a : ℕ) (e : KeyedValue K W) → IsBeforeGap R cells next e.key at → s < length cells → get_or cells s Empty ≡ Empty → IsOrdered R (set cells s (Held a e)) (set (set next s (get_or next at 0)) at s)
   ordered-insert cells next at s a e h ls empty =
       let o = h.ordered in
       let n = length-set cells s (Held a e) in
@@ -434,8 +434,8 @@ module _ {K W : Type 0} (R : K → K → Ordering) (total : IsTotalOrder R) wher
 -- empty slots, and a ring of none
 pub fresh-ordered : {K W : Type 0} (R : K → K → Ordering) (n : ℕ) (next : List ℕ) → n < 2 ^ 32 → length next ≡ n + 1 → get_or next n 0 ≡ n → IsOrdered {K = K} {W = W} R (replicate n Empty) next
 fresh-ordered {K} {W} R n next small len last =
-    let cells : List (Content (Entry K W)) = replicate n Empty in
-    let count : length {A = Content (Entry K W)} (replicate n Empty) ≡ n = length-replicate n Empty in
+    let cells : List (Content (KeyedValue K W)) = replicate n Empty in
+    let count : length {A = Content (KeyedValue K W)} (replicate n Empty) ≡ n = length-replicate n Empty in
     record {
       order = [];
       index = fresh-index R n small;
@@ -443,6 +443,6 @@ fresh-ordered {K} {W} R n next small len last =
       ring = λ i l. only i (at_zero i l) count;
     }
   where
-    only : (i : ℕ) → i ≡ 0 → length {A = Content (Entry K W)} (replicate n Empty) ≡ n → get_or next (before (length {A = Content (Entry K W)} (replicate n Empty)) [] i) 0 ≡ get_or [] i (length {A = Content (Entry K W)} (replicate n Empty))
+    only : (i : ℕ) → i ≡ 0 → length {A = Content (KeyedValue K W)} (replicate n Empty) ≡ n → get_or next (before (length {A = Content (KeyedValue K W)} (replicate n Empty)) [] i) 0 ≡ get_or [] i (length {A = Content (KeyedValue K W)} (replicate n Empty))
     only zero e count = ap (λ x. get_or next x 0) count ∙ last ∙ sym count
     only (suc i) e count = absurd (omega arith)

@@ -5,7 +5,7 @@ use Rattle.std.specs.declared.cmp.Ordering.{Ordering}
 use Rattle.std.specs.declared.cmp.Ordering.TheVariants.{Equal}
 use Rattle.slot_pool.specs.declared.Content.{Content}
 use Rattle.slot_pool.specs.declared.Content.TheVariants.{Empty, Held}
-use Rattle.pool_map.specs.declared.Entry.{Entry}
+use Rattle.pool_map.specs.declared.KeyedValue.{KeyedValue}
 
 -- the slot is one of these
 abbrev pub has : ℕ → List ℕ → Bool
@@ -57,35 +57,37 @@ pub record IsSeek (next : List ℕ) (h slot at steps : ℕ) : Type 0 where
 
 module _ {K W : Type 0} where
   -- the chain from h on has just the pairs of the bucket b
-  pub record IsChain (word : K → ℕ) (buckets b : ℕ) (cells : List (Content (Entry K W))) (next : List ℕ) (h : ℕ) : Type 0 where
+  pub record IsChain (word : K → ℕ) (buckets b : ℕ) (cells : List (Content (KeyedValue K W))) (next : List ℕ) (h : ℕ) : Type 0 where
     pub slots : List ℕ
     pub path : IsPath next h slots
     pub once : IsOnceEach slots
-    pub members : (s : ℕ) → has s slots ≡ true → (a : ℕ) × (e : Entry K W) × (slice_index_or cells s Empty ≡ Held a e) × (bucket word buckets e.key ≡ b)
-    pub complete : (s a : ℕ) (e : Entry K W) → slice_index_or cells s Empty ≡ Held a e → bucket word buckets e.key ≡ b → has s slots ≡ true
+    pub members : (s : ℕ) → has s slots ≡ true → (a : ℕ) × (e : KeyedValue K W) × (slice_index_or cells s Empty ≡ Held a e) × (bucket word buckets e.key ≡ b)
+    pub complete : (s a : ℕ) (e : KeyedValue K W) → slice_index_or cells s Empty ≡ Held a e → bucket word buckets e.key ≡ b → has s slots ≡ true
 
-  pub record IsHashed (cmp : K → K → Ordering) (word : K → ℕ) (cells : List (Content (Entry K W))) (heads next : List ℕ) : Type 0 where
+  pub record IsHashed (cmp : K → K → Ordering) (word : K → ℕ) (cells : List (Content (KeyedValue K W))) (heads next : List ℕ) : Type 0 where
     pub buckets : 0 < length heads
     pub lengths : length next ≡ length cells
     pub small : length cells < 2 ^ 32
     pub chain : (b : ℕ) → b < length heads → IsChain word (length heads) b cells next (slice_index_or heads b 0)
-    pub apart : (i j a b : ℕ) (e f : Entry K W) → slice_index_or cells i Empty ≡ Held a e → slice_index_or cells j Empty ≡ Held b f → cmp e.key f.key ≡ Equal → i ≡ j
+    pub apart : (i j a b : ℕ) (e f : KeyedValue K W) → slice_index_or cells i Empty ≡ Held a e → slice_index_or cells j Empty ≡ Held b f → cmp e.key f.key ≡ Equal → i ≡ j
 
   -- the slot holds a pair of the key
-  pub record HasKey (cmp : K → K → Ordering) (cells : List (Content (Entry K W))) (key : K) (slot : ℕ) : Type 0 where
+  pub record HasKey (cmp : K → K → Ordering) (cells : List (Content (KeyedValue K W))) (key : K)
+      (slot : ℕ) : Type 0 where
     pub account : ℕ
-    pub entry : Entry K W
+    pub entry : KeyedValue K W
     pub holds : slice_index_or cells slot Empty ≡ Held account entry
     pub ties : cmp entry.key key ≡ Equal
 
   -- no slot holds a pair of the key
-  abbrev pub LacksKey : (cmp : K → K → Ordering) → List (Content (Entry K W)) → K → Type 0
-  LacksKey cmp cells key = (s a : ℕ) (e : Entry K W) → slice_index_or cells s Empty ≡ Held a e → cmp e.key key ≢ Equal
+  abbrev pub LacksKey : (cmp : K → K → Ordering) → List (Content (KeyedValue K W)) → K → Type 0
+  LacksKey cmp cells key = (s a : ℕ) (e : KeyedValue K W) → slice_index_or cells s Empty ≡ Held a e
+      → cmp e.key key ≢ Equal
 
   -- a walk along a chain: what is left, and what is left holds the key if any slot does
-  pub record IsWalk (cmp : K → K → Ordering) (cells : List (Content (Entry K W))) (next : List ℕ) (key : K) (at steps : ℕ) : Type 0 where
+  pub record IsWalk (cmp : K → K → Ordering) (cells : List (Content (KeyedValue K W))) (next : List ℕ) (key : K) (at steps : ℕ) : Type 0 where
     pub left : List ℕ
     pub path : IsPath next at left
-    pub live : (s : ℕ) → has s left ≡ true → (a : ℕ) × (e : Entry K W) × (slice_index_or cells s Empty ≡ Held a e)
-    pub finds : (s a : ℕ) (e : Entry K W) → slice_index_or cells s Empty ≡ Held a e → cmp e.key key ≡ Equal → has s left ≡ true
+    pub live : (s : ℕ) → has s left ≡ true → (a : ℕ) × (e : KeyedValue K W) × (slice_index_or cells s Empty ≡ Held a e)
+    pub finds : (s a : ℕ) (e : KeyedValue K W) → slice_index_or cells s Empty ≡ Held a e → cmp e.key key ≡ Equal → has s left ≡ true
     pub short : length left ≤ steps

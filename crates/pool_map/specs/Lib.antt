@@ -4,6 +4,7 @@ pub mod Charges
 pub mod Index
 pub mod MapSums
 pub mod Shown
+pub mod SlotPool
 pub mod Slots
 pub mod Table
 pub mod Word

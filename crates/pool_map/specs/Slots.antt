@@ -7,8 +7,8 @@ use Rattle.std.specs.Cmp.{IsTotalOrder, tied_itself}
 use Rattle.std.specs.FinMap.{FinMap, from_entries, empty, get, IsAntisymmetric}
 use Rattle.slot_pool.specs.declared.Content.{Content}
 use Rattle.slot_pool.specs.declared.Content.TheVariants.{Empty, Held}
-use Rattle.slot_pool.specs.Pool.{Pool, content}
-use Rattle.pool_map.specs.declared.Entry.{Entry}
+use Rattle.slot_pool.specs.Pool.{PoolContents, content}
+use Rattle.pool_map.specs.declared.KeyedValue.{KeyedValue}
 use Rattle.pool_map.specs.Table.{contents, pairs, pair_of, value_at, IsListing, Rewrites}
 use Rattle.pool_map.specs.Shown.{shown, through, get-shown}
 
@@ -46,31 +46,31 @@ some-mapped g None = refl
 some-mapped g (Some x) = refl
 
 module _ {K W V : Type 0} (f : W → V) where
-  abbrev pub show : Content (Entry K W) → Option (K × V)
+  abbrev pub show : Content (KeyedValue K W) → Option (K × V)
   show c = option_map (λ e. (e.0, f e.1)) (pair_of c)
 
   -- what each slot of a table has, with each value seen through a function
-  abbrev pub shown_slots : List (Content (Entry K W)) → List (Option (K × V))
+  abbrev pub shown_slots : List (Content (KeyedValue K W)) → List (Option (K × V))
   shown_slots cells = map show cells
 
-  pub length-shown_slots : (cells : List (Content (Entry K W))) → length (shown_slots cells) ≡ length cells
+  pub length-shown_slots : (cells : List (Content (KeyedValue K W))) → length (shown_slots cells) ≡ length cells
   length-shown_slots [] = refl
   length-shown_slots (c ∷ cells) = ap suc (length-shown_slots cells)
 
-  pub at-shown_slots : (cells : List (Content (Entry K W))) (s : ℕ) → slot_of (shown_slots cells) s ≡ show (slice_index_or cells s Empty)
+  pub at-shown_slots : (cells : List (Content (KeyedValue K W))) (s : ℕ) → slot_of (shown_slots cells) s ≡ show (slice_index_or cells s Empty)
   at-shown_slots [] s = refl
   at-shown_slots (c ∷ cells) zero = refl
   at-shown_slots (c ∷ cells) (suc s) = at-shown_slots cells s
 
   -- a slot that shows a key holds it
-  held : (c : Content (Entry K W)) (k : K) (v : V) → show c ≡ Some (k, v) → (a : ℕ) × (e : Entry K W) × (c ≡ Held a e) × (e.key ≡ k) × (f e.value ≡ v)
+  held : (c : Content (KeyedValue K W)) (k : K) (v : V) → show c ≡ Some (k, v) → (a : ℕ) × (e : KeyedValue K W) × (c ≡ Held a e) × (e.key ≡ k) × (f e.value ≡ v)
   held Empty k v is = absurd (let no : None ≡ Some (k, v) = is in cc)
   held (Held a e) k v is =
       let two : Some (e.key, f e.value) ≡ Some (k, v) = is in
       let same : ◌≡◌ {A = K × V} (e.key, f e.value) (k, v) = cc in
       (a, e, refl, ap (λ p. p.0) same, ap (λ p. p.1) same)
 
-  pub listed-shown : {R : K → K → Ordering} → IsTotalOrder R → (p : Pool (Entry K W)) → IsListing R p → IsListed (shown {R = R} (λ (x : ℕ × W). f x.1) (contents R p)) (shown_slots p.slots)
+  pub listed-shown : {R : K → K → Ordering} → IsTotalOrder R → (p : PoolContents (KeyedValue K W)) → IsListing R p → IsListed (shown {R = R} (λ (x : ℕ × W). f x.1) (contents R p)) (shown_slots p.slots)
   listed-shown {R} total p is = record {
     stands = λ k v got.
         let x = mapped (λ (y : ℕ × W). f y.1) (get (contents R p) k) v (sym (get-shown (λ (y : ℕ × W). f y.1) (contents R p) k) ∙ got) in
@@ -88,7 +88,7 @@ module _ {K W V : Type 0} (f : W → V) where
   }
 
   -- another value at a key of the table is seen at the key's slot
-  pub rewritten-shown : {R : K → K → Ordering} → IsAntisymmetric R → (p q : Pool (Entry K W)) (key : K) (value : W) → Rewrites R p q key value → IsRewritten (shown_slots p.slots) (shown_slots q.slots) key (f value)
+  pub rewritten-shown : {R : K → K → Ordering} → IsAntisymmetric R → (p q : PoolContents (KeyedValue K W)) (key : K) (value : W) → Rewrites R p q key value → IsRewritten (shown_slots p.slots) (shown_slots q.slots) key (f value)
   rewritten-shown exact p q key value is =
       let same = exact is.entry.key key is.ties in
       record {
@@ -96,7 +96,7 @@ module _ {K W V : Type 0} (f : W → V) where
         before = f is.entry.value;
         was = at-shown_slots p.slots is.slot ∙ ap show is.was ∙ ap (λ k. Some (k, f is.entry.value)) same;
         now_is =
-            ap (λ (r : Pool (Entry K W)). shown_slots r.slots) is.now_is
+            ap (λ (r : PoolContents (KeyedValue K W)). shown_slots r.slots) is.now_is
             ∙ map-set show p.slots is.slot _
             ∙ ap (λ k. slice_set (shown_slots p.slots) is.slot (Some (k, f value))) same;
       }
@@ -106,7 +106,7 @@ module _ {K W V : Type 0} (f : W → V) where
   twice key (Some x) = refl
 
   -- the slot of a key shows it
-  pub slot-shown : (R : K → K → Ordering) (p : Pool (Entry K W)) (key : K) (answer : Option ℕ) → IfSome answer (λ s. pair_of (content p s) ≡ option_map (keyed key) (value_at R p key)) → IfSome answer (λ s. slot_of (shown_slots p.slots) s ≡ option_map (keyed key) (get (shown {R = R} (λ (x : ℕ × W). f x.1) (contents R p)) key))
+  pub slot-shown : (R : K → K → Ordering) (p : PoolContents (KeyedValue K W)) (key : K) (answer : Option ℕ) → IfSome answer (λ s. pair_of (content p s) ≡ option_map (keyed key) (value_at R p key)) → IfSome answer (λ s. slot_of (shown_slots p.slots) s ≡ option_map (keyed key) (get (shown {R = R} (λ (x : ℕ × W). f x.1) (contents R p)) key))
   slot-shown R p key None here = tt
   slot-shown R p key (Some s) here =
       at-shown_slots p.slots s
@@ -115,7 +115,7 @@ module _ {K W V : Type 0} (f : W → V) where
       ∙ ap (option_map (keyed key)) (sym (get-shown (λ (x : ℕ × W). f x.1) (contents R p) key))
 
   -- a key of the table is one of the map
-  pub present-shown : (R : K → K → Ordering) (p : Pool (Entry K W)) (key : K) → is_some (get (shown {R = R} (λ (x : ℕ × W). f x.1) (contents R p)) key) ≡ is_some (get (contents R p) key)
+  pub present-shown : (R : K → K → Ordering) (p : PoolContents (KeyedValue K W)) (key : K) → is_some (get (shown {R = R} (λ (x : ℕ × W). f x.1) (contents R p)) key) ≡ is_some (get (contents R p) key)
   present-shown R p key = ap is_some (get-shown (λ (x : ℕ × W). f x.1) (contents R p) key) ∙ some-mapped (λ (x : ℕ × W). f x.1) (get (contents R p) key)
 
 -- another value at a key is seen through a function
@@ -137,5 +137,5 @@ no-pairs K W zero = refl
 no-pairs K W (suc n) = no-pairs K W n
 
 -- a table of empty slots is the empty map
-pub contents-fresh : {K W : Type 0} (R : K → K → Ordering) (p : Pool (Entry K W)) (n : ℕ) → p.slots ≡ replicate n Empty → contents R p ≡ empty
+pub contents-fresh : {K W : Type 0} (R : K → K → Ordering) (p : PoolContents (KeyedValue K W)) (n : ℕ) → p.slots ≡ replicate n Empty → contents R p ≡ empty
 contents-fresh {K} {W} R p n fresh = ap (λ cells. from_entries {R = R} (pairs cells)) fresh ∙ ap from_entries (no-pairs K W n)

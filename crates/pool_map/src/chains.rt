@@ -3,7 +3,7 @@ ghost use Rattle.std.specs.Prelude.{◌≡◌, ◌≢◌, ◌<◌, ◌+◌, ◌/
 ghost use Rattle.slot_pool.specs.declared.Content.TheVariants.{Empty};
 ghost use Rattle.pool_map.specs.Chains.{IsHashed, HasKey, LacksKey, bucket, IsLinked, UnlinksOwn, KeepsOthers};
 
-use super::{Entry, Key};
+use super::{Key, KeyedValue};
 use slot_pool::{Pool, Slot};
 use std::alloc::{AllocError, Global};
 use std::cmp::Ordering;
@@ -38,7 +38,7 @@ impl Chains {
     }
 
     /// The slot of a key, if it has one.
-    pub(super) fn find<K: Key, W>(&self, pool: &Pool<Entry<K, W>>, key: &K) -> Option<u32>
+    pub(super) fn find<K: Key, W>(&self, pool: &Pool<KeyedValue<K, W>>, key: &K) -> Option<u32>
         requires { IsHashed K.cmp K.word_of pool.now.slots self.now.heads.items self.now.next.items }
         ensures found { IfSome result (HasKey K.cmp pool.now.slots key.now) }
         ensures absent { IfNone result (LacksKey K.cmp pool.now.slots key.now) }
@@ -59,7 +59,7 @@ impl Chains {
     }
 
     /// Takes the slot of a key out of its chain, before the slot is emptied.
-    pub(super) fn unlink<K: Key, W>(&mut self, pool: &Pool<Entry<K, W>>, key: &K, slot: u32)
+    pub(super) fn unlink<K: Key, W>(&mut self, pool: &Pool<KeyedValue<K, W>>, key: &K, slot: u32)
         requires hashed { IsHashed K.cmp K.word_of pool.now.slots self.old.heads.items self.old.next.items }
         requires here { HasKey K.cmp pool.now.slots key.now slot }
         ensures { IsHashed K.cmp K.word_of (slice_set pool.now.slots slot Empty)
@@ -88,7 +88,12 @@ fn bucket_of<K: Key>(key: &K, buckets: usize) -> usize
 }
 
 // The slot of a key, if it has one.
-fn find<K: Key, W>(pool: &Pool<Entry<K, W>>, heads: &[u32], next: &[u32], key: &K) -> Option<u32>
+fn find<K: Key, W>(
+    pool: &Pool<KeyedValue<K, W>>,
+    heads: &[u32],
+    next: &[u32],
+    key: &K,
+) -> Option<u32>
     requires { IsHashed K.cmp K.word_of pool.now.slots heads.now next.now }
     ensures found { IfSome result (HasKey K.cmp pool.now.slots key.now) }
     ensures absent { IfNone result (LacksKey K.cmp pool.now.slots key.now) }

@@ -1,7 +1,7 @@
 // Where in the ring of a sorted table a search may begin: the tree of its slots says it, and here it is tested.
 ghost use Rattle.pool_map.specs.Index.{IsStart};
 
-use super::{Entry, Key};
+use super::{Key, KeyedValue};
 use slot_pool::{Content, Pool};
 use slot_tree::SlotTree;
 use std::cmp::Ordering;
@@ -12,7 +12,7 @@ const LEVELS: u32 = 64;
 /// Where a search for the key in this slot may begin: at the slot before it, or at the number of slots.
 pub(super) fn before<K: Key, W>(
     tree: &SlotTree,
-    pool: &Pool<Entry<K, W>>,
+    pool: &Pool<KeyedValue<K, W>>,
     key: &K,
     slot: u32,
 ) -> u32
@@ -32,7 +32,7 @@ pub(super) fn before<K: Key, W>(
 }
 
 /// The slot with the greatest key that is smaller than this, or the number of slots.
-pub(super) fn closest<K: Key, W>(tree: &SlotTree, pool: &Pool<Entry<K, W>>, key: &K) -> u32
+pub(super) fn closest<K: Key, W>(tree: &SlotTree, pool: &Pool<KeyedValue<K, W>>, key: &K) -> u32
     ensures { IsStart K.cmp pool.now.slots key.now result }
 {
     let mut closest = pool.slots();

@@ -1,6 +1,6 @@
 // A table whose slots are chained by their keys' words.
 use super::chains::Chains;
-use super::{Entry, Key, Table, TableFull};
+use super::{Key, KeyedValue, Table, TableFull};
 use slot_pool::{Content, Pool, Slot};
 use std::alloc::{AllocError, Global};
 use std::marker::Model;
@@ -9,7 +9,7 @@ use std::mem;
 /// A table that is found in by the word of a key.
 #[derive(Drop)]
 pub struct HashTable<K: Key, W> {
-    pool: Pool<Entry<K, W>>,
+    pool: Pool<KeyedValue<K, W>>,
     // where the slot of a key is
     chains: Chains,
     // how many slots hold a pair
@@ -18,10 +18,10 @@ pub struct HashTable<K: Key, W> {
 
 impl<K: Key, W> Model for HashTable<K, W> {
     ghost use Rattle.std.specs.Prelude.{◌≡◌, count_by};
-    ghost use Rattle.slot_pool.specs.Pool.{Pool as Slots};
-    ghost use Rattle.pool_map.specs.declared.Entry.{Entry};
+    ghost use Rattle.slot_pool.specs.Pool.{PoolContents as Slots};
+    ghost use Rattle.pool_map.specs.declared.KeyedValue.{KeyedValue};
 
-    ghost Value = { Slots (Entry K W) };
+    ghost Value = { Slots (KeyedValue K W) };
 
     ghost use Rattle.pool_map.specs.Table.{is_held};
     ghost use Rattle.pool_map.specs.Chains.{IsHashed};
@@ -131,7 +131,7 @@ impl<K: Key, W: Drop> Table<K, W> for HashTable<K, W> {
 
     fn insert(&mut self, account: u32, key: K, value: W) -> Result<(), TableFull> {
         let start = self.chains.bucket(&key);
-        match self.pool.take(account, Entry { key, value }) {
+        match self.pool.take(account, KeyedValue { key, value }) {
             Ok(slot) => {
                 self.chains.link(start, slot.number);
                 self.len += 1;

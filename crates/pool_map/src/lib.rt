@@ -17,7 +17,7 @@ pub trait Key: Ord + Drop {
 
 /// A key with its value.
 #[derive(Drop)]
-pub struct Entry<K, W> {
+pub struct KeyedValue<K, W> {
     pub key: K,
     pub value: W,
 }
@@ -35,13 +35,13 @@ pub struct TableFull {
 pub trait Table<K: Key, W> {
     ghost use Rattle.std.specs.Prelude.{◌≡◌, ◌+◌, ◌<◌, ◌↔◌, List, ℕ, length, replicate, option_copied, option_map, is_some, IsErr, OnOk, OnErr, IfErr, IfSome, IfNone, Some, None, ◌≤◌};
     ghost use Rattle.std.specs.FinMap as map;
-    ghost use Rattle.slot_pool.specs.Pool.{Pool as Slots, content, limit_of, IsAccount};
+    ghost use Rattle.slot_pool.specs.Pool.{PoolContents as Slots, content, limit_of, IsAccount};
     ghost use Rattle.slot_pool.specs.declared.Content.TheVariants.{Empty, Held};
-    ghost use Rattle.pool_map.specs.declared.Entry.{Entry};
+    ghost use Rattle.pool_map.specs.declared.KeyedValue.{KeyedValue};
     ghost use Rattle.pool_map.specs.Table.{contents, charged, at_key, value_at, pair_of, IsListing, Fills, Drops};
 
     /// What each slot holds, and the limit of each account.
-    ghost pool: { Self → Slots (Entry K W) };
+    ghost pool: { Self → Slots (KeyedValue K W) };
 
     /// The value of a key, if the key is present.
     fn get(&self, key: &K) -> Option<&W>
@@ -115,4 +115,5 @@ mod sorted;
 pub use accounts::{Accounts, IndexErr};
 pub use hashed::HashTable;
 pub use number::Number;
+pub use slot_pool::{Pool, PoolFull, Slot};
 pub use sorted::SortedTable;

@@ -1,7 +1,7 @@
 // A table whose slots are linked in the order of their keys.
 use super::chains::Chains;
 use super::hashed::empty;
-use super::{Entry, Key, Table, TableFull, guide};
+use super::{Key, KeyedValue, Table, TableFull, guide};
 use slot_pool::{Content, Pool, Slot};
 use slot_tree::SlotTree;
 use std::alloc::{AllocError, Global};
@@ -12,7 +12,7 @@ use std::mem;
 /// A table that goes through its keys in order.
 #[derive(Drop)]
 pub struct SortedTable<K: Key, W> {
-    pool: Pool<Entry<K, W>>,
+    pool: Pool<KeyedValue<K, W>>,
     // where the slot of a key is
     chains: Chains,
     // a ring of the slots that hold a pair, in the order of their keys: the slot after each, and at the number of slots the
@@ -26,10 +26,10 @@ pub struct SortedTable<K: Key, W> {
 
 impl<K: Key, W> Model for SortedTable<K, W> {
     ghost use Rattle.std.specs.Prelude.{◌≡◌, count_by};
-    ghost use Rattle.slot_pool.specs.Pool.{Pool as Slots};
-    ghost use Rattle.pool_map.specs.declared.Entry.{Entry};
+    ghost use Rattle.slot_pool.specs.Pool.{PoolContents as Slots};
+    ghost use Rattle.pool_map.specs.declared.KeyedValue.{KeyedValue};
 
-    ghost Value = { Slots (Entry K W) };
+    ghost Value = { Slots (KeyedValue K W) };
 
     ghost use Rattle.pool_map.specs.Table.{is_held};
     ghost use Rattle.pool_map.specs.Chains.{IsHashed};
@@ -45,7 +45,12 @@ ghost use Rattle.pool_map.specs.Index.{IsOrdered, IsStart, IsBeforeKey, IsBefore
 
 // The slot after which a key stands in the ring, or after which it would go. The search begins at the slot of a smaller key, or
 // at the number of slots.
-fn place<K: Key, W>(pool: &Pool<Entry<K, W>>, next: &[u32], start: u32, key: &K) -> Result<u32, u32>
+fn place<K: Key, W>(
+    pool: &Pool<KeyedValue<K, W>>,
+    next: &[u32],
+    start: u32,
+    key: &K,
+) -> Result<u32, u32>
     requires ordered { IsOrdered K.cmp pool.now.slots next.now }
     requires start { IsStart K.cmp pool.now.slots key.now start }
     ensures found { IfOk result (IsBeforeKey K.cmp pool.now.slots next.now key.now) }
@@ -197,7 +202,7 @@ impl<K: Key, W: Drop> Table<K, W> for SortedTable<K, W> {
         let closest = guide::closest(&self.tree, &self.pool, &key);
         match place(&self.pool, &self.next, closest, &key) {
             Ok(_) => unreachable!(),
-            Err(before) => match self.pool.take(account, Entry { key, value }) {
+            Err(before) => match self.pool.take(account, KeyedValue { key, value }) {
                 Ok(slot) => {
                     self.chains.link(start, slot.number);
                     let after = link(&mut self.next, before, slot.number);

@@ -3,9 +3,9 @@ use Rattle.std.proofs.Common.{◌≡◌, ℕ, suc, List, [], ◌∷◌, ◌++◌
 use Rattle.std.proofs.Common.{IsTrue, append-nil, append_assoc, Result, Ok, Err, IfOk}
 use Rattle.std.specs.Prelude.{All}
 use Rattle.std.proofs.lemmas.List.Elements.{All-nil, All-cons}
-use Rattle.frames.specs.Frames.{frame}
-use Rattle.cd_edges.specs.Ports.{Telling, Port, OthersStay}
-use Rattle.ports_link.specs.declared.judging.Asked.{Asked}
+use Rattle.user_dedup.specs.Frames.Frames.{frame}
+use Rattle.transcript.specs.CdEdges.Ports.{Telling, Port, OthersStay}
+use Rattle.ports_link.specs.declared.judging.AskedClouds.{AskedClouds}
 use Rattle.ports_link.specs.declared.judging.Greeting.{Greeting}
 use Rattle.ports_link.specs.declared.meeting.MeetErr.{MeetErr}
 use Rattle.ports_link.specs.declared.meeting.MeetErr.TheVariants as errors
@@ -16,14 +16,14 @@ use Rattle.ports_link.specs.Meeting.{IsMet, Meets, Through, Next, Refuses, Loses
 use Rattle.ports_link.proofs.Opening.{none_dialled, one_dialled, more_dialled, not_behind}
 
 -- what becomes of the rest is what becomes of all
-abbrev pub Follows : Asked → ℕ → Telling → List ℕ → List Greeting → Telling → Type 0
+abbrev pub Follows : AskedClouds → ℕ → Telling → List ℕ → List Greeting → Telling → Type 0
 Follows asked count old done before t = (result : Result (List Greeting) MeetErr) (ports : List ℕ) (u : Telling)
     → Meets asked count before t ports result u → Meets asked count [] old (done ++ ports) result u
 
-pub follows_none : (asked : Asked) (count : ℕ) (old : Telling) → Follows asked count old [] [] old
+pub follows_none : (asked : AskedClouds) (count : ℕ) (old : Telling) → Follows asked count old [] [] old
 follows_none asked count old result ports u x = x
 
-pub follows_on : (asked : Asked) (count : ℕ) (old : Telling) (done : List ℕ) (before : List Greeting)
+pub follows_on : (asked : AskedClouds) (count : ℕ) (old : Telling) (done : List ℕ) (before : List Greeting)
     (t mid : Telling) (port : ℕ) (g : Greeting) → Follows asked count old done before t
     → IsMet asked count before t port g mid
     → Follows asked count old (done ++ port ∷ []) (before ++ g ∷ []) mid
@@ -50,7 +50,7 @@ hears_sent t u port content (inr b) silent = b.0.received.sent ∙ b.0.sent.went
 
 -- ---- what all of them leave
 
-pub told_stays : (asked : Asked) (count : ℕ) (before : List Greeting) (t u : Telling) (ports : List ℕ)
+pub told_stays : (asked : AskedClouds) (count : ℕ) (before : List Greeting) (t u : Telling) (ports : List ℕ)
     (result : Result (List Greeting) MeetErr) → Meets asked count before t ports result u → u.told ≡ t.told
 told_stays asked count before t u ports result (Through _ _ all) = refl
 told_stays asked count before t u ports result (Next _ _ mid _ _ rest g _ met x) =
@@ -60,7 +60,7 @@ told_stays asked count before t u ports result (Loses _ _ _ _ unheard) = unheard
 told_stays asked count before t u ports result (Undials _ _ some) = refl
 told_stays asked count before t u ports result (Lacks _ _ _ _ dialled told) = told
 
-pub are_dialled : (asked : Asked) (count : ℕ) (before : List Greeting) (t u : Telling) (ports : List ℕ)
+pub are_dialled : (asked : AskedClouds) (count : ℕ) (before : List Greeting) (t u : Telling) (ports : List ℕ)
     (result : Result (List Greeting) MeetErr) → Meets asked count before t ports result u → IsTrue t.told
     → AreDialled t u ports
 are_dialled asked count before t u ports result (Through _ _ all) told = none_dialled t
@@ -79,7 +79,7 @@ are_dialled asked count before t u ports result (Lacks _ _ _ _ dialled same) tol
 
 -- ---- where each was as asked
 
-pub record AllAsked (asked : Asked) (count : ℕ) (before : List Greeting) (ports : List ℕ)
+pub record AllAsked (asked : AskedClouds) (count : ℕ) (before : List Greeting) (ports : List ℕ)
     (all : List Greeting) : Type 0 where
   pub more : List Greeting
   pub is : all ≡ before ++ more
@@ -87,7 +87,7 @@ pub record AllAsked (asked : Asked) (count : ℕ) (before : List Greeting) (port
   pub long : length more ≡ length ports
   pub many : length all ≡ count
 
-pub all_asked : (asked : Asked) (count : ℕ) (before : List Greeting) (t u : Telling) (ports : List ℕ)
+pub all_asked : (asked : AskedClouds) (count : ℕ) (before : List Greeting) (t u : Telling) (ports : List ℕ)
     (result : Result (List Greeting) MeetErr) → Meets asked count before t ports result u
     → IfOk result (AllAsked asked count before ports)
 all_asked asked count before t u ports result (Through _ _ all) = record {
@@ -119,7 +119,7 @@ all_asked asked count before t u ports result (Lacks _ _ _ _ dialled told) = tt
 abbrev pub SaidHello : Telling → ℕ → Type 0
 SaidHello u port = (u.port port).sent ≡ frame hello
 
-pub said_hello : (asked : Asked) (count : ℕ) (before : List Greeting) (t u : Telling) (ports : List ℕ)
+pub said_hello : (asked : AskedClouds) (count : ℕ) (before : List Greeting) (t u : Telling) (ports : List ℕ)
     (result : Result (List Greeting) MeetErr) → Meets asked count before t ports result u → IsTrue t.told
     → IfOk result (λ all. All (SaidHello u) ports)
 said_hello asked count before t u ports result (Through _ _ all) told = All-nil (SaidHello u)
@@ -150,7 +150,7 @@ said_hello asked count before t u ports result (Undials _ _ some) told = tt
 said_hello asked count before t u ports result (Lacks _ _ _ _ dialled same) told = tt
 
 -- where memory runs out behind a reply
-pub lacks_behind : (asked : Asked) (count : ℕ) (before : List Greeting) (t u : Telling) (port : ℕ) (g : Greeting)
+pub lacks_behind : (asked : AskedClouds) (count : ℕ) (before : List Greeting) (t u : Telling) (port : ℕ) (g : Greeting)
     → IsMet asked count before t port g u
     → Meets asked count before t (port ∷ []) (Err errors.NoMemory) u
 lacks_behind asked count before t u port g met =

@@ -4,7 +4,7 @@ use Rattle.std.specs.Prelude.{All}
 use Rattle.std.specs.List.{Contains}
 use Rattle.std.proofs.lemmas.List.Elements.{All-nil, All-cons, All-weaker}
 use Rattle.user_dedup.proofs.Owned.{contains_here, contains_later}
-use Rattle.cd_edges.specs.Ports.{Telling, Opens, OthersStay}
+use Rattle.transcript.specs.CdEdges.Ports.{Telling, HasOpenedPort, OthersStay}
 use Rattle.ports_link.specs.Dialled.{AreNext, AreApart, AreDialled}
 
 none_below : (n : ℕ) (ports : List ℕ) → AreNext n ports → All (λ p. n ≤ p) ports
@@ -31,7 +31,7 @@ not_here port other rest none e = none (subst (λ (n : ℕ). Contains (port ∷ 
 pub none_dialled : (t : Telling) → AreDialled t t []
 none_dialled t = record { next = tt; others = λ port none. refl }
 
-pub one_dialled : (t opened u : Telling) (port : ℕ) → Opens t opened port → OthersStay opened u port
+pub one_dialled : (t opened u : Telling) (port : ℕ) → HasOpenedPort t opened port → OthersStay opened u port
     → AreDialled t u (port ∷ [])
 one_dialled t opened u port opens stays = record {
   next = (opens.next, tt);
@@ -39,7 +39,7 @@ one_dialled t opened u port opens stays = record {
       let apart = not_here port other [] none in stays other apart ∙ opens.others other apart;
 }
 
-pub more_dialled : (t opened mid u : Telling) (port : ℕ) (ports : List ℕ) → Opens t opened port
+pub more_dialled : (t opened mid u : Telling) (port : ℕ) (ports : List ℕ) → HasOpenedPort t opened port
     → OthersStay opened mid port → mid.opened ≡ opened.opened → AreDialled mid u ports
     → AreDialled t u (port ∷ ports)
 more_dialled t opened mid u port ports opens stays same d = record {

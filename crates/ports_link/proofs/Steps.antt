@@ -2,11 +2,11 @@
 use Rattle.std.proofs.Common.{◌≡◌, ℕ, ◌+◌, ◌^◌, ◌<◌, ◌≤◌, List, [], ◌++◌, length, take, drop, sym, ◌∙◌, ap, subst, append_assoc, append-nil, take-append-drop, arith, length-append, length-take, take_all}
 use Rattle.std.proofs.lemmas.Nat.{from_be_bytes-to_be_bytes_4}
 use Rattle.std.specs.Int.{w32, to_be_bytes}
-use Rattle.frames.specs.Frames.{IsContent, IsLength, frame, length_in}
-use Rattle.frames.proofs.FrameLaws.{length_in-frame, length-frame}
-use Rattle.cd_edges.specs.Ports.{Telling, Sent, SentPart, Received, Receives, Fills}
-use Rattle.cd_edges.proofs.Passing.{received_twice, sent_twice}
-use Rattle.ports_link.specs.Exchange.{Broke, Came, CameNone, Cut, Ended, NoFrame, Replied, Whole}
+use Rattle.user_dedup.specs.Frames.Frames.{IsContent, IsLength, frame, length_in}
+use Rattle.user_dedup.proofs.Frames.FrameLaws.{length_in-frame, length-frame}
+use Rattle.transcript.specs.CdEdges.Ports.{Telling, Sent, SentPart, Received, Receives, Fills}
+use Rattle.transcript.proofs.CdEdges.Passing.{received_twice, sent_twice}
+use Rattle.ports_link.specs.Exchange.{Broke, Came, CameNone, Cut, Ended, NoFrame, HasRepliedOnPort, Whole}
 
 -- ---- a frame that goes out in two pieces
 
@@ -129,7 +129,7 @@ frame_came a b c number count n front content four all is lawful fills whole = (
 
 -- ---- a request and its reply
 
-pub replied : (a b c : Telling) (number : ℕ) (request reply : List ℕ) → Sent a b number (frame request) → IsContent reply × Received b c number (frame reply) → Replied a c number request reply
+pub replied : (a b c : Telling) (number : ℕ) (request reply : List ℕ) → Sent a b number (frame request) → IsContent reply × Received b c number (frame reply) → HasRepliedOnPort a c number request reply
 replied a b c number request reply sent came = record { lawful = came.0; between = b; sent = sent; received = came.1 }
 
 pub broke : (a b c : Telling) (number : ℕ) (request : List ℕ) → Sent a b number (frame request) → CameNone b c number → Broke a c number request

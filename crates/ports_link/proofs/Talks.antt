@@ -4,14 +4,14 @@ use Rattle.std.proofs.lemmas.List.{get_or-set_same, get_or-set_other}
 use Rattle.std.proofs.lemmas.Bool.{cases_eq, cases_lt}
 use Rattle.std.proofs.lemmas.List.Concat.{flat_map-append}
 use Rattle.user_dedup.specs.Link.{Talk, first_reply, later_replies, said}
-use Rattle.frames.specs.Frames.{IsContent, AreContents, frame, stream, length_in}
+use Rattle.user_dedup.specs.Frames.Frames.{IsContent, AreContents, frame, stream, length_in}
 use Rattle.std.proofs.lemmas.Slice.Eq.{bytes_eq-Decides}
-use Rattle.frames.proofs.FrameLaws.{one_frame, length_in-frame, length-frame}
-use Rattle.cd_edges.specs.Ports.{Telling, Port, OthersStay, Sent}
-use Rattle.ports_link.specs.declared.lines.Line.{Line}
+use Rattle.user_dedup.proofs.Frames.FrameLaws.{one_frame, length_in-frame, length-frame}
+use Rattle.transcript.specs.CdEdges.Ports.{Telling, Port, OthersStay, Sent}
+use Rattle.ports_link.specs.declared.lines.CloudLine.{CloudLine}
 use Rattle.ports_link.specs.Exchange.{NoFrame}
 use Rattle.ports_link.specs.Lines.{AsksOn, Hears, Ends, Deaf, line_of, no_line}
-use Rattle.ports_link.specs.Tells.{HasAsked, BringsReplies, HasComing, HasTalk, PassesOn}
+use Rattle.ports_link.specs.Tells.{HasAsked, BringsReplies, HasComing, HasTalk, HasPassedOnPort}
 
 -- ---- requests
 
@@ -48,7 +48,7 @@ silent bytes (r ∷ more) none brings = absurd (none r (stream more ++ brings.re
 -- ---- an ask
 
 -- what an ask leaves of the talk on its own line
-pub record Left (new : Telling) (port : ℕ) (after : Line) (reply : List ℕ) (request : List ℕ) (talk : Talk) : Type 0 where
+pub record Left (new : Telling) (port : ℕ) (after : CloudLine) (reply : List ℕ) (request : List ℕ) (talk : Talk) : Type 0 where
   pub reply_is : reply ≡ first_reply talk.coming
   pub asked : HasAsked (new.port port).sent (talk.asked ++ request ∷ [])
   pub coming : HasComing after.ended (new.port port).to_come (later_replies talk.coming)
@@ -61,7 +61,7 @@ open_coming : (bytes : List ℕ) (coming : List (List ℕ)) (is_ended : Bool) �
 open_coming bytes coming false e has = has
 open_coming bytes coming true e has = absurd (let f : true ≡ false = e in cc)
 
-pub left : (old new : Telling) (port : ℕ) (before after : Line) (request reply : List ℕ) (talk : Talk) → IsContent request
+pub left : (old new : Telling) (port : ℕ) (before after : CloudLine) (request reply : List ℕ) (talk : Talk) → IsContent request
     → HasAsked (old.port port).sent talk.asked → HasComing before.ended (old.port port).to_come talk.coming
     → AsksOn old new port before after request reply → Left new port after reply request talk
 left old new port before after request reply talk lawful asked coming (Hears live same replied) =
@@ -70,21 +70,21 @@ left old new port before after request reply talk lawful asked coming (Hears liv
     record {
       reply_is = both.0;
       asked = subst (λ (l : List ℕ). HasAsked l (talk.asked ++ request ∷ [])) (sym replied.received.sent) (asked_on old replied.between port talk.asked request lawful replied.sent asked);
-      coming = subst (λ (b : Bool). HasComing b (new.port port).to_come (later_replies talk.coming)) (sym (ap (λ (l : Line). l.ended) same ∙ live)) both.1;
+      coming = subst (λ (b : Bool). HasComing b (new.port port).to_come (later_replies talk.coming)) (sym (ap (λ (l : CloudLine). l.ended) same ∙ live)) both.1;
     }
 left old new port before after request reply talk lawful asked coming (Ends live now is broke) =
     let none = silent (old.port port).to_come talk.coming broke.none (open_coming (old.port port).to_come talk.coming before.ended live coming) in
     record {
       reply_is = is ∙ sym (ap first_reply none);
       asked = subst (λ (l : List ℕ). HasAsked l (talk.asked ++ request ∷ [])) (sym broke.received.sent) (asked_on old broke.between port talk.asked request lawful broke.sent asked);
-      coming = subst (λ (b : Bool). HasComing b (new.port port).to_come (later_replies talk.coming)) (sym (ap (λ (l : Line). l.ended) now)) (ap later_replies none);
+      coming = subst (λ (b : Bool). HasComing b (new.port port).to_come (later_replies talk.coming)) (sym (ap (λ (l : CloudLine). l.ended) now)) (ap later_replies none);
     }
 left old new port before after request reply talk lawful asked coming (Deaf dead same is sent) =
     let none = ended_coming (old.port port).to_come talk.coming before.ended dead coming in
     record {
       reply_is = is ∙ sym (ap first_reply none);
       asked = asked_on old new port talk.asked request lawful sent asked;
-      coming = subst (λ (b : Bool). HasComing b (new.port port).to_come (later_replies talk.coming)) (sym (ap (λ (l : Line). l.ended) same ∙ dead)) (ap later_replies none);
+      coming = subst (λ (b : Bool). HasComing b (new.port port).to_come (later_replies talk.coming)) (sym (ap (λ (l : CloudLine). l.ended) same ∙ dead)) (ap later_replies none);
     }
 
 -- ---- lines
@@ -98,23 +98,23 @@ nat_cases a b = elim (cases_eq a b) [
   | inr n ↦ inr n
 ]
 
-line_set : (lines : List Line) (cloud : ℕ) (line : Line) → cloud < length lines → line_of (set lines cloud line) cloud ≡ line
+line_set : (lines : List CloudLine) (cloud : ℕ) (line : CloudLine) → cloud < length lines → line_of (set lines cloud line) cloud ≡ line
 line_set lines cloud line within = get_or-set_same lines cloud line no_line within
 
-pub line_other : (lines : List Line) (cloud other : ℕ) (line : Line) → other ≢ cloud → line_of (set lines cloud line) other ≡ line_of lines other
+pub line_other : (lines : List CloudLine) (cloud other : ℕ) (line : CloudLine) → other ≢ cloud → line_of (set lines cloud line) other ≡ line_of lines other
 line_other lines cloud other line apart = get_or-set_other lines cloud other line no_line apart
 
 -- a line that keeps its port leaves every cloud's port
-pub port_kept : (lines : List Line) (cloud : ℕ) (line : Line) → cloud < length lines → line.port ≡ (line_of lines cloud).port → (a : ℕ) → (line_of (set lines cloud line) a).port ≡ (line_of lines a).port
+pub port_kept : (lines : List CloudLine) (cloud : ℕ) (line : CloudLine) → cloud < length lines → line.port ≡ (line_of lines cloud).port → (a : ℕ) → (line_of (set lines cloud line) a).port ≡ (line_of lines a).port
 port_kept lines cloud line within same a = elim (nat_cases a cloud) [
-  | inl here ↦ subst (λ (n : ℕ). (line_of (set lines cloud line) n).port ≡ (line_of lines n).port) (sym here) (ap (λ (l : Line). l.port) (line_set lines cloud line within) ∙ same)
-  | inr apart ↦ ap (λ (l : Line). l.port) (line_other lines cloud a line apart)
+  | inl here ↦ subst (λ (n : ℕ). (line_of (set lines cloud line) n).port ≡ (line_of lines n).port) (sym here) (ap (λ (l : CloudLine). l.port) (line_set lines cloud line within) ∙ same)
+  | inr apart ↦ ap (λ (l : CloudLine). l.port) (line_other lines cloud a line apart)
 ]
 
 -- ---- the link's talk
 
-module _ (old new : Telling) (lines : List Line) (cloud port : ℕ) (within : cloud < length lines) (there : (line_of lines cloud).port ≡ Some port) (told : new.told ≡ old.told) where
-  pub says : (after : Line) (request reply : List ℕ) (talk : Talk) → IsContent request → after.port ≡ (line_of lines cloud).port
+module _ (old new : Telling) (lines : List CloudLine) (cloud port : ℕ) (within : cloud < length lines) (there : (line_of lines cloud).port ≡ Some port) (told : new.told ≡ old.told) where
+  pub says : (after : CloudLine) (request reply : List ℕ) (talk : Talk) → IsContent request → after.port ≡ (line_of lines cloud).port
       → (IsTrue old.told → AsksOn old new port (line_of lines cloud) after request reply)
       → HasTalk old lines cloud talk → (reply ≡ first_reply talk.coming) × HasTalk new (set lines cloud after) cloud (said talk request)
   says after request reply talk lawful kept asks has =
@@ -130,7 +130,7 @@ module _ (old new : Telling) (lines : List Line) (cloud port : ℕ) (within : cl
           port = port;
           reached = port_kept lines cloud after within kept cloud ∙ there;
           asked = l.asked;
-          coming = subst (λ (b : Bool). HasComing b (new.port port).to_come (later_replies talk.coming)) (sym (ap (λ (x : Line). x.ended) (line_set lines cloud after within))) l.coming;
+          coming = subst (λ (b : Bool). HasComing b (new.port port).to_come (later_replies talk.coming)) (sym (ap (λ (x : CloudLine). x.ended) (line_set lines cloud after within))) l.coming;
         },
       )
 
@@ -150,7 +150,7 @@ module _ (old new : Telling) (lines : List Line) (cloud port : ℕ) (within : cl
         coming = subst (λ (p : Port). HasComing (line_of lines other).ended p.to_come talk.coming) (sym same) has.coming;
       }
 
-  pub said_else : (after : Line) → after.port ≡ (line_of lines cloud).port → (others : IsTrue old.told → OthersStay old new port) (other : ℕ) (talk : Talk) → other ≢ cloud → HasTalk old lines other talk → HasTalk new (set lines cloud after) other talk
+  pub said_else : (after : CloudLine) → after.port ≡ (line_of lines cloud).port → (others : IsTrue old.told → OthersStay old new port) (other : ℕ) (talk : Talk) → other ≢ cloud → HasTalk old lines other talk → HasTalk new (set lines cloud after) other talk
   said_else after kept others other talk apart has =
       let now = still_said others other talk apart has in
       record {
@@ -159,26 +159,26 @@ module _ (old new : Telling) (lines : List Line) (cloud port : ℕ) (within : cl
         port = now.port;
         reached = port_kept lines cloud after within kept other ∙ now.reached;
         asked = now.asked;
-        coming = subst (λ (l : Line). HasComing l.ended (new.port now.port).to_come talk.coming) (sym (line_other lines cloud other after apart)) now.coming;
+        coming = subst (λ (l : CloudLine). HasComing l.ended (new.port now.port).to_come talk.coming) (sym (line_other lines cloud other after apart)) now.coming;
       }
 
 -- ---- what an ask says of the ports
 
-module _ (old new : Telling) (lines : List Line) (cloud port : ℕ) (within : cloud < length lines) (there : (line_of lines cloud).port ≡ Some port) (others : OthersStay old new port) (now : List Line) where
+module _ (old new : Telling) (lines : List CloudLine) (cloud port : ℕ) (within : cloud < length lines) (there : (line_of lines cloud).port ≡ Some port) (others : OthersStay old new port) (now : List CloudLine) where
   -- it was answered
-  pub passed : (after : Line) (request reply : List ℕ) → now ≡ set lines cloud after → AsksOn old new port (line_of lines cloud) after request reply
-      → (p : ℕ) → (line_of lines cloud).port ≡ Some p → PassesOn old new (line_of lines cloud) (line_of now cloud) p request (Some reply)
+  pub passed : (after : CloudLine) (request reply : List ℕ) → now ≡ set lines cloud after → AsksOn old new port (line_of lines cloud) after request reply
+      → (p : ℕ) → (line_of lines cloud).port ≡ Some p → HasPassedOnPort old new (line_of lines cloud) (line_of now cloud) p request (Some reply)
   passed after request reply set_so asks p here =
       let same : port ≡ p = some_same port p (sym there ∙ here) in
-      let line : line_of now cloud ≡ after = ap (λ (l : List Line). line_of l cloud) set_so ∙ line_set lines cloud after within in
+      let line : line_of now cloud ≡ after = ap (λ (l : List CloudLine). line_of l cloud) set_so ∙ line_set lines cloud after within in
       record {
         others = subst (λ (n : ℕ). OthersStay old new n) same others;
-        heard = subst (λ (l : Line). AsksOn old new p (line_of lines cloud) l request reply) (sym line)
+        heard = subst (λ (l : CloudLine). AsksOn old new p (line_of lines cloud) l request reply) (sym line)
             (subst (λ (n : ℕ). AsksOn old new n (line_of lines cloud) after request reply) same asks);
       }
 
   -- it was lost
-  pub passed_lost : (request : List ℕ) (p : ℕ) → (line_of lines cloud).port ≡ Some p → PassesOn old new (line_of lines cloud) (line_of now cloud) p request None
+  pub passed_lost : (request : List ℕ) (p : ℕ) → (line_of lines cloud).port ≡ Some p → HasPassedOnPort old new (line_of lines cloud) (line_of now cloud) p request None
   passed_lost request p here = record { others = subst (λ (n : ℕ). OthersStay old new n) (some_same port p (sym there ∙ here)) others; heard = tt }
 
 -- ---- replies that are to come

@@ -1,7 +1,7 @@
 -- Ports that were dialled.
 use Rattle.std.specs.Prelude.{◌≡◌, ◌≢◌, ℕ, suc, List, [], ◌∷◌, All}
 use Rattle.std.specs.List.{Contains}
-use Rattle.cd_edges.specs.Ports.{Telling}
+use Rattle.transcript.specs.CdEdges.Ports.{Telling}
 
 -- these are the ports that are opened next, in order
 abbrev pub AreNext : ℕ → List ℕ → Type 0

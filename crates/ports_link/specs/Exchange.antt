@@ -1,14 +1,14 @@
 -- One request and its reply on a port, as frames.
 use Rattle.std.specs.Prelude.{◌≡◌, ℕ, ◌<◌, List, [], ◌++◌, length}
-use Rattle.frames.specs.Frames.{IsContent, frame}
-use Rattle.cd_edges.specs.Ports.{Telling, Sent, Received}
+use Rattle.user_dedup.specs.Frames.Frames.{IsContent, frame}
+use Rattle.transcript.specs.CdEdges.Ports.{Telling, Sent, Received}
 
 -- no whole frame stands in front of these bytes
 abbrev pub NoFrame : List ℕ → Type 0
 NoFrame bytes = (content behind : List ℕ) → IsContent content → bytes ≡ frame content ++ behind → ⊥
 
 -- The request's frame was sent on a port, and the reply's frame was the first that was to come there; just this frame came.
-pub record Replied (old new : Telling) (number : ℕ) (request reply : List ℕ) : Type 0 where
+pub record HasRepliedOnPort (old new : Telling) (number : ℕ) (request reply : List ℕ) : Type 0 where
   pub lawful : IsContent reply
   pub between : Telling
   pub sent : Sent old between number (frame request)

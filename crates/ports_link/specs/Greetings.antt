@@ -1,10 +1,10 @@
 -- What the clouds have to be that are asked Hello.
 use Rattle.std.specs.Prelude.{◌≡◌, ℕ, ◌<◌, ◌≤◌, List, [], ◌∷◌, ◌++◌, length, All}
-use Rattle.cd_base.specs.declared.shape.Shape.{Shape}
-use Rattle.messages.specs.declared.reply.Reply.TheVariants as replies
-use Rattle.messages.specs.Replies.{IsReply}
-use Rattle.ports_link.specs.declared.judging.Asked.{Asked}
-use Rattle.ports_link.specs.declared.judging.Asked.TheVariants as asked
+use Rattle.user_dedup.specs.CdBase.shape.Shape.{Shape}
+use Rattle.user_dedup.specs.Messages.reply.Reply.TheVariants as replies
+use Rattle.user_dedup.specs.Messages.Replies.{IsReply}
+use Rattle.ports_link.specs.declared.judging.AskedClouds.{AskedClouds}
+use Rattle.ports_link.specs.declared.judging.AskedClouds.TheVariants as asked
 use Rattle.ports_link.specs.declared.judging.Greeting.{Greeting}
 use Rattle.ports_link.specs.declared.refused.Refused.{Refused}
 use Rattle.ports_link.specs.declared.refused.Refused.TheVariants as refusals
@@ -33,19 +33,19 @@ IsOfFirst [] shape = ⊥
 IsOfFirst (first ∷ more) shape = (shape.n ≡ first.n) × (shape.k ≡ first.k)
 
 -- A backup asks all n clouds, each at the address of its number. A restore asks k of them or more, in order.
-abbrev pub HasPlace : Asked → ℕ → List Greeting → Greeting → Type 0
+abbrev pub HasPlace : AskedClouds → ℕ → List Greeting → Greeting → Type 0
 HasPlace asked.Backup count before g = (g.n ≡ count) × (g.cloud ≡ length before)
 HasPlace asked.Restore count before g = (g.k ≤ count) × All (λ (b : Greeting). b.cloud < g.cloud) before
     × (g.cloud < g.n)
 
 -- The reply of the next of so many addresses is as it has to be, behind these.
-pub record IsAsAsked (asked : Asked) (count : ℕ) (before : List Greeting) (g : Greeting) : Type 0 where
+pub record IsAsAsked (asked : AskedClouds) (count : ℕ) (before : List Greeting) (g : Greeting) : Type 0 where
   pub shaped : HasShape g
   pub same : All (λ b. HaveOneShape b g) before
   pub place : HasPlace asked count before g
 
 -- each is as it has to be behind those before it
-abbrev pub AreAsAsked : Asked → ℕ → List Greeting → List Greeting → Type 0
+abbrev pub AreAsAsked : AskedClouds → ℕ → List Greeting → List Greeting → Type 0
 AreAsAsked asked count before [] = Unit {0}
 AreAsAsked asked count before (g ∷ more) = IsAsAsked asked count before g
     × AreAsAsked asked count (before ++ g ∷ []) more
@@ -57,7 +57,7 @@ first_byte (byte ∷ bytes) = byte
 
 -- The content is not what the next of so many addresses has to reply, behind these, and the refusal has its numbers, or
 -- its first byte.
-abbrev pub IsRefused : Asked → ℕ → List Greeting → List ℕ → Refused → Type 0
+abbrev pub IsRefused : AskedClouds → ℕ → List Greeting → List ℕ → Refused → Type 0
 IsRefused asked count before content (refusals.Hello position n k cloud) =
     (position ≡ length before) × IsHello content (record { n = n; k = k; cloud = cloud })
     × ¬ IsAsAsked asked count before (record { n = n; k = k; cloud = cloud })

@@ -2,15 +2,15 @@
 use Rattle.std.specs.Prelude.{◌≡◌, ◌⊎◌, ℕ, ◌<◌, ◌≤◌, IsTrue, List, [], ◌∷◌, length, map, All, Option, Some, None}
 use Rattle.std.specs.List.{Contains}
 use Rattle.std.specs.List.Sorted.{IsStrictlyIncreasing}
-use Rattle.cd_base.specs.declared.ids.CloudNo.{CloudNo}
-use Rattle.cd_edges.specs.Ports.{Telling}
-use Rattle.messages.specs.declared.request.Request.TheVariants as requests
-use Rattle.messages.specs.Requests.{request_bytes}
-use Rattle.ports_link.specs.Exchange.{Replied, Broke}
+use Rattle.user_dedup.specs.CdBase.ids.CloudNo.{CloudNo}
+use Rattle.transcript.specs.CdEdges.Ports.{Telling}
+use Rattle.user_dedup.specs.Messages.request.Request.TheVariants as requests
+use Rattle.user_dedup.specs.Messages.Requests.{request_bytes}
+use Rattle.ports_link.specs.Exchange.{HasRepliedOnPort, Broke}
 use Rattle.ports_link.specs.Lines.{has_port, lines_for}
 use Rattle.ports_link.specs.Tells.{HasTalk}
-use Rattle.ports_link.specs.declared.judging.Asked.{Asked}
-use Rattle.ports_link.specs.declared.judging.Asked.TheVariants as asked
+use Rattle.ports_link.specs.declared.judging.AskedClouds.{AskedClouds}
+use Rattle.ports_link.specs.declared.judging.AskedClouds.TheVariants as asked
 use Rattle.ports_link.specs.declared.judging.Greeting.{Greeting}
 use Rattle.ports_link.specs.declared.greeting.Greeted.{Greeted}
 
@@ -21,7 +21,7 @@ hello = request_bytes requests.Hello
 -- The frame of Hello was sent on a port, and this is the content of the first frame that was to come there, just which
 -- came, or an empty one where none was to come.
 abbrev pub Hears : Telling → Telling → ℕ → List ℕ → Type 0
-Hears old new port content = Replied old new port hello content ⊎ (Broke old new port hello × (content ≡ []))
+Hears old new port content = HasRepliedOnPort old new port hello content ⊎ (Broke old new port hello × (content ≡ []))
 
 -- the ports of some lines
 abbrev pub ports_of : List (CloudNo × ℕ) → List ℕ
@@ -43,7 +43,7 @@ abbrev pub clouds_of : List (CloudNo × ℕ) → List ℕ
 clouds_of lines = map (λ (line : CloudNo × ℕ). line.0.0) lines
 
 -- A backup has a line for each cloud of the shape; a restore one for each of k clouds or more, which rise.
-abbrev pub HasClouds : Asked → Greeted → Type 0
+abbrev pub HasClouds : AskedClouds → Greeted → Type 0
 HasClouds asked.Backup greeted =
     (length greeted.lines.items ≡ greeted.shape.n)
     × ((cloud : ℕ) → cloud < greeted.shape.n → Contains (clouds_of greeted.lines.items) cloud)
@@ -53,7 +53,8 @@ HasClouds asked.Restore greeted =
     × All (λ cloud. cloud < greeted.shape.n) (clouds_of greeted.lines.items)
 
 -- The clouds that were greeted, each with its port, in the order of the ports, and their shape.
-pub record AreGreeted (asked : Asked) (dialled : List ℕ) (greetings : List Greeting) (greeted : Greeted) : Type 0 where
+pub record AreGreeted (asked : AskedClouds) (dialled : List ℕ) (greetings : List Greeting)
+    (greeted : Greeted) : Type 0 where
   pub lines : greeted.lines.items ≡ lines_by greetings dialled
   pub ports : ports_of greeted.lines.items ≡ dialled
   pub shape : All (λ (g : Greeting). (g.n ≡ greeted.shape.n) × (g.k ≡ greeted.shape.k)) greetings

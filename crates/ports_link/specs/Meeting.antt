@@ -1,11 +1,11 @@
 -- Clouds that are met one after another: each is dialled and asked Hello when the Hello of the one before came as asked.
 use Rattle.std.specs.Prelude.{◌≡◌, ℕ, ◌<◌, IsTrue, List, [], ◌∷◌, ◌++◌, length, Result, Ok, Err}
-use Rattle.cd_edges.specs.Causes.{Rose}
-use Rattle.cd_edges.specs.Ports.{Telling, Opens, OthersStay}
+use Rattle.transcript.specs.CdEdges.Causes.{Rose}
+use Rattle.transcript.specs.CdEdges.Ports.{Telling, HasOpenedPort, OthersStay}
 use Rattle.ports_link.specs.Dialled.{AreDialled}
 use Rattle.ports_link.specs.Greetings.{IsHello, IsAsAsked, IsRefused}
 use Rattle.ports_link.specs.Hellos.{AreGreeted, Hears}
-use Rattle.ports_link.specs.declared.judging.Asked.{Asked}
+use Rattle.ports_link.specs.declared.judging.AskedClouds.{AskedClouds}
 use Rattle.ports_link.specs.declared.judging.Greeting.{Greeting}
 use Rattle.ports_link.specs.declared.refused.Refused.{Refused}
 use Rattle.ports_link.specs.declared.greeting.Greeted.{Greeted}
@@ -14,11 +14,11 @@ use Rattle.ports_link.specs.declared.meeting.MeetErr.TheVariants as errors
 
 -- The next of so many addresses was dialled, behind such replies, and asked Hello, and its reply is this one and as asked.
 -- The ports say so where they tell their bytes.
-pub record IsMet (asked : Asked) (count : ℕ) (before : List Greeting) (t : Telling) (port : ℕ) (g : Greeting)
+pub record IsMet (asked : AskedClouds) (count : ℕ) (before : List Greeting) (t : Telling) (port : ℕ) (g : Greeting)
     (u : Telling) : Type 0 where
   pub some : length before < count
   pub opened : Telling
-  pub opens : IsTrue t.told → Opens t opened port
+  pub opens : IsTrue t.told → HasOpenedPort t opened port
   pub content : List ℕ
   pub hears : IsTrue t.told → Hears opened u port content
   pub told : u.told ≡ t.told
@@ -26,11 +26,11 @@ pub record IsMet (asked : Asked) (count : ℕ) (before : List Greeting) (t : Tel
   pub as_asked : IsAsAsked asked count before g
 
 -- It was dialled and asked Hello, and its reply isn't as asked: the refusal says which, and what came.
-pub record IsUnmet (asked : Asked) (count : ℕ) (before : List Greeting) (t : Telling) (port : ℕ) (why : Refused)
+pub record IsUnmet (asked : AskedClouds) (count : ℕ) (before : List Greeting) (t : Telling) (port : ℕ) (why : Refused)
     (u : Telling) : Type 0 where
   pub some : length before < count
   pub opened : Telling
-  pub opens : IsTrue t.told → Opens t opened port
+  pub opens : IsTrue t.told → HasOpenedPort t opened port
   pub content : List ℕ
   pub hears : IsTrue t.told → Hears opened u port content
   pub told : u.told ≡ t.told
@@ -40,7 +40,7 @@ pub record IsUnmet (asked : Asked) (count : ℕ) (before : List Greeting) (t : T
 pub record IsUnheard (count : ℕ) (before : List Greeting) (t : Telling) (port : ℕ) (u : Telling) : Type 0 where
   pub some : length before < count
   pub opened : Telling
-  pub opens : IsTrue t.told → Opens t opened port
+  pub opens : IsTrue t.told → HasOpenedPort t opened port
   pub others : IsTrue t.told → OthersStay opened u port
   pub none : IsTrue t.told → u.opened ≡ opened.opened
   pub told : u.told ≡ t.told
@@ -48,7 +48,7 @@ pub record IsUnheard (count : ℕ) (before : List Greeting) (t : Telling) (port 
 -- What came of so many addresses, behind such replies, with the ports that were dialled, in order: the reply of each was
 -- as asked, to the last; or a reply wasn't, or the ports failed in a Hello, and the cloud of this port is the last that
 -- was dialled; or the next couldn't be dialled, and nothing more happened; or memory ran out.
-pub data Meets (asked : Asked) (count : ℕ) : List Greeting → Telling → List ℕ → Result (List Greeting) MeetErr
+pub data Meets (asked : AskedClouds) (count : ℕ) : List Greeting → Telling → List ℕ → Result (List Greeting) MeetErr
     → Telling → Type 0 where
   Through : (before : List Greeting) (t : Telling) → length before ≡ count
       → Meets asked count before t [] (Ok before) t
@@ -67,7 +67,7 @@ pub data Meets (asked : Asked) (count : ℕ) : List Greeting → Telling → Lis
       → u.told ≡ t.told → Meets asked count before t ports (Err errors.NoMemory) u
 
 -- What came of all of so many addresses.
-abbrev pub MeetsAll : Asked → ℕ → Telling → Telling → Result Greeted MeetErr → Type 0
+abbrev pub MeetsAll : AskedClouds → ℕ → Telling → Telling → Result Greeted MeetErr → Type 0
 MeetsAll asked count old new (Ok greeted) =
     (dialled : List ℕ) × (greetings : List Greeting) × Meets asked count [] old dialled (Ok greetings) new
     × AreGreeted asked dialled greetings greeted

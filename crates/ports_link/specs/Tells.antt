@@ -1,9 +1,9 @@
 -- What a link over ports tells: which clouds it reaches, and what was said with them.
 use Rattle.std.specs.Prelude.{◌≡◌, ◌≢◌, ◌≤◌, ℕ, Bool, true, false, List, [], ◌++◌, Option, Some, None, IsTrue}
 use Rattle.user_dedup.specs.Link.{Exchange, LinkTelling, Talk}
-use Rattle.frames.specs.Frames.{AreContents, stream}
-use Rattle.cd_edges.specs.Ports.{Telling, OthersStay}
-use Rattle.ports_link.specs.declared.lines.Line.{Line}
+use Rattle.user_dedup.specs.Frames.Frames.{AreContents, stream}
+use Rattle.transcript.specs.CdEdges.Ports.{Telling, OthersStay}
+use Rattle.ports_link.specs.declared.lines.CloudLine.{CloudLine}
 use Rattle.ports_link.specs.declared.link.PortsLink.{PortsLink}
 use Rattle.ports_link.specs.Exchange.{NoFrame}
 use Rattle.ports_link.specs.Lines.{AsksOn, has_port, line_of}
@@ -26,7 +26,7 @@ HasComing true bytes contents = contents ≡ []
 HasComing false bytes contents = BringsReplies bytes contents
 
 -- What was said with a cloud, where the ports tell their bytes and no two clouds have one port.
-pub record HasTalk (t : Telling) (lines : List Line) (cloud : ℕ) (talk : Talk) : Type 0 where
+pub record HasTalk (t : Telling) (lines : List CloudLine) (cloud : ℕ) (talk : Talk) : Type 0 where
   pub told : IsTrue t.told
   pub apart : (a b port : ℕ) → (line_of lines a).port ≡ Some port → (line_of lines b).port ≡ Some port → a ≡ b
   pub port : ℕ
@@ -35,13 +35,13 @@ pub record HasTalk (t : Telling) (lines : List Line) (cloud : ℕ) (talk : Talk)
   pub coming : HasComing (line_of lines cloud).ended (t.port port).to_come talk.coming
 
 -- what the reply says of an ask on a line; nothing where it was lost
-abbrev pub IsHeard : Telling → Telling → ℕ → Line → Line → List ℕ → Option (List ℕ) → Type 0
+abbrev pub IsHeard : Telling → Telling → ℕ → CloudLine → CloudLine → List ℕ → Option (List ℕ) → Type 0
 IsHeard old new port before after request None = Unit {0}
 IsHeard old new port before after request (Some reply) = AsksOn old new port before after request reply
 
 -- An ask on a cloud's port changed no other port. Where it wasn't lost, the request's frame was sent there, and the reply is the content of
 -- the first frame to come, just which was taken, or an empty one where none was to come.
-pub record PassesOn (old new : Telling) (before after : Line) (port : ℕ) (request : List ℕ) (reply : Option (List ℕ)) : Type 0 where
+pub record HasPassedOnPort (old new : Telling) (before after : CloudLine) (port : ℕ) (request : List ℕ) (reply : Option (List ℕ)) : Type 0 where
   pub others : OthersStay old new port
   pub heard : IsHeard old new port before after request reply
 
@@ -54,7 +54,7 @@ pub record PassesOver {P : Type 0} (tells : P → Telling) (faults : P → ℕ) 
   pub lines : (cloud : ℕ) → (line_of new.lines.items.items cloud).port ≡ (line_of old.lines.items.items cloud).port
   pub apart : (cloud : ℕ) → cloud ≢ e.cloud → line_of new.lines.items.items cloud ≡ line_of old.lines.items.items cloud
   pub bytes : IsTrue (tells old.ports.now).told → (port : ℕ) → (line_of old.lines.items.items e.cloud).port ≡ Some port
-      → PassesOn (tells old.ports.now) (tells new.ports.now)
+      → HasPassedOnPort (tells old.ports.now) (tells new.ports.now)
       (line_of old.lines.items.items e.cloud) (line_of new.lines.items.items e.cloud) port e.content e.reply
 
 -- It reaches the clouds that have a port, and tells of no cloud what it stands for. What was lost are the ports' faults.

@@ -2,13 +2,13 @@
 
 ghost use Rattle.std.specs.Prelude.{◌≡◌, ◌+◌, ◌-◌, ◌≤◌, ◌<◌, [], ◌++◌, length, take, drop, min, IsTrue, IsFalse, IfOk, OnErr};
 ghost use Rattle.std.specs.Int.{w32, to_be_bytes};
-ghost use Rattle.cd_edges.specs.Causes.{HasCause};
-ghost use Rattle.frames.specs.Frames.{IsContent, IsLength, frame, frame_limit};
-ghost use Rattle.cd_edges.specs.Ports.{OthersStay, Received, Sent, SentPart};
-ghost use Rattle.ports_link.specs.Exchange.{Broke, Came, CameNone, Cut, Ended, Replied, Whole};
+ghost use Rattle.transcript.specs.CdEdges.Causes.{HasCause};
+ghost use Rattle.user_dedup.specs.Frames.Frames.{IsContent, IsLength, frame, frame_limit};
+ghost use Rattle.transcript.specs.CdEdges.Ports.{OthersStay, Received, Sent, SentPart};
+ghost use Rattle.ports_link.specs.Exchange.{Broke, Came, CameNone, Cut, Ended, HasRepliedOnPort, Whole};
 
-use cd_edges::{Failed, Ports, receive, send_all};
-use frames::{ReplyBuf, header, is_length};
+use transcript::{Failed, Ports, receive, send_all};
+use user_dedup::{ReplyBuf, header, is_length};
 
 // How many bytes of a frame go out with its length: a request of 256 fingerprints is one piece.
 const FRONT: usize = 9216;
@@ -198,7 +198,8 @@ pub fn exchange<P: Ports>(
 ) -> Result<bool, Failed>
     requires { IsContent request.now }
     ensures replied { IsTrue (P.tells ports.old).told
-        → IfOk result (λ all. IsTrue all → Replied (P.tells ports.old) (P.tells ports.new) port request.now reply.new) }
+        → IfOk result (λ all. IsTrue all
+        → HasRepliedOnPort (P.tells ports.old) (P.tells ports.new) port request.now reply.new) }
     ensures broke { IsTrue (P.tells ports.old).told
         → IfOk result (λ all. IsFalse all → Broke (P.tells ports.old) (P.tells ports.new) port request.now) }
     ensures empty { IfOk result (λ all. IsFalse all → reply.new ≡ []) }

@@ -1,17 +1,16 @@
 //! Hello, asked of a port, and the clouds that replied.
 
 ghost use Rattle.std.specs.Prelude.{◌≡◌, ◌≤◌, [], length, All, IsTrue, IfOk, OnOk, option_map};
-ghost use Rattle.cd_edges.specs.Causes.{HasCause};
-ghost use Rattle.cd_edges.specs.Ports.{OthersStay};
+ghost use Rattle.transcript.specs.CdEdges.Causes.{HasCause};
+ghost use Rattle.transcript.specs.CdEdges.Ports.{OthersStay};
 ghost use Rattle.ports_link.specs.Greetings.{AreAsAsked, HasShape, IsOfFirst};
 ghost use Rattle.ports_link.specs.Hellos.{AreGreeted, Hears, NextGreeted, lines_by};
 
 use crate::exchange;
-use crate::judging::{Asked, Greeting};
-use cd_base::{CloudNo, NoMemory, Shape};
-use cd_edges::{Failed, Ports};
-use frames::ReplyBuf;
+use crate::judging::{AskedClouds, Greeting};
 use std::alloc::Global;
+use transcript::{Failed, Ports};
+use user_dedup::{CloudNo, NoMemory, ReplyBuf, Shape};
 
 /// The clouds that were greeted.
 #[derive(Debug, Drop)]
@@ -95,7 +94,7 @@ fn shape_of_first(greetings: &[Greeting]) -> Shape
 /// The clouds that replied so, with their ports.
 pub fn together(
     alloc: Global,
-    asked: Asked,
+    asked: AskedClouds,
     greetings: &[Greeting],
     dialled: &[u32],
 ) -> Result<Greeted, NoMemory>

@@ -1,16 +1,16 @@
 //! What the clouds reply to Hello, and whether they are as asked.
 
 ghost use Rattle.std.specs.Prelude.{◌≡◌, ◌↔◌, ◌<◌, ◌≤◌, ◌^◌, length, All, IsTrue, IfOk, IfErr, MatchOption};
-ghost use Rattle.cd_base.specs.Reading.{AreBytes};
+ghost use Rattle.user_dedup.specs.CdBase.Reading.{AreBytes};
 ghost use Rattle.ports_link.specs.Greetings.{IsHello, NoHello, HasShape, HasPlace, HaveOneShape, IsAsAsked, IsRefused};
 ghost use Rattle.ports_link.specs.Greetings.{first_byte};
 
 use crate::refused::Refused;
-use cd_base::Shape;
+use user_dedup::Shape;
 
 /// What the clouds are asked for, and so which they have to be.
 #[derive(Clone, Copy, Debug, PartialEq, Eq)]
-pub enum Asked {
+pub enum AskedClouds {
     /// All n clouds of a shape, each at the address of its number.
     Backup,
     /// k clouds of a shape or more, rising.
@@ -82,12 +82,14 @@ fn are_below(before: &[Greeting], cloud: u8) -> bool
 }
 
 // Whether the cloud is the one of this address.
-fn has_place(asked: Asked, count: usize, before: &[Greeting], greeting: &Greeting) -> bool
+fn has_place(asked: AskedClouds, count: usize, before: &[Greeting], greeting: &Greeting) -> bool
     ensures { IsTrue result ↔ HasPlace asked count before.now greeting.now }
 {
     match asked {
-        Asked::Backup => { greeting.n as usize == count && greeting.cloud as usize == before.len() }
-        Asked::Restore => {
+        AskedClouds::Backup => {
+            greeting.n as usize == count && greeting.cloud as usize == before.len()
+        }
+        AskedClouds::Restore => {
             greeting.k as usize <= count
                 && are_below(before, greeting.cloud)
                 && greeting.cloud < greeting.n
@@ -103,7 +105,7 @@ fn has_shape(greeting: &Greeting) -> bool
 }
 
 // Whether the reply of the next address is as it has to be.
-fn is_as_asked(asked: Asked, count: usize, before: &[Greeting], greeting: &Greeting) -> bool
+fn is_as_asked(asked: AskedClouds, count: usize, before: &[Greeting], greeting: &Greeting) -> bool
     ensures { IsTrue result ↔ IsAsAsked asked count before.now greeting.now }
 {
     has_shape(greeting)
@@ -114,7 +116,7 @@ fn is_as_asked(asked: Asked, count: usize, before: &[Greeting], greeting: &Greet
 /// Reads what the next of `count` addresses replied to Hello, behind these replies. The error is why it is refused,
 /// with its position.
 pub fn judge(
-    asked: Asked,
+    asked: AskedClouds,
     count: usize,
     before: &[Greeting],
     content: &[u8],

@@ -1,19 +1,17 @@
 //! A link over ports.
 
 ghost use Rattle.std.specs.Prelude.{◌≡◌, ℕ, [], ◌∷◌, length, All, Some, IsTrue, IfOk, OnErr, MatchOption};
-ghost use Rattle.cd_edges.specs.Causes.{HasCause};
-ghost use Rattle.frames.specs.Frames.{IsContent};
-ghost use Rattle.cd_edges.specs.Ports.{OthersStay};
-ghost use Rattle.cd_base.specs.Numbers.{numbers_of};
+ghost use Rattle.transcript.specs.CdEdges.Causes.{HasCause};
+ghost use Rattle.user_dedup.specs.Frames.Frames.{IsContent};
+ghost use Rattle.transcript.specs.CdEdges.Ports.{OthersStay};
+ghost use Rattle.user_dedup.specs.CdBase.Numbers.{numbers_of};
 ghost use Rattle.ports_link.specs.Lines.{AsksOn, has_port, lines_for};
 
 use crate::asking::{exchange, send_frame};
-use crate::lines::{Line, Lines};
-use cd_base::{CloudNo, Clouds, NoMemory, Shape};
-use cd_edges::{Failed, Ports};
-use frames::ReplyBuf;
+use crate::lines::{CloudLine, Lines};
 use std::alloc::Global;
-use user_dedup::{Link, Lost};
+use transcript::{Failed, Ports};
+use user_dedup::{CloudNo, Clouds, Link, Lost, NoMemory, ReplyBuf, Shape};
 
 /// Reaches clouds over ports: a request goes out as a frame, and the reply comes back as one. Once no whole frame was to come on a
 /// port, each later reply of that cloud is empty too.
@@ -47,7 +45,7 @@ pub fn lines_of(alloc: Global, dialled: &[(CloudNo, u32)]) -> Result<Lines, NoMe
         };
         lines.set(
             cloud,
-            Line {
+            CloudLine {
                 port: Some(port),
                 ended: false,
             },
@@ -143,10 +141,10 @@ impl<'a, P: Ports> PortsLink<'a, P> {
 fn ask_on<P: Ports>(
     ports: &mut P,
     port: u32,
-    line: Line,
+    line: CloudLine,
     request: &[u8],
     reply: &mut ReplyBuf,
-) -> Result<Line, Failed>
+) -> Result<CloudLine, Failed>
     requires content { IsContent request.now }
     requires port { line.port ≡ Some port }
     ensures asks { IsTrue (P.tells ports.old).told
@@ -162,7 +160,7 @@ fn ask_on<P: Ports>(
         return Ok(line);
     }
     let heard = exchange(ports, port, request, reply)?;
-    Ok(Line {
+    Ok(CloudLine {
         port: line.port,
         ended: !heard,
     })

@@ -7,12 +7,11 @@ ghost use Rattle.ports_link.specs.Hellos.{AreReached, HaveTalks, ports_of};
 ghost use Rattle.ports_link.specs.Meeting.{CountsMeeting, IsMet, Meets, MeetsAll};
 
 use crate::greeting::{Greeted, ask_hello, together};
-use crate::judging::{Asked, Greeting, judge};
+use crate::judging::{AskedClouds, Greeting, judge};
 use crate::refused::Refused;
-use cd_base::NoMemory;
-use cd_edges::{Failed, Ports};
-use frames::ReplyBuf;
 use std::alloc::Global;
+use transcript::{Failed, Ports};
+use user_dedup::{NoMemory, ReplyBuf};
 
 /// Why the clouds were not all met.
 #[derive(Clone, Copy, Debug, PartialEq, Eq)]
@@ -47,7 +46,7 @@ fn next_address(addresses: &[String]) -> Option<(&str, &[String])>
 // Dials the next of `count` addresses, behind these replies, and asks Hello there.
 fn meet_next<P: Ports>(
     ports: &mut P,
-    asked: Asked,
+    asked: AskedClouds,
     count: usize,
     before: &[Greeting],
     address: &str,
@@ -81,7 +80,7 @@ fn meet_next<P: Ports>(
 fn meet_each<P: Ports>(
     alloc: Global,
     ports: &mut P,
-    asked: Asked,
+    asked: AskedClouds,
     addresses: &[String],
     reply: &mut ReplyBuf,
 ) -> Result<Replies, MeetErr>
@@ -137,7 +136,7 @@ fn meet_each<P: Ports>(
 pub fn meet_all<P: Ports>(
     alloc: Global,
     ports: &mut P,
-    asked: Asked,
+    asked: AskedClouds,
     addresses: &[String],
     reply: &mut ReplyBuf,
 ) -> Result<Greeted, MeetErr>

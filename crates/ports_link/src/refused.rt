@@ -3,8 +3,8 @@
 ghost use Rattle.std.specs.Prelude.{◌≡◌, ◌++◌, ◌∷◌, length, take, decimal, OnOk, OnErr};
 ghost use Rattle.ports_link.specs.Refusals.{hello_numbers, refused_text};
 
-use cd_base::{Bytes, CloudNo, NoMemory};
 use transcript::{Line, Refusal, write_line};
+use user_dedup::{Bytes, CloudNo, NoMemory};
 
 /// What came in the place of the Hello that was asked for.
 #[derive(Clone, Copy, Debug, PartialEq, Eq)]

@@ -1,7 +1,8 @@
+pub mod CdBase
 pub mod Cuts
-pub mod Rolling
-pub mod Window
+pub mod Lanes
 pub mod Reading
+pub mod Rolling
 pub mod Rule
 pub mod Walk
-pub mod Lanes
+pub mod Window

@@ -11,5 +11,6 @@ mod pieces;
 mod scan;
 mod tables;
 
+pub use cd_base::{Bytes, CloudNo, Ends, NoMemory, Shape, sha256, share_len};
 pub use chunker::Chunker;
 pub use pieces::cut_pieces;

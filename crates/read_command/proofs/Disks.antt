@@ -2,31 +2,31 @@
 use Rattle.std.proofs.Common.{◌≡◌, ℕ, true, false, List, Option, refl, sym, ap, ◌∙◌, subst, inl, inr}
 use Rattle.std.specs.Prelude.{IsTrue, Some, None, Result, Ok, Err, IfOk, IsSomeAnd}
 use Rattle.std.specs.List.{Contains}
-use Rattle.cd_base.specs.declared.ids.CloudNo.{CloudNo}
-use Rattle.journal_start.specs.declared.rooms.Rooms.{Rooms}
-use Rattle.cd_edges.specs.declared.area.Area.TheVariants.{Journal}
-use Rattle.cd_edges.specs.Disk.{Areas, Cloud, Image, IsImage, reads}
-use Rattle.cd_edges.specs.Shelf.{HasFailed, KeepsCounts, Stays}
-use Rattle.cd_edges.proofs.Moments.{stayed, weaker}
+use Rattle.half_journal.specs.CdBase.ids.CloudNo.{CloudNo}
+use Rattle.half_journal.specs.JournalStart.rooms.UserRooms.{UserRooms}
+use Rattle.half_journal.specs.CdEdges.area.Area.TheVariants.{Journal}
+use Rattle.half_journal.specs.CdEdges.Disk.{Areas, Cloud, Image, IsImage, reads}
+use Rattle.half_journal.specs.CdEdges.Shelf.{HasFailed, KeepsCounts, Stays}
+use Rattle.half_journal.proofs.CdEdges.Moments.{stayed, weaker}
 use Rattle.half_journal.specs.declared.errors.OpenErr.{OpenErr}
 use Rattle.half_journal.specs.declared.errors.OpenErr.TheVariants as errors
-use Rattle.journal_start.specs.declared.start.Header.{Header}
+use Rattle.half_journal.specs.JournalStart.start.Header.{Header}
 use Rattle.half_journal.specs.Openings.{MayBecome, OnFault}
-use Rattle.journal_halves.specs.Beginnings.{IsUnbegun}
-use Rattle.journal_halves.specs.Halves.{IsCurrent}
-use Rattle.journal_start.specs.declared.start.Start.{Start}
+use Rattle.half_journal.specs.JournalHalves.Beginnings.{IsUnbegun}
+use Rattle.half_journal.specs.JournalHalves.Halves.{IsCurrent}
+use Rattle.half_journal.specs.JournalStart.start.Start.{Start}
 use Rattle.local_link.proofs.StoreOpening.OneStart.{current_whole}
-use Rattle.user_dedup.specs.declared.command.Command.{Command}
+use Rattle.cloud_areas.specs.UserDedup.command.Command.{Command}
 use Rattle.local_link.specs.StoreOpening.Exact.{Opens}
 use Rattle.local_link.specs.CloudMemory.Rooms.{memory_of}
 use Rattle.local_link.specs.CloudServer.Openings.{HasNoOther, NotBegunIs, OpensTo, OtherStoreIs}
 use Rattle.local_link.specs.StoreOpening.Spared.{IsOkOrFault, MayBegin, Spares}
-use Rattle.user_dedup.specs.Spending.{IsWithin}
+use Rattle.cloud_areas.specs.UserDedup.Spending.{IsWithin}
 use Rattle.cloud_areas.specs.Peers.{StandsForSome, ImagesNow, ImagesSince}
 use Rattle.cloud_areas.specs.Standing.{StandsFor}
-use Rattle.cd_base.specs.declared.shape.Shape.{Shape}
+use Rattle.half_journal.specs.CdBase.shape.Shape.{Shape}
 use Rattle.local_link.specs.CloudServer.server.Server.{Server}
-use Rattle.user_dedup.specs.Cloud.{counted}
+use Rattle.cloud_areas.specs.UserDedup.Cloud.{counted}
 use Rattle.local_link.specs.CloudServer.Serving.{settled_with}
 use Rattle.local_link.specs.declared.link.LocalLink.{LocalLink}
 use Rattle.local_link.specs.declared.servers.Servers.{Servers}
@@ -35,7 +35,7 @@ use Rattle.local_link.specs.Steps.{IsClosedIn}
 use Rattle.local_link.specs.Tells.{server_at, rooms_at, rooms_of, header_at, StandsAt}
 use Rattle.read_command.specs.declared.end.ReadEnd.{ReadEnd}
 use Rattle.read_command.specs.declared.end.ReadEnd.TheVariants as ends
-use Rattle.read_command.specs.Disks.{IsUnopened, IsSpared, InItsRooms, NamesRooms, StaysShut, Current, Unbegun, Broken}
+use Rattle.read_command.specs.Disks.{IsUnopenedToRead, IsSpared, InItsRooms, NamesRooms, StaysShut, Current, Unbegun, Broken}
 use Rattle.read_command.specs.Opening.{EndsOne, IsFree, Opening, end_by}
 
 -- ---- where nothing is begun
@@ -70,7 +70,7 @@ OneHeader = (image : Image) (header : Header) (list : List Command) (half : ℕ)
     → IsCurrent (image Journal) half start → start.header ≡ header
 
 -- the rooms that a journal names are those with which its areas stand for a list
-pub rooms_one : OneHeader → (image : Image) (header : Header) (list : List Command) (rooms : Rooms) → StandsFor image header list → ¬ IsUnbegun (image Journal)
+pub rooms_one : OneHeader → (image : Image) (header : Header) (list : List Command) (rooms : UserRooms) → StandsFor image header list → ¬ IsUnbegun (image Journal)
     → NamesRooms (image Journal) rooms → rooms ≡ header.rooms
 unfolding StandsFor
 rooms_one one_header image header list rooms stands begun (Current half start is) = ap (λ (h : Header). h.rooms) (one_header image header list half start stands begun is)
@@ -85,7 +85,7 @@ pub begun_by : (bytes : List ℕ) → MayBegin bytes false → ¬ IsUnbegun byte
 begun_by bytes may unbegun = let never : false ≡ true = may unbegun in cc
 
 -- a server that is closed in some rooms has these
-pub rooms_in : (rooms : Rooms) (servers : Servers) (cloud : ℕ) → IsSomeAnd (server_at servers cloud) (IsClosedIn rooms) → rooms_at servers cloud ≡ rooms
+pub rooms_in : (rooms : UserRooms) (servers : Servers) (cloud : ℕ) → IsSomeAnd (server_at servers cloud) (IsClosedIn rooms) → rooms_at servers cloud ≡ rooms
 rooms_in rooms servers cloud is = by_server (server_at servers cloud) is
   where
     by_server : (at : Option Server) → IsSomeAnd at (IsClosedIn rooms) → rooms_of at ≡ rooms
@@ -134,7 +134,7 @@ free_by cloud (errors.OtherStore found asked at) is = absurd is
 
 module _ {V : Type 0} (clouds : V → ℕ → Cloud) where
   -- the call that opens a server in the rooms that the journal names
-  pub opening_by : OneHeader → (mid new : LocalLink V) (cloud : CloudNo) (rooms : Rooms) (before now : ℕ) (result : Result ℕ OpenErr) (came : Result (Unit {0}) ReadEnd)
+  pub opening_by : OneHeader → (mid new : LocalLink V) (cloud : CloudNo) (rooms : UserRooms) (before now : ℕ) (result : Result ℕ OpenErr) (came : Result (Unit {0}) ReadEnd)
       → rooms_at mid.servers cloud.0 ≡ rooms
       → (IsTrue (clouds mid.shelf.now cloud.0).told → NamesRooms (reads (clouds mid.shelf.now cloud.0).now Journal) rooms)
       → (IsTrue (clouds mid.shelf.now cloud.0).told → IsSomeAnd (server_at new.servers cloud.0) (λ (s : Server). OnFault result (Unit {0})
@@ -167,20 +167,20 @@ module _ {V : Type 0} (clouds : V → ℕ → Cloud) where
       asked = header_of shape rooms cloud.0
 
       header : header_at mid.servers cloud.0 ≡ asked
-      header = ap (λ (r : Rooms). header_of shape r cloud.0) in_rooms
+      header = ap (λ (r : UserRooms). header_of shape r cloud.0) in_rooms
 
       -- lists that stand in any rooms stand in those of the server
-      same : IsTrue old.told → (any : Rooms) (list : List Command) → StandsFor (reads old.now) (header_of shape any cloud.0) list → ¬ IsUnbegun (reads old.now Journal)
+      same : IsTrue old.told → (any : UserRooms) (list : List Command) → StandsFor (reads old.now) (header_of shape any cloud.0) list → ¬ IsUnbegun (reads old.now Journal)
           → any ≡ rooms_at mid.servers cloud.0
       same told any list stands begins = sym (rooms_one one_header (reads old.now) (header_of shape any cloud.0) list rooms stands begins (named told)) ∙ sym in_rooms
 
-      within : IsTrue old.told → (any : Rooms) (list : List Command) → StandsFor (reads old.now) (header_of shape any cloud.0) list → ¬ IsUnbegun (reads old.now Journal)
+      within : IsTrue old.told → (any : UserRooms) (list : List Command) → StandsFor (reads old.now) (header_of shape any cloud.0) list → ¬ IsUnbegun (reads old.now Journal)
           → IsWithin shape any list → IsWithin shape (rooms_at mid.servers cloud.0) list
-      within told any list stands begins is = subst (λ (r : Rooms). IsWithin shape r list) (same told any list stands begins) is
+      within told any list stands begins is = subst (λ (r : UserRooms). IsWithin shape r list) (same told any list stands begins) is
 
-      stands_by : IsTrue old.told → (any : Rooms) (list : List Command) → StandsFor (reads old.now) (header_of shape any cloud.0) list → ¬ IsUnbegun (reads old.now Journal)
+      stands_by : IsTrue old.told → (any : UserRooms) (list : List Command) → StandsFor (reads old.now) (header_of shape any cloud.0) list → ¬ IsUnbegun (reads old.now Journal)
           → StandsFor (reads old.now) (header_at mid.servers cloud.0) list
-      stands_by told any list stands begins = subst (λ (r : Rooms). StandsFor (reads old.now) (header_of shape r cloud.0) list) (same told any list stands begins) stands
+      stands_by told any list stands begins = subst (λ (r : UserRooms). StandsFor (reads old.now) (header_of shape r cloud.0) list) (same told any list stands begins) stands
 
       spared : IsTrue old.told → IsSpared old after
       spared told = spared_by (header_at mid.servers cloud.0) old after result (areas told)
@@ -225,7 +225,7 @@ module _ {V : Type 0} (clouds : V → ℕ → Cloud) where
         counts = tt;
         readable = λ any list is. free_by cloud error (whole is.told list (stands_by is.told any list is.stands is.begun)
             (within is.told any list is.stands is.begun is.within) (λ unbegun. absurd (is.begun unbegun)));
-        end = ends_one shape old after before now cloud error (λ told. unless_fault error (InItsRooms shape cloud.0 old (λ (h : Header). IsUnopened h old after error)) (
+        end = ends_one shape old after before now cloud error (λ told. unless_fault error (InItsRooms shape cloud.0 old (λ (h : Header). IsUnopenedToRead h old after error)) (
           rooms,
           named told,
           record {

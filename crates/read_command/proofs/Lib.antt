@@ -3,3 +3,5 @@ pub mod Disks
 pub mod Row
 pub mod Restoring
 pub mod Whole
+pub mod KeptFiles
+pub mod JournalHalves

@@ -3,22 +3,22 @@ use Rattle.std.proofs.Common.{◌≡◌, ℕ, ◌<◌, ◌⊎◌, Bool, true, fa
 use Rattle.std.specs.Prelude.{IsTrue, Some, None, Result, Ok, Err, IfErr, All}
 use Rattle.std.specs.List.{Contains}
 use Rattle.std.proofs.lemmas.Bool.{cases_eq, eq-eqb, ne_eqb}
-use Rattle.cd_base.specs.declared.ids.CloudNo.{CloudNo}
-use Rattle.cd_base.specs.declared.ids.Tag.{Tag}
-use Rattle.cd_base.specs.declared.ids.UserId.{UserId}
-use Rattle.cd_base.specs.declared.ids.Version.{Version}
-use Rattle.cd_base.specs.declared.shape.Shape.{Shape}
-use Rattle.cd_edges.specs.Causes.{Rose}
-use Rattle.cd_edges.specs.Disk.{Cloud, IsImage, reads}
-use Rattle.cd_edges.proofs.Moments.{joined, weaker}
-use Rattle.caont_rs.specs.declared.opening.RecoverErr.TheVariants as opening
-use Rattle.user_dedup.specs.declared.command.Command.{Command}
-use Rattle.user_dedup.specs.Exec.{Peer, MaySettleAs}
-use Rattle.user_dedup.specs.Spending.{IsWithin}
-use Rattle.journal_start.specs.declared.rooms.Rooms.{Rooms}
-use Rattle.journal_start.specs.declared.start.Header.{Header}
-use Rattle.user_dedup.specs.Link.{Talk}
-use Rattle.user_dedup.proofs.Owned.{contains_here, contains_later, contains_cases, contains_nothing}
+use Rattle.half_journal.specs.CdBase.ids.CloudNo.{CloudNo}
+use Rattle.half_journal.specs.CdBase.ids.Tag.{Tag}
+use Rattle.half_journal.specs.CdBase.ids.UserId.{UserId}
+use Rattle.half_journal.specs.CdBase.ids.Version.{Version}
+use Rattle.half_journal.specs.CdBase.shape.Shape.{Shape}
+use Rattle.half_journal.specs.CdEdges.Causes.{Rose}
+use Rattle.half_journal.specs.CdEdges.Disk.{Cloud, IsImage, reads}
+use Rattle.half_journal.proofs.CdEdges.Moments.{joined, weaker}
+use Rattle.subset_restore.specs.CaontRs.opening.RecoverErr.TheVariants as opening
+use Rattle.cloud_areas.specs.UserDedup.command.Command.{Command}
+use Rattle.cloud_areas.specs.UserDedup.Exec.{Peer, MaySettleAs}
+use Rattle.cloud_areas.specs.UserDedup.Spending.{IsWithin}
+use Rattle.half_journal.specs.JournalStart.rooms.UserRooms.{UserRooms}
+use Rattle.half_journal.specs.JournalStart.start.Header.{Header}
+use Rattle.cloud_areas.specs.UserDedup.Link.{Talk}
+use Rattle.cloud_areas.proofs.UserDedup.Owned.{contains_here, contains_later, contains_cases, contains_nothing}
 use Rattle.cloud_areas.specs.Peers.{StandsForSome, ImagesSince}
 use Rattle.cloud_areas.specs.Standing.{StandsFor}
 use Rattle.local_link.specs.CloudServer.Serving.{settled_with}
@@ -26,17 +26,17 @@ use Rattle.local_link.specs.declared.fate.Fate.TheVariants.{Deliver}
 use Rattle.local_link.specs.declared.link.LocalLink.{LocalLink}
 use Rattle.local_link.specs.Calls.{header_of}
 use Rattle.local_link.specs.Tells.{header_at, rooms_at, is_delivered, telling, StandsAt}
-use Rattle.restore_job.specs.Asking.{among as only_of}
-use Rattle.restore_job.specs.Asking.{PeersOf, OnlyRead, MayRead, Asked, is_lost, TellsAll}
-use Rattle.restore_job.specs.Brought.{Brought}
-use Rattle.restore_job.specs.Reading.{Ends}
-use Rattle.restore_job.specs.Refusals.{Names, Caused}
-use Rattle.restore_job.specs.Restored
-use Rattle.restore_job.specs.Restored.{Unrestored, restored_file}
-use Rattle.restore_job.specs.declared.error.RestoreErr.{RestoreErr}
-use Rattle.restore_job.specs.declared.error.RestoreErr.TheVariants as errors
-use Rattle.transcript.specs.declared.refusal.Refusal.{Refusal}
-use Rattle.transcript.specs.declared.refusal.Refusal.TheVariants as refusals
+use Rattle.subset_restore.specs.RestoreJob.Asking.{among as only_of}
+use Rattle.subset_restore.specs.RestoreJob.Asking.{PeersOf, AreOnlyAsked, MayRead, HasAskedClouds, is_lost, TellsAll}
+use Rattle.subset_restore.specs.RestoreJob.Brought.{Brought}
+use Rattle.subset_restore.specs.RestoreJob.Reading.{Ends}
+use Rattle.subset_restore.specs.RestoreJob.Refusals.{Names, Caused}
+use Rattle.subset_restore.specs.RestoreJob.Restored
+use Rattle.subset_restore.specs.RestoreJob.Restored.{Unrestored, restored_file}
+use Rattle.subset_restore.specs.RestoreJob.error.RestoreErr.{RestoreErr}
+use Rattle.subset_restore.specs.RestoreJob.error.RestoreErr.TheVariants as errors
+use Rattle.subset_restore.specs.Transcript.refusal.Refusal.{Refusal}
+use Rattle.subset_restore.specs.Transcript.refusal.Refusal.TheVariants as refusals
 use Rattle.read_command.specs.Disks.{AreReadable, KeepsDisks}
 use Rattle.read_command.specs.Opening.{AreOpened}
 use Rattle.subset_restore.specs.Refusals.{refusal_of, refusal_text}
@@ -49,7 +49,7 @@ use Rattle.subset_restore.proofs.Choices.{subset_among}
 use Rattle.subset_restore.proofs.Elements.{all_of, contains_back, contains_front, of_all}
 use Rattle.subset_restore.proofs.Going.{any_at, any_none}
 use Rattle.subset_restore.proofs.Files.{same_file}
-use Rattle.restore_job.proofs.Wrong.{both_true}
+use Rattle.subset_restore.proofs.RestoreJob.Wrong.{both_true}
 use Rattle.read_command.specs.Ends.{Outside, HaveLists, RoseBy, Due, due_of, IsNone, HoldsFailed, IsFileDue, IsRefusalDue, IsRefused, GivesAnyway}
 use Rattle.read_command.specs.Ends.{IsFaultLine, IsLineOf, CameTo, CameDue}
 use Rattle.read_command.proofs.Disks.{OneHeader, rooms_one}
@@ -243,7 +243,7 @@ module _ {V : Type 0} (clouds : V → ℕ → Cloud) (named : List ℕ) (shape :
   shape_mid : mid.servers.shape ≡ shape
   shape_mid = opened.shape ∙ same
 
-  lists_old : (rooms : ℕ → Rooms) (lists : ℕ → List Command) → HaveLists around shape named rooms lists → (cloud : ℕ) → Contains named cloud → IsTrue (clouds old.shelf.now cloud).told
+  lists_old : (rooms : ℕ → UserRooms) (lists : ℕ → List Command) → HaveLists around shape named rooms lists → (cloud : ℕ) → Contains named cloud → IsTrue (clouds old.shelf.now cloud).told
       → StandsFor (reads (clouds old.shelf.now cloud).now) (header_of old.servers.shape (rooms cloud) cloud) (lists cloud) × IsWithin old.servers.shape (rooms cloud) (lists cloud)
   lists_old rooms lists have cloud has told =
       subst (λ (s : Shape). StandsFor (reads (clouds old.shelf.now cloud).now) (header_of s (rooms cloud) cloud) (lists cloud) × IsWithin s (rooms cloud) (lists cloud)) (sym same) (have cloud has told)
@@ -257,14 +257,14 @@ module _ {V : Type 0} (clouds : V → ℕ → Cloud) (named : List ℕ) (shape :
   abbrev peers : (ℕ → List Command) → ℕ → Peer
   peers lists cloud = settled_with (lists cloud) (clouds mid.shelf.now cloud)
 
-  loaded : (rooms : ℕ → Rooms) (lists : ℕ → List Command) → HaveLists around shape named rooms lists → (cloud : ℕ) → Contains named cloud → IsTrue (clouds mid.shelf.now cloud).told
+  loaded : (rooms : ℕ → UserRooms) (lists : ℕ → List Command) → HaveLists around shape named rooms lists → (cloud : ℕ) → Contains named cloud → IsTrue (clouds mid.shelf.now cloud).told
       → StandsAt clouds mid cloud (settled_with (lists cloud) (clouds mid.shelf.now cloud))
   loaded rooms lists have cloud has told =
       let was = told_back cloud told in
       let list = lists_old rooms lists have cloud has was in
       (opened.each cloud has).loaded was (rooms cloud) (lists cloud) list.0 list.1
 
-  stand : (rooms : ℕ → Rooms) (lists : ℕ → List Command) → HaveLists around shape named rooms lists → PeersOf (telling clouds) mid (among named) (peers lists)
+  stand : (rooms : ℕ → UserRooms) (lists : ℕ → List Command) → HaveLists around shape named rooms lists → PeersOf (telling clouds) mid (among named) (peers lists)
   stand rooms lists have cloud is =
       let has = has_among named cloud is in record {
         faults = refl;
@@ -275,7 +275,7 @@ module _ {V : Type 0} (clouds : V → ℕ → Cloud) (named : List ℕ) (shape :
 
   module _ (user : UserId) (tag : Tag) (version : Version) (talk : LocalLink V → ℕ → Talk → Type 0)
       (result : Result (Unit {0}) RestoreErr) (was file : List ℕ) (none : was ≡ []) (fate : old.fate ≡ Deliver)
-      (asked : Asked (telling clouds) named mid new (is_lost result)) where
+      (asked : HasAskedClouds (telling clouds) named mid new (is_lost result)) where
     abbrev pub wanted : Sought
     wanted = record { shape = shape; user = user; tag = tag; version = version; clouds = named }
 
@@ -295,7 +295,7 @@ module _ {V : Type 0} (clouds : V → ℕ → Cloud) (named : List ℕ) (shape :
       }
 
       rose_in : (e : RestoreErr) → Names (Contains named) e → NoneCame (telling clouds) talk wanted mid new was e
-          → (rooms : ℕ → Rooms) (lists : ℕ → List Command) → HaveLists around shape named rooms lists → RoseBy around e
+          → (rooms : ℕ → UserRooms) (lists : ℕ → List Command) → HaveLists around shape named rooms lists → RoseBy around e
       rose_in e n came rooms lists have =
           let went = came.leads (among named) (λ cloud has. among_has named cloud has) (peers lists) (stand rooms lists have) in
           let y : Try = record { subset = came.first; refusal = e } in
@@ -323,12 +323,12 @@ module _ {V : Type 0} (clouds : V → ℕ → Cloud) (named : List ℕ) (shape :
           by_result (Err e) n came f = record {
             names = n;
             rose = none_by (telling clouds) talk wanted was mid new
-                (λ x. Names (Contains named) x → (rooms : ℕ → Rooms) (lists : ℕ → List Command) → HaveLists around shape named rooms lists
+                (λ x. Names (Contains named) x → (rooms : ℕ → UserRooms) (lists : ℕ → List Command) → HaveLists around shape named rooms lists
                 → RoseBy around x) (λ names rooms lists have. tt) (λ x is names. rose_in x names is) e came n;
             found = f;
           }
 
-      pub is_due : (rooms : ℕ → Rooms) (lists : ℕ → List Command) → AreReadable shape named (clouds old.shelf.now) rooms lists
+      pub is_due : (rooms : ℕ → UserRooms) (lists : ℕ → List Command) → AreReadable shape named (clouds old.shelf.now) rooms lists
           → CameDue around named (due_of shape user (tag, version) named lists) result file
       is_due rooms lists are = by_result result names restored found
         where
@@ -338,7 +338,7 @@ module _ {V : Type 0} (clouds : V → ℕ → Cloud) (named : List ℕ) (shape :
           told : TellsAll (telling clouds) mid named
           told cloud has = told_on cloud (are cloud has).told
 
-          same_lists : (after : ℕ → Peer) → OnlyRead named (peers lists) after → (λ cloud. (after cloud).list) ≡ lists
+          same_lists : (after : ℕ → Peer) → AreOnlyAsked named (peers lists) after → (λ cloud. (after cloud).list) ≡ lists
           same_lists after read = λ i cloud. same_list (lists cloud) (clouds mid.shelf.now cloud) (after cloud) (read.read cloud) i
 
           by_error : (e : RestoreErr) → NoneCame (telling clouds) talk wanted mid new was e → Names (Contains named) e
@@ -378,7 +378,7 @@ module _ {V : Type 0} (clouds : V → ℕ → Cloud) (named : List ℕ) (shape :
               (λ x is names unlost. by_error x is names unlost) e came n f
 
       -- a choice of readable clouds whose lists give a file isn't refused
-      module _ (rooms : ℕ → Rooms) (lists : ℕ → List Command) (chosen bytes : List ℕ) (in_order : Contains (subsets shape.k named) chosen)
+      module _ (rooms : ℕ → UserRooms) (lists : ℕ → List Command) (chosen bytes : List ℕ) (in_order : Contains (subsets shape.k named) chosen)
           (are : AreReadable shape chosen (clouds old.shelf.now) rooms lists) (given : restored_file shape lists user (tag, version) chosen ≡ Ok bytes)
           (free : HoldsFailed around chosen → ⊥) where
         is_named : (cloud : ℕ) → Contains chosen cloud → Contains named cloud
@@ -397,7 +397,7 @@ module _ {V : Type 0} (clouds : V → ℕ → Cloud) (named : List ℕ) (shape :
         both_ways why e = (let never = sym given ∙ e in cc)
 
         never_none : (tries : List Try) (after : ℕ → Peer) → ((cloud : ℕ) → WasLost tries cloud → ⊥) → ((cloud : ℕ) → Contains chosen cloud → (after cloud).faults ≡ (clouds new.shelf.now cloud).faults)
-            → OnlyRead named (peers lists) after → AnyNone wanted tries (peers lists) after chosen → ⊥
+            → AreOnlyAsked named (peers lists) after → AnyNone wanted tries (peers lists) after chosen → ⊥
         never_none tries after unlost news read (inl none) =
             both_ways none.0 (sym (same_file shape (λ cloud. (after cloud).list) lists user (tag, version) chosen
             (λ cloud has. same_list (lists cloud) (clouds mid.shelf.now cloud) (after cloud) (read.read cloud))) ∙ none.1)
@@ -451,12 +451,12 @@ module _ {V : Type 0} (clouds : V → ℕ → Cloud) (named : List ℕ) (shape :
     others = λ cloud not. read_others cloud not ∙ kept.others cloud not;
   })
     where
-      header_mid : (cloud : ℕ) → Contains named cloud → IsTrue (clouds old.shelf.now cloud).told → (rooms : Rooms) (list : List Command)
+      header_mid : (cloud : ℕ) → Contains named cloud → IsTrue (clouds old.shelf.now cloud).told → (rooms : UserRooms) (list : List Command)
           → StandsFor (reads (clouds old.shelf.now cloud).now) (header_of old.servers.shape rooms cloud) list
           → header_at mid.servers cloud ≡ header_of old.servers.shape rooms cloud
       header_mid cloud has told rooms list stands =
           let is = opened.each cloud has in
           ap (λ (s : Shape). header_of s (rooms_at mid.servers cloud) cloud) opened.shape
-          ∙ ap (λ (r : Rooms). header_of old.servers.shape r cloud)
+          ∙ ap (λ (r : UserRooms). header_of old.servers.shape r cloud)
           (rooms_one one_header (reads (clouds old.shelf.now cloud).now) (header_of old.servers.shape rooms cloud) list (rooms_at mid.servers cloud) stands
           (is.opened told).2.begun (is.rooms told))

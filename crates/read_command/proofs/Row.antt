@@ -7,23 +7,23 @@ use Rattle.std.proofs.lemmas.Bool.{cases_eq}
 use Rattle.std.proofs.lemmas.List.Kept.{AllPairs-from_increasing}
 use Rattle.std.proofs.lemmas.List.{get_or_append_left, get_or_at}
 use Rattle.std.proofs.lemmas.List.Elements.{Contains-append_left, Contains-append_right, Contains-push_cases}
-use Rattle.cd_base.specs.declared.shape.Shape.{Shape}
-use Rattle.cd_edges.specs.declared.area.Area.TheVariants.{Journal}
-use Rattle.cd_edges.specs.Disk.{Cloud, IsImage, reads}
-use Rattle.journal_start.specs.declared.rooms.Rooms.{Rooms}
+use Rattle.half_journal.specs.CdBase.shape.Shape.{Shape}
+use Rattle.half_journal.specs.CdEdges.area.Area.TheVariants.{Journal}
+use Rattle.half_journal.specs.CdEdges.Disk.{Cloud, IsImage, reads}
+use Rattle.half_journal.specs.JournalStart.rooms.UserRooms.{UserRooms}
 use Rattle.local_link.specs.CloudServer.Names.{header_of}
-use Rattle.cd_edges.specs.Shelf.{HasFailed}
+use Rattle.half_journal.specs.CdEdges.Shelf.{HasFailed}
 use Rattle.half_journal.specs.declared.errors.OpenErr.{OpenErr}
 use Rattle.half_journal.specs.declared.errors.OpenErr.TheVariants as errors
-use Rattle.user_dedup.specs.declared.command.Command.{Command}
-use Rattle.user_dedup.proofs.Owned.{contains_here, contains_nothing}
+use Rattle.cloud_areas.specs.UserDedup.command.Command.{Command}
+use Rattle.cloud_areas.proofs.UserDedup.Owned.{contains_here, contains_nothing}
 use Rattle.local_link.specs.CloudServer.server.Server.{Server}
 use Rattle.local_link.specs.CloudServer.Serving.{settled_with}
 use Rattle.local_link.specs.declared.link.LocalLink.{LocalLink}
 use Rattle.local_link.specs.Tells.{server_at, rooms_of, IsPeer, LeavesRest}
 use Rattle.read_command.specs.declared.end.ReadEnd.{ReadEnd}
 use Rattle.read_command.specs.declared.end.ReadEnd.TheVariants as ends
-use Rattle.read_command.specs.Disks.{AreReadable, IsSpared, StopsAt, KeepsDisks, NamesRooms, StaysShut}
+use Rattle.read_command.specs.Disks.{AreReadable, IsSpared, IsStoppedAtCloud, KeepsDisks, NamesRooms, StaysShut}
 use Rattle.read_command.proofs.Disks.{images_by, opening_from, spared_still}
 use Rattle.read_command.specs.Opening.{Opening, BecomesOpen, AreOpened, EndsBy, EndsOpening, IsFree}
 
@@ -199,10 +199,10 @@ module _ {V : Type 0} (clouds : V → ℕ → Cloud) where
         let h = subst (Opening clouds old.servers.shape (clouds old.shelf.now number) before new now number) err here in
         ends_map
         (λ c e. (c ≡ number) × (IsTrue (clouds old.shelf.now number).told → StaysShut old.servers.shape number (clouds old.shelf.now number) (clouds new.shelf.now number) e))
-        (StopsAt old.servers.shape named (clouds old.shelf.now) (clouds new.shelf.now))
+        (IsStoppedAtCloud old.servers.shape named (clouds old.shelf.now) (clouds new.shelf.now))
         (λ c. HasFailed (clouds old.shelf.now number) (clouds new.shelf.now number) before now)
         (λ c. HasFailed (clouds old.shelf.now c) (clouds new.shelf.now c) before now)
-        (λ c e x. subst (λ (m : ℕ). StopsAt old.servers.shape named (clouds old.shelf.now) (clouds new.shelf.now) m e) (sym x.0) (record {
+        (λ c e x. subst (λ (m : ℕ). IsStoppedAtCloud old.servers.shape named (clouds old.shelf.now) (clouds new.shelf.now) m e) (sym x.0) (record {
           front = so.front;
           rest = more;
           place = so.place;
@@ -212,7 +212,7 @@ module _ {V : Type 0} (clouds : V → ℕ → Cloud) where
         (λ c x failed. subst (λ (m : ℕ). HasFailed (clouds old.shelf.now m) (clouds new.shelf.now m) before now) (sym x.0) failed)
         end h.end
 
-    pub free_here : (end : ReadEnd) (rooms : ℕ → Rooms) (lists : ℕ → List Command) → result ≡ Err end → AreReadable old.servers.shape named (clouds old.shelf.now) rooms lists → IsFree end
+    pub free_here : (end : ReadEnd) (rooms : ℕ → UserRooms) (lists : ℕ → List Command) → result ≡ Err end → AreReadable old.servers.shape named (clouds old.shelf.now) rooms lists → IsFree end
     free_here end rooms lists err are =
         let h = subst (Opening clouds old.servers.shape (clouds old.shelf.now number) before new now number) err here in
         h.readable (rooms number) (lists number) (are number (is_named named number more before between old mid so))

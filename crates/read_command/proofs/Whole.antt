@@ -5,14 +5,14 @@ use Rattle.std.specs.Io.KnownBytes.{Appends}
 use Rattle.std.specs.List.{Contains}
 use Rattle.std.proofs.lemmas.List.Elements.{Contains-append_right}
 use Rattle.half_journal.specs.declared.errors.OpenErr.TheVariants as errors
-use Rattle.user_dedup.proofs.Owned.{contains_here}
-use Rattle.user_dedup.specs.declared.command.Command.{Command}
-use Rattle.journal_start.specs.declared.rooms.Rooms.{Rooms}
-use Rattle.restore_job.specs.declared.error.RestoreErr.{RestoreErr}
+use Rattle.cloud_areas.proofs.UserDedup.Owned.{contains_here}
+use Rattle.cloud_areas.specs.UserDedup.command.Command.{Command}
+use Rattle.half_journal.specs.JournalStart.rooms.UserRooms.{UserRooms}
+use Rattle.subset_restore.specs.RestoreJob.error.RestoreErr.{RestoreErr}
 use Rattle.read_command.specs.declared.wanted.Wanted.{Wanted}
 use Rattle.read_command.specs.declared.end.ReadEnd.{ReadEnd}
 use Rattle.read_command.specs.declared.end.ReadEnd.TheVariants as ends
-use Rattle.read_command.specs.Disks.{AreReadable, StopsAt}
+use Rattle.read_command.specs.Disks.{AreReadable, IsStoppedAtCloud}
 use Rattle.read_command.specs.Opening.{EndsOpening, IsFree}
 use Rattle.subset_restore.specs.Refusals.{refusal_text}
 use Rattle.read_command.specs.Ends.{Outside, CameDue, Due, IsBrought, IsFileDue, IsRefusalDue, IsRefusalLine, IsText, IsWritten}
@@ -64,13 +64,13 @@ whole_anyway c r came file old new end is w rooms lists chosen bytes has are giv
 
 -- the openings ended it
 pub reads_stopped : (c : Outside) (r : Wanted) (w : Option (List ℕ)) (end : ReadEnd) → EndsOpening r.shape r.clouds.now c.old c.new c.total_before c.total_after end
-    → ((rooms : ℕ → Rooms) (lists : ℕ → List Command) → AreReadable r.shape r.clouds.now c.old rooms lists → IsFree end) → Reads c r end w w
+    → ((rooms : ℕ → UserRooms) (lists : ℕ → List Command) → AreReadable r.shape r.clouds.now c.old rooms lists → IsFree end) → Reads c r end w w
 reads_stopped c r w (ends.NotBegun cloud len) stops free = ([], nothing_more w, (refl, stops), λ rooms lists are. free rooms lists are)
 reads_stopped c r w (ends.Damaged cloud at byte) stops free = ([], nothing_more w, (refl, stops), λ rooms lists are. free rooms lists are)
 reads_stopped c r w (ends.Other cloud found) stops free = ([], nothing_more w, (refl, stops), λ rooms lists are. free rooms lists are)
 reads_stopped c r w (ends.ShelfFault cloud) stops free = ([], nothing_more w, (refl, stops), λ rooms lists are. in_place cloud.0 stops.0)
   where
-    in_place : (number : ℕ) → StopsAt r.shape r.clouds.now c.old c.new number errors.Fault → Contains r.clouds.now number
+    in_place : (number : ℕ) → IsStoppedAtCloud r.shape r.clouds.now c.old c.new number errors.Fault → Contains r.clouds.now number
     in_place number s = subst (λ (l : List ℕ). Contains l number) (sym s.place) (Contains-append_right s.front (number ∷ s.rest) number (contains_here number s.rest))
 reads_stopped c r w ends.NoMemory stops free = ([], nothing_more w, (refl, tt), λ rooms lists are. tt)
 reads_stopped c r w ends.Done stops free = absurd stops

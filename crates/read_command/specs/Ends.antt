@@ -2,34 +2,34 @@
 use Rattle.std.specs.Prelude.{◌≡◌, ℕ, ◌⊎◌, false, IsTrue, List, [], ◌∷◌, ◌++◌, Option, Some, Result, Ok, Err, All}
 use Rattle.std.specs.List.{Contains}
 use Rattle.std.specs.Io.KnownBytes.{Appends}
-use Rattle.cd_base.specs.declared.ids.Tag.{Tag}
-use Rattle.cd_base.specs.declared.ids.UserId.{UserId}
-use Rattle.cd_base.specs.declared.ids.Version.{Version}
-use Rattle.cd_base.specs.declared.shape.Shape.{Shape}
-use Rattle.cd_edges.specs.Causes.{Rose}
-use Rattle.cd_edges.specs.Disk.{Cloud, reads}
-use Rattle.user_dedup.specs.declared.command.Command.{Command}
-use Rattle.user_dedup.specs.Spending.{IsWithin}
+use Rattle.half_journal.specs.CdBase.ids.Tag.{Tag}
+use Rattle.half_journal.specs.CdBase.ids.UserId.{UserId}
+use Rattle.half_journal.specs.CdBase.ids.Version.{Version}
+use Rattle.half_journal.specs.CdBase.shape.Shape.{Shape}
+use Rattle.half_journal.specs.CdEdges.Causes.{Rose}
+use Rattle.half_journal.specs.CdEdges.Disk.{Cloud, reads}
+use Rattle.cloud_areas.specs.UserDedup.command.Command.{Command}
+use Rattle.cloud_areas.specs.UserDedup.Spending.{IsWithin}
 use Rattle.cloud_areas.specs.Standing.{StandsFor}
 use Rattle.local_link.specs.CloudServer.Names.{header_of}
-use Rattle.journal_start.specs.declared.rooms.Rooms.{Rooms}
-use Rattle.journal_start.specs.declared.start.Header.{Header}
+use Rattle.half_journal.specs.JournalStart.rooms.UserRooms.{UserRooms}
+use Rattle.half_journal.specs.JournalStart.start.Header.{Header}
 use Rattle.kept_files.specs.Kept.{key_of}
-use Rattle.restore_job.specs.Asking.{is_lost}
-use Rattle.restore_job.specs.Brought.{Brought}
-use Rattle.restore_job.specs.Refusals.{Names}
-use Rattle.restore_job.specs.Restored.{Unrestored, restored_file}
-use Rattle.restore_job.specs.declared.error.RestoreErr.{RestoreErr}
-use Rattle.restore_job.specs.declared.error.RestoreErr.TheVariants as errors
-use Rattle.transcript.specs.declared.refusal.Refusal.{Refusal}
-use Rattle.transcript.specs.declared.refusal.Refusal.TheVariants as refusals
+use Rattle.subset_restore.specs.RestoreJob.Asking.{is_lost}
+use Rattle.subset_restore.specs.RestoreJob.Brought.{Brought}
+use Rattle.subset_restore.specs.RestoreJob.Refusals.{Names}
+use Rattle.subset_restore.specs.RestoreJob.Restored.{Unrestored, restored_file}
+use Rattle.subset_restore.specs.RestoreJob.error.RestoreErr.{RestoreErr}
+use Rattle.subset_restore.specs.RestoreJob.error.RestoreErr.TheVariants as errors
+use Rattle.subset_restore.specs.Transcript.refusal.Refusal.{Refusal}
+use Rattle.subset_restore.specs.Transcript.refusal.Refusal.TheVariants as refusals
 use Rattle.subset_restore.specs.Refusals.{refusal_of, refusal_text}
 use Rattle.subset_restore.specs.Restored.{restored_any}
 use Rattle.subset_restore.specs.Subsets.{subsets}
 use Rattle.read_command.specs.declared.wanted.Wanted.{Wanted}
 use Rattle.read_command.specs.declared.end.ReadEnd.{ReadEnd}
 use Rattle.read_command.specs.declared.end.ReadEnd.TheVariants as ends
-use Rattle.read_command.specs.Disks.{AreReadable, InItsRooms, IsOpened}
+use Rattle.read_command.specs.Disks.{AreReadable, InItsRooms, IsOpenedToRead}
 use Rattle.read_command.specs.Opening.{EndsOpening}
 use Rattle.read_command.specs.Refusals.{cloud_no, reason_of}
 
@@ -63,7 +63,7 @@ given_of r lists = due_of r.shape r.user (key_of r.shape r.path.now r.version) r
 abbrev pub AllOpened : Outside → Shape → List ℕ → Type 0
 AllOpened c shape named =
     (cloud : ℕ) → Contains named cloud → IsTrue (c.old cloud).told
-    → InItsRooms shape cloud (c.old cloud) (λ (header : Header). IsOpened header (c.old cloud))
+    → InItsRooms shape cloud (c.old cloud) (λ (header : Header). IsOpenedToRead header (c.old cloud))
 
 -- where a cloud's device failed its count rose
 abbrev pub RoseBy : Outside → RestoreErr → Type 0
@@ -112,12 +112,12 @@ pub record IsRefusalDue (c : Outside) (named : List ℕ) (due : Due) (text : Lis
 -- Where the clouds of some choice are readable, the lists give a file from them, and no count of theirs rose, this doesn't
 -- come, whatever the other named clouds are.
 abbrev pub GivesAnyway : Outside → Shape → UserId → Tag × Version → List ℕ → Type 0 → Type 0
-GivesAnyway c shape user key named It = (rooms : ℕ → Rooms) (lists : ℕ → List Command) (chosen file : List ℕ)
+GivesAnyway c shape user key named It = (rooms : ℕ → UserRooms) (lists : ℕ → List Command) (chosen file : List ℕ)
     → Contains (subsets shape.k named) chosen → AreReadable shape chosen c.old rooms lists
     → restored_file shape lists user key chosen ≡ Ok file → (HoldsFailed c chosen → ⊥) → It → ⊥
 
 -- These lists stand at the named clouds that are told, each within these rooms.
-abbrev pub HaveLists : Outside → Shape → List ℕ → (ℕ → Rooms) → (ℕ → List Command) → Type 0
+abbrev pub HaveLists : Outside → Shape → List ℕ → (ℕ → UserRooms) → (ℕ → List Command) → Type 0
 HaveLists c shape named rooms lists = (cloud : ℕ) → Contains named cloud → IsTrue (c.old cloud).told
     → StandsFor (reads (c.old cloud).now) (header_of shape (rooms cloud) cloud) (lists cloud)
     × IsWithin shape (rooms cloud) (lists cloud)
@@ -126,7 +126,7 @@ HaveLists c shape named rooms lists = (cloud : ℕ) → Contains named cloud →
 -- device failed only where its count rose.
 pub record IsRefusal (c : Outside) (shape : Shape) (named : List ℕ) (e : RestoreErr) : Type 0 where
   pub names : Names (Contains named) e
-  pub rose : (rooms : ℕ → Rooms) (lists : ℕ → List Command) → HaveLists c shape named rooms lists → RoseBy c e
+  pub rose : (rooms : ℕ → UserRooms) (lists : ℕ → List Command) → HaveLists c shape named rooms lists → RoseBy c e
   pub found : let came : Result (Unit {0}) RestoreErr = Err e in is_lost came ≡ false
 
 -- The bytes are what strings open to which the recipes of k of the clouds name.
@@ -154,7 +154,7 @@ IsRefused came = (e : RestoreErr) × (why : Refusal) × (came ≡ Err e) × (ref
 pub record Restored (c : Outside) (r : Wanted) (came : Result (Unit {0}) RestoreErr) (file : List ℕ) : Type 0 where
   pub opened : AllOpened c r.shape r.clouds.now
   pub came_to : CameTo c r.shape r.clouds.now came file
-  pub due : (rooms : ℕ → Rooms) (lists : ℕ → List Command) → AreReadable r.shape r.clouds.now c.old rooms lists
+  pub due : (rooms : ℕ → UserRooms) (lists : ℕ → List Command) → AreReadable r.shape r.clouds.now c.old rooms lists
       → CameDue c r.clouds.now (given_of r lists) came file
   pub anyway : GivesAnyway c r.shape r.user (key_of r.shape r.path.now r.version) r.clouds.now (IsRefused came)
 
@@ -222,7 +222,7 @@ Gives c named due (ends.Other cloud found) text = ⊥
 -- A read ended so, over what was written before and what is written now.
 abbrev pub Reads : Outside → Wanted → ReadEnd → Option (List ℕ) → Option (List ℕ) → Type 0
 Reads c r end before now = (text : List ℕ) × Appends before now text × Says c r.shape r.clouds.now end text
-    × ((rooms : ℕ → Rooms) (lists : ℕ → List Command) → AreReadable r.shape r.clouds.now c.old rooms lists
+    × ((rooms : ℕ → UserRooms) (lists : ℕ → List Command) → AreReadable r.shape r.clouds.now c.old rooms lists
     → Gives c r.clouds.now (given_of r lists) end text)
 
 -- The end is that of an opening: no cloud was asked for anything.

@@ -1,25 +1,26 @@
 -- How the openings of the chosen clouds end.
 use Rattle.std.specs.Prelude.{◌≡◌, ℕ, IsTrue, List, Result, OnOk, IfErr}
 use Rattle.std.specs.List.{Contains}
-use Rattle.cd_base.specs.declared.ids.CloudNo.{CloudNo}
-use Rattle.cd_base.specs.declared.shape.Shape.{Shape}
-use Rattle.cd_edges.specs.declared.area.Area.TheVariants.{Journal}
-use Rattle.cd_edges.specs.Disk.{Cloud, reads}
-use Rattle.cd_edges.specs.Shelf.{HasFailed, KeepsCounts}
+use Rattle.half_journal.specs.CdBase.ids.CloudNo.{CloudNo}
+use Rattle.half_journal.specs.CdBase.shape.Shape.{Shape}
+use Rattle.half_journal.specs.CdEdges.area.Area.TheVariants.{Journal}
+use Rattle.half_journal.specs.CdEdges.Disk.{Cloud, reads}
+use Rattle.half_journal.specs.CdEdges.Shelf.{HasFailed, KeepsCounts}
 use Rattle.half_journal.specs.declared.errors.OpenErr.{OpenErr}
 use Rattle.half_journal.specs.declared.errors.OpenErr.TheVariants as errors
-use Rattle.journal_start.specs.declared.start.Header.{Header}
+use Rattle.half_journal.specs.JournalStart.start.Header.{Header}
 use Rattle.local_link.specs.CloudServer.Names.{header_of}
-use Rattle.journal_start.specs.declared.rooms.Rooms.{Rooms}
-use Rattle.user_dedup.specs.declared.command.Command.{Command}
-use Rattle.user_dedup.specs.Spending.{IsWithin}
+use Rattle.half_journal.specs.JournalStart.rooms.UserRooms.{UserRooms}
+use Rattle.cloud_areas.specs.UserDedup.command.Command.{Command}
+use Rattle.cloud_areas.specs.UserDedup.Spending.{IsWithin}
 use Rattle.cloud_areas.specs.Standing.{StandsFor}
 use Rattle.local_link.specs.CloudServer.Serving.{settled_with}
 use Rattle.local_link.specs.declared.link.LocalLink.{LocalLink}
 use Rattle.local_link.specs.Tells.{StandsAt, rooms_at}
 use Rattle.read_command.specs.declared.end.ReadEnd.{ReadEnd}
 use Rattle.read_command.specs.declared.end.ReadEnd.TheVariants as ends
-use Rattle.read_command.specs.Disks.{IsReadable, IsOpened, IsSpared, StopsAt, InItsRooms, NamesRooms, StaysShut}
+use Rattle.read_command.specs.Disks.{IsReadable, IsOpenedToRead, IsSpared, IsStoppedAtCloud, InItsRooms, NamesRooms}
+use Rattle.read_command.specs.Disks.{StaysShut}
 
 -- the end of a read whose opening of the cloud answered this error
 abbrev pub end_by : CloudNo → OpenErr → ReadEnd
@@ -49,7 +50,7 @@ EndsOne shape old new before now number end = EndsBy
 
 -- the named clouds were to be opened, in order
 abbrev pub EndsOpening : Shape → List ℕ → (ℕ → Cloud) → (ℕ → Cloud) → ℕ → ℕ → ReadEnd → Type 0
-EndsOpening shape named old new before now end = EndsBy (StopsAt shape named old new)
+EndsOpening shape named old new before now end = EndsBy (IsStoppedAtCloud shape named old new)
     (λ cloud. HasFailed (old cloud) (new cloud) before now) end
 
 -- a device failed, or memory ran out
@@ -67,14 +68,15 @@ IsFree ends.SinkFault = Unit {0}
 -- the list that its areas read as, if there is one within these, and nothing failed. Whatever comes it is spared.
 pub record Opening {V : Type 0} (clouds : V → ℕ → Cloud) (shape : Shape) (old : Cloud) (before : ℕ)
     (new : LocalLink V) (now cloud : ℕ) (result : Result (Unit {0}) ReadEnd) : Type 0 where
-  pub opened : IsTrue old.told → OnOk result (InItsRooms shape cloud old (λ (header : Header). IsOpened header old))
+  pub opened : IsTrue old.told
+      → OnOk result (InItsRooms shape cloud old (λ (header : Header). IsOpenedToRead header old))
   pub rooms : IsTrue old.told → OnOk result (NamesRooms (reads old.now Journal) (rooms_at new.servers cloud))
-  pub loaded : IsTrue old.told → (rooms : Rooms) (list : List Command)
+  pub loaded : IsTrue old.told → (rooms : UserRooms) (list : List Command)
       → StandsFor (reads old.now) (header_of shape rooms cloud) list
       → IsWithin shape rooms list
       → OnOk result (StandsAt clouds new cloud (settled_with list (clouds new.shelf.now cloud)))
   pub counts : OnOk result (KeepsCounts old (clouds new.shelf.now cloud) before now)
-  pub readable : (rooms : Rooms) (list : List Command) → IsReadable (header_of shape rooms cloud) old list
+  pub readable : (rooms : UserRooms) (list : List Command) → IsReadable (header_of shape rooms cloud) old list
       → IfErr result IsFree
   pub end : IfErr result (EndsOne shape old (clouds new.shelf.now cloud) before now cloud)
   pub spared : IsTrue old.told → IsSpared old (clouds new.shelf.now cloud)
@@ -84,10 +86,10 @@ pub record Opening {V : Type 0} (clouds : V → ℕ → Cloud) (shape : Shape) (
 pub record BecomesOpen {V : Type 0} (clouds : V → ℕ → Cloud) (old new : LocalLink V) (cloud : ℕ) : Type 0 where
   pub opened : IsTrue (clouds old.shelf.now cloud).told
       → InItsRooms old.servers.shape cloud (clouds old.shelf.now cloud)
-      (λ (header : Header). IsOpened header (clouds old.shelf.now cloud))
+      (λ (header : Header). IsOpenedToRead header (clouds old.shelf.now cloud))
   pub rooms : IsTrue (clouds old.shelf.now cloud).told
       → NamesRooms (reads (clouds old.shelf.now cloud).now Journal) (rooms_at new.servers cloud)
-  pub loaded : IsTrue (clouds old.shelf.now cloud).told → (rooms : Rooms) (list : List Command)
+  pub loaded : IsTrue (clouds old.shelf.now cloud).told → (rooms : UserRooms) (list : List Command)
       → StandsFor (reads (clouds old.shelf.now cloud).now) (header_of old.servers.shape rooms cloud) list
       → IsWithin old.servers.shape rooms list
       → StandsAt clouds new cloud (settled_with list (clouds new.shelf.now cloud))

@@ -1,11 +1,11 @@
 -- The lines that say why lists give no file.
 use Rattle.std.specs.Prelude.{ℕ, Option, Some, None}
-use Rattle.cd_base.specs.declared.ids.CloudNo.{CloudNo}
-use Rattle.caont_rs.specs.declared.opening.RecoverErr.TheVariants as opening
-use Rattle.restore_job.specs.Restored
-use Rattle.restore_job.specs.Restored.{Unrestored}
-use Rattle.transcript.specs.declared.refusal.Refusal.{Refusal}
-use Rattle.transcript.specs.declared.refusal.Refusal.TheVariants as refusals
+use Rattle.half_journal.specs.CdBase.ids.CloudNo.{CloudNo}
+use Rattle.subset_restore.specs.CaontRs.opening.RecoverErr.TheVariants as opening
+use Rattle.subset_restore.specs.RestoreJob.Restored
+use Rattle.subset_restore.specs.RestoreJob.Restored.{Unrestored}
+use Rattle.subset_restore.specs.Transcript.refusal.Refusal.{Refusal}
+use Rattle.subset_restore.specs.Transcript.refusal.Refusal.TheVariants as refusals
 
 -- the cloud of this number
 abbrev pub cloud_no : ℕ → CloudNo

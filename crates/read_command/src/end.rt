@@ -3,9 +3,7 @@
 ghost use Rattle.std.specs.Prelude.{◌≡◌};
 ghost use Rattle.read_command.specs.Opening.{end_by};
 
-use cd_base::CloudNo;
-use half_journal::OpenErr;
-use journal_start::Header;
+use half_journal::{CloudNo, Header, OpenErr};
 
 /// How a read ends.
 #[derive(Clone, Copy, Debug, PartialEq, Eq)]

@@ -1,25 +1,22 @@
 //! Opening the chosen clouds.
 
 ghost use Rattle.std.specs.Prelude.{◌≡◌, ◌<◌, ℕ, List, [], ◌∷◌, length, All, IsTrue, MatchOption, IfOk, IfErr, OnOk};
-ghost use Rattle.cd_edges.specs.declared.area.Area.TheVariants.{Journal};
-ghost use Rattle.cd_edges.specs.Shelf.{HasFailed, Stays};
-ghost use Rattle.journal_start.specs.declared.rooms.Rooms.{Rooms};
-ghost use Rattle.journal_start.specs.Ranges.{AreRooms};
+ghost use Rattle.half_journal.specs.CdEdges.area.Area.TheVariants.{Journal};
+ghost use Rattle.half_journal.specs.CdEdges.Shelf.{HasFailed, Stays};
+ghost use Rattle.half_journal.specs.JournalStart.rooms.UserRooms.{UserRooms};
+ghost use Rattle.half_journal.specs.JournalStart.Ranges.{AreRooms};
 ghost use Rattle.read_command.specs.declared.end.ReadEnd.TheVariants.{ShelfFault};
 ghost use Rattle.std.specs.List.Sorted.{IsStrictlyIncreasing};
-ghost use Rattle.cd_base.specs.Numbers.{numbers_of};
-ghost use Rattle.user_dedup.specs.declared.command.Command.{Command};
+ghost use Rattle.half_journal.specs.CdBase.Numbers.{numbers_of};
+ghost use Rattle.cloud_areas.specs.UserDedup.command.Command.{Command};
 ghost use Rattle.local_link.specs.Tells.{LeavesRest};
 ghost use Rattle.read_command.specs.Disks.{AreReadable, IsSpared, KeepsDisks, NamesRooms};
 ghost use Rattle.read_command.specs.Opening.{Opening, EndsOpening, IsFree, AreOpened};
 
 use crate::ReadEnd;
 use crate::end::end_of;
-use cd_base::{CloudNo, NoMemory};
-use cd_edges::Shelf;
 use cloud_areas::laws::law_of_headers;
-use journal_halves::FindErr;
-use journal_start::Rooms;
+use half_journal::{CloudNo, FindErr, NoMemory, Shelf, UserRooms};
 use local_link::LocalLink;
 
 // The rooms that a cloud's journal names. Where it names none, they are the usual ones, and an opening says why. Nothing
@@ -28,7 +25,7 @@ fn named_rooms<V: Shelf>(
     link: &mut LocalLink<'_, V>,
     cloud: CloudNo,
     window: &mut [u8],
-) -> Result<Rooms, ReadEnd>
+) -> Result<UserRooms, ReadEnd>
     requires { length window.old ≡ 65541 }
     ensures allowed { IfOk result AreRooms }
     ensures named { IsTrue (V.cloud_at link.old.shelf.now cloud.0).told
@@ -45,8 +42,8 @@ fn named_rooms<V: Shelf>(
     match link.find(cloud, window) {
         Ok(found) => Ok(found.start.header.rooms),
         Err(FindErr::Fault) => Err(ReadEnd::ShelfFault { cloud }),
-        Err(FindErr::NotBegun { .. }) => Ok(Rooms::usual()),
-        Err(FindErr::Damaged { .. }) => Ok(Rooms::usual()),
+        Err(FindErr::NotBegun { .. }) => Ok(UserRooms::usual()),
+        Err(FindErr::Damaged { .. }) => Ok(UserRooms::usual()),
     }
 }
 
@@ -54,7 +51,7 @@ fn named_rooms<V: Shelf>(
 fn open_in<V: Shelf>(
     link: &mut LocalLink<'_, V>,
     cloud: CloudNo,
-    rooms: Rooms,
+    rooms: UserRooms,
 ) -> Result<(), ReadEnd>
     requires reached { cloud.0 < link.old.servers.shape.n }
     requires allowed { AreRooms rooms }
@@ -122,7 +119,7 @@ pub fn open_clouds<V: Shelf>(
     ensures end { IfErr result (EndsOpening link.old.servers.shape (numbers_of clouds.now)
         (V.cloud_at link.old.shelf.now) (V.cloud_at link.new.shelf.now)
         (V.faults link.old.shelf.now) (V.faults link.new.shelf.now)) }
-    ensures readable { (rooms : ℕ → Rooms) (lists : ℕ → List Command)
+    ensures readable { (rooms : ℕ → UserRooms) (lists : ℕ → List Command)
         → AreReadable link.old.servers.shape (numbers_of clouds.now) (V.cloud_at link.old.shelf.now) rooms lists
         → IfErr result IsFree }
     ensures kept { KeepsDisks link.old.servers.shape (numbers_of clouds.now) (V.cloud_at link.old.shelf.now)

@@ -1,9 +1,9 @@
 //! Reading a version of a file.
 
 ghost use Rattle.std.specs.Prelude.{◌≡◌, ◌<◌, ◌≤◌, ℕ, List, [], length, All, IsTrue, IfOk, IfErr, vec_len};
-ghost use Rattle.journal_start.specs.declared.rooms.Rooms.{Rooms};
-ghost use Rattle.cd_base.specs.Limits.{IsPath};
-ghost use Rattle.user_dedup.specs.declared.command.Command.{Command};
+ghost use Rattle.half_journal.specs.JournalStart.rooms.UserRooms.{UserRooms};
+ghost use Rattle.half_journal.specs.CdBase.Limits.{IsPath};
+ghost use Rattle.cloud_areas.specs.UserDedup.command.Command.{Command};
 ghost use Rattle.local_link.specs.declared.fate.Fate.TheVariants.{Deliver};
 ghost use Rattle.read_command.specs.Disks.{AreReadable, IsSpared, KeepsDisks};
 ghost use Rattle.read_command.specs.Opening.{EndsOpening, IsFree};
@@ -14,15 +14,11 @@ ghost use Rattle.read_command.specs.Ends.{CountsSink, GivesAnyway, IsOfOpening, 
 use crate::opening::open_clouds;
 use crate::writing::write_came;
 use crate::{ReadEnd, Wanted};
-use cd_base::{Bytes, NoMemory};
-use cd_edges::{Shelf, Sink};
 use cloud_areas::laws::law_of_headers;
-use journal_halves::WINDOW;
-use journal_start::Rooms;
+use half_journal::{Bytes, NoMemory, Shelf, Sink, UserRooms, WINDOW};
 use local_link::{LocalLink, Servers, law_of_readings};
-use restore_job::RestoreErr;
 use std::alloc::Global;
-use subset_restore::restore_any;
+use subset_restore::{RestoreErr, restore_any};
 
 // A window for what a journal's halves begin with.
 fn taken(alloc: Global) -> Result<Vec<u8>, NoMemory>
@@ -50,7 +46,7 @@ fn restore_opened<V: Shelf>(
         (V.cloud_at link.new.shelf.now) (V.faults link.old.shelf.now) (V.faults link.new.shelf.now)) }
     ensures spared { IfErr result (λ end. (cloud : ℕ) → IsTrue (V.cloud_at link.old.shelf.now cloud).told
         → IsSpared (V.cloud_at link.old.shelf.now cloud) (V.cloud_at link.new.shelf.now cloud)) }
-    ensures free { (rooms : ℕ → Rooms) (lists : ℕ → List Command)
+    ensures free { (rooms : ℕ → UserRooms) (lists : ℕ → List Command)
         → AreReadable wanted.now.shape wanted.now.clouds.now (V.cloud_at link.old.shelf.now) rooms lists
         → IfErr result IsFree }
     ensures came { IfOk result (λ came. Restored (record {
@@ -133,7 +129,7 @@ pub fn read_file<K: Sink, V: Shelf>(
     let Ok(mut window) = taken(alloc) else {
         return ReadEnd::NoMemory;
     };
-    let Ok(servers) = Servers::make(alloc, wanted.shape, Rooms::least()) else {
+    let Ok(servers) = Servers::make(alloc, wanted.shape, UserRooms::least()) else {
         return ReadEnd::NoMemory;
     };
     let mut file = Bytes::new(alloc);

@@ -4,12 +4,9 @@ ghost use Rattle.subset_restore.specs.Refusals.{refusal_text};
 ghost use Rattle.read_command.specs.Ends.{IsWritten, CountsSink, Writes};
 
 use crate::ReadEnd;
-use cd_base::{Bytes, NoMemory};
-use cd_edges::{Sink, write_all};
-use restore_job::RestoreErr;
+use half_journal::{Bytes, NoMemory, Sink, write_all};
 use std::alloc::Global;
-use subset_restore::as_refusal;
-use transcript::{Line, Refusal, write_line};
+use subset_restore::{Line, Refusal, RestoreErr, as_refusal, write_line};
 
 // Writes these bytes, or a front of them where the sink fails.
 fn write_text<K: Sink>(sink: &mut K, bytes: &[u8]) -> Result<(), ReadEnd>

@@ -2,8 +2,7 @@
 
 ghost use Rattle.std.specs.Prelude.{◌≤◌, length, IfOk};
 
-use cd_base::CloudNo;
-use cd_edges::Area;
+use cd_edges::{Area, CloudNo};
 use std::fs::{File, OpenOptions};
 use std::io::ErrorKind;
 use std::os::unix::fs::FileExt;
@@ -15,7 +14,7 @@ use std::{fs, io};
 /// the file is closed, and so when the process ends, however it ends. Where there is no journal there is no lock, and so the journal
 /// is made before anything is written.
 #[derive(Drop)]
-pub struct CloudFiles {
+pub struct AreaFiles {
     folder: String,
     journal: Option<File>,
     shares: Option<File>,
@@ -105,16 +104,16 @@ fn empty(file: Option<&File>) -> io::Result<()> {
     }
 }
 
-impl CloudFiles {
+impl AreaFiles {
     /// Opens the files of a cloud that are there, and takes the lock. It changes nothing on the disk. It fails where the system refuses
     /// it, where somebody else has the lock, and for want of memory.
-    pub fn open(rt: &HostRuntime, root: &str, cloud: CloudNo) -> io::Result<CloudFiles> {
+    pub fn open(rt: &HostRuntime, root: &str, cloud: CloudNo) -> io::Result<AreaFiles> {
         let number = cloud.0;
         let folder = format!(in rt.alloc(); "{root}/cloud{number}")?;
         let journal = find_journal(rt, folder.as_str())?;
         let shares = find(rt, folder.as_str(), Area::Shares)?;
         let recipes = find(rt, folder.as_str(), Area::Recipes)?;
-        Ok(CloudFiles {
+        Ok(AreaFiles {
             folder,
             journal,
             shares,

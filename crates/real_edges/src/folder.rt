@@ -5,9 +5,8 @@ ghost use Rattle.cd_edges.specs.Shelf.{IsCall, HasFailed};
 ghost use Rattle.real_edges.specs.Untold.{cloud_of, untold_is_not};
 
 use crate::Tally;
-use crate::cloud_files::CloudFiles;
-use cd_base::CloudNo;
-use cd_edges::{Area, Failed, Shelf};
+use crate::cloud_files::AreaFiles;
+use cd_edges::{Area, CloudNo, Failed, Shelf};
 use std::io::ErrorKind;
 use std::{fs, io};
 
@@ -33,7 +32,7 @@ pub struct DirShelf {
 #[derive(Drop)]
 struct Root {
     name: String,
-    clouds: Vec<Option<CloudFiles>>,
+    clouds: Vec<Option<AreaFiles>>,
 }
 
 impl Root {
@@ -51,13 +50,13 @@ impl Root {
     }
 
     // The files of a cloud, which the first call opens, and the folder's name.
-    fn enter(&mut self, rt: &HostRuntime, cloud: CloudNo) -> io::Result<(&mut CloudFiles, &str)> {
+    fn enter(&mut self, rt: &HostRuntime, cloud: CloudNo) -> io::Result<(&mut AreaFiles, &str)> {
         let name = self.name.as_str();
         let Some(place) = self.clouds.get_mut(cloud.0 as usize) else {
             return Err(io::Error::from(ErrorKind::NotFound));
         };
         if place.is_none() {
-            *place = Some(CloudFiles::open(rt, name, cloud)?);
+            *place = Some(AreaFiles::open(rt, name, cloud)?);
         }
         match place {
             Some(files) => Ok((files, name)),

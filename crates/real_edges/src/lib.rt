@@ -8,6 +8,7 @@ mod sockets;
 mod streams;
 mod tally;
 
+pub use cd_edges::{Area, Bytes, CloudNo, Failed, Ports, Shape, Shelf, receive, send_all};
 pub use folder::DirShelf;
 pub use sockets::TcpPorts;
 pub use streams::{StdSink, StdSource};

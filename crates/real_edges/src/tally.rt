@@ -2,7 +2,7 @@
 
 ghost use Rattle.std.specs.Prelude.{◌≡◌, ◌≢◌, ◌≤◌, ℕ, ◌+◌, ◌-◌, ◌^◌, min, slice_index, slice_set};
 
-use cd_base::CloudNo;
+use cd_edges::CloudNo;
 
 /// How often calls failed, in all and for each cloud, and how often each cloud was armed. Each count stays at its last value, that of
 /// a u64.

@@ -3,30 +3,30 @@ use Rattle.std.proofs.Common.{◌≡◌, ℕ, List, [], ◌∷◌, ◌++◌, len
 use Rattle.std.specs.Prelude.{option_map, MatchOption}
 use Rattle.std.specs.List.{Contains}
 use Rattle.std.proofs.lemmas.List.Elements.{Contains-append_left, Contains-push, Contains-push_cases}
-use Rattle.cd_base.specs.declared.ids.Tag.{Tag}
-use Rattle.cd_base.specs.declared.ids.UserId.{UserId}
-use Rattle.cd_base.specs.declared.ids.Version.{Version}
-use Rattle.cd_base.specs.declared.shape.Shape.{Shape}
-use Rattle.reed_solomon.specs.Dispersal.{AreChoice}
-use Rattle.messages.specs.declared.reply.Reply.{Reply}
-use Rattle.messages.specs.declared.reply.Reply.TheVariants as replies
-use Rattle.user_dedup.specs.declared.command.Command.{Command}
-use Rattle.user_dedup.specs.declared.file_list.FileEntry.{FileEntry}
-use Rattle.user_dedup.specs.Cloud.{user_view}
-use Rattle.user_dedup.specs.Pages.{entry_at, sorted_keys, key_of as key_of_entry}
-use Rattle.user_dedup.specs.Dedup.{FullRoom}
-use Rattle.user_dedup.specs.Exec.{Peer, served}
-use Rattle.user_dedup.proofs.Owned.{contains_here, contains_later, contains_nothing, contains_cases}
-use Rattle.user_dedup.proofs.Sound.{found_entry}
+use Rattle.lane_steps.specs.CdBase.ids.Tag.{Tag}
+use Rattle.lane_steps.specs.CdBase.ids.UserId.{UserId}
+use Rattle.lane_steps.specs.CdBase.ids.Version.{Version}
+use Rattle.lane_steps.specs.CdBase.shape.Shape.{Shape}
+use Rattle.kept_files.specs.ReedSolomon.Dispersal.{AreChoice}
+use Rattle.lane_steps.specs.Messages.reply.Reply.{Reply}
+use Rattle.lane_steps.specs.Messages.reply.Reply.TheVariants as replies
+use Rattle.lane_steps.specs.UserDedup.command.Command.{Command}
+use Rattle.lane_steps.specs.UserDedup.file_list.FileEntry.{FileEntry}
+use Rattle.lane_steps.specs.UserDedup.Cloud.{user_view}
+use Rattle.lane_steps.specs.UserDedup.Pages.{entry_at, sorted_keys, key_of as key_of_entry}
+use Rattle.lane_steps.specs.UserDedup.Dedup.{FullRoom}
+use Rattle.lane_steps.specs.UserDedup.Exec.{Peer, served}
+use Rattle.lane_steps.proofs.UserDedup.Owned.{contains_here, contains_later, contains_nothing, contains_cases}
+use Rattle.lane_steps.proofs.UserDedup.Sound.{found_entry}
 use Rattle.kept_files.specs.Kept.{key_of, Keeps}
-use Rattle.upload_job.specs.Upload.{FileVersion, work_of}
-use Rattle.upload_job.specs.Lane.{LaneState, Asking, Sending, Committing, Done, Refused}
+use Rattle.lane_steps.specs.UploadJob.Upload.{FileVersion, work_of}
+use Rattle.lane_steps.specs.UploadJob.Lane.{LaneState, Asking, Sending, Committing, Done, Refused}
 use Rattle.rebuild.specs.declared.error.SkipWhy.{SkipWhy}
 use Rattle.rebuild.specs.declared.error.SkipWhy.TheVariants as whys
 use Rattle.rebuild.specs.declared.skips.Skip.{Skip}
 use Rattle.rebuild.specs.declared.skips.Rebuilt.{Rebuilt}
 use Rattle.rebuild.specs.Found.{Finding, finding_under, findings, first_of, keys_in, version_under}
-use Rattle.lane_steps.specs.Runs.{Turn, Progress}
+use Rattle.lane_steps.specs.Runs.{LaneTurn, Progress}
 use Rattle.rebuild.specs.Rebuilding.{Progressed, nothing_yet, lane_ended, BringsOne, BringsAll, Rebuilds}
 use Rattle.rebuild.specs.Kept.{HasVersion, HasAnother, RefillsKept, SkipCaused, SkipsCaused}
 use Rattle.rebuild.proofs.Finding.{kept_is_found}
@@ -144,7 +144,7 @@ module _ (shape : Shape) (target : ℕ) (full : List Command → Command → Opt
             }
       ]
 
-  brought_one : (key : Tag × Version) (found : Result FileVersion SkipWhy) (r next : Progressed) (old mid : Peer) (turns : List (Turn Peer))
+  brought_one : (key : Tag × Version) (found : Result FileVersion SkipWhy) (r next : Progressed) (old mid : Peer) (turns : List (LaneTurn Peer))
       → BringsOne shape target (served shape target full) key found r old turns next mid → next.stop ≡ None → Brought key found r.skips next.skips old mid
   brought_one key (Err why) r next old mid turns b goes =
       let one : Skip = skip_for key why in
@@ -189,13 +189,13 @@ module _ (shape : Shape) (target : ℕ) (full : List Command → Command → Opt
   stopped : (said : Reply) (next after : Progressed) → next.stop ≡ Some said → after ≡ next → after.stop ≡ None → ⊥
   stopped said next after e same goes = let k = sym (ap (λ (p : Progressed). p.stop) same ∙ e) ∙ goes in cc
 
-  not_stopped : (fs : List Finding) (next after : Progressed) (mid new : Peer) (rest : List (Turn Peer)) (o : Option Reply) → next.stop ≡ o → after.stop ≡ None
+  not_stopped : (fs : List Finding) (next after : Progressed) (mid new : Peer) (rest : List (LaneTurn Peer)) (o : Option Reply) → next.stop ≡ o → after.stop ≡ None
       → MatchOption o (BringsAll shape target (served shape target full) fs next mid rest after new) (λ said. (rest ≡ []) × (after ≡ next) × (new ≡ mid))
       → (o ≡ None) × BringsAll shape target (served shape target full) fs next mid rest after new
   not_stopped fs next after mid new rest None e goes m = (refl, m)
   not_stopped fs next after mid new rest (Some said) e goes m = absurd (stopped said next after e m.1 goes)
 
-  pub brought_all : (fs : List Finding) (r after : Progressed) (old new : Peer) (turns : List (Turn Peer)) → BringsAll shape target (served shape target full) fs r old turns after new → after.stop ≡ None
+  pub brought_all : (fs : List Finding) (r after : Progressed) (old new : Peer) (turns : List (LaneTurn Peer)) → BringsAll shape target (served shape target full) fs r old turns after new → after.stop ≡ None
       → AllBrought fs r.skips after.skips old new
   brought_all [] r after old new turns b goes =
       let same : after.skips ≡ r.skips = ap (λ (p : Progressed). p.skips) b.0 in
@@ -208,8 +208,8 @@ module _ (shape : Shape) (target : ℕ) (full : List Command → Command → Opt
   brought_all (f ∷ fs) r after old new turns b goes =
       let next : Progressed = b.0 in
       let mid : Peer = b.1 in
-      let first : List (Turn Peer) = b.2 in
-      let rest : List (Turn Peer) = b.3 in
+      let first : List (LaneTurn Peer) = b.2 in
+      let rest : List (LaneTurn Peer) = b.3 in
       let m = not_stopped fs next after mid new rest next.stop refl goes b.6 in
       brought_then f fs r.skips next.skips after.skips old mid new (brought_one f.key f.found r next old mid first b.4 m.0) (brought_all fs next after mid new rest m.1 goes)
 
@@ -254,7 +254,7 @@ caused shape target full from user after key (Ok v) skip is comes = subst (λ (s
 caused shape target full from user after key (Err why) skip is comes = subst (λ (s : Skip). SkipCaused shape target from user after s) (sym comes) (inl (sym is))
 
 -- what an answered rebuild over told clouds leaves
-pub refills : (shape : Shape) (user : UserId) (target : ℕ) (full : List Command → Command → Option FullRoom) (from : List ℕ) (turns : List (Turn Peer)) (rebuilt : Rebuilt) (before after : ℕ → Peer) → AreChoice shape from
+pub refills : (shape : Shape) (user : UserId) (target : ℕ) (full : List Command → Command → Option FullRoom) (from : List ℕ) (turns : List (LaneTurn Peer)) (rebuilt : Rebuilt) (before after : ℕ → Peer) → AreChoice shape from
     → Rebuilds shape user target (served shape target full) from turns (Ok rebuilt) before after
     → RefillsKept shape target from user after rebuilt × SkipsCaused shape target from user after rebuilt
 refills shape user target full from turns rebuilt before after choice r = (

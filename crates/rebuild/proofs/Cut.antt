@@ -5,27 +5,27 @@ use Rattle.std.specs.List.{Contains, flat_map}
 use Rattle.std.proofs.lemmas.Bool.{cases_eq}
 use Rattle.std.proofs.lemmas.List.Concat.{flat_map-cons}
 use Rattle.std.proofs.lemmas.List.Elements.{Contains-append_cases}
-use Rattle.cd_base.specs.declared.ids.UserId.{UserId}
-use Rattle.cd_base.specs.declared.shape.Shape.{Shape}
-use Rattle.messages.specs.declared.request.Request.{Request}
-use Rattle.user_dedup.specs.declared.command.Command.{Command}
-use Rattle.messages.specs.declared.reply.Reply.{Reply}
-use Rattle.user_dedup.specs.Dedup.{Outcome}
-use Rattle.user_dedup.specs.Exec.{Peer, CountsOn, Stays, Settles}
-use Rattle.user_dedup.proofs.Owned.{contains_here, contains_later, contains_nothing, contains_cases}
-use Rattle.upload_job.specs.Upload.{FileVersion}
-use Rattle.lane_steps.specs.Runs.{Turn}
-use Rattle.restore_job.specs.Asking.{MayRead, Reads, AreRead}
-use Rattle.restore_job.proofs.Leading.{counts_on}
+use Rattle.lane_steps.specs.CdBase.ids.UserId.{UserId}
+use Rattle.lane_steps.specs.CdBase.shape.Shape.{Shape}
+use Rattle.lane_steps.specs.Messages.request.Request.{Request}
+use Rattle.lane_steps.specs.UserDedup.command.Command.{Command}
+use Rattle.lane_steps.specs.Messages.reply.Reply.{Reply}
+use Rattle.lane_steps.specs.UserDedup.Dedup.{Outcome}
+use Rattle.lane_steps.specs.UserDedup.Exec.{Peer, CountsOn, KeepsPeer, Settles}
+use Rattle.lane_steps.proofs.UserDedup.Owned.{contains_here, contains_later, contains_nothing, contains_cases}
+use Rattle.lane_steps.specs.UploadJob.Upload.{FileVersion}
+use Rattle.lane_steps.specs.Runs.{LaneTurn}
+use Rattle.kept_files.specs.RestoreJob.Asking.{MayRead, Reads, AreRead}
+use Rattle.kept_files.proofs.RestoreJob.Leading.{counts_on}
 use Rattle.rebuild.specs.declared.error.SkipWhy.{SkipWhy}
 use Rattle.rebuild.specs.declared.error.SkipWhy.TheVariants as whys
 use Rattle.rebuild.specs.declared.error.RebuildErr.{RebuildErr}
 use Rattle.rebuild.specs.declared.error.RebuildErr.TheVariants as errors
 use Rattle.rebuild.specs.declared.skips.Rebuilt.{Rebuilt}
 use Rattle.rebuild.specs.Found.{Finding, findings, first_of}
-use Rattle.rebuild.specs.Rebuilding.{StopsAs, Progressed, nothing_yet, BringsAll, asked_under, asked_for, EndsAs, IsNoLack, LeavesBut, ComesBefore, IsCut}
+use Rattle.rebuild.specs.Rebuilding.{StopsAs, Progressed, nothing_yet, BringsAll, asked_under, asked_for, EndsAs, IsNoLack, LeavesBut, ComesBefore, IsRebuildCut}
 use Rattle.rebuild.proofs.Stable.{findings_same}
-use Rattle.rebuild.specs.Filling.{GoesOn}
+use Rattle.rebuild.specs.Filling.{IsFilledFurther}
 use Rattle.rebuild.proofs.Cutting.{brings_then}
 use Rattle.rebuild.proofs.Joining.{up_to_in}
 
@@ -83,7 +83,7 @@ settled p = record { list = p.list; pending = None; faults = p.faults; armings =
 settles : (old new : Peer) → MayRead old new → Reads old (settled new)
 settles old new may = (by_way may.0, record { faults = may.1.faults; armings = may.1.armings })
   where
-    by_way : Stays old new ⊎ Settles old new → Settles old (settled new)
+    by_way : KeepsPeer old new ⊎ Settles old new → Settles old (settled new)
     by_way (inl stays) = record { list = inl stays.list; pending = refl }
     by_way (inr set) = record { list = set.list; pending = refl }
 
@@ -149,13 +149,13 @@ module _ (shape : Shape) (user : UserId) (target : ℕ) (serve : List Command �
   pick_same c end p (inr other) (inl here) ne set = sym (settled_is p (set here))
   pick_same c end p (inr other) (inr none) ne set = refl
 
-  pub cut_by : (before after : ℕ → Peer) (found rest : List Finding) (r : Progressed) (mid at : Peer) (us vs : List (Turn Peer))
+  pub cut_by : (before after : ℕ → Peer) (found rest : List Finding) (r : Progressed) (mid at : Peer) (us vs : List (LaneTurn Peer))
       → Contains from (first_of from) → (Contains from target → ⊥)
       → findings shape (λ cloud. (after cloud).list) from user ≡ found ++ rest
-      → BringsAll shape target serve found nothing_yet (before target) us r mid → r.stop ≡ None → GoesOn shape target serve rest r mid vs at
+      → BringsAll shape target serve found nothing_yet (before target) us r mid → r.stop ≡ None → IsFilledFurther shape target serve rest r mid vs at
       → LeavesBut from target before after → CountsOn (before target) at
       → ((us ++ vs ≡ []) ⊎ ((cloud : ℕ) → Contains from cloud → (after cloud).pending ≡ None))
-      → IsCut shape user target serve from (us ++ vs) before at after
+      → IsRebuildCut shape user target serve from (us ++ vs) before at after
   cut_by before after found rest r mid at us vs first apart are brought none goes leaves counts set = record {
     more = goes.more;
     would = would;
@@ -166,7 +166,7 @@ module _ (shape : Shape) (user : UserId) (target : ℕ) (serve : List Command �
       last = goes.last;
       brings =
           subst (λ (p : Peer). BringsAll shape target serve (found ++ goes.front) nothing_yet (before target) ((us ++ vs) ++ goes.more) goes.last p) (sym at_target)
-          (subst (λ (l : List (Turn Peer)). BringsAll shape target serve (found ++ goes.front) nothing_yet (before target) l goes.last goes.end) (sym (append_assoc us vs goes.more))
+          (subst (λ (l : List (LaneTurn Peer)). BringsAll shape target serve (found ++ goes.front) nothing_yet (before target) l goes.last goes.end) (sym (append_assoc us vs goes.more))
           (brings_then shape target serve found goes.front nothing_yet r goes.last (before target) mid goes.end us (vs ++ goes.more) brought none goes.brings));
       ends = ends;
     };

@@ -1,24 +1,24 @@
 -- How a rebuild that was cut would go on.
 use Rattle.std.proofs.Common.{◌≡◌, ℕ, ◌+◌, true, false, List, [], ◌∷◌, ◌++◌, Option, Some, None, Result, Ok, Err, refl, sym, ap, ◌∙◌, subst, inl, inr, arith, append_assoc, append-nil}
 use Rattle.std.specs.Prelude.{MatchOption}
-use Rattle.cd_base.specs.declared.ids.Tag.{Tag}
-use Rattle.cd_base.specs.declared.ids.Version.{Version}
-use Rattle.cd_base.specs.declared.shape.Shape.{Shape}
-use Rattle.messages.specs.declared.request.Request.{Request}
-use Rattle.messages.specs.declared.request.Request.TheVariants as requests
-use Rattle.messages.specs.declared.reply.Reply.{Reply}
-use Rattle.messages.specs.declared.reply.Reply.TheVariants as replies
-use Rattle.user_dedup.specs.declared.command.Command.{Command}
-use Rattle.user_dedup.specs.Dedup.{Outcome}
-use Rattle.user_dedup.specs.Exec.{Peer, Exec, CountsOn}
-use Rattle.upload_job.specs.Upload.{FileVersion, Work, work_of}
-use Rattle.upload_job.specs.Lane.{LaneState, Asking, Sending, Committing, Done, Refused, onward, beginning, lane_request, lane_after}
-use Rattle.lane_steps.specs.Runs.{Turn, Progress, request_of, progress_after, LaneRun, LaneAlong}
+use Rattle.lane_steps.specs.CdBase.ids.Tag.{Tag}
+use Rattle.lane_steps.specs.CdBase.ids.Version.{Version}
+use Rattle.lane_steps.specs.CdBase.shape.Shape.{Shape}
+use Rattle.lane_steps.specs.Messages.request.Request.{Request}
+use Rattle.lane_steps.specs.Messages.request.Request.TheVariants as requests
+use Rattle.lane_steps.specs.Messages.reply.Reply.{Reply}
+use Rattle.lane_steps.specs.Messages.reply.Reply.TheVariants as replies
+use Rattle.lane_steps.specs.UserDedup.command.Command.{Command}
+use Rattle.lane_steps.specs.UserDedup.Dedup.{Outcome}
+use Rattle.lane_steps.specs.UserDedup.Exec.{Peer, Exec, CountsOn}
+use Rattle.lane_steps.specs.UploadJob.Upload.{FileVersion, Work, work_of}
+use Rattle.lane_steps.specs.UploadJob.Lane.{LaneState, Asking, Sending, Committing, Done, Refused, onward, beginning, lane_request, lane_after}
+use Rattle.lane_steps.specs.Runs.{LaneTurn, Progress, request_of, progress_after, LaneRun, LaneAlong}
 use Rattle.lane_steps.proofs.Runs.{along_more, run_of}
 use Rattle.rebuild.specs.declared.error.SkipWhy.{SkipWhy}
 use Rattle.rebuild.specs.Found.{Finding}
 use Rattle.rebuild.specs.declared.error.RebuildErr.TheVariants as errors
-use Rattle.rebuild.specs.Filling.{GoesOn}
+use Rattle.rebuild.specs.Filling.{IsFilledFurther}
 use Rattle.rebuild.specs.Rebuilding.{Progressed, with_skip, last_said, lane_ended, lane_of, BringsOne, BringsAll}
 
 -- ---- a device that fails
@@ -37,7 +37,7 @@ it_fails shape serve p request = record {
   });
 }
 
-abbrev pub fault_turn : Peer → Request → Turn Peer
+abbrev pub fault_turn : Peer → Request → LaneTurn Peer
 fault_turn p request = record { before = p; request = request; reply = replies.Fault }
 
 -- a lane that has a request is stopped by it
@@ -52,7 +52,7 @@ fault_stops w Refused request key r e = absurd cc
 abbrev nothing : {A : Type 0} → List A
 nothing = []
 
-last_more : (turns : List (Turn Peer)) (turn : Turn Peer) → last_said (turns ++ turn ∷ []) ≡ Some turn.reply
+last_more : (turns : List (LaneTurn Peer)) (turn : LaneTurn Peer) → last_said (turns ++ turn ∷ []) ≡ Some turn.reply
 last_more [] turn = refl
 last_more (t ∷ []) turn = refl
 last_more (t ∷ u ∷ turns) turn = last_more (u ∷ turns) turn
@@ -70,8 +70,8 @@ module _ (shape : Shape) (target : ℕ) (serve : List Command → Request → Ou
   same_counts p = record { faults = omega arith; armings = refl }
 
   -- one finding more in front
-  pub with_first : (f : Finding) (fs : List Finding) (r next : Progressed) (start mid at : Peer) (first rest : List (Turn Peer))
-      → BringsOne shape target serve f.key f.found r start first next mid → next.stop ≡ None → GoesOn shape target serve fs next mid rest at → GoesOn shape target serve (f ∷ fs) r start (first ++ rest) at
+  pub with_first : (f : Finding) (fs : List Finding) (r next : Progressed) (start mid at : Peer) (first rest : List (LaneTurn Peer))
+      → BringsOne shape target serve f.key f.found r start first next mid → next.stop ≡ None → IsFilledFurther shape target serve fs next mid rest at → IsFilledFurther shape target serve (f ∷ fs) r start (first ++ rest) at
   with_first f fs r next start mid at first rest one goes x = record {
     front = f ∷ x.front;
     left = x.left;
@@ -94,13 +94,13 @@ module _ (shape : Shape) (target : ℕ) (serve : List Command → Request → Ou
   }
 
   -- the lane is stopped where the device fails at its next request
-  pub with_fault : (f : Finding) (fs : List Finding) (r : Progressed) (v : FileVersion) (p : Progress) (start at : Peer) (turns : List (Turn Peer)) (request : Request)
+  pub with_fault : (f : Finding) (fs : List Finding) (r : Progressed) (v : FileVersion) (p : Progress) (start at : Peer) (turns : List (LaneTurn Peer)) (request : Request)
       → f.found ≡ Ok v → LaneAlong (Exec shape true serve) (lane_of shape target v) start turns p at → p.stopped ≡ false → request_of p.lane ≡ Some request
-      → GoesOn shape target serve (f ∷ fs) r start turns at
+      → IsFilledFurther shape target serve (f ∷ fs) r start turns at
   with_fault f fs r v p start at turns request is along on asks =
       let next : Progressed = lane_ended f.key (lane_after p.lane.work p.lane.state replies.Fault) replies.Fault r in
       let stop : next.stop ≡ Some replies.Fault = fault_stops p.lane.work p.lane.state request f.key r asks in
-      let turn : Turn Peer = fault_turn at request in
+      let turn : LaneTurn Peer = fault_turn at request in
       let run : LaneRun (Exec shape true serve) (lane_of shape target v) start (turns ++ turn ∷ []) (progress_after p replies.Fault) (failed at) =
       run_of (Exec shape true serve) (lane_of shape target v) (progress_after p replies.Fault) start (failed at) (turns ++ turn ∷ [])
       (along_more (Exec shape true serve) (lane_of shape target v) p start at (failed at) turns turn along on refl asks (it_fails shape serve at request)) (inl refl) in
@@ -121,14 +121,14 @@ module _ (shape : Shape) (target : ℕ) (serve : List Command → Request → Ou
           [],
           one,
           sym (append-nil (turns ++ turn ∷ [])),
-          subst (λ (o : Option Reply). MatchOption o (BringsAll shape target serve [] next (failed at) [] next (failed at)) (λ said. (nothing {A = Turn Peer} ≡ []) × (next ≡ next) × (failed at ≡ failed at))) (sym stop) (refl, refl, refl),
+          subst (λ (o : Option Reply). MatchOption o (BringsAll shape target serve [] next (failed at) [] next (failed at)) (λ said. (nothing {A = LaneTurn Peer} ≡ []) × (next ≡ next) × (failed at ≡ failed at))) (sym stop) (refl, refl, refl),
         );
         comes = refl;
         counts = (it_fails shape serve at request).counts;
         ends = inr (replies.Fault, errors.TargetFault, stop, refl, tt);
       }
 
-  pub goes_on : (fs : List Finding) (r : Progressed) (at : Peer) → r.stop ≡ None → GoesOn shape target serve fs r at [] at
+  pub goes_on : (fs : List Finding) (r : Progressed) (at : Peer) → r.stop ≡ None → IsFilledFurther shape target serve fs r at [] at
   goes_on [] r at none = record {
     front = [];
     left = [];
@@ -143,7 +143,7 @@ module _ (shape : Shape) (target : ℕ) (serve : List Command → Request → Ou
   }
   goes_on (f ∷ fs) r at none = by_found f.found refl (goes_on fs)
     where
-      by_found : (found : Result FileVersion SkipWhy) → f.found ≡ found → ((next : Progressed) (p : Peer) → next.stop ≡ None → GoesOn shape target serve fs next p [] p) → GoesOn shape target serve (f ∷ fs) r at [] at
+      by_found : (found : Result FileVersion SkipWhy) → f.found ≡ found → ((next : Progressed) (p : Peer) → next.stop ≡ None → IsFilledFurther shape target serve fs next p [] p) → IsFilledFurther shape target serve (f ∷ fs) r at [] at
       by_found (Err why) e later =
           with_first f fs r (with_skip f.key why r) at at at [] []
           (subst (λ (o : Result FileVersion SkipWhy). BringsOne shape target serve f.key o r at [] (with_skip f.key why r) at) (sym e) (refl, refl, refl)) refl
@@ -154,25 +154,25 @@ module _ (shape : Shape) (target : ℕ) (serve : List Command → Request → Ou
 
   -- ---- one list of findings behind another
 
-  pub brings_then : (fs gs : List Finding) (r mid_r last : Progressed) (old mid end : Peer) (us vs : List (Turn Peer))
+  pub brings_then : (fs gs : List Finding) (r mid_r last : Progressed) (old mid end : Peer) (us vs : List (LaneTurn Peer))
       → BringsAll shape target serve fs r old us mid_r mid → mid_r.stop ≡ None → BringsAll shape target serve gs mid_r mid vs last end → BringsAll shape target serve (fs ++ gs) r old (us ++ vs) last end
   brings_then [] gs r mid_r last old mid end us vs one none two =
       let mid_is : mid ≡ old = one.2 in
       let r_is : mid_r ≡ r = one.0 in
-      subst (λ (l : List (Turn Peer)). BringsAll shape target serve gs r old (l ++ vs) last end) (sym one.1)
+      subst (λ (l : List (LaneTurn Peer)). BringsAll shape target serve gs r old (l ++ vs) last end) (sym one.1)
       (subst (λ (p : Peer). BringsAll shape target serve gs r p vs last end) mid_is
       (subst (λ (q : Progressed). BringsAll shape target serve gs q mid vs last end) r_is two))
   brings_then (f ∷ fs) gs r mid_r last old mid end us vs one none two =
       let next : Progressed = one.0 in
       let at : Peer = one.1 in
-      let first : List (Turn Peer) = one.2 in
-      let rest : List (Turn Peer) = one.3 in (
+      let first : List (LaneTurn Peer) = one.2 in
+      let rest : List (LaneTurn Peer) = one.3 in (
         next,
         at,
         first,
         rest ++ vs,
         one.4,
-        ap (λ (l : List (Turn Peer)). l ++ vs) one.5 ∙ append_assoc first rest vs,
+        ap (λ (l : List (LaneTurn Peer)). l ++ vs) one.5 ∙ append_assoc first rest vs,
         by_stop next.stop refl one.6 (λ m. brings_then fs gs next mid_r last at mid end rest vs m none two),
       )
     where

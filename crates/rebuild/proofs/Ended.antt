@@ -4,19 +4,19 @@ use Rattle.std.specs.Prelude.{All, slice_index}
 use Rattle.std.specs.List.{Contains}
 use Rattle.std.specs.List.Sorted.{IsStrictlyIncreasing}
 use Rattle.std.proofs.lemmas.List.Elements.{All-tail}
-use Rattle.cd_base.specs.declared.ids.UserId.{UserId}
-use Rattle.cd_base.specs.declared.shape.Shape.{Shape}
-use Rattle.reed_solomon.specs.Dispersal.{AreChoice}
-use Rattle.user_dedup.specs.Exec.{served}
-use Rattle.user_dedup.specs.Link.{LinkTelling, Talk, serves}
-use Rattle.user_dedup.proofs.Owned.{contains_here}
-use Rattle.restore_job.proofs.Leading.{may_stay}
+use Rattle.lane_steps.specs.CdBase.ids.UserId.{UserId}
+use Rattle.lane_steps.specs.CdBase.shape.Shape.{Shape}
+use Rattle.kept_files.specs.ReedSolomon.Dispersal.{AreChoice}
+use Rattle.lane_steps.specs.UserDedup.Exec.{served}
+use Rattle.lane_steps.specs.UserDedup.Link.{LinkTelling, Talk, serves}
+use Rattle.lane_steps.proofs.UserDedup.Owned.{contains_here}
+use Rattle.kept_files.proofs.RestoreJob.Leading.{may_stay}
 use Rattle.rebuild.specs.declared.error.RebuildErr.{RebuildErr}
 use Rattle.rebuild.specs.declared.error.RebuildErr.TheVariants as errors
 use Rattle.rebuild.specs.declared.skips.Rebuilt.{Rebuilt}
 use Rattle.rebuild.specs.Found.{findings}
 use Rattle.rebuild.specs.Kept.{Refills}
-use Rattle.rebuild.specs.Over.{Holds, Leads}
+use Rattle.rebuild.specs.Over.{HasRebuildCause, Leads}
 use Rattle.rebuild.specs.Rebuilding.{Rebuilds, RunsTo, LeavesBut, nothing_yet}
 use Rattle.rebuild.specs.Several.{whole}
 use Rattle.rebuild.proofs.Bringing.{first_in, refills}
@@ -59,16 +59,16 @@ module _ {L : Type 0} (t : LinkTelling L) (talk : L → ℕ → Talk → Type 0)
   -- over all pages
   abbrev pub PagesLead : L → L → Rebuilt → Result (Unit {0}) RebuildErr → Type 0
   PagesLead old new rebuilt result =
-      Leads t talk target from old new result (Holds t old shape user target result) (λ turns a at b. RunsTo shape user target (serves t old target) from (whole rebuilt result) turns a at b)
+      Leads t talk target from old new result (HasRebuildCause t old shape user target result) (λ turns a at b. RunsTo shape user target (serves t old target) from (whole rebuilt result) turns a at b)
 
   abbrev pub WholeLeads : L → L → Result Rebuilt RebuildErr → Type 0
   WholeLeads old new result =
-      Leads t talk target from old new result (Holds t old shape user target result)
+      Leads t talk target from old new result (HasRebuildCause t old shape user target result)
       (λ turns a at b. RunsTo shape user target (serves t old target) from result turns a at b × Refills shape target from user b result)
 
   pub whole_done : (old new : L) (rebuilt : Rebuilt) → AreChoice shape from → t.shape old ≡ shape → PagesLead old new rebuilt ended → WholeLeads old new (done rebuilt)
   whole_done old new rebuilt choice same leads =
-      leads_as t talk target from old new ended (done rebuilt) (Holds t old shape user target ended) (Holds t old shape user target (done rebuilt))
+      leads_as t talk target from old new ended (done rebuilt) (HasRebuildCause t old shape user target ended) (HasRebuildCause t old shape user target (done rebuilt))
       (λ turns a at b. RunsTo shape user target (serves t old target) from (done rebuilt) turns a at b)
       (λ turns a at b. RunsTo shape user target (serves t old target) from (done rebuilt) turns a at b × Refills shape target from user b (done rebuilt)) leads
       (λ last p q x. x) (λ turns a b x. record { caused = tt; said = tt; ended = tt; own = x.own })
@@ -80,7 +80,7 @@ module _ {L : Type 0} (t : LinkTelling L) (talk : L → ℕ → Talk → Type 0)
 
   pub whole_failed : (old new : L) (rebuilt : Rebuilt) (e : RebuildErr) → PagesLead old new rebuilt (stopped e) → WholeLeads old new (failed e)
   whole_failed old new rebuilt e leads =
-      leads_as t talk target from old new (stopped e) (failed e) (Holds t old shape user target (stopped e)) (Holds t old shape user target (failed e))
+      leads_as t talk target from old new (stopped e) (failed e) (HasRebuildCause t old shape user target (stopped e)) (HasRebuildCause t old shape user target (failed e))
       (λ turns a at b. RunsTo shape user target (serves t old target) from (failed e) turns a at b)
       (λ turns a at b. RunsTo shape user target (serves t old target) from (failed e) turns a at b × Refills shape target from user b (failed e)) leads
       (λ last p q x. then_err (Unit {0}) Rebuilt t target last new p q e x) (λ turns a b x. holds_as (Unit {0}) Rebuilt t old shape user target e turns a b x) (λ turns a at b x. (x, tt))

@@ -3,29 +3,29 @@ use Rattle.std.proofs.Common.{◌≡◌, ◌≢◌, ℕ, ◌≤◌, Bool, false,
 use Rattle.std.specs.Prelude.{IsTrue, MatchOption}
 use Rattle.std.specs.List.{Contains}
 use Rattle.std.proofs.lemmas.Bool.{cases_eq}
-use Rattle.cd_base.specs.declared.ids.Tag.{Tag}
-use Rattle.cd_base.specs.declared.ids.UserId.{UserId}
-use Rattle.cd_base.specs.declared.ids.Version.{Version}
-use Rattle.cd_base.specs.declared.shape.Shape.{Shape}
-use Rattle.messages.specs.declared.request.Request.{Request}
-use Rattle.messages.specs.declared.reply.Reply.{Reply}
-use Rattle.user_dedup.specs.declared.command.Command.{Command}
-use Rattle.user_dedup.specs.Dedup.{Outcome}
-use Rattle.user_dedup.specs.Exec.{Peer}
-use Rattle.user_dedup.specs.Link.{LinkTelling, Talk, serves}
-use Rattle.user_dedup.proofs.Owned.{contains_cases, contains_here, contains_nothing}
-use Rattle.upload_job.specs.Upload.{FileVersion}
-use Rattle.lane_steps.specs.Runs.{Turn}
-use Rattle.restore_job.specs.declared.error.RestoreErr.{RestoreErr}
-use Rattle.restore_job.specs.declared.error.RestoreErr.TheVariants as refusals
-use Rattle.restore_job.proofs.Leading.{counts_on, may_on, may_stay, rose_on}
+use Rattle.lane_steps.specs.CdBase.ids.Tag.{Tag}
+use Rattle.lane_steps.specs.CdBase.ids.UserId.{UserId}
+use Rattle.lane_steps.specs.CdBase.ids.Version.{Version}
+use Rattle.lane_steps.specs.CdBase.shape.Shape.{Shape}
+use Rattle.lane_steps.specs.Messages.request.Request.{Request}
+use Rattle.lane_steps.specs.Messages.reply.Reply.{Reply}
+use Rattle.lane_steps.specs.UserDedup.command.Command.{Command}
+use Rattle.lane_steps.specs.UserDedup.Dedup.{Outcome}
+use Rattle.lane_steps.specs.UserDedup.Exec.{Peer}
+use Rattle.lane_steps.specs.UserDedup.Link.{LinkTelling, Talk, serves}
+use Rattle.lane_steps.proofs.UserDedup.Owned.{contains_cases, contains_here, contains_nothing}
+use Rattle.lane_steps.specs.UploadJob.Upload.{FileVersion}
+use Rattle.lane_steps.specs.Runs.{LaneTurn}
+use Rattle.kept_files.specs.RestoreJob.error.RestoreErr.{RestoreErr}
+use Rattle.kept_files.specs.RestoreJob.error.RestoreErr.TheVariants as refusals
+use Rattle.kept_files.proofs.RestoreJob.Leading.{counts_on, may_on, may_stay, rose_on}
 use Rattle.rebuild.specs.declared.error.SkipWhy.{SkipWhy}
 use Rattle.rebuild.specs.declared.error.RebuildErr.{RebuildErr}
 use Rattle.rebuild.specs.declared.error.RebuildErr.TheVariants as errors
 use Rattle.rebuild.specs.Found.{Finding}
-use Rattle.rebuild.specs.Rebuilding.{Progressed, BringsAll, BringsOne, IsFront, LeavesBut, StopsAs}
-use Rattle.rebuild.specs.Filling.{GoesOn}
-use Rattle.rebuild.specs.Over.{Asked, Causes, HandsOn, Holds, Leads, ReadCaused, TargetAlong, ThenLost, is_lost}
+use Rattle.rebuild.specs.Rebuilding.{Progressed, BringsAll, BringsOne, IsFrontOfList, LeavesBut, StopsAs}
+use Rattle.rebuild.specs.Filling.{IsFilledFurther}
+use Rattle.rebuild.specs.Over.{HasAskedToRebuild, Causes, HandsOn, HasRebuildCause, Leads, ReadCaused, TargetAlong, ThenLost, is_lost}
 use Rattle.rebuild.specs.Steps.{IsFound, ReadEnds}
 use Rattle.rebuild.specs.Entering.{EntryFound, EntryStops, EntryTold, noted}
 use Rattle.rebuild.specs.Several.{AllFound, KeysBrought, KeysCut, KeysTold, keys_of}
@@ -39,7 +39,7 @@ use Rattle.rebuild.proofs.Staying.{found_before, found_later}
 abbrev ok_of : {A : Type 0} → A → Result A RebuildErr
 ok_of v = Ok v
 
-along_on : {L : Type 0} (t : LinkTelling L) (talk : L → ℕ → Talk → Type 0) (target : ℕ) (from : List ℕ) (old : L) (p : Peer) (one : List (Turn Peer)) (mid : L) (m : Peer) (two : List (Turn Peer)) (new : L) (last : Peer)
+along_on : {L : Type 0} (t : LinkTelling L) (talk : L → ℕ → Talk → Type 0) (target : ℕ) (from : List ℕ) (old : L) (p : Peer) (one : List (LaneTurn Peer)) (mid : L) (m : Peer) (two : List (LaneTurn Peer)) (new : L) (last : Peer)
     → TargetAlong t talk target from old p one mid m → TargetAlong t talk target from mid m two new last → TargetAlong t talk target from old p (one ++ two) new last
 along_on t talk target from old p [] mid m two new last x y =
     along_read t talk target from old mid p two new last x.0 (subst (λ (q : Peer). TargetAlong t talk target from mid q two new last) x.2 y)
@@ -55,8 +55,8 @@ leaves_on from target a b c one two = record {
 
 pub leads_then : {L A B : Type 0} (t : LinkTelling L) (talk : L → ℕ → Talk → Type 0) (target : ℕ) (from : List ℕ) (old mid new : L) (v : A) (r : Result B RebuildErr) (C D E : Along) (R S T : ByTurns)
     → Leads t talk target from old mid (ok_of v) C R → t.told mid ≡ t.told old → Leads t talk target from mid new r D S
-    → ((one two : List (Turn Peer)) (a b c : ℕ → Peer) → LeavesBut from target a b → LeavesBut from target b c → C one a b → D two b c → E (one ++ two) a c)
-    → ((one two : List (Turn Peer)) (a b : ℕ → Peer) (at : Peer) (c : ℕ → Peer) → LeavesBut from target a b → LeavesBut from target b c → R one a (b target) b → S two b at c → T (one ++ two) a at c)
+    → ((one two : List (LaneTurn Peer)) (a b c : ℕ → Peer) → LeavesBut from target a b → LeavesBut from target b c → C one a b → D two b c → E (one ++ two) a c)
+    → ((one two : List (LaneTurn Peer)) (a b : ℕ → Peer) (at : Peer) (c : ℕ → Peer) → LeavesBut from target a b → LeavesBut from target b c → R one a (b target) b → S two b at c → T (one ++ two) a at c)
     → Leads t talk target from old new r E T
 leads_then {L} t talk target from old mid new v r C D E R S T first same second always both these all before peers =
     let x = first these all before peers in
@@ -79,8 +79,8 @@ leads_then {L} t talk target from old mid new v r C D E R S T first same second 
 
 -- memory ran out behind it
 pub leads_out : {L A B : Type 0} (t : LinkTelling L) (talk : L → ℕ → Talk → Type 0) (target : ℕ) (from : List ℕ) (old new : L) (v : A) (r : Result B RebuildErr) (C D : Along) (R S : ByTurns)
-    → Leads t talk target from old new (ok_of v) C R → r ≡ Err errors.NoMemory → ((turns : List (Turn Peer)) (a b : ℕ → Peer) → C turns a b → D turns a b)
-    → ((turns : List (Turn Peer)) (a b : ℕ → Peer) → R turns a (b target) b → S turns a (b target) b) → Leads t talk target from old new r D S
+    → Leads t talk target from old new (ok_of v) C R → r ≡ Err errors.NoMemory → ((turns : List (LaneTurn Peer)) (a b : ℕ → Peer) → C turns a b → D turns a b)
+    → ((turns : List (LaneTurn Peer)) (a b : ℕ → Peer) → R turns a (b target) b → S turns a (b target) b) → Leads t talk target from old new r D S
 leads_out {L} {A} {B} t talk target from old new v r C D R S first is always told these all before peers =
     let x = first these all before peers in (
       x.0,
@@ -179,8 +179,8 @@ causes_before t old mid target (Err (errors.TargetStrange kind)) a b c same grow
 causes_before t old mid target (Err errors.NoMemory) a b c same grow y = y
 
 -- what holds behind turns that came before
-pub holds_on : {L A B : Type 0} (t : LinkTelling L) (old mid : L) (shape : Shape) (user : UserId) (target : ℕ) (v : A) (r : Result B RebuildErr) (one two : List (Turn Peer)) (a b c : ℕ → Peer) → t.told mid ≡ t.told old
-    → ((x : ℕ) → (a x).faults ≤ (b x).faults) → Holds t old shape user target (ok_of v) one a b → Holds t mid shape user target r two b c → Holds t old shape user target r (one ++ two) a c
+pub holds_on : {L A B : Type 0} (t : LinkTelling L) (old mid : L) (shape : Shape) (user : UserId) (target : ℕ) (v : A) (r : Result B RebuildErr) (one two : List (LaneTurn Peer)) (a b c : ℕ → Peer) → t.told mid ≡ t.told old
+    → ((x : ℕ) → (a x).faults ≤ (b x).faults) → HasRebuildCause t old shape user target (ok_of v) one a b → HasRebuildCause t mid shape user target r two b c → HasRebuildCause t old shape user target r (one ++ two) a c
 holds_on t old mid shape user target v r one two a b c same grow x y = record {
   caused = causes_before t old mid target r a b c same grow y.caused;
   said = said_on r one two y.said;
@@ -189,8 +189,8 @@ holds_on t old mid shape user target v r one two a b c same grow x y = record {
 }
 
 -- what holds behind clouds that were read
-pub holds_before : {L A : Type 0} (t : LinkTelling L) (old mid : L) (shape : Shape) (user : UserId) (target : ℕ) (r : Result A RebuildErr) (turns : List (Turn Peer)) (a b c : ℕ → Peer) → t.told mid ≡ t.told old
-    → ((x : ℕ) → (a x).faults ≤ (b x).faults) → Holds t mid shape user target r turns b c → Holds t old shape user target r turns a c
+pub holds_before : {L A : Type 0} (t : LinkTelling L) (old mid : L) (shape : Shape) (user : UserId) (target : ℕ) (r : Result A RebuildErr) (turns : List (LaneTurn Peer)) (a b c : ℕ → Peer) → t.told mid ≡ t.told old
+    → ((x : ℕ) → (a x).faults ≤ (b x).faults) → HasRebuildCause t mid shape user target r turns b c → HasRebuildCause t old shape user target r turns a c
 holds_before t old mid shape user target r turns a b c same grow y = record {
   caused = causes_before t old mid target r a b c same grow y.caused;
   said = y.said;
@@ -199,8 +199,8 @@ holds_before t old mid shape user target r turns a b c same grow y = record {
 }
 
 -- of another result that failed so
-pub holds_as : (A B : Type 0) {L : Type 0} (t : LinkTelling L) (link : L) (shape : Shape) (user : UserId) (target : ℕ) (e : RebuildErr) (turns : List (Turn Peer)) (a b : ℕ → Peer) → Holds {L = L} {A = A} t link shape user target (Err e) turns a b
-    → Holds {L = L} {A = B} t link shape user target (Err e) turns a b
+pub holds_as : (A B : Type 0) {L : Type 0} (t : LinkTelling L) (link : L) (shape : Shape) (user : UserId) (target : ℕ) (e : RebuildErr) (turns : List (LaneTurn Peer)) (a b : ℕ → Peer) → HasRebuildCause {L = L} {A = A} t link shape user target (Err e) turns a b
+    → HasRebuildCause {L = L} {A = B} t link shape user target (Err e) turns a b
 holds_as A B t link shape user target e turns a b x = record { caused = causes_as A B t link target e a b x.caused; said = said_as A B e turns x.said; ended = x.ended; own = x.own }
 
 pub faults_grow : (from : List ℕ) (target : ℕ) (a b : ℕ → Peer) → LeavesBut from target a b → (x : ℕ) → (a x).faults ≤ (b x).faults
@@ -235,7 +235,7 @@ module _ (shape : Shape) (user : UserId) (target : ℕ) (serve : List Command �
   noted_goes key None r = refl
   noted_goes key (Some why) r = refl
 
-  brings_one : (f : Finding) (found : List Finding) (r next last : Progressed) (start mid end : Peer) (one two : List (Turn Peer)) → BringsOne shape target serve f.key f.found r start one next mid → next.stop ≡ None
+  brings_one : (f : Finding) (found : List Finding) (r next last : Progressed) (start mid end : Peer) (one two : List (LaneTurn Peer)) → BringsOne shape target serve f.key f.found r start one next mid → next.stop ≡ None
       → BringsAll shape target serve found next mid two last end → BringsAll shape target serve (f ∷ found) r start (one ++ two) last end
   brings_one f found r next last start mid end one two brings none all = (
     next,
@@ -247,7 +247,7 @@ module _ (shape : Shape) (user : UserId) (target : ℕ) (serve : List Command �
     subst (λ (o : Option Reply). MatchOption o (BringsAll shape target serve found next mid two last end) (λ said. (two ≡ []) × (last ≡ next) × (end ≡ mid))) (sym none) all,
   )
 
-  brings_last : (f : Finding) (r next : Progressed) (start end : Peer) (turns : List (Turn Peer)) (said : Reply) → BringsOne shape target serve f.key f.found r start turns next end → next.stop ≡ Some said
+  brings_last : (f : Finding) (r next : Progressed) (start end : Peer) (turns : List (LaneTurn Peer)) (said : Reply) → BringsOne shape target serve f.key f.found r start turns next end → next.stop ≡ Some said
       → BringsAll shape target serve (f ∷ []) r start turns next end
   brings_last f r next start end turns said brings stop = (
     next,
@@ -259,7 +259,7 @@ module _ (shape : Shape) (user : UserId) (target : ℕ) (serve : List Command �
     subst (λ (o : Option Reply). MatchOption o (BringsAll shape target serve [] next end no_turns next end) (λ s. (no_turns ≡ []) × (next ≡ next) × (end ≡ end))) (sym stop) (refl, refl, refl),
   )
     where
-      no_turns : List (Turn Peer)
+      no_turns : List (LaneTurn Peer)
       no_turns = []
 
   not_target : (x : ℕ) → Contains from x → x ≢ target
@@ -283,7 +283,7 @@ module _ (shape : Shape) (user : UserId) (target : ℕ) (serve : List Command �
   abbrev more_keys : Tag × Version → List (Tag × Version) → List (Tag × Version)
   more_keys key keys = key ∷ keys
 
-  brought_step : (key : Tag × Version) (more : List (Tag × Version)) (skip : Option SkipWhy) (r last : Progressed) (one two : List (Turn Peer)) (a b c : ℕ → Peer) → LeavesBut from target a b → LeavesBut from target b c
+  brought_step : (key : Tag × Version) (more : List (Tag × Version)) (skip : Option SkipWhy) (r last : Progressed) (one two : List (LaneTurn Peer)) (a b c : ℕ → Peer) → LeavesBut from target a b → LeavesBut from target b c
       → EntryFound shape user target serve from key (Ok skip) one a (b target) b → KeysBrought shape user target serve from more (noted key skip r) last two b c → KeysBrought shape user target serve from (key ∷ more) r last (one ++ two) a c
   brought_step key more skip r last one two a b c left leaves e x = record {
     found = finding key e.0 ∷ x.found;
@@ -292,7 +292,7 @@ module _ (shape : Shape) (user : UserId) (target : ℕ) (serve : List Command �
     brings = brings_one (finding key e.0) x.found r (noted key skip r) last (a target) (b target) (c target) one two (e.2 r) (noted_goes key skip r) x.brings;
   }
 
-  cut_step : (key : Tag × Version) (more : List (Tag × Version)) (skip : Option SkipWhy) (r : Progressed) (one two : List (Turn Peer)) (a b : ℕ → Peer) (at : Peer) (c : ℕ → Peer) → LeavesBut from target a b → LeavesBut from target b c
+  cut_step : (key : Tag × Version) (more : List (Tag × Version)) (skip : Option SkipWhy) (r : Progressed) (one two : List (LaneTurn Peer)) (a b : ℕ → Peer) (at : Peer) (c : ℕ → Peer) → LeavesBut from target a b → LeavesBut from target b c
       → EntryFound shape user target serve from key (Ok skip) one a (b target) b → KeysCut shape user target serve from more (noted key skip r) two b at c → KeysCut shape user target serve from (key ∷ more) r (one ++ two) a at c
   cut_step key more skip r one two a b at c left leaves e x = record {
     found = finding key e.0 ∷ x.found;
@@ -303,13 +303,13 @@ module _ (shape : Shape) (user : UserId) (target : ℕ) (serve : List Command �
     mid = x.mid;
     turns_before = one ++ x.turns_before;
     turns_behind = x.turns_behind;
-    split = ap (λ (l : List (Turn Peer)). one ++ l) x.split ∙ sym (append_assoc one x.turns_before x.turns_behind);
+    split = ap (λ (l : List (LaneTurn Peer)). one ++ l) x.split ∙ sym (append_assoc one x.turns_before x.turns_behind);
     brings = brings_one (finding key e.0) x.found r (noted key skip r) x.last (a target) (b target) x.mid one x.turns_before (e.2 r) (noted_goes key skip r) x.brings;
     none = x.none;
     goes = x.goes;
   }
 
-  pub keys_step : (key : Tag × Version) (more : List (Tag × Version)) (skip : Option SkipWhy) (r next : Progressed) (result : Result (Unit {0}) RebuildErr) (one two : List (Turn Peer)) (a b : ℕ → Peer) (at : Peer) (c : ℕ → Peer)
+  pub keys_step : (key : Tag × Version) (more : List (Tag × Version)) (skip : Option SkipWhy) (r next : Progressed) (result : Result (Unit {0}) RebuildErr) (one two : List (LaneTurn Peer)) (a b : ℕ → Peer) (at : Peer) (c : ℕ → Peer)
       → LeavesBut from target a b → LeavesBut from target b c → EntryTold shape user target serve from key (Ok skip) one a (b target) b → KeysTold shape user target serve from more (noted key skip r) next result two b at c
       → KeysTold shape user target serve from (key ∷ more) r next result (one ++ two) a at c
   unfolding brought_step
@@ -327,7 +327,7 @@ module _ (shape : Shape) (user : UserId) (target : ℕ) (serve : List Command �
 
   -- ---- an entry stopped it
 
-  pub not_begun : (keys : List (Tag × Version)) (r : Progressed) (turns : List (Turn Peer)) (a b : ℕ → Peer) → turns ≡ [] → b target ≡ a target → KeysBrought shape user target serve from keys r r turns a b
+  pub not_begun : (keys : List (Tag × Version)) (r : Progressed) (turns : List (LaneTurn Peer)) (a b : ℕ → Peer) → turns ≡ [] → b target ≡ a target → KeysBrought shape user target serve from keys r r turns a b
   not_begun keys r turns a b none same = record {
     found = [];
     front = record { rest = keys; split = refl };
@@ -335,8 +335,8 @@ module _ (shape : Shape) (user : UserId) (target : ℕ) (serve : List Command �
     brings = (refl, none, same);
   }
 
-  cut_ahead : (keys : List (Tag × Version)) (r : Progressed) (turns : List (Turn Peer)) (a : ℕ → Peer) (at : Peer) (b : ℕ → Peer) (ahead : List Finding) → r.stop ≡ None → IsFront (keys_of ahead) keys → AllFound shape user from ahead a b
-      → ((fs : List Finding) → GoesOn shape target serve (ahead ++ fs) r (a target) turns at) → KeysCut shape user target serve from keys r turns a at b
+  cut_ahead : (keys : List (Tag × Version)) (r : Progressed) (turns : List (LaneTurn Peer)) (a : ℕ → Peer) (at : Peer) (b : ℕ → Peer) (ahead : List Finding) → r.stop ≡ None → IsFrontOfList (keys_of ahead) keys → AllFound shape user from ahead a b
+      → ((fs : List Finding) → IsFilledFurther shape target serve (ahead ++ fs) r (a target) turns at) → KeysCut shape user target serve from keys r turns a at b
   cut_ahead keys r turns a at b ahead none front each goes = record {
     found = [];
     ahead = ahead;
@@ -352,26 +352,26 @@ module _ (shape : Shape) (user : UserId) (target : ℕ) (serve : List Command �
     goes = goes;
   }
 
-  pub cut_none : (keys : List (Tag × Version)) (r : Progressed) (turns : List (Turn Peer)) (a : ℕ → Peer) (at : Peer) (b : ℕ → Peer) → r.stop ≡ None → turns ≡ [] → at ≡ a target → KeysCut shape user target serve from keys r turns a at b
+  pub cut_none : (keys : List (Tag × Version)) (r : Progressed) (turns : List (LaneTurn Peer)) (a : ℕ → Peer) (at : Peer) (b : ℕ → Peer) → r.stop ≡ None → turns ≡ [] → at ≡ a target → KeysCut shape user target serve from keys r turns a at b
   cut_none keys r turns a at b none empty same =
       cut_ahead keys r turns a at b [] none (record { rest = keys; split = refl }) (λ f has. absurd (contains_nothing f has))
-      (λ fs. subst (λ (l : List (Turn Peer)). GoesOn shape target serve fs r (a target) l at) (sym empty)
-      (subst (λ (p : Peer). GoesOn shape target serve fs r (a target) [] p) (sym same) (goes_on shape target serve fs r (a target) none)))
+      (λ fs. subst (λ (l : List (LaneTurn Peer)). IsFilledFurther shape target serve fs r (a target) l at) (sym empty)
+      (subst (λ (p : Peer). IsFilledFurther shape target serve fs r (a target) [] p) (sym same) (goes_on shape target serve fs r (a target) none)))
 
-  cut_found : (key : Tag × Version) (more : List (Tag × Version)) (r : Progressed) (turns : List (Turn Peer)) (a : ℕ → Peer) (at : Peer) (b : ℕ → Peer) (found : Result FileVersion SkipWhy) → r.stop ≡ None
-      → IsFound shape user from key found a b → ((fs : List Finding) → GoesOn shape target serve (finding key found ∷ fs) r (a target) turns at) → KeysCut shape user target serve from (key ∷ more) r turns a at b
+  cut_found : (key : Tag × Version) (more : List (Tag × Version)) (r : Progressed) (turns : List (LaneTurn Peer)) (a : ℕ → Peer) (at : Peer) (b : ℕ → Peer) (found : Result FileVersion SkipWhy) → r.stop ≡ None
+      → IsFound shape user from key found a b → ((fs : List Finding) → IsFilledFurther shape target serve (finding key found ∷ fs) r (a target) turns at) → KeysCut shape user target serve from (key ∷ more) r turns a at b
   cut_found key more r turns a at b found none is goes = cut_ahead (key ∷ more) r turns a at b (finding key found ∷ []) none (record { rest = more; split = refl }) (found_alone (finding key found) a b is) goes
 
   -- memory ran out behind an entry
-  pub cut_noted : (key : Tag × Version) (more : List (Tag × Version)) (skip : Option SkipWhy) (r : Progressed) (turns : List (Turn Peer)) (a b : ℕ → Peer) → r.stop ≡ None → EntryTold shape user target serve from key (Ok skip) turns a (b target) b
+  pub cut_noted : (key : Tag × Version) (more : List (Tag × Version)) (skip : Option SkipWhy) (r : Progressed) (turns : List (LaneTurn Peer)) (a b : ℕ → Peer) → r.stop ≡ None → EntryTold shape user target serve from key (Ok skip) turns a (b target) b
       → KeysCut shape user target serve from (key ∷ more) r turns a (b target) b
   cut_noted key more skip r turns a b none e =
       cut_found key more r turns a (b target) b e.0 none e.1
-      (λ fs. subst (λ (l : List (Turn Peer)). GoesOn shape target serve (finding key e.0 ∷ fs) r (a target) l (b target)) (append-nil turns)
+      (λ fs. subst (λ (l : List (LaneTurn Peer)). IsFilledFurther shape target serve (finding key e.0 ∷ fs) r (a target) l (b target)) (append-nil turns)
       (with_first shape target serve (finding key e.0) fs r (noted key skip r) (a target) (b target) (b target) turns [] (e.2 r) (noted_goes key skip r)
       (goes_on shape target serve fs (noted key skip r) (b target) (noted_goes key skip r))))
 
-  stopped_at : (key : Tag × Version) (more : List (Tag × Version)) (r : Progressed) (e : RebuildErr) (turns : List (Turn Peer)) (a b : ℕ → Peer)
+  stopped_at : (key : Tag × Version) (more : List (Tag × Version)) (r : Progressed) (e : RebuildErr) (turns : List (LaneTurn Peer)) (a b : ℕ → Peer)
       → (found : Result FileVersion SkipWhy) × IsFound shape user from key found a b × EntryStops shape target serve key found e (a target) turns (b target)
       → (last : Progressed) × (said : Reply) × KeysBrought shape user target serve from (key ∷ more) r last turns a b × (last.stop ≡ Some said) × StopsAs said e
   stopped_at key more r e turns a b x =
@@ -390,7 +390,7 @@ module _ (shape : Shape) (user : UserId) (target : ℕ) (serve : List Command �
         stops.1,
       )
 
-  pub keys_stop : (key : Tag × Version) (more : List (Tag × Version)) (r next : Progressed) (e : RebuildErr) (turns : List (Turn Peer)) (a : ℕ → Peer) (at : Peer) (b : ℕ → Peer) → r.stop ≡ None
+  pub keys_stop : (key : Tag × Version) (more : List (Tag × Version)) (r next : Progressed) (e : RebuildErr) (turns : List (LaneTurn Peer)) (a : ℕ → Peer) (at : Peer) (b : ℕ → Peer) → r.stop ≡ None
       → EntryTold shape user target serve from key (Err e) turns a at b → KeysTold shape user target serve from (key ∷ more) r next (Err e) turns a at b
   keys_stop key more r next (errors.FromRestore e) turns a at b none x = (r, not_begun (key ∷ more) r turns a b x.0.0 x.0.2, none, x.1)
   keys_stop key more r next errors.TargetLost turns a at b none x = cut_found key more r turns a at b x.0 none x.1 (λ fs. x.2 fs r none)
@@ -425,19 +425,19 @@ keys_err e = Err e
 
 module _ {L : Type 0} (t : LinkTelling L) (talk : L → ℕ → Talk → Type 0) (target : ℕ) (from : List ℕ) (shape : Shape) (user : UserId) (apart : Contains from target → ⊥) where
   abbrev pub EntryLeads : L → L → Tag × Version → Result (Option SkipWhy) RebuildErr → Type 0
-  EntryLeads old new key result = Leads t talk target from old new result (Holds t old shape user target result) (EntryTold shape user target (serves t old target) from key result)
+  EntryLeads old new key result = Leads t talk target from old new result (HasRebuildCause t old shape user target result) (EntryTold shape user target (serves t old target) from key result)
 
   abbrev pub KeysLeads : (List Command → Request → Outcome) → L → L → List (Tag × Version) → Progressed → Progressed → Result (Unit {0}) RebuildErr → Type 0
-  KeysLeads serve old new keys r next result = Leads t talk target from old new result (Holds t old shape user target result) (KeysTold shape user target serve from keys r next result)
+  KeysLeads serve old new keys r next result = Leads t talk target from old new result (HasRebuildCause t old shape user target result) (KeysTold shape user target serve from keys r next result)
 
   pub keys_done : (link : L) (r : Progressed) → KeysLeads (serves t link target) link link [] r r (Ok tt)
   keys_done link r = leads_still t talk target from link (tt {0}) _ _ (λ a. record { caused = tt {0}; said = tt {0}; ended = tt {0}; own = lanes_none shape user target }) (λ a. keys_none shape user target (serves t link target) from apart r a)
 
   pub keys_then : (old mid new : L) (key : Tag × Version) (more : List (Tag × Version)) (skip : Option SkipWhy) (r next : Progressed) (result : Result (Unit {0}) RebuildErr) → EntryLeads old mid key (ok_of skip)
-      → Asked t target from old mid false → KeysLeads (serves t mid target) mid new more (noted key skip r) next result → KeysLeads (serves t old target) old new (key ∷ more) r next result
+      → HasAskedToRebuild t target from old mid false → KeysLeads (serves t mid target) mid new more (noted key skip r) next result → KeysLeads (serves t old target) old new (key ∷ more) r next result
   keys_then old mid new key more skip r next result first asked second =
       let serve : List Command → Request → Outcome = serves t old target in
-      leads_then t talk target from old mid new skip result _ _ (Holds t old shape user target result) _ _ (KeysTold shape user target serve from (key ∷ more) r next result) first asked.told
+      leads_then t talk target from old mid new skip result _ _ (HasRebuildCause t old shape user target result) _ _ (KeysTold shape user target serve from (key ∷ more) r next result) first asked.told
       (subst (λ (s : List Command → Request → Outcome). KeysLeads s mid new more (noted key skip r) next result) (serves_same t target old mid asked.shape asked.full) second)
       (λ us vs a b c one two x y. holds_on t old mid shape user target skip result us vs a b c asked.told (faults_grow from target a b one) x y)
       (λ us vs a b at c one two x y. keys_step shape user target serve from apart key more skip r next result us vs a b at c one two x y)

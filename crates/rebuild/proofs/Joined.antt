@@ -3,21 +3,21 @@ use Rattle.std.proofs.Common.{◌≡◌, ◌≢◌, ℕ, Bool, List, [], ◌∷�
 use Rattle.std.specs.Prelude.{IsTrue}
 use Rattle.std.specs.List.{Contains}
 use Rattle.std.proofs.lemmas.List.Elements.{Contains-append_cases}
-use Rattle.cd_base.specs.declared.ids.Tag.{Tag}
-use Rattle.cd_base.specs.declared.ids.UserId.{UserId}
-use Rattle.cd_base.specs.declared.ids.Version.{Version}
-use Rattle.cd_base.specs.declared.shape.Shape.{Shape}
-use Rattle.messages.specs.declared.request.Request.{Request}
-use Rattle.messages.specs.declared.reply.Reply.{Reply}
-use Rattle.user_dedup.specs.declared.command.Command.{Command}
-use Rattle.user_dedup.specs.Dedup.{Outcome}
-use Rattle.user_dedup.specs.Exec.{Peer, CountsOn}
-use Rattle.user_dedup.specs.Link.{LinkTelling, Talk, Does}
-use Rattle.lane_steps.specs.Runs.{Turn}
-use Rattle.user_dedup.proofs.Owned.{contains_cases, contains_later, contains_nothing}
-use Rattle.restore_job.specs.Asking.{OnlyRead}
-use Rattle.restore_job.specs.Asking.{Leads as ReadLeads}
-use Rattle.restore_job.proofs.Leading.{may_on, counts_on, may_stay}
+use Rattle.lane_steps.specs.CdBase.ids.Tag.{Tag}
+use Rattle.lane_steps.specs.CdBase.ids.UserId.{UserId}
+use Rattle.lane_steps.specs.CdBase.ids.Version.{Version}
+use Rattle.lane_steps.specs.CdBase.shape.Shape.{Shape}
+use Rattle.lane_steps.specs.Messages.request.Request.{Request}
+use Rattle.lane_steps.specs.Messages.reply.Reply.{Reply}
+use Rattle.lane_steps.specs.UserDedup.command.Command.{Command}
+use Rattle.lane_steps.specs.UserDedup.Dedup.{Outcome}
+use Rattle.lane_steps.specs.UserDedup.Exec.{Peer, CountsOn}
+use Rattle.lane_steps.specs.UserDedup.Link.{LinkTelling, Talk, Does}
+use Rattle.lane_steps.specs.Runs.{LaneTurn}
+use Rattle.lane_steps.proofs.UserDedup.Owned.{contains_cases, contains_later, contains_nothing}
+use Rattle.kept_files.specs.RestoreJob.Asking.{AreOnlyAsked}
+use Rattle.kept_files.specs.RestoreJob.Asking.{Leads as ReadLeads}
+use Rattle.kept_files.proofs.RestoreJob.Leading.{may_on, counts_on, may_stay}
 use Rattle.rebuild.specs.declared.error.RebuildErr.{RebuildErr}
 use Rattle.rebuild.specs.declared.error.RebuildErr.TheVariants as errors
 use Rattle.rebuild.specs.Found.{Finding}
@@ -31,7 +31,7 @@ use Rattle.rebuild.proofs.Staying.{found_before, found_later}
 use Rattle.rebuild.proofs.Whole.{map_on}
 
 -- the target's count along its turns
-pub along_counts : {L : Type 0} (t : LinkTelling L) (talk : L → ℕ → Talk → Type 0) (target : ℕ) (from : List ℕ) (old : L) (p : Peer) (turns : List (Turn Peer)) (new : L) (last : Peer)
+pub along_counts : {L : Type 0} (t : LinkTelling L) (talk : L → ℕ → Talk → Type 0) (target : ℕ) (from : List ℕ) (old : L) (p : Peer) (turns : List (LaneTurn Peer)) (new : L) (last : Peer)
     → TargetAlong t talk target from old p turns new last → CountsOn p last
 along_counts t talk target from old p [] new last x = subst (λ (q : Peer). CountsOn p q) (sym x.2) (may_stay p).1
 along_counts t talk target from old p (u ∷ us) new last x =
@@ -57,7 +57,7 @@ module _ (shape : Shape) (user : UserId) (target : ℕ) (serve : List Command �
       ap (λ (l : List (Tag × Version)). l ++ rest) (sym e) ∙ ap (λ (l : List (Tag × Version)). keys_of one ++ l) split ∙ sym (append_assoc (keys_of one) (keys_of two) left)
       ∙ ap (λ (l : List (Tag × Version)). l ++ left) (sym (map_on (λ (f : Finding). f.key) one two))
 
-  brought_then : (front rest : List (Tag × Version)) (r mid last : Progressed) (us vs : List (Turn Peer)) (a b c : ℕ → Peer) → mid.stop ≡ None → LeavesBut from target a b → LeavesBut from target b c
+  brought_then : (front rest : List (Tag × Version)) (r mid last : Progressed) (us vs : List (LaneTurn Peer)) (a b c : ℕ → Peer) → mid.stop ≡ None → LeavesBut from target a b → LeavesBut from target b c
       → (x : KeysBrought shape user target serve from front r mid us a b) → keys_of x.found ≡ front → KeysBrought shape user target serve from rest mid last vs b c → KeysBrought shape user target serve from (front ++ rest) r last (us ++ vs) a c
   brought_then front rest r mid last us vs a b c none one two x all y = record {
     found = x.found ++ y.found;
@@ -66,7 +66,7 @@ module _ (shape : Shape) (user : UserId) (target : ℕ) (serve : List Command �
     brings = brings_then shape target serve x.found y.found r mid last (a target) (b target) (c target) us vs x.brings none y.brings;
   }
 
-  cut_then : (front rest : List (Tag × Version)) (r mid : Progressed) (us vs : List (Turn Peer)) (a b : ℕ → Peer) (at : Peer) (c : ℕ → Peer) → mid.stop ≡ None → LeavesBut from target a b → LeavesBut from target b c
+  cut_then : (front rest : List (Tag × Version)) (r mid : Progressed) (us vs : List (LaneTurn Peer)) (a b : ℕ → Peer) (at : Peer) (c : ℕ → Peer) → mid.stop ≡ None → LeavesBut from target a b → LeavesBut from target b c
       → (x : KeysBrought shape user target serve from front r mid us a b) → keys_of x.found ≡ front → KeysCut shape user target serve from rest mid vs b at c → KeysCut shape user target serve from (front ++ rest) r (us ++ vs) a at c
   cut_then front rest r mid us vs a b at c none one two x all y = record {
     found = x.found ++ y.found;
@@ -81,13 +81,13 @@ module _ (shape : Shape) (user : UserId) (target : ℕ) (serve : List Command �
     mid = y.mid;
     turns_before = us ++ y.turns_before;
     turns_behind = y.turns_behind;
-    split = ap (λ (l : List (Turn Peer)). us ++ l) y.split ∙ sym (append_assoc us y.turns_before y.turns_behind);
+    split = ap (λ (l : List (LaneTurn Peer)). us ++ l) y.split ∙ sym (append_assoc us y.turns_before y.turns_behind);
     brings = brings_then shape target serve x.found y.found r mid y.last (a target) (b target) y.mid us y.turns_before x.brings none y.brings;
     none = y.none;
     goes = y.goes;
   }
 
-  pub pages_step : (front rest : List (Tag × Version)) (r mid next : Progressed) (result : Result (Unit {0}) RebuildErr) (us vs : List (Turn Peer)) (a b : ℕ → Peer) (at : Peer) (c : ℕ → Peer) → mid.stop ≡ None
+  pub pages_step : (front rest : List (Tag × Version)) (r mid next : Progressed) (result : Result (Unit {0}) RebuildErr) (us vs : List (LaneTurn Peer)) (a b : ℕ → Peer) (at : Peer) (c : ℕ → Peer) → mid.stop ≡ None
       → LeavesBut from target a b → LeavesBut from target b c → KeysTold shape user target serve from front r mid (Ok (tt {0})) us a (b target) b → KeysTold shape user target serve from rest mid next result vs b at c
       → KeysTold shape user target serve from (front ++ rest) r next result (us ++ vs) a at c
   unfolding brought_then
@@ -117,8 +117,8 @@ only_cloud cloud from c here has =
 
 pub page_then : {L B : Type 0} (t : LinkTelling L) (talk : L → ℕ → Talk → Type 0) (target : ℕ) (from : List ℕ) (cloud : ℕ) (old mid new : L) (r : Result B RebuildErr) (A : Between) (D C : Along) (R : Between) (S T : ByTurns)
     → (Contains from target → ⊥) → Contains from cloud → Reading t from old mid → t.told mid ≡ t.told old → ReadLeads t (cloud ∷ []) old mid A R → Leads t talk target from mid new r D S
-    → ((turns : List (Turn Peer)) (a b c : ℕ → Peer) → OnlyRead (cloud ∷ []) a b → LeavesBut from target b c → A a b → D turns b c → C turns a c)
-    → ((turns : List (Turn Peer)) (a b : ℕ → Peer) (at : Peer) (c : ℕ → Peer) → OnlyRead (cloud ∷ []) a b → LeavesBut from target b c → R a b → S turns b at c → T turns a at c)
+    → ((turns : List (LaneTurn Peer)) (a b c : ℕ → Peer) → AreOnlyAsked (cloud ∷ []) a b → LeavesBut from target b c → A a b → D turns b c → C turns a c)
+    → ((turns : List (LaneTurn Peer)) (a b : ℕ → Peer) (at : Peer) (c : ℕ → Peer) → AreOnlyAsked (cloud ∷ []) a b → LeavesBut from target b c → R a b → S turns b at c → T turns a at c)
     → Leads t talk target from old new r C T
 page_then {L} t talk target from cloud old mid new r A D C R S T apart here read same first second always both these all before peers =
     let x = first these (λ c has. all c (contains_later target from c (only_cloud cloud from c here has))) before peers in

@@ -2,39 +2,39 @@
 use Rattle.std.proofs.Common.{◌≡◌, ℕ, Bool, true, false, cond, List, [], ◌∷◌, ◌++◌, Option, Some, None, Result, Ok, Err, refl, sym, ap, ◌∙◌, subst, inl, inr}
 use Rattle.std.specs.Prelude.{IsTrue, ◌==◌}
 use Rattle.std.specs.List.{Contains}
-use Rattle.cd_edges.specs.Causes.{Rose}
-use Rattle.cd_base.specs.declared.ids.Tag.{Tag}
-use Rattle.cd_base.specs.declared.ids.UserId.{UserId}
-use Rattle.cd_base.specs.declared.ids.Version.{Version}
-use Rattle.cd_base.specs.declared.shape.Shape.{Shape}
-use Rattle.messages.specs.declared.request.Request.{Request}
-use Rattle.user_dedup.specs.declared.command.Command.{Command}
-use Rattle.user_dedup.specs.Dedup.{Outcome}
-use Rattle.user_dedup.specs.Exec.{Peer, CountsOn}
-use Rattle.user_dedup.specs.Link.{LinkTelling, Exchange, Talk, Passes, ReadsFrom, serves}
-use Rattle.user_dedup.specs.Exec.{served}
-use Rattle.user_dedup.proofs.Owned.{contains_here, contains_later, contains_cases, contains_nothing}
-use Rattle.upload_job.specs.declared.news.LaneNews.{LaneNews}
-use Rattle.upload_job.specs.declared.news.LaneNews.TheVariants as news
-use Rattle.upload_job.specs.Upload.{FileVersion}
-use Rattle.upload_job.specs.Lane.{LaneState}
-use Rattle.lane_steps.specs.Runs.{Turn}
+use Rattle.lane_steps.specs.CdEdges.Causes.{Rose}
+use Rattle.lane_steps.specs.CdBase.ids.Tag.{Tag}
+use Rattle.lane_steps.specs.CdBase.ids.UserId.{UserId}
+use Rattle.lane_steps.specs.CdBase.ids.Version.{Version}
+use Rattle.lane_steps.specs.CdBase.shape.Shape.{Shape}
+use Rattle.lane_steps.specs.Messages.request.Request.{Request}
+use Rattle.lane_steps.specs.UserDedup.command.Command.{Command}
+use Rattle.lane_steps.specs.UserDedup.Dedup.{Outcome}
+use Rattle.lane_steps.specs.UserDedup.Exec.{Peer, CountsOn}
+use Rattle.lane_steps.specs.UserDedup.Link.{LinkTelling, Exchange, Talk, Passes, ReadsFrom, serves}
+use Rattle.lane_steps.specs.UserDedup.Exec.{served}
+use Rattle.lane_steps.proofs.UserDedup.Owned.{contains_here, contains_later, contains_cases, contains_nothing}
+use Rattle.lane_steps.specs.UploadJob.news.LaneNews.{LaneNews}
+use Rattle.lane_steps.specs.UploadJob.news.LaneNews.TheVariants as news
+use Rattle.lane_steps.specs.UploadJob.Upload.{FileVersion}
+use Rattle.lane_steps.specs.UploadJob.Lane.{LaneState}
+use Rattle.lane_steps.specs.Runs.{LaneTurn}
 use Rattle.lane_steps.specs.declared.error.StepErr.{StepErr}
 use Rattle.lane_steps.specs.declared.error.StepErr.TheVariants as step_errors
 use Rattle.lane_steps.specs.Steps.{IsFound as StepFound}
-use Rattle.restore_job.specs.Asking.{OnlyRead, Reads}
-use Rattle.restore_job.specs.Asking.{Leads as ReadLeads, is_loss}
-use Rattle.restore_job.specs.Refusals.{Names}
-use Rattle.restore_job.specs.declared.error.RestoreErr.{RestoreErr}
-use Rattle.restore_job.specs.declared.error.RestoreErr.TheVariants as refusals
-use Rattle.restore_job.proofs.Leading.{may_on, may_stay}
+use Rattle.kept_files.specs.RestoreJob.Asking.{AreOnlyAsked, Reads}
+use Rattle.kept_files.specs.RestoreJob.Asking.{Leads as ReadLeads, is_loss}
+use Rattle.kept_files.specs.RestoreJob.Refusals.{Names}
+use Rattle.kept_files.specs.RestoreJob.error.RestoreErr.{RestoreErr}
+use Rattle.kept_files.specs.RestoreJob.error.RestoreErr.TheVariants as refusals
+use Rattle.kept_files.proofs.RestoreJob.Leading.{may_on, may_stay}
 use Rattle.rebuild.specs.declared.error.SkipWhy.{SkipWhy}
 use Rattle.rebuild.specs.declared.error.RebuildErr.{RebuildErr}
 use Rattle.rebuild.specs.declared.error.RebuildErr.TheVariants as errors
-use Rattle.rebuild.specs.declared.versions.Found.{Found as FoundThere}
+use Rattle.rebuild.specs.declared.versions.FoundVersion.{FoundVersion as FoundThere}
 use Rattle.rebuild.specs.Rebuilding.{LeavesBut, lane_ended, up_to}
 use Rattle.rebuild.specs.Filling.{BringsTold, BringCaused, BringHolds, EndsBy, OfTarget, LaneEnds, StopsBy, failed_as}
-use Rattle.rebuild.specs.Over.{Reading, TargetAlong, ThenLost, Leads, Causes, HandsOn, Holds, ReadCaused, is_lost}
+use Rattle.rebuild.specs.Over.{Reading, TargetAlong, ThenLost, Leads, Causes, HandsOn, HasRebuildCause, ReadCaused, is_lost}
 use Rattle.rebuild.specs.Turns.{EndsLane, OwnLanes}
 use Rattle.rebuild.specs.Steps.{IsFound, FindsTold, ReadEnds, found_of, skip_as}
 use Rattle.rebuild.specs.Entering.{EntryBrought, EntryFound, EntryStops, EntryTold, entered_as, stopped_as}
@@ -92,14 +92,14 @@ none_read {L} t from old new one = (one.0, go old one.0 one.1)
     go at [] p = p
     go at (e ∷ es) p = absurd (contains_nothing e.cloud p.0.0)
 
-pub along_wider : {L : Type 0} (t : LinkTelling L) (talk : L → ℕ → Talk → Type 0) (target : ℕ) (from : List ℕ) (old : L) (p : Peer) (turns : List (Turn Peer)) (new : L) (last : Peer)
+pub along_wider : {L : Type 0} (t : LinkTelling L) (talk : L → ℕ → Talk → Type 0) (target : ℕ) (from : List ℕ) (old : L) (p : Peer) (turns : List (LaneTurn Peer)) (new : L) (last : Peer)
     → TargetAlong t talk target [] old p turns new last → TargetAlong t talk target from old p turns new last
 along_wider t talk target from old p [] new last x = (none_read t from old new x.0, x.1, x.2)
 along_wider t talk target from old p (u ∷ us) new last x =
     (x.0, x.1, none_read t from old x.0 x.2, x.3, x.4, x.5, (x.6.0, x.6.1, x.6.2, along_wider t talk target from x.1 x.6.0 us new last x.6.3))
 
 -- the clouds are read first
-pub along_read : {L : Type 0} (t : LinkTelling L) (talk : L → ℕ → Talk → Type 0) (target : ℕ) (from : List ℕ) (old mid : L) (p : Peer) (turns : List (Turn Peer)) (new : L) (last : Peer)
+pub along_read : {L : Type 0} (t : LinkTelling L) (talk : L → ℕ → Talk → Type 0) (target : ℕ) (from : List ℕ) (old mid : L) (p : Peer) (turns : List (LaneTurn Peer)) (new : L) (last : Peer)
     → Reading t from old mid → TargetAlong t talk target from mid p turns new last → TargetAlong t talk target from old p turns new last
 along_read t talk target from old mid p [] new last read x = (reading_on t from old mid new read x.0, x.1, x.2)
 along_read t talk target from old mid p (u ∷ us) new last read x = (x.0, x.1, reading_on t from old mid x.0 read x.2, x.3, x.4, x.5, x.6)
@@ -108,16 +108,16 @@ abbrev pub Between : Type 1
 Between = (ℕ → Peer) → (ℕ → Peer) → Type 0
 
 abbrev pub Along : Type 1
-Along = List (Turn Peer) → (ℕ → Peer) → (ℕ → Peer) → Type 0
+Along = List (LaneTurn Peer) → (ℕ → Peer) → (ℕ → Peer) → Type 0
 
 abbrev pub ByTurns : Type 1
-ByTurns = List (Turn Peer) → (ℕ → Peer) → Peer → (ℕ → Peer) → Type 0
+ByTurns = List (LaneTurn Peer) → (ℕ → Peer) → Peer → (ℕ → Peer) → Type 0
 
 -- the same way, with another result
 pub leads_as : {L A B : Type 0} (t : LinkTelling L) (talk : L → ℕ → Talk → Type 0) (target : ℕ) (from : List ℕ) (old new : L) (r : Result A RebuildErr) (s : Result B RebuildErr) (C D : Along) (R S : ByTurns)
     → Leads t talk target from old new r C R → ((last : L) (p q : Peer) → ThenLost t target last p r new q → ThenLost t target last p s new q)
-    → ((turns : List (Turn Peer)) (a b : ℕ → Peer) → C turns a b → D turns a b)
-    → ((turns : List (Turn Peer)) (a : ℕ → Peer) (at : Peer) (b : ℕ → Peer) → R turns a at b → S turns a at b)
+    → ((turns : List (LaneTurn Peer)) (a b : ℕ → Peer) → C turns a b → D turns a b)
+    → ((turns : List (LaneTurn Peer)) (a : ℕ → Peer) (at : Peer) (b : ℕ → Peer) → R turns a at b → S turns a at b)
     → Leads t talk target from old new s D S
 leads_as t talk target from old new r s C D R S leads then always told these all before peers =
     let x = leads these all before peers in
@@ -133,8 +133,8 @@ only_target target from c has =
 -- the clouds are read, and then the target alone has turns
 pub read_then : {L B : Type 0} (t : LinkTelling L) (talk : L → ℕ → Talk → Type 0) (target : ℕ) (from : List ℕ) (old mid new : L) (r : Result B RebuildErr) (A : Between) (D C : Along) (R : Between) (S T : ByTurns)
     → (Contains from target → ⊥) → Reading t from old mid → t.told mid ≡ t.told old → ReadLeads t from old mid A R → Leads t talk target [] mid new r D S
-    → ((turns : List (Turn Peer)) (a b c : ℕ → Peer) → OnlyRead from a b → LeavesBut [] target b c → A a b → D turns b c → C turns a c)
-    → ((turns : List (Turn Peer)) (a b : ℕ → Peer) (at : Peer) (c : ℕ → Peer) → OnlyRead from a b → LeavesBut [] target b c → R a b → S turns b at c → T turns a at c)
+    → ((turns : List (LaneTurn Peer)) (a b c : ℕ → Peer) → AreOnlyAsked from a b → LeavesBut [] target b c → A a b → D turns b c → C turns a c)
+    → ((turns : List (LaneTurn Peer)) (a b : ℕ → Peer) (at : Peer) (c : ℕ → Peer) → AreOnlyAsked from a b → LeavesBut [] target b c → R a b → S turns b at c → T turns a at c)
     → Leads t talk target from old new r C T
 read_then {L} t talk target from old mid new r A D C R S T apart read same first second always both these all before peers =
     let x = first these (λ c has. all c (contains_later target from c has)) before peers in
@@ -161,7 +161,7 @@ read_then {L} t talk target from old mid new r A D C R S T apart read same first
 -- the clouds are read, and stop it
 pub read_stops : {L B : Type 0} (t : LinkTelling L) (talk : L → ℕ → Talk → Type 0) (target : ℕ) (from : List ℕ) (old new : L) (r : Result B RebuildErr) (A : Between) (C : Along) (R : Between) (T : ByTurns)
     → (Contains from target → ⊥) → Reading t from old new → ReadLeads t from old new A R → ((p q : Peer) → q ≡ p → ThenLost t target new p r new q)
-    → ((a b : ℕ → Peer) → OnlyRead from a b → A a b → C [] a b) → ((a b : ℕ → Peer) → OnlyRead from a b → R a b → T [] a (a target) b)
+    → ((a b : ℕ → Peer) → AreOnlyAsked from a b → A a b → C [] a b) → ((a b : ℕ → Peer) → AreOnlyAsked from a b → R a b → T [] a (a target) b)
     → Leads t talk target from old new r C T
 read_stops t talk target from old new r A C R T apart read first then always told these all before peers =
     let x = first these (λ c has. all c (contains_later target from c has)) before peers in
@@ -301,13 +301,13 @@ own_caused t link target known (Err (errors.TargetStrange kind)) p a c is own sa
 own_caused t link target known (Err errors.NoMemory) p a c is own same y = tt
 
 -- the target alone had turns
-pub own_holds : {L B : Type 0} (t : LinkTelling L) (link : L) (shape : Shape) (user : UserId) (target : ℕ) (known : Bool) (r : Result B RebuildErr) (turns : List (Turn Peer)) (p : Peer) (a c : ℕ → Peer) → known ≡ t.told link target → OfTarget r
-    → p ≡ a target → BringHolds known (OwnLanes shape user target) (EndsLane shape user target) r turns p (c target) → Holds t link shape user target r turns a c
+pub own_holds : {L B : Type 0} (t : LinkTelling L) (link : L) (shape : Shape) (user : UserId) (target : ℕ) (known : Bool) (r : Result B RebuildErr) (turns : List (LaneTurn Peer)) (p : Peer) (a c : ℕ → Peer) → known ≡ t.told link target → OfTarget r
+    → p ≡ a target → BringHolds known (OwnLanes shape user target) (EndsLane shape user target) r turns p (c target) → HasRebuildCause t link shape user target r turns a c
 own_holds t link shape user target known r turns p a c is own same x = record { caused = own_caused t link target known r p a c is own same x.caused; said = x.said; ended = x.ended; own = x.own }
 
 -- a cloud that is read stopped it
 pub stopped_holds : {L : Type 0} (B : Type 0) (t : LinkTelling L) (link : L) (shape : Shape) (user : UserId) (target : ℕ) (e : RestoreErr) (a b : ℕ → Peer) → ReadCaused t link e a b
-    → Holds {L = L} {A = B} t link shape user target (Err (stopped_as e)) [] a b
+    → HasRebuildCause {L = L} {A = B} t link shape user target (Err (stopped_as e)) [] a b
 stopped_holds B t link shape user target e a b x = record {
   caused = stopped_caused B t link target e a b x;
   said = said_stopped B e [];
@@ -332,7 +332,7 @@ up_to_in at (c ∷ clouds) cloud has = by_test (c == at) has (up_to_in at clouds
         ]
 
 module _ (shape : Shape) (user : UserId) (target : ℕ) (serve : List Command → Request → Outcome) (from : List ℕ) (key : Tag × Version) where
-  pub own_told : (r : Result (Option SkipWhy) RebuildErr) (turns : List (Turn Peer)) (a : ℕ → Peer) (at : Peer) (c : ℕ → Peer) → OfTarget r → EntryFound shape user target serve from key r turns a at c
+  pub own_told : (r : Result (Option SkipWhy) RebuildErr) (turns : List (LaneTurn Peer)) (a : ℕ → Peer) (at : Peer) (c : ℕ → Peer) → OfTarget r → EntryFound shape user target serve from key r turns a at c
       → EntryTold shape user target serve from key r turns a at c
   own_told (Ok x) turns a at c own y = y
   own_told (Err (errors.FromRestore e)) turns a at c own y = absurd own
@@ -372,8 +372,8 @@ module _ (shape : Shape) (user : UserId) (target : ℕ) (serve : List Command �
       lists cloud has = ap (λ (p : Peer). p.list) (same cloud has)
 
   -- what was found, and then brought
-  pub found_brought : (found : FoundThere) (r : Result (Option SkipWhy) RebuildErr) (turns : List (Turn Peer)) (a b : ℕ → Peer) (at : Peer) (c : ℕ → Peer) → (Contains from target → ⊥) → OfTarget r
-      → OnlyRead from a b → LeavesBut [] target b c → FindsTold shape user key from (Ok found) a b → EntryBrought shape target serve key (found_of user key found) r turns (b target) at (c target)
+  pub found_brought : (found : FoundThere) (r : Result (Option SkipWhy) RebuildErr) (turns : List (LaneTurn Peer)) (a b : ℕ → Peer) (at : Peer) (c : ℕ → Peer) → (Contains from target → ⊥) → OfTarget r
+      → AreOnlyAsked from a b → LeavesBut [] target b c → FindsTold shape user key from (Ok found) a b → EntryBrought shape target serve key (found_of user key found) r turns (b target) at (c target)
       → EntryTold shape user target serve from key r turns a at c
   found_brought found r turns a b at c apart own read leaves finds brought =
       own_told r turns a at c own (
@@ -385,15 +385,15 @@ module _ (shape : Shape) (user : UserId) (target : ℕ) (serve : List Command �
 -- ---- a version that was brought
 
 module _ (shape : Shape) (target : ℕ) (serve : List Command → Request → Outcome) (key : Tag × Version) (v : FileVersion) where
-  stops_as : (e : RebuildErr) (turns : List (Turn Peer)) (start end : Peer) → LaneEnds shape target serve v start turns end (StopsBy e) → EntryStops shape target serve key (Ok v) e start turns end
+  stops_as : (e : RebuildErr) (turns : List (LaneTurn Peer)) (start end : Peer) → LaneEnds shape target serve v start turns end (StopsBy e) → EntryStops shape target serve key (Ok v) e start turns end
   stops_as e turns start end x = (x.said, x.ends.0, λ r. (lane_ended key x.last.lane.state x.said r, (x.last, x.said, x.run, x.said_is, refl), x.ends.1 key r))
 
-  pub entered_told : (there : Bool) (turns : List (Turn Peer)) (start at end : Peer) → BringsTold shape target serve v (Ok there) turns start at end
+  pub entered_told : (there : Bool) (turns : List (LaneTurn Peer)) (start at end : Peer) → BringsTold shape target serve v (Ok there) turns start at end
       → EntryBrought shape target serve key (Ok v) (Ok (entered_as there)) turns start at end
   entered_told true turns start at end x r = (x.last, x.said, x.run, x.said_is, ap (λ (s : LaneState). lane_ended key s x.said r) (sym x.ends))
   entered_told false turns start at end x r = (x.last, x.said, x.run, x.said_is, λ i. lane_ended key ((sym x.ends.0) i) ((sym x.ends.1) i) r)
 
-  pub refused_told : (e : RebuildErr) (turns : List (Turn Peer)) (start at end : Peer) → BringsTold shape target serve v (Err e) turns start at end → EntryBrought shape target serve key (Ok v) (Err e) turns start at end
+  pub refused_told : (e : RebuildErr) (turns : List (LaneTurn Peer)) (start at end : Peer) → BringsTold shape target serve v (Err e) turns start at end → EntryBrought shape target serve key (Ok v) (Err e) turns start at end
   refused_told (errors.FromRestore e) turns start at end x = stops_as (errors.FromRestore e) turns start end x
   refused_told errors.TargetLost turns start at end x = λ fs r none. x (record { key = key; found = Ok v }) fs r refl none
   refused_told errors.TargetFault turns start at end x = stops_as errors.TargetFault turns start end x

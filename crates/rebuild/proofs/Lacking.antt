@@ -4,32 +4,32 @@ use Rattle.std.specs.Prelude.{◌==◌, ◌&&◌, All, bytes_eq, option_to_list}
 use Rattle.std.specs.List.{Contains, flat_map, list_all}
 use Rattle.std.proofs.lemmas.List.Elements.{All-nil, All-cons, Contains-append_left, Contains-append_right, Contains-append_cases}
 use Rattle.std.proofs.lemmas.Option.{same_Some}
-use Rattle.cd_base.specs.Limits.{IsPath}
-use Rattle.cd_base.specs.declared.ids.Fp.{Fp}
-use Rattle.cd_base.specs.declared.shape.Shape.{Shape}
-use Rattle.messages.specs.declared.request.Request.{Request}
-use Rattle.messages.specs.declared.request.Request.TheVariants as requests
-use Rattle.messages.specs.declared.reply.Reply.{Reply}
-use Rattle.messages.specs.declared.reply.Reply.TheVariants as replies
-use Rattle.user_dedup.specs.declared.command.Command.{Command}
-use Rattle.user_dedup.specs.declared.command.Command.TheVariants as commands
-use Rattle.user_dedup.specs.declared.file_list.FileEntry.{FileEntry}
-use Rattle.user_dedup.specs.declared.view.View.{View}
-use Rattle.user_dedup.specs.Cloud.{fingerprint, user_view}
-use Rattle.user_dedup.specs.Owning.{is_among, flags, first_lacking, new_strings}
-use Rattle.user_dedup.specs.Pages.{entry_at}
-use Rattle.user_dedup.specs.Requests.{fps_of}
-use Rattle.user_dedup.specs.Dedup.{FullRoom, by_room, commit_outcome, put_outcome, unless_full}
-use Rattle.user_dedup.specs.Exec.{Peer, Exec, ExecTold, Answers, MaySettleAs, served}
-use Rattle.user_dedup.proofs.Owned.{among_contains, contains_here, contains_later, contains_nothing, contains_cases}
-use Rattle.user_dedup.proofs.Views.{IsSent, own_adds}
-use Rattle.upload_job.specs.Upload.{FileVersion, Work, in_batches, shares_for, wanted_for, work_of}
-use Rattle.upload_job.specs.Lane.{LaneState, Asking, Sending, Committing, Done, Refused, lane_after, lane_request, onward, unflagged}
-use Rattle.upload_job.proofs.Batches.{batches_joined}
-use Rattle.upload_job.proofs.Naming.{fps_named}
-use Rattle.lane_steps.specs.Runs.{Turn, Progress, progress_after, stops_at, LaneAlong}
-use Rattle.restore_job.proofs.Held.{none_lacking}
-use Rattle.restore_job.proofs.Leading.{no_pending}
+use Rattle.lane_steps.specs.CdBase.Limits.{IsPath}
+use Rattle.lane_steps.specs.CdBase.ids.Fp.{Fp}
+use Rattle.lane_steps.specs.CdBase.shape.Shape.{Shape}
+use Rattle.lane_steps.specs.Messages.request.Request.{Request}
+use Rattle.lane_steps.specs.Messages.request.Request.TheVariants as requests
+use Rattle.lane_steps.specs.Messages.reply.Reply.{Reply}
+use Rattle.lane_steps.specs.Messages.reply.Reply.TheVariants as replies
+use Rattle.lane_steps.specs.UserDedup.command.Command.{Command}
+use Rattle.lane_steps.specs.UserDedup.command.Command.TheVariants as commands
+use Rattle.lane_steps.specs.UserDedup.file_list.FileEntry.{FileEntry}
+use Rattle.lane_steps.specs.UserDedup.view.View.{View}
+use Rattle.lane_steps.specs.UserDedup.Cloud.{fingerprint, user_view}
+use Rattle.lane_steps.specs.UserDedup.Owning.{is_among, flags, first_lacking, new_strings}
+use Rattle.lane_steps.specs.UserDedup.Pages.{entry_at}
+use Rattle.lane_steps.specs.UserDedup.Requests.{fps_of}
+use Rattle.lane_steps.specs.UserDedup.Dedup.{FullRoom, by_room, commit_outcome, put_outcome, unless_full}
+use Rattle.lane_steps.specs.UserDedup.Exec.{Peer, Exec, ExecTold, Answers, MaySettleAs, served}
+use Rattle.lane_steps.proofs.UserDedup.Owned.{among_contains, contains_here, contains_later, contains_nothing, contains_cases}
+use Rattle.lane_steps.proofs.UserDedup.Views.{IsSent, own_adds}
+use Rattle.lane_steps.specs.UploadJob.Upload.{FileVersion, Work, in_batches, shares_for, wanted_for, work_of}
+use Rattle.lane_steps.specs.UploadJob.Lane.{LaneState, Asking, Sending, Committing, Done, Refused, lane_after, lane_request, onward, unflagged}
+use Rattle.lane_steps.proofs.UploadJob.Batches.{batches_joined}
+use Rattle.lane_steps.proofs.UploadJob.Naming.{fps_named}
+use Rattle.lane_steps.specs.Runs.{LaneTurn, Progress, progress_after, stops_at, LaneAlong}
+use Rattle.kept_files.proofs.RestoreJob.Held.{none_lacking}
+use Rattle.kept_files.proofs.RestoreJob.Leading.{no_pending}
 use Rattle.rebuild.specs.Rebuilding.{last_said, lane_of}
 use Rattle.rebuild.proofs.Turning.{Answered, expected}
 
@@ -310,7 +310,7 @@ module _ (shape : Shape) (cloud : ℕ) (full : List Command → Command → Opti
       by_state Done asks stands a answered = answered
       by_state Refused asks stands a answered = answered
 
-  along_whole : (p last : Progress) (old new : Peer) (turns : List (Turn Peer)) (place : ℕ) → Covers shape p.lane.work → Stands shape p.lane.work cloud full p.lane.state old
+  along_whole : (p last : Progress) (old new : Peer) (turns : List (LaneTurn Peer)) (place : ℕ) → Covers shape p.lane.work → Stands shape p.lane.work cloud full p.lane.state old
       → LaneAlong (Exec shape true (served shape cloud full)) p old turns last new → last_said turns ≡ Some (replies.Lacking place) → ⊥
   along_whole p last old new [] place covers stands along said = cc
   along_whole p last old new (t ∷ []) place covers stands along said =
@@ -323,7 +323,7 @@ module _ (shape : Shape) (cloud : ℕ) (full : List Command → Command → Opti
       ]
 
   -- No reply to a told lane that brings this version is that a share is lacking.
-  pub never_lacking : (v : FileVersion) (last : Progress) (old new : Peer) (turns : List (Turn Peer)) (place : ℕ) → IsPath v.path → length v.file ≤ 67108864
+  pub never_lacking : (v : FileVersion) (last : Progress) (old new : Peer) (turns : List (LaneTurn Peer)) (place : ℕ) → IsPath v.path → length v.file ≤ 67108864
       → LaneAlong (Exec shape true (served shape cloud full)) (lane_of shape cloud v) old turns last new → last_said turns ≡ Some (replies.Lacking place) → ⊥
   never_lacking v last old new turns place named few along said =
       let w : Work = work_of shape v cloud in

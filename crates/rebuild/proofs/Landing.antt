@@ -6,36 +6,36 @@ use Rattle.std.proofs.lemmas.Option.{same_Some}
 use Rattle.std.proofs.lemmas.Bool.{cases_eq, ne_eqb}
 use Rattle.std.proofs.lemmas.List.{length-map}
 use Rattle.std.proofs.lemmas.List.FromFn.{length-range_with_len}
-use Rattle.cd_edges.specs.Causes.{Rose}
-use Rattle.cd_base.specs.Limits.{IsPath}
-use Rattle.cd_base.specs.declared.shape.Shape.{Shape}
-use Rattle.messages.specs.declared.request.Request.{Request}
-use Rattle.messages.specs.declared.reply.Reply.{Reply}
-use Rattle.messages.specs.declared.reply.Reply.TheVariants as replies
-use Rattle.user_dedup.specs.declared.command.Command.{Command}
-use Rattle.user_dedup.specs.Dedup.{Outcome, FullRoom}
-use Rattle.user_dedup.specs.Exec.{Peer, Exec, CountsOn, served}
-use Rattle.user_dedup.specs.Link.{LinkTelling, Talk, Does, LosesAsk, LeavesOthers, serves}
-use Rattle.user_dedup.proofs.Owned.{contains_here}
-use Rattle.upload_job.specs.declared.news.LaneNews.{LaneNews}
-use Rattle.upload_job.specs.declared.news.LaneNews.TheVariants as news
-use Rattle.upload_job.specs.Upload.{FileVersion, Work, work_of}
-use Rattle.upload_job.specs.Lane.{LaneState, Asking, Sending, Committing, Done, Refused, lane_request, news_of, unflagged}
-use Rattle.upload_job.specs.Lanes.{LaneView, begun, idle, lane_begun, with_state}
-use Rattle.lane_steps.specs.Runs.{Turn, Progress, starting, request_of, progress_after, LaneRun, LaneAlong, Tell, lane_at}
+use Rattle.lane_steps.specs.CdEdges.Causes.{Rose}
+use Rattle.lane_steps.specs.CdBase.Limits.{IsPath}
+use Rattle.lane_steps.specs.CdBase.shape.Shape.{Shape}
+use Rattle.lane_steps.specs.Messages.request.Request.{Request}
+use Rattle.lane_steps.specs.Messages.reply.Reply.{Reply}
+use Rattle.lane_steps.specs.Messages.reply.Reply.TheVariants as replies
+use Rattle.lane_steps.specs.UserDedup.command.Command.{Command}
+use Rattle.lane_steps.specs.UserDedup.Dedup.{Outcome, FullRoom}
+use Rattle.lane_steps.specs.UserDedup.Exec.{Peer, Exec, CountsOn, served}
+use Rattle.lane_steps.specs.UserDedup.Link.{LinkTelling, Talk, Does, LosesAsk, LeavesOthers, serves}
+use Rattle.lane_steps.proofs.UserDedup.Owned.{contains_here}
+use Rattle.lane_steps.specs.UploadJob.news.LaneNews.{LaneNews}
+use Rattle.lane_steps.specs.UploadJob.news.LaneNews.TheVariants as news
+use Rattle.lane_steps.specs.UploadJob.Upload.{FileVersion, Work, work_of}
+use Rattle.lane_steps.specs.UploadJob.Lane.{LaneState, Asking, Sending, Committing, Done, Refused, lane_request, news_of, unflagged}
+use Rattle.lane_steps.specs.UploadJob.Lanes.{LaneView, begun, idle, lane_begun, with_state}
+use Rattle.lane_steps.specs.Runs.{LaneTurn, Progress, starting, request_of, progress_after, LaneRun, LaneAlong, Tell, lane_at}
 use Rattle.lane_steps.specs.declared.error.StepErr.{StepErr}
 use Rattle.lane_steps.specs.declared.error.StepErr.TheVariants as step_errors
 use Rattle.lane_steps.specs.Steps.{Heard, LaneSteps, LostAsk}
 use Rattle.lane_steps.proofs.Views.{lane_with}
 use Rattle.lane_steps.proofs.Runs.{run_of, along_more, tell_more}
-use Rattle.restore_job.specs.Asking.{MayRead}
-use Rattle.restore_job.proofs.Leading.{rose_on, may_stay, counts_on}
+use Rattle.kept_files.specs.RestoreJob.Asking.{MayRead}
+use Rattle.kept_files.proofs.RestoreJob.Leading.{rose_on, may_stay, counts_on}
 use Rattle.rebuild.specs.declared.error.RebuildErr.{RebuildErr}
 use Rattle.rebuild.specs.declared.error.RebuildErr.TheVariants as errors
 use Rattle.rebuild.specs.Found.{Finding}
 use Rattle.rebuild.specs.Rebuilding.{Progressed, lane_ended, lane_of, last_said, BringsOne, BringsAll, IsNoLack, StopsAs}
 use Rattle.rebuild.specs.Over.{Leads, TargetAlong, ThenLost}
-use Rattle.rebuild.specs.Filling.{BringsTold, BringCaused, BringHolds, EndsBy, GoesOn, LaneCut, failed_as, last_of}
+use Rattle.rebuild.specs.Filling.{BringsTold, BringCaused, BringHolds, EndsBy, IsFilledFurther, LaneCut, failed_as, last_of}
 use Rattle.rebuild.specs.Turns.{LaneEnded, LaneGoes, SaidLast}
 use Rattle.rebuild.proofs.Telling.{goes_along, goes_there, reply_always}
 use Rattle.rebuild.proofs.Lacking.{never_lacking}
@@ -55,9 +55,9 @@ put_other peers cloud q x ne = ap (λ (b : Bool). cond b q (peers x)) (ne_eqb x 
 
 -- where the target went by its turns
 pub record Moved {L A : Type 0} (t : LinkTelling L) (talk : L → ℕ → Talk → Type 0) (target : ℕ) (from : List ℕ) (old new : L) (result : Result A RebuildErr)
-    (Always : List (Turn Peer) → Peer → Peer → Type 0) (Related : List (Turn Peer) → Peer → Peer → Peer → Type 0) (p : Peer) : Type 0 where
+    (Always : List (LaneTurn Peer) → Peer → Peer → Type 0) (Related : List (LaneTurn Peer) → Peer → Peer → Peer → Type 0) (p : Peer) : Type 0 where
   pub end : Peer
-  pub turns : List (Turn Peer)
+  pub turns : List (LaneTurn Peer)
   pub last : L
   pub at : Peer
   pub stands : t.stands new target end
@@ -68,7 +68,7 @@ pub record Moved {L A : Type 0} (t : LinkTelling L) (talk : L → ℕ → Talk �
   pub told : IsTrue (t.told old target) → Related turns p at end
 
 pub target_leads : {L A : Type 0} (t : LinkTelling L) (talk : L → ℕ → Talk → Type 0) (target : ℕ) (from : List ℕ) (old new : L) (result : Result A RebuildErr)
-    (Always : List (Turn Peer) → Peer → Peer → Type 0) (Related : List (Turn Peer) → Peer → Peer → Peer → Type 0) → LeavesOthers t target old new
+    (Always : List (LaneTurn Peer) → Peer → Peer → Type 0) (Related : List (LaneTurn Peer) → Peer → Peer → Peer → Type 0) → LeavesOthers t target old new
     → ((p : Peer) → t.stands old target p → Moved t talk target from old new result Always Related p)
     → Leads t talk target from old new result (λ turns before after. Always turns (before target) (after target)) (λ turns before at after. Related turns (before target) at (after target))
 target_leads {L} t talk target from old new result Always Related others moves these all before peers =
@@ -116,7 +116,7 @@ module _ (shape : Shape) (target : ℕ) (full : List Command → Command → Opt
   turned_counts p q request reply x = x.counts
 
   -- the end of a lane
-  record LaneEnd (v : FileVersion) (last : Progress) (start : Peer) (turns : List (Turn Peer)) (told : List LaneNews) : Type 0 where
+  record LaneEnd (v : FileVersion) (last : Progress) (start : Peer) (turns : List (LaneTurn Peer)) (told : List LaneNews) : Type 0 where
     pub state : LaneState
     pub reply : Reply
     pub tells : LaneNews
@@ -125,7 +125,7 @@ module _ (shape : Shape) (target : ℕ) (full : List Command → Command → Opt
     pub told_is : news_of state reply ≡ Some tells
     pub way : GoesFurther last ⊎ (HasEnded last × EndsAll state last.lane.state reply)
 
-  lane_end : (v : FileVersion) (last : Progress) (start end : Peer) (t : Turn Peer) (turns : List (Turn Peer)) (told : List LaneNews) → LaneAlong Turned (lane_of shape target v) start (t ∷ turns) last end
+  lane_end : (v : FileVersion) (last : Progress) (start end : Peer) (t : LaneTurn Peer) (turns : List (LaneTurn Peer)) (told : List LaneNews) → LaneAlong Turned (lane_of shape target v) start (t ∷ turns) last end
       → Tell (lane_of shape target v).lane (t ∷ turns) told → LaneEnd v last start (t ∷ turns) told
   lane_end v last start end t turns told along tell =
       let lt = last_turn Turned turned_counts (lane_of shape target v) last start end t turns told along tell in
@@ -140,7 +140,7 @@ module _ (shape : Shape) (target : ℕ) (full : List Command → Command → Opt
         way = subst (λ (p : Progress). GoesFurther p ⊎ (HasEnded p × EndsAll lt.state p.lane.state lt.reply)) (sym lt.last_is) f;
       }
 
-  by_due : (v : FileVersion) (due : Result Bool RebuildErr) (last : Progress) (said : Reply) (turns : List (Turn Peer)) (start at end : Peer) → BringEnds due last.lane.state said
+  by_due : (v : FileVersion) (due : Result Bool RebuildErr) (last : Progress) (said : Reply) (turns : List (LaneTurn Peer)) (start at end : Peer) → BringEnds due last.lane.state said
       → LaneRun Turned (lane_of shape target v) start turns last end → last_said turns ≡ Some said → BringsTold shape target (served shape target full) v due turns start at end
   by_due v (Ok there) last said turns start at end ends run is = record { last = last; said = said; run = run; said_is = is; ends = ends }
   by_due v (Err errors.TargetFault) last said turns start at end ends run is = record { last = last; said = said; run = run; said_is = is; ends = ends }
@@ -158,7 +158,7 @@ module _ (shape : Shape) (target : ℕ) (full : List Command → Command → Opt
   begun_further v = (refl, first_request (work_of shape v target))
 
   -- a lane that ended
-  pub brought_told : (v : FileVersion) (last : Progress) (start at end : Peer) (turns : List (Turn Peer)) (told : List LaneNews) (r : Result Bool RebuildErr) → LaneAlong Turned (lane_of shape target v) start turns last end → HasEnded last
+  pub brought_told : (v : FileVersion) (last : Progress) (start at end : Peer) (turns : List (LaneTurn Peer)) (told : List LaneNews) (r : Result Bool RebuildErr) → LaneAlong Turned (lane_of shape target v) start turns last end → HasEnded last
       → Tell (lane_of shape target v).lane turns told → EndsBy (last_of told) r → BringsTold shape target (served shape target full) v r turns start at end
   brought_told v last start at end [] told r along ended tell ends = absurd (not_both last (subst GoesFurther (sym along.0) (begun_further v)) ended)
   brought_told v last start at end (t ∷ turns) told r along ended tell ends =
@@ -172,8 +172,8 @@ module _ (shape : Shape) (target : ℕ) (full : List Command → Command → Opt
       ]
 
   -- a lane that was cut
-  stop_by : (f : Finding) (fs : List Finding) (r next : Progressed) (start at : Peer) (turns : List (Turn Peer)) (said : Reply) (e : RebuildErr) → BringsOne shape target (served shape target full) f.key f.found r start turns next at
-      → next.stop ≡ Some said → StopsAs said e → IsNoLack e → GoesOn shape target (served shape target full) (f ∷ fs) r start turns at
+  stop_by : (f : Finding) (fs : List Finding) (r next : Progressed) (start at : Peer) (turns : List (LaneTurn Peer)) (said : Reply) (e : RebuildErr) → BringsOne shape target (served shape target full) f.key f.found r start turns next at
+      → next.stop ≡ Some said → StopsAs said e → IsNoLack e → IsFilledFurther shape target (served shape target full) (f ∷ fs) r start turns at
   stop_by f fs r next start at turns said e one stop stops whole = record {
     front = f ∷ [];
     left = fs;
@@ -195,13 +195,13 @@ module _ (shape : Shape) (target : ℕ) (full : List Command → Command → Opt
     ends = inr (said, e, stop, stops, whole);
   }
     where
-      nothing : List (Turn Peer)
+      nothing : List (LaneTurn Peer)
       nothing = []
 
-  goes_by : (f : Finding) (fs : List Finding) (r next : Progressed) (start at : Peer) (turns : List (Turn Peer)) → BringsOne shape target (served shape target full) f.key f.found r start turns next at → next.stop ≡ None
-      → GoesOn shape target (served shape target full) (f ∷ fs) r start turns at
+  goes_by : (f : Finding) (fs : List Finding) (r next : Progressed) (start at : Peer) (turns : List (LaneTurn Peer)) → BringsOne shape target (served shape target full) f.key f.found r start turns next at → next.stop ≡ None
+      → IsFilledFurther shape target (served shape target full) (f ∷ fs) r start turns at
   goes_by f fs r next start at turns one goes =
-      subst (λ (l : List (Turn Peer)). GoesOn shape target (served shape target full) (f ∷ fs) r start l at) (append-nil turns)
+      subst (λ (l : List (LaneTurn Peer)). IsFilledFurther shape target (served shape target full) (f ∷ fs) r start l at) (append-nil turns)
       (with_first shape target (served shape target full) f fs r next start at at turns [] one goes (goes_on shape target (served shape target full) fs next at goes))
 
   no_lack : (said : Reply) (e : RebuildErr) → StopsAs said e → ((place : ℕ) → said ≡ replies.Lacking place → ⊥) → IsNoLack e
@@ -216,7 +216,7 @@ module _ (shape : Shape) (target : ℕ) (full : List Command → Command → Opt
   no_lack said (errors.TargetStrange kind) stops none = tt
   no_lack said errors.NoMemory stops none = tt
 
-  cut_ended : (v : FileVersion) (due : Result Bool RebuildErr) (last : Progress) (said : Reply) (turns : List (Turn Peer)) (start at : Peer) → BringEnds due last.lane.state said
+  cut_ended : (v : FileVersion) (due : Result Bool RebuildErr) (last : Progress) (said : Reply) (turns : List (LaneTurn Peer)) (start at : Peer) → BringEnds due last.lane.state said
       → LaneRun Turned (lane_of shape target v) start turns last at → last_said turns ≡ Some said → ((place : ℕ) → said ≡ replies.Lacking place → ⊥) → LaneCut shape target (served shape target full) v start turns at
   cut_ended v due last said turns start at ends run is whole f fs r found none = by_due_cut due ends
     where
@@ -232,12 +232,12 @@ module _ (shape : Shape) (target : ℕ) (full : List Command → Command → Opt
       stop_exists : last.lane.state ≡ Refused → said ≡ replies.Exists → next.stop ≡ None
       stop_exists e x = (λ i. (lane_ended f.key (e i) (x i) r).stop)
 
-      by_due_cut : (due : Result Bool RebuildErr) → BringEnds due last.lane.state said → GoesOn shape target (served shape target full) (f ∷ fs) r start turns at
+      by_due_cut : (due : Result Bool RebuildErr) → BringEnds due last.lane.state said → IsFilledFurther shape target (served shape target full) (f ∷ fs) r start turns at
       by_due_cut (Ok true) ends = goes_by f fs r next start at turns one (stop_done ends)
       by_due_cut (Ok false) ends = goes_by f fs r next start at turns one (stop_exists ends.0 ends.1)
       by_due_cut (Err e) ends = stop_by f fs r next start at turns said e one (ends.1 f.key r) ends.0 (no_lack said e ends.0 whole)
 
-  pub lane_cut : (v : FileVersion) (last : Progress) (start at : Peer) (turns : List (Turn Peer)) (told : List LaneNews) → IsPath v.path → length v.file ≤ 67108864 → LaneAlong Turned (lane_of shape target v) start turns last at
+  pub lane_cut : (v : FileVersion) (last : Progress) (start at : Peer) (turns : List (LaneTurn Peer)) (told : List LaneNews) → IsPath v.path → length v.file ≤ 67108864 → LaneAlong Turned (lane_of shape target v) start turns last at
       → Tell (lane_of shape target v).lane turns told → LaneCut shape target (served shape target full) v start turns at
   lane_cut v last start at [] told named few along tell f fs r found none =
       let further = subst GoesFurther (sym along.0) (begun_further v) in
@@ -252,7 +252,7 @@ module _ (shape : Shape) (target : ℕ) (full : List Command → Command → Opt
 
 -- ---- over a link
 
-pub run_along : {S : Type 0} (Goes : S → Request → Reply → S → Type 0) (p last : Progress) (old new : S) (turns : List (Turn S)) → LaneRun Goes p old turns last new → LaneAlong Goes p old turns last new × HasEnded last
+pub run_along : {S : Type 0} (Goes : S → Request → Reply → S → Type 0) (p last : Progress) (old new : S) (turns : List (LaneTurn S)) → LaneRun Goes p old turns last new → LaneAlong Goes p old turns last new × HasEnded last
 run_along Goes p last old new [] run = ((run.1, run.2), subst HasEnded (sym run.1) run.0)
 run_along Goes p last old new (t ∷ turns) run =
     let r = run_along Goes (progress_after p t.reply) last run.3.0 new turns run.3.2 in
@@ -390,7 +390,7 @@ caused_end known news.NoMemory r p q is by = subst (λ (x : Result Bool RebuildE
 caused_end known (news.Known marks asked) r p q is by = subst (λ (x : Result Bool RebuildErr). BringCaused known x p q) (sym is) tt
 caused_end known (news.Stored new sent) r p q is by = subst (λ (x : Result Bool RebuildErr). BringCaused known x p q) (sym is) tt
 
-said_end : (tells : LaneNews) (r : Result Bool RebuildErr) (reply : Reply) (turns : List (Turn Peer)) → EndsBy (Some tells) r → last_said turns ≡ Some reply → Tells tells reply → SaidLast r turns
+said_end : (tells : LaneNews) (r : Result Bool RebuildErr) (reply : Reply) (turns : List (LaneTurn Peer)) → EndsBy (Some tells) r → last_said turns ≡ Some reply → Tells tells reply → SaidLast r turns
 said_end news.Committed r reply turns is said so = subst (λ (x : Result Bool RebuildErr). SaidLast x turns) (sym is) tt
 said_end news.Exists r reply turns is said so = subst (λ (x : Result Bool RebuildErr). SaidLast x turns) (sym is) tt
 said_end (news.Full room used need limit) r reply turns is said so = subst (λ (x : Result Bool RebuildErr). SaidLast x turns) (sym is) (said ∙ ap (λ (x : Reply). Some x) so)
@@ -455,11 +455,11 @@ lane_is shape v target lt =
     ∙ ap (λ (b : Bool). starting (cond b (begun (work_of shape v target)) (idle shape v))) (eq-eqb target target refl)
 
 -- a lane goes on with its own work
-pub along_work : {S : Type 0} (Goes : S → Request → Reply → S → Type 0) (p last : Progress) (old new : S) (turns : List (Turn S)) → LaneAlong Goes p old turns last new → last.lane.work ≡ p.lane.work
+pub along_work : {S : Type 0} (Goes : S → Request → Reply → S → Type 0) (p last : Progress) (old new : S) (turns : List (LaneTurn S)) → LaneAlong Goes p old turns last new → last.lane.work ≡ p.lane.work
 along_work Goes p last old new [] along = ap (λ (x : Progress). x.lane.work) along.0
 along_work Goes p last old new (t ∷ turns) along = along_work Goes (progress_after p t.reply) last along.3.0 new turns along.3.2
 
-pub lane_still : {S : Type 0} (Goes : S → Request → Reply → S → Type 0) (views : List LaneView) (i : ℕ) (last : Progress) (old new : S) (turns : List (Turn S)) → i < length views → LaneAlong Goes (starting (lane_at views i)) old turns last new
+pub lane_still : {S : Type 0} (Goes : S → Request → Reply → S → Type 0) (views : List LaneView) (i : ℕ) (last : Progress) (old new : S) (turns : List (LaneTurn S)) → i < length views → LaneAlong Goes (starting (lane_at views i)) old turns last new
     → lane_at (with_state views i last.lane.state) i ≡ last.lane
 lane_still Goes views i last old new turns lt along =
     let work = along_work Goes (starting (lane_at views i)) last old new turns along in
@@ -478,21 +478,21 @@ module _ {L : Type 0} (t : LinkTelling L) (talk : L → ℕ → Talk → Type 0)
   abbrev Went : L → Progress → List LaneNews → Peer → Type 0
   Went new last told p = PeerTurns t talk target from old old new (lane_of shape target v) last told p
 
-  went : (new : L) (lane last : Progress) (turns : List (Turn L)) (told : List LaneNews) (p : Peer) → lane ≡ lane_of shape target v → LaneAlong (Heard t talk target) lane old turns last new → Tell lane.lane turns told → t.stands old target p
+  went : (new : L) (lane last : Progress) (turns : List (LaneTurn L)) (told : List LaneNews) (p : Peer) → lane ≡ lane_of shape target v → LaneAlong (Heard t talk target) lane old turns last new → Tell lane.lane turns told → t.stands old target p
       → Went new last told p
   went new lane last turns told p is along tell stands =
       peer_turns t talk target from old old new (lane_of shape target v) last turns told p alike
       (subst (λ (x : Progress). LaneAlong (Heard t talk target) x old turns last new) is along) (subst (λ (x : Progress). Tell x.lane turns told) is tell) stands
 
   -- as a told target does it
-  as_told : (last : Progress) (p q : Peer) (turns : List (Turn Peer)) → IsTrue (t.told old target) → LaneAlong (Does t target old) (lane_of shape target v) p turns last q
+  as_told : (last : Progress) (p q : Peer) (turns : List (LaneTurn Peer)) → IsTrue (t.told old target) → LaneAlong (Does t target old) (lane_of shape target v) p turns last q
       → LaneAlong (Exec shape true (served shape target (t.full old target))) (lane_of shape target v) p turns last q
   as_told last p q turns told along =
       subst (λ (s : Shape). LaneAlong (Exec s true (served s target (t.full old target))) (lane_of shape target v) p turns last q) same
       (subst (λ (b : Bool). LaneAlong (Exec (t.shape old) b (served (t.shape old) target (t.full old target))) (lane_of shape target v) p turns last q) told along)
 
   -- one whose lane ended by a share that is lacking isn't told
-  not_told : (last : Progress) (p q : Peer) (turns : List (Turn Peer)) (place : ℕ) → LaneAlong (Does t target old) (lane_of shape target v) p turns last q → last_said turns ≡ Some (replies.Lacking place) → t.told old target ≡ false
+  not_told : (last : Progress) (p q : Peer) (turns : List (LaneTurn Peer)) (place : ℕ) → LaneAlong (Does t target old) (lane_of shape target v) p turns last q → last_said turns ≡ Some (replies.Lacking place) → t.told old target ≡ false
   not_told last p q turns place along said = by_told (t.told old target) refl
     where
       by_told : (b : Bool) → t.told old target ≡ b → t.told old target ≡ false
@@ -502,13 +502,13 @@ module _ {L : Type 0} (t : LinkTelling L) (talk : L → ℕ → Talk → Type 0)
   does_counts : (p q : Peer) (request : Request) (reply : Reply) → Does t target old p request reply q → CountsOn p q
   does_counts p q request reply x = x.counts
 
-  goes_by_turns : (last : Progress) (p q : Peer) (turns : List (Turn Peer)) → LaneAlong (Does t target old) (lane_of shape target v) p turns last q → LaneGoes (lane_of shape target v) turns
+  goes_by_turns : (last : Progress) (p q : Peer) (turns : List (LaneTurn Peer)) → LaneAlong (Does t target old) (lane_of shape target v) p turns last q → LaneGoes (lane_of shape target v) turns
   goes_by_turns last p q turns along = goes_along (Does t target old) (lane_of shape target v) last p q turns along
 
-  ended_by : (last : Progress) (p q : Peer) (turns : List (Turn Peer)) → LaneAlong (Does t target old) (lane_of shape target v) p turns last q → HasEnded last → LaneEnded (lane_of shape target v) turns
+  ended_by : (last : Progress) (p q : Peer) (turns : List (LaneTurn Peer)) → LaneAlong (Does t target old) (lane_of shape target v) p turns last q → HasEnded last → LaneEnded (lane_of shape target v) turns
   ended_by last p q turns along ended = subst HasEnded (goes_there (Does t target old) (lane_of shape target v) last p q turns along) ended
 
-  holds_by : (last : Progress) (p q : Peer) (turns : List (Turn Peer)) (told : List LaneNews) (r : Result Bool RebuildErr) → LaneAlong (Does t target old) (lane_of shape target v) p turns last q → HasEnded last → Tell (lane_of shape target v).lane turns told → EndsBy (last_of told) r
+  holds_by : (last : Progress) (p q : Peer) (turns : List (LaneTurn Peer)) (told : List LaneNews) (r : Result Bool RebuildErr) → LaneAlong (Does t target old) (lane_of shape target v) p turns last q → HasEnded last → Tell (lane_of shape target v).lane turns told → EndsBy (last_of told) r
       → BringHolds (t.told old target) (LaneGoes (lane_of shape target v)) (LaneEnded (lane_of shape target v)) r turns p q
   holds_by last p q [] told r along ended tell ends =
       let is : r ≡ Err errors.NoMemory = subst (λ (l : List LaneNews). EndsBy (last_of l) r) tell ends in
@@ -531,7 +531,7 @@ module _ {L : Type 0} (t : LinkTelling L) (talk : L → ℕ → Talk → Type 0)
         own = goes_by_turns last p q (u ∷ turns) along;
       }
 
-  pub ended_moves : (new : L) (lane last : Progress) (turns : List (Turn L)) (told : List LaneNews) (r : Result Bool RebuildErr) (p : Peer) → lane ≡ lane_of shape target v → LaneRun (Heard t talk target) lane old turns last new → Tell lane.lane turns told
+  pub ended_moves : (new : L) (lane last : Progress) (turns : List (LaneTurn L)) (told : List LaneNews) (r : Result Bool RebuildErr) (p : Peer) → lane ≡ lane_of shape target v → LaneRun (Heard t talk target) lane old turns last new → Tell lane.lane turns told
       → EndsBy (last_of told) r → t.stands old target p → Brought new r p
   ended_moves new lane last turns told r p is run tell ends stands =
       let along = run_along (Heard t talk target) lane last old new turns run in
@@ -550,14 +550,14 @@ module _ {L : Type 0} (t : LinkTelling L) (talk : L → ℕ → Talk → Type 0)
             (brought_told shape target (t.full old target) v last p w.end w.end w.turns told r (as_told last p w.end w.turns is_told w.runs) along.1 w.tells ends);
       }
 
-  cut_told : (last : Progress) (p q : Peer) (turns : List (Turn Peer)) (told : List LaneNews) → IsTrue (t.told old target) → LaneAlong (Does t target old) (lane_of shape target v) p turns last q → Tell (lane_of shape target v).lane turns told
+  cut_told : (last : Progress) (p q : Peer) (turns : List (LaneTurn Peer)) (told : List LaneNews) → IsTrue (t.told old target) → LaneAlong (Does t target old) (lane_of shape target v) p turns last q → Tell (lane_of shape target v).lane turns told
       → LaneCut shape target (serves t old target) v p turns q
   cut_told last p q turns told is_told along tell =
       subst (λ (s : Shape). LaneCut shape target (served s target (t.full old target)) v p turns q) (sym same)
       (lane_cut shape target (t.full old target) v last p q turns told named few (as_told last p q turns is_told along) tell)
 
   -- memory ran out behind these turns
-  pub memory_moves : (new : L) (lane last : Progress) (turns : List (Turn L)) (told : List LaneNews) (p : Peer) → lane ≡ lane_of shape target v → LaneAlong (Heard t talk target) lane old turns last new → Tell lane.lane turns told → t.stands old target p
+  pub memory_moves : (new : L) (lane last : Progress) (turns : List (LaneTurn L)) (told : List LaneNews) (p : Peer) → lane ≡ lane_of shape target v → LaneAlong (Heard t talk target) lane old turns last new → Tell lane.lane turns told → t.stands old target p
       → Brought new (Err errors.NoMemory) p
   memory_moves new lane last turns told p is along tell stands =
       let w = went new lane last turns told p is along tell stands in
@@ -574,7 +574,7 @@ module _ {L : Type 0} (t : LinkTelling L) (talk : L → ℕ → Talk → Type 0)
         told = λ is_told. cut_told last p w.end w.turns told is_told w.runs w.tells;
       }
 
-  lost_by : (mid new : L) (lane last : Progress) (turns : List (Turn L)) (told : List LaneNews) (p : Peer) (request : Request) → lane ≡ lane_of shape target v → LaneAlong (Heard t talk target) lane old turns last mid → Tell lane.lane turns told → t.stands old target p
+  lost_by : (mid new : L) (lane last : Progress) (turns : List (LaneTurn L)) (told : List LaneNews) (p : Peer) (request : Request) → lane ≡ lane_of shape target v → LaneAlong (Heard t talk target) lane old turns last mid → Tell lane.lane turns told → t.stands old target p
       → LostAsk t target mid request new → Brought new (Err errors.TargetLost) p
   lost_by mid new lane last turns told p request is along tell stands lost =
       let w = went mid lane last turns told p is along tell stands in
@@ -596,24 +596,24 @@ module _ {L : Type 0} (t : LinkTelling L) (talk : L → ℕ → Talk → Type 0)
   abbrev Step : L → List LaneView → Option Request → StepErr → L → List LaneView → Type 0
   Step mid views o e new after = LaneSteps t talk target mid views o (Err e) new after
 
-  pub lost_moves : (mid new : L) (views after : List LaneView) (lane last : Progress) (turns : List (Turn L)) (told : List LaneNews) (p : Peer) (o : Option Request) → lane ≡ lane_of shape target v → LaneAlong (Heard t talk target) lane old turns last mid
+  pub lost_moves : (mid new : L) (views after : List LaneView) (lane last : Progress) (turns : List (LaneTurn L)) (told : List LaneNews) (p : Peer) (o : Option Request) → lane ≡ lane_of shape target v → LaneAlong (Heard t talk target) lane old turns last mid
       → Tell lane.lane turns told → t.stands old target p → Step mid views o step_errors.Lost new after → Brought new (Err errors.TargetLost) p
   lost_moves mid new views after lane last turns told p None is along tell stands step = absurd step
   lost_moves mid new views after lane last turns told p (Some request) is along tell stands step = lost_by mid new lane last turns told p request is along tell stands step.0
 
-  pub strange_moves : (mid new : L) (views after : List LaneView) (lane last : Progress) (turns : List (Turn L)) (told : List LaneNews) (p : Peer) (o : Option Request) (kind : ℕ) → lane ≡ lane_of shape target v → LaneAlong (Heard t talk target) lane old turns last mid
+  pub strange_moves : (mid new : L) (views after : List LaneView) (lane last : Progress) (turns : List (LaneTurn L)) (told : List LaneNews) (p : Peer) (o : Option Request) (kind : ℕ) → lane ≡ lane_of shape target v → LaneAlong (Heard t talk target) lane old turns last mid
       → Tell lane.lane turns told → t.stands old target p → Step mid views o (step_errors.Strange kind) new after → Brought new (Err (errors.TargetStrange kind)) p
   strange_moves mid new views after lane last turns told p None kind is along tell stands step = absurd step
   strange_moves mid new views after lane last turns told p (Some request) kind is along tell stands step =
       let w = went mid lane last turns told p is along tell stands in
       absurd (step.0.unheard w.end w.stands)
 
-  same_link : (mid new : L) (lane last : Progress) (turns : List (Turn L)) (told : List LaneNews) (p : Peer) → lane ≡ lane_of shape target v → LaneAlong (Heard t talk target) lane old turns last mid → Tell lane.lane turns told → t.stands old target p → new ≡ mid
+  same_link : (mid new : L) (lane last : Progress) (turns : List (LaneTurn L)) (told : List LaneNews) (p : Peer) → lane ≡ lane_of shape target v → LaneAlong (Heard t talk target) lane old turns last mid → Tell lane.lane turns told → t.stands old target p → new ≡ mid
       → Brought new (Err errors.NoMemory) p
   same_link mid new lane last turns told p is along tell stands e =
       subst (λ (x : L). Brought x (Err errors.NoMemory) p) (sym e) (memory_moves mid lane last turns told p is along tell stands)
 
-  pub step_memory : (mid new : L) (views after : List LaneView) (lane last : Progress) (turns : List (Turn L)) (told : List LaneNews) (p : Peer) (o : Option Request) → o ≡ request_of last.lane → lane_at views target ≡ last.lane → last.stopped ≡ false
+  pub step_memory : (mid new : L) (views after : List LaneView) (lane last : Progress) (turns : List (LaneTurn L)) (told : List LaneNews) (p : Peer) (o : Option Request) → o ≡ request_of last.lane → lane_at views target ≡ last.lane → last.stopped ≡ false
       → lane ≡ lane_of shape target v → LaneAlong (Heard t talk target) lane old turns last mid → Tell lane.lane turns told → t.stands old target p → Step mid views o step_errors.NoMemory new after → Brought new (Err errors.NoMemory) p
   step_memory mid new views after lane last turns told p None asks here on is along tell stands step = same_link mid new lane last turns told p is along tell stands step.0
   step_memory mid new views after lane last turns told p (Some request) asks here on is along tell stands step =
@@ -622,13 +622,13 @@ module _ {L : Type 0} (t : LinkTelling L) (talk : L → ℕ → Talk → Type 0)
         | inr untaken ↦
             let w = went mid lane last turns told p is along tell stands in
             let h = untaken.heard w.end w.stands in
-            let turn : Turn L = record { before = mid; request = request; reply = h.0 } in
+            let turn : LaneTurn L = record { before = mid; request = request; reply = h.0 } in
             memory_moves new lane (progress_after last h.0) (turns ++ turn ∷ []) (told ++ h.1 ∷ []) p is
             (along_more (Heard t talk target) lane last old mid new turns turn along on refl (sym asks) h.3)
             (tell_more (Heard t talk target) lane last old mid turns turn told h.1 along tell (subst (λ (x : LaneView). news_of x.state h.0 ≡ Some h.1) here h.2)) stands
       ]
 
-  pub step_moves : (mid new : L) (views after : List LaneView) (lane last : Progress) (turns : List (Turn L)) (told : List LaneNews) (p : Peer) (e : StepErr) → lane_at views target ≡ last.lane → last.stopped ≡ false
+  pub step_moves : (mid new : L) (views after : List LaneView) (lane last : Progress) (turns : List (LaneTurn L)) (told : List LaneNews) (p : Peer) (e : StepErr) → lane_at views target ≡ last.lane → last.stopped ≡ false
       → lane ≡ lane_of shape target v → LaneAlong (Heard t talk target) lane old turns last mid → Tell lane.lane turns told → t.stands old target p → Step mid views (request_of last.lane) e new after → Brought new (Err (failed_as e)) p
   step_moves mid new views after lane last turns told p step_errors.Lost here on is along tell stands step = lost_moves mid new views after lane last turns told p (request_of last.lane) is along tell stands step
   step_moves mid new views after lane last turns told p (step_errors.Strange kind) here on is along tell stands step = strange_moves mid new views after lane last turns told p (request_of last.lane) kind is along tell stands step

@@ -7,32 +7,32 @@ use Rattle.std.proofs.lemmas.Bool.{and_from}
 use Rattle.std.proofs.lemmas.List.Folds.{find-append}
 use Rattle.std.proofs.lemmas.Option.{same_Some}
 use Rattle.std.proofs.lemmas.Slice.Eq.{bytes_eq-Decides}
-use Rattle.cd_base.specs.declared.ids.Tag.{Tag}
-use Rattle.cd_base.specs.declared.ids.UserId.{UserId}
-use Rattle.cd_base.specs.declared.ids.Version.{Version}
-use Rattle.cd_base.specs.declared.shape.Shape.{Shape}
-use Rattle.messages.specs.declared.request.Request.{Request}
-use Rattle.messages.specs.declared.request.Request.TheVariants as requests
-use Rattle.messages.specs.declared.reply.Reply.{Reply}
-use Rattle.messages.specs.declared.reply.Reply.TheVariants as replies
-use Rattle.user_dedup.specs.declared.command.Command.{Command}
-use Rattle.user_dedup.specs.declared.command.Command.TheVariants as commands
-use Rattle.user_dedup.specs.declared.file_list.FileEntry.{FileEntry}
-use Rattle.user_dedup.specs.declared.view.View.{View}
-use Rattle.user_dedup.specs.Cloud.{fingerprint, user_view}
-use Rattle.user_dedup.specs.Owning.{first_lacking, new_strings}
-use Rattle.user_dedup.specs.Pages.{is_at, entry_at}
-use Rattle.user_dedup.specs.Requests.{fps_of}
-use Rattle.user_dedup.specs.Dedup.{Outcome, FullRoom, Ends, put_outcome, commit_outcome, by_room, unless_full}
-use Rattle.user_dedup.specs.Exec.{Peer, Exec, ExecTold, served}
-use Rattle.user_dedup.proofs.Growing.{Each, GrowsBy, IfCommand, grows_same, grows_then, exec_grows, answered_quiet, version_more, AsksNoDelete, IsNoDelete, adds_no_delete, ends_none}
-use Rattle.user_dedup.proofs.Views.{own_adds}
-use Rattle.upload_job.specs.Upload.{Work}
-use Rattle.upload_job.specs.Lane.{LaneState, Asking, Sending, Committing, Done, Refused, onward, lane_request, past_known, unflagged}
+use Rattle.lane_steps.specs.CdBase.ids.Tag.{Tag}
+use Rattle.lane_steps.specs.CdBase.ids.UserId.{UserId}
+use Rattle.lane_steps.specs.CdBase.ids.Version.{Version}
+use Rattle.lane_steps.specs.CdBase.shape.Shape.{Shape}
+use Rattle.lane_steps.specs.Messages.request.Request.{Request}
+use Rattle.lane_steps.specs.Messages.request.Request.TheVariants as requests
+use Rattle.lane_steps.specs.Messages.reply.Reply.{Reply}
+use Rattle.lane_steps.specs.Messages.reply.Reply.TheVariants as replies
+use Rattle.lane_steps.specs.UserDedup.command.Command.{Command}
+use Rattle.lane_steps.specs.UserDedup.command.Command.TheVariants as commands
+use Rattle.lane_steps.specs.UserDedup.file_list.FileEntry.{FileEntry}
+use Rattle.lane_steps.specs.UserDedup.view.View.{View}
+use Rattle.lane_steps.specs.UserDedup.Cloud.{fingerprint, user_view}
+use Rattle.lane_steps.specs.UserDedup.Owning.{first_lacking, new_strings}
+use Rattle.lane_steps.specs.UserDedup.Pages.{is_at, entry_at}
+use Rattle.lane_steps.specs.UserDedup.Requests.{fps_of}
+use Rattle.lane_steps.specs.UserDedup.Dedup.{Outcome, FullRoom, Ends, put_outcome, commit_outcome, by_room, unless_full}
+use Rattle.lane_steps.specs.UserDedup.Exec.{Peer, Exec, ExecTold, served}
+use Rattle.lane_steps.proofs.UserDedup.Growing.{Each, GrowsBy, IfCommand, grows_same, grows_then, exec_grows, answered_quiet, version_more, AsksNoDelete, IsNoDelete, adds_no_delete, ends_none}
+use Rattle.lane_steps.proofs.UserDedup.Views.{own_adds}
+use Rattle.lane_steps.specs.UploadJob.Upload.{Work}
+use Rattle.lane_steps.specs.UploadJob.Lane.{LaneState, Asking, Sending, Committing, Done, Refused, onward, lane_request, past_known, unflagged}
 use Rattle.rebuild.specs.Standing.{entry_in, HasEntry, HasOther}
-use Rattle.upload_job.specs.Lane.{lane_after}
-use Rattle.upload_job.specs.Lanes.{begun}
-use Rattle.lane_steps.specs.Runs.{Turn, Progress, starting, progress_after, LaneRun}
+use Rattle.lane_steps.specs.UploadJob.Lane.{lane_after}
+use Rattle.lane_steps.specs.UploadJob.Lanes.{begun}
+use Rattle.lane_steps.specs.Runs.{LaneTurn, Progress, starting, progress_after, LaneRun}
 use Rattle.rebuild.specs.Rebuilding.{last_said}
 
 -- ---- lists grow by commands that are no Deletes
@@ -63,7 +63,7 @@ lane_asks_no_delete w Done request e = absurd cc
 lane_asks_no_delete w Refused request e = absurd cc
 
 module _ (shape : Shape) (cloud : ℕ) (full : List Command → Command → Option FullRoom) where
-  pub run_later : (p last : Progress) (old new : Peer) (turns : List (Turn Peer)) → LaneRun (Exec shape true (served shape cloud full)) p old turns last new → Later old new
+  pub run_later : (p last : Progress) (old new : Peer) (turns : List (LaneTurn Peer)) → LaneRun (Exec shape true (served shape cloud full)) p old turns last new → Later old new
   run_later p last old new [] run = later_same old new run.2
   run_later p last old new (t ∷ turns) run =
       let mid : Peer = run.3.0 in
@@ -296,7 +296,7 @@ module _ (shape : Shape) (cloud : ℕ) (full : List Command → Command → Opti
       subst (IfCommand IsNoDelete) (sym (answered_quiet shape (served shape cloud full) old mid request said (λ e. answers (sym same ∙ e)) x)) tt
 
   -- a lane that is run to Done leaves its entry, and nothing pending that is a Delete, unless it was there from the start
-  pub run_done : (p last : Progress) (old new : Peer) (turns : List (Turn Peer)) → LaneRun (Exec shape true (served shape cloud full)) p old turns last new → last.lane.state ≡ Done
+  pub run_done : (p last : Progress) (old new : Peer) (turns : List (LaneTurn Peer)) → LaneRun (Exec shape true (served shape cloud full)) p old turns last new → last.lane.state ≡ Done
       → (p.lane.state ≡ Done) ⊎ (HasEntry shape new.list p.lane.work.user (p.lane.work.tag, p.lane.work.version) p.lane.work.recipe × IsQuiet new)
   run_done p last old new [] run done = inl (sym (ap (λ (q : Progress). q.lane.state) run.1) ∙ done)
   run_done p last old new (t ∷ turns) run done =
@@ -315,7 +315,7 @@ module _ (shape : Shape) (cloud : ℕ) (full : List Command → Command → Opti
       ]
 
   -- a lane whose last reply is Exists found another version
-  pub run_exists : (p last : Progress) (old new : Peer) (turns : List (Turn Peer)) → LaneRun (Exec shape true (served shape cloud full)) p old turns last new → last_said turns ≡ Some replies.Exists
+  pub run_exists : (p last : Progress) (old new : Peer) (turns : List (LaneTurn Peer)) → LaneRun (Exec shape true (served shape cloud full)) p old turns last new → last_said turns ≡ Some replies.Exists
       → HasOther shape new.list p.lane.work.user (p.lane.work.tag, p.lane.work.version) p.lane.work.recipe × IsQuiet new
   run_exists p last old new [] run said = absurd cc
   run_exists p last old new (t ∷ []) run said =
@@ -330,7 +330,7 @@ begun_not_done : (w : Work) → onward w.batches ≡ Done → ⊥
 begun_not_done w e = goes_on w.batches e
 
 module _ (shape : Shape) (cloud : ℕ) (full : List Command → Command → Option FullRoom) where
-  pub lane_done : (w : Work) (last : Progress) (old new : Peer) (turns : List (Turn Peer)) → LaneRun (Exec shape true (served shape cloud full)) (starting (begun w)) old turns last new → last.lane.state ≡ Done
+  pub lane_done : (w : Work) (last : Progress) (old new : Peer) (turns : List (LaneTurn Peer)) → LaneRun (Exec shape true (served shape cloud full)) (starting (begun w)) old turns last new → last.lane.state ≡ Done
       → HasEntry shape new.list w.user (w.tag, w.version) w.recipe × IsQuiet new
   lane_done w last old new turns run done =
       elim (run_done shape cloud full (starting (begun w)) last old new turns run done) [

@@ -2,29 +2,29 @@
 use Rattle.std.proofs.Common.{◌≡◌, ◌⊎◌, ℕ, Bool, true, false, List, [], ◌∷◌, Option, Result, Ok, Err, refl, sym, ap, ◌∙◌, subst, inl, inr}
 use Rattle.std.specs.Prelude.{IsTrue, IfErr}
 use Rattle.std.specs.List.{Contains}
-use Rattle.cd_edges.specs.Causes.{Rose}
-use Rattle.cd_base.specs.Reading.{AreBytes}
-use Rattle.cd_base.specs.declared.ids.CloudNo.{CloudNo}
-use Rattle.cd_base.specs.declared.ids.Tag.{Tag}
-use Rattle.cd_base.specs.declared.ids.UserId.{UserId}
-use Rattle.cd_base.specs.declared.ids.Version.{Version}
-use Rattle.cd_base.specs.declared.shape.Shape.{Shape}
-use Rattle.messages.specs.declared.request.Request.TheVariants as requests
-use Rattle.messages.specs.declared.reply.Reply.{Reply}
-use Rattle.messages.specs.declared.reply.Reply.TheVariants as replies
-use Rattle.messages.specs.ReplyReading.{reply_at}
-use Rattle.user_dedup.specs.Cloud.{user_view}
-use Rattle.user_dedup.specs.Pages.{page_of}
-use Rattle.user_dedup.specs.Exec.{Peer}
-use Rattle.user_dedup.specs.Link.{LinkTelling, Asks}
-use Rattle.user_dedup.proofs.Owned.{contains_here, contains_cases, contains_nothing}
-use Rattle.restore_job.specs.Asking.{Reads, ReadFails, TellsAll, Leads}
-use Rattle.restore_job.specs.Refusals.{Names}
-use Rattle.restore_job.specs.declared.error.RestoreErr.{RestoreErr}
-use Rattle.restore_job.specs.declared.error.RestoreErr.TheVariants as errors
-use Rattle.restore_job.proofs.Causing.{FaultRose}
-use Rattle.restore_job.proofs.Held.{heard_moves, lost_moves}
-use Rattle.restore_job.proofs.Leading.{Moves, leads_to}
+use Rattle.lane_steps.specs.CdEdges.Causes.{Rose}
+use Rattle.lane_steps.specs.CdBase.Reading.{AreBytes}
+use Rattle.lane_steps.specs.CdBase.ids.CloudNo.{CloudNo}
+use Rattle.lane_steps.specs.CdBase.ids.Tag.{Tag}
+use Rattle.lane_steps.specs.CdBase.ids.UserId.{UserId}
+use Rattle.lane_steps.specs.CdBase.ids.Version.{Version}
+use Rattle.lane_steps.specs.CdBase.shape.Shape.{Shape}
+use Rattle.lane_steps.specs.Messages.request.Request.TheVariants as requests
+use Rattle.lane_steps.specs.Messages.reply.Reply.{Reply}
+use Rattle.lane_steps.specs.Messages.reply.Reply.TheVariants as replies
+use Rattle.lane_steps.specs.Messages.ReplyReading.{reply_at}
+use Rattle.lane_steps.specs.UserDedup.Cloud.{user_view}
+use Rattle.lane_steps.specs.UserDedup.Pages.{page_of}
+use Rattle.lane_steps.specs.UserDedup.Exec.{Peer}
+use Rattle.lane_steps.specs.UserDedup.Link.{LinkTelling, Asks}
+use Rattle.lane_steps.proofs.UserDedup.Owned.{contains_here, contains_cases, contains_nothing}
+use Rattle.kept_files.specs.RestoreJob.Asking.{Reads, ReadFails, TellsAll, Leads}
+use Rattle.kept_files.specs.RestoreJob.Refusals.{Names}
+use Rattle.kept_files.specs.RestoreJob.error.RestoreErr.{RestoreErr}
+use Rattle.kept_files.specs.RestoreJob.error.RestoreErr.TheVariants as errors
+use Rattle.kept_files.proofs.RestoreJob.Causing.{FaultRose}
+use Rattle.kept_files.proofs.RestoreJob.Held.{heard_moves, lost_moves}
+use Rattle.kept_files.proofs.RestoreJob.Leading.{Moves, leads_to}
 use Rattle.rebuild.specs.Steps.{ReadCauses, RefusesPage, PageIs, PageFrom, PageTold}
 
 abbrev Key : Type 0

@@ -9,25 +9,25 @@ use Rattle.std.proofs.lemmas.List.Concat.{flat_map-cons}
 use Rattle.std.proofs.lemmas.List.Elements.{All-head, All-tail, All-cons, All-weaker}
 use Rattle.std.proofs.lemmas.List.Sums.{prefix_len_passes}
 use Rattle.std.proofs.lemmas.Simd.{length-zip2}
-use Rattle.cd_base.specs.Lengths.{share_len_of}
-use Rattle.cd_base.specs.declared.shape.Shape.{Shape}
+use Rattle.lane_steps.specs.CdBase.Lengths.{share_len_of}
+use Rattle.lane_steps.specs.CdBase.shape.Shape.{Shape}
 use Rattle.sha2.specs.Sha256.{sha256}
 use Rattle.sha2.proofs.Facts256.{length-sha256}
 use Rattle.aes256.specs.Mask.{mask}
 use Rattle.aes256.proofs.MaskLaws.{length-mask}
-use Rattle.caont_rs.specs.Opening.{package_at, body_in, key_in, text_in, fp, without_pad, opened_package, opened}
-use Rattle.caont_rs.specs.declared.opening.RecoverErr.{RecoverErr}
-use Rattle.caont_rs.specs.declared.opening.RecoverErr.TheVariants.{BadSecret}
-use Rattle.caont_rs.proofs.Opened.{pad_fits}
-use Rattle.caont_rs.proofs.Openings.{length-package_at}
-use Rattle.recipe.specs.Spelling.{Fits}
-use Rattle.recipe.specs.declared.recipe.Recipe.{Recipe}
-use Rattle.cd_base.specs.declared.ids.Tag.{Tag}
-use Rattle.cd_base.specs.declared.ids.Version.{Version}
-use Rattle.restore_job.specs.Restored.{Unrestored, difference, differing}
+use Rattle.lane_steps.specs.CaontRs.Opening.{package_at, body_in, key_in, text_in, fp, without_pad, opened_package, opened}
+use Rattle.lane_steps.specs.CaontRs.opening.RecoverErr.{RecoverErr}
+use Rattle.lane_steps.specs.CaontRs.opening.RecoverErr.TheVariants.{BadSecret}
+use Rattle.lane_steps.proofs.CaontRs.Opened.{pad_fits}
+use Rattle.lane_steps.proofs.CaontRs.Openings.{length-package_at}
+use Rattle.lane_steps.specs.Recipe.Spelling.{Fits}
+use Rattle.lane_steps.specs.Recipe.recipe.Recipe.{Recipe}
+use Rattle.lane_steps.specs.CdBase.ids.Tag.{Tag}
+use Rattle.lane_steps.specs.CdBase.ids.Version.{Version}
+use Rattle.kept_files.specs.RestoreJob.Restored.{Unrestored, difference, differing}
 use Rattle.rebuild.specs.Found.{name_judged}
 use Rattle.rebuild.specs.Steps.{judged_by, unless_differs}
-use Rattle.restore_job.proofs.Bringing.{none_differs}
+use Rattle.kept_files.proofs.RestoreJob.Bringing.{none_differs}
 
 -- ---- no zero
 

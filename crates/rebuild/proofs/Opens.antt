@@ -6,36 +6,36 @@ use Rattle.std.proofs.lemmas.List.Sums.{sum_by-cons}
 use Rattle.std.proofs.lemmas.List.Concat.{flat_map-cons}
 use Rattle.std.proofs.lemmas.List.Elements.{All-head}
 use Rattle.std.proofs.lemmas.Bool.{cases_eq, leb-true, eq-eqb}
-use Rattle.cd_base.specs.declared.ids.Tag.{Tag}
-use Rattle.cd_base.specs.declared.ids.UserId.{UserId}
-use Rattle.cd_base.specs.declared.ids.Version.{Version}
-use Rattle.cd_base.specs.declared.shape.Shape.{Shape}
-use Rattle.caont_rs.specs.Opening.{opened}
-use Rattle.recipe.specs.Spelling.{Fits, total, file_limit}
-use Rattle.recipe.specs.declared.items.Item.{Item}
-use Rattle.recipe.specs.declared.recipe.Recipe.{Recipe}
-use Rattle.user_dedup.specs.Exec.{Peer}
-use Rattle.user_dedup.specs.Link.{LinkTelling}
-use Rattle.user_dedup.proofs.Owned.{contains_here, contains_later, contains_cases, contains_nothing}
-use Rattle.upload_job.specs.Upload.{FileVersion}
-use Rattle.restore_job.specs.Asking.{MayRead, Reads, AreRead, StoppedAt}
-use Rattle.restore_job.specs.Brought.{AreSecrets, Appends, first_items}
-use Rattle.restore_job.specs.Reading.{Ends}
-use Rattle.restore_job.specs.Refusals.{Names, Caused}
-use Rattle.restore_job.proofs.Causing.{names_to}
-use Rattle.restore_job.specs.Restored
-use Rattle.restore_job.specs.Restored.{Unrestored, Given, item_of, given_by, missing, differing, agreed, restored_file}
-use Rattle.restore_job.specs.Steps.{RecipesTold, recipes_in, givens}
-use Rattle.restore_job.specs.declared.error.RestoreErr.{RestoreErr}
-use Rattle.restore_job.specs.declared.error.RestoreErr.TheVariants as errors
-use Rattle.restore_job.proofs.Asks.{recipes_stay}
-use Rattle.restore_job.proofs.Batches.{givens_stay}
-use Rattle.restore_job.proofs.Ending.{clouds_given, recipes_given, givens_by, none_missing, file_over}
-use Rattle.restore_job.proofs.Leading.{rose_on, settled_same, reads_on}
+use Rattle.lane_steps.specs.CdBase.ids.Tag.{Tag}
+use Rattle.lane_steps.specs.CdBase.ids.UserId.{UserId}
+use Rattle.lane_steps.specs.CdBase.ids.Version.{Version}
+use Rattle.lane_steps.specs.CdBase.shape.Shape.{Shape}
+use Rattle.lane_steps.specs.CaontRs.Opening.{opened}
+use Rattle.lane_steps.specs.Recipe.Spelling.{Fits, total, file_limit}
+use Rattle.lane_steps.specs.Recipe.items.Item.{Item}
+use Rattle.lane_steps.specs.Recipe.recipe.Recipe.{Recipe}
+use Rattle.lane_steps.specs.UserDedup.Exec.{Peer}
+use Rattle.lane_steps.specs.UserDedup.Link.{LinkTelling}
+use Rattle.lane_steps.proofs.UserDedup.Owned.{contains_here, contains_later, contains_cases, contains_nothing}
+use Rattle.lane_steps.specs.UploadJob.Upload.{FileVersion}
+use Rattle.kept_files.specs.RestoreJob.Asking.{MayRead, Reads, AreRead, StoppedAt}
+use Rattle.kept_files.specs.RestoreJob.Brought.{AreSecrets, Appends, first_items}
+use Rattle.kept_files.specs.RestoreJob.Reading.{Ends}
+use Rattle.kept_files.specs.RestoreJob.Refusals.{Names, Caused}
+use Rattle.kept_files.proofs.RestoreJob.Causing.{names_to}
+use Rattle.kept_files.specs.RestoreJob.Restored
+use Rattle.kept_files.specs.RestoreJob.Restored.{Unrestored, Given, item_of, given_by, missing, differing, agreed, restored_file}
+use Rattle.kept_files.specs.RestoreJob.Steps.{RecipesTold, recipes_in, givens}
+use Rattle.kept_files.specs.RestoreJob.error.RestoreErr.{RestoreErr}
+use Rattle.kept_files.specs.RestoreJob.error.RestoreErr.TheVariants as errors
+use Rattle.kept_files.proofs.RestoreJob.Asks.{recipes_stay}
+use Rattle.kept_files.proofs.RestoreJob.Batches.{givens_stay}
+use Rattle.kept_files.proofs.RestoreJob.Ending.{clouds_given, recipes_given, givens_by, none_missing, file_over}
+use Rattle.kept_files.proofs.RestoreJob.Leading.{rose_on, settled_same, reads_on}
 use Rattle.rebuild.specs.declared.error.SkipWhy.{SkipWhy}
 use Rattle.rebuild.specs.declared.error.SkipWhy.TheVariants as whys
-use Rattle.rebuild.specs.declared.versions.Found.{Found as FoundThere}
-use Rattle.rebuild.specs.declared.versions.Found.TheVariants as founds
+use Rattle.rebuild.specs.declared.versions.FoundVersion.{FoundVersion as FoundThere}
+use Rattle.rebuild.specs.declared.versions.FoundVersion.TheVariants as founds
 use Rattle.rebuild.specs.Found.{skip_of, name_opened, name_judged, version_named, version_with, unless_skipped, recipes_differ, version_under}
 use Rattle.rebuild.specs.Over.{ReadCaused}
 use Rattle.rebuild.specs.Rebuilding.{up_to}

@@ -2,34 +2,34 @@
 use Rattle.std.proofs.Common.{◌≡◌, ◌≢◌, ◌⊎◌, ℕ, suc, ◌<◌, ◌≤◌, ◌-◌, Bool, false, List, [], ◌∷◌, ◌++◌, drop, length, Option, Some, None, Result, Ok, Err, refl, sym, ap, ◌∙◌, subst, inl, inr, append_assoc, slice_index_or, arith}
 use Rattle.std.specs.List.{Contains}
 use Rattle.std.proofs.lemmas.List.{take-append-drop}
-use Rattle.cd_base.specs.declared.ids.CloudNo.{CloudNo}
-use Rattle.cd_base.specs.declared.ids.Tag.{Tag}
-use Rattle.cd_base.specs.declared.ids.UserId.{UserId}
-use Rattle.cd_base.specs.declared.ids.Version.{Version}
-use Rattle.cd_base.specs.declared.shape.Shape.{Shape}
-use Rattle.messages.specs.declared.request.Request.{Request}
-use Rattle.user_dedup.specs.declared.command.Command.{Command}
-use Rattle.user_dedup.specs.declared.file_list.FileEntry.{FileEntry}
-use Rattle.user_dedup.specs.Cloud.{user_view}
-use Rattle.user_dedup.specs.Dedup.{Outcome}
-use Rattle.user_dedup.specs.Exec.{Peer, CountsOn}
-use Rattle.user_dedup.specs.Link.{LinkTelling, Talk, serves}
-use Rattle.user_dedup.specs.Pages.{page_of}
-use Rattle.user_dedup.proofs.Owned.{contains_nothing}
-use Rattle.lane_steps.specs.Runs.{Turn}
-use Rattle.restore_job.specs.Asking.{MayRead, OnlyRead, Reads}
-use Rattle.restore_job.specs.Asking.{Asked as ReadAsked, Leads as ReadLeads}
-use Rattle.restore_job.specs.declared.error.RestoreErr.{RestoreErr}
-use Rattle.restore_job.specs.declared.error.RestoreErr.TheVariants as refusals
-use Rattle.restore_job.proofs.Asks.{may_reads}
-use Rattle.restore_job.proofs.Leading.{asked_at, reads_on, settled_same}
+use Rattle.lane_steps.specs.CdBase.ids.CloudNo.{CloudNo}
+use Rattle.lane_steps.specs.CdBase.ids.Tag.{Tag}
+use Rattle.lane_steps.specs.CdBase.ids.UserId.{UserId}
+use Rattle.lane_steps.specs.CdBase.ids.Version.{Version}
+use Rattle.lane_steps.specs.CdBase.shape.Shape.{Shape}
+use Rattle.lane_steps.specs.Messages.request.Request.{Request}
+use Rattle.lane_steps.specs.UserDedup.command.Command.{Command}
+use Rattle.lane_steps.specs.UserDedup.file_list.FileEntry.{FileEntry}
+use Rattle.lane_steps.specs.UserDedup.Cloud.{user_view}
+use Rattle.lane_steps.specs.UserDedup.Dedup.{Outcome}
+use Rattle.lane_steps.specs.UserDedup.Exec.{Peer, CountsOn}
+use Rattle.lane_steps.specs.UserDedup.Link.{LinkTelling, Talk, serves}
+use Rattle.lane_steps.specs.UserDedup.Pages.{page_of}
+use Rattle.lane_steps.proofs.UserDedup.Owned.{contains_nothing}
+use Rattle.lane_steps.specs.Runs.{LaneTurn}
+use Rattle.kept_files.specs.RestoreJob.Asking.{MayRead, AreOnlyAsked, Reads}
+use Rattle.kept_files.specs.RestoreJob.Asking.{HasAskedClouds as ReadAsked, Leads as ReadLeads}
+use Rattle.kept_files.specs.RestoreJob.error.RestoreErr.{RestoreErr}
+use Rattle.kept_files.specs.RestoreJob.error.RestoreErr.TheVariants as refusals
+use Rattle.kept_files.proofs.RestoreJob.Asks.{may_reads}
+use Rattle.kept_files.proofs.RestoreJob.Leading.{asked_at, reads_on, settled_same}
 use Rattle.rebuild.specs.declared.error.RebuildErr.{RebuildErr}
 use Rattle.rebuild.specs.declared.error.RebuildErr.TheVariants as errors
 use Rattle.rebuild.specs.declared.skips.Rebuilt.{Rebuilt}
 use Rattle.rebuild.specs.Entering.{stopped_as}
 use Rattle.rebuild.specs.Found.{first_of, keys_above, keys_in}
-use Rattle.rebuild.specs.Over.{Asked, BringsOwn, HandsOn, Holds, Leads, is_lost}
-use Rattle.rebuild.specs.Rebuilding.{IsFront, LeavesBut, Progressed, RunsTo, nothing_yet}
+use Rattle.rebuild.specs.Over.{HasAskedToRebuild, BringsOwn, HandsOn, HasRebuildCause, Leads, is_lost}
+use Rattle.rebuild.specs.Rebuilding.{IsFrontOfList, LeavesBut, Progressed, RunsTo, nothing_yet}
 use Rattle.rebuild.specs.Several.{KeysBrought, KeysCut, KeysTold, progress_of, whole}
 use Rattle.rebuild.specs.Steps.{PageTold, ReadCauses, ReadEnds}
 use Rattle.rebuild.proofs.Bringing.{first_in}
@@ -64,14 +64,14 @@ last_split (x ∷ y ∷ xs) other some =
 
 -- ---- more keys than were brought
 
-front_wider : {A : Type 0} (front all more : List A) → IsFront front all → IsFront front (all ++ more)
+front_wider : {A : Type 0} (front all more : List A) → IsFrontOfList front all → IsFrontOfList front (all ++ more)
 front_wider {A} front all more f = record { rest = f.rest ++ more; split = ap (λ (l : List A). l ++ more) f.split ∙ append_assoc front f.rest more }
 
 module _ (shape : Shape) (user : UserId) (target : ℕ) (serve : List Command → Request → Outcome) (from : List ℕ) where
-  brought_wider : (keys more : List Key) (r last : Progressed) (turns : List (Turn Peer)) (a b : ℕ → Peer) → KeysBrought shape user target serve from keys r last turns a b → KeysBrought shape user target serve from (keys ++ more) r last turns a b
+  brought_wider : (keys more : List Key) (r last : Progressed) (turns : List (LaneTurn Peer)) (a b : ℕ → Peer) → KeysBrought shape user target serve from keys r last turns a b → KeysBrought shape user target serve from (keys ++ more) r last turns a b
   brought_wider keys more r last turns a b x = record { found = x.found; front = front_wider _ keys more x.front; each = x.each; brings = x.brings }
 
-  cut_wider : (keys more : List Key) (r : Progressed) (turns : List (Turn Peer)) (a : ℕ → Peer) (at : Peer) (b : ℕ → Peer) → KeysCut shape user target serve from keys r turns a at b → KeysCut shape user target serve from (keys ++ more) r turns a at b
+  cut_wider : (keys more : List Key) (r : Progressed) (turns : List (LaneTurn Peer)) (a : ℕ → Peer) (at : Peer) (b : ℕ → Peer) → KeysCut shape user target serve from keys r turns a at b → KeysCut shape user target serve from (keys ++ more) r turns a at b
   cut_wider keys more r turns a at b x = record {
     found = x.found;
     ahead = x.ahead;
@@ -87,7 +87,7 @@ module _ (shape : Shape) (user : UserId) (target : ℕ) (serve : List Command �
     goes = x.goes;
   }
 
-  told_wider : (keys more : List Key) (r next : Progressed) (e : RebuildErr) (turns : List (Turn Peer)) (a : ℕ → Peer) (at : Peer) (b : ℕ → Peer) → KeysTold shape user target serve from keys r next (Err e) turns a at b
+  told_wider : (keys more : List Key) (r next : Progressed) (e : RebuildErr) (turns : List (LaneTurn Peer)) (a : ℕ → Peer) (at : Peer) (b : ℕ → Peer) → KeysTold shape user target serve from keys r next (Err e) turns a at b
       → KeysTold shape user target serve from (keys ++ more) r next (Err e) turns a at b
   told_wider keys more r next (errors.FromRestore e) turns a at b x = (x.0, brought_wider keys more r x.0 turns a b x.1, x.2, x.3)
   told_wider keys more r next errors.TargetLost turns a at b x = cut_wider keys more r turns a at b x
@@ -103,26 +103,26 @@ module _ (shape : Shape) (user : UserId) (target : ℕ) (serve : List Command �
 -- ---- how far the pages have come over told clouds
 
 -- What was found under the first keys was brought or skipped: those of the first cloud up to the one above which the next page begins.
-pub record PagesTold (shape : Shape) (user : UserId) (target : ℕ) (serve : List Command → Request → Outcome) (from : List ℕ) (first : ℕ) (above : Option Key) (r : Progressed) (turns : List (Turn Peer)) (a : ℕ → Peer) (at : Peer) (b : ℕ → Peer) : Type 0 where
+pub record PagesTold (shape : Shape) (user : UserId) (target : ℕ) (serve : List Command → Request → Outcome) (from : List ℕ) (first : ℕ) (above : Option Key) (r : Progressed) (turns : List (LaneTurn Peer)) (a : ℕ → Peer) (at : Peer) (b : ℕ → Peer) : Type 0 where
   pub keys : List Key
   pub told : KeysTold shape user target serve from keys nothing_yet r (Ok (tt {0})) turns a at b
   pub so_far : ((keys ≡ []) × (above ≡ None)) ⊎ (Reads (a first) (b first) × (keys_in shape (b first).list user ≡ keys ++ keys_above (user_view shape (b first).list user).files above))
 
 -- the keys of one page
-pub record PageKeys (shape : Shape) (user : UserId) (target : ℕ) (serve : List Command → Request → Outcome) (from : List ℕ) (first : ℕ) (above : Option Key) (page : List Key) (r next : Progressed) (result : Result (Unit {0}) RebuildErr) (turns : List (Turn Peer)) (a : ℕ → Peer) (at : Peer) (b : ℕ → Peer) : Type 0 where
+pub record PageKeys (shape : Shape) (user : UserId) (target : ℕ) (serve : List Command → Request → Outcome) (from : List ℕ) (first : ℕ) (above : Option Key) (page : List Key) (r next : Progressed) (result : Result (Unit {0}) RebuildErr) (turns : List (LaneTurn Peer)) (a : ℕ → Peer) (at : Peer) (b : ℕ → Peer) : Type 0 where
   pub are : page ≡ page_of (user_view shape (b first).list user).files above
   pub read : Reads (a first) (b first)
   pub told : KeysTold shape user target serve from page r next result turns a at b
 
 -- no page came
-pub record NoPage (target : ℕ) (from : List ℕ) (e : RestoreErr) (turns : List (Turn Peer)) (a : ℕ → Peer) (at : Peer) (b : ℕ → Peer) : Type 0 where
+pub record NoPage (target : ℕ) (from : List ℕ) (e : RestoreErr) (turns : List (LaneTurn Peer)) (a : ℕ → Peer) (at : Peer) (b : ℕ → Peer) : Type 0 where
   pub none : turns ≡ []
   pub at_is : at ≡ a target
   pub same : b target ≡ a target
   pub ends : ReadEnds from e a b
 
 -- all keys of the first cloud
-pub record AllTold (shape : Shape) (user : UserId) (target : ℕ) (serve : List Command → Request → Outcome) (from : List ℕ) (first : ℕ) (next : Progressed) (result : Result (Unit {0}) RebuildErr) (turns : List (Turn Peer)) (a : ℕ → Peer) (at : Peer) (b : ℕ → Peer) : Type 0 where
+pub record AllTold (shape : Shape) (user : UserId) (target : ℕ) (serve : List Command → Request → Outcome) (from : List ℕ) (first : ℕ) (next : Progressed) (result : Result (Unit {0}) RebuildErr) (turns : List (LaneTurn Peer)) (a : ℕ → Peer) (at : Peer) (b : ℕ → Peer) : Type 0 where
   pub keys : List Key
   pub are : keys_in shape (b first).list user ≡ keys
   pub read : ReadBy result (Reads (a first) (b first))
@@ -157,16 +157,16 @@ read_by (Err (errors.TargetStrange kind)) R x = x
 read_by (Err errors.NoMemory) R x = tt
 
 module _ (shape : Shape) (user : UserId) (target : ℕ) (serve : List Command → Request → Outcome) (from : List ℕ) (apart : Contains from target → ⊥) (first : ℕ) (here : Contains from first) where
-  abbrev Told : List Key → Progressed → Progressed → Result (Unit {0}) RebuildErr → List (Turn Peer) → (ℕ → Peer) → Peer → (ℕ → Peer) → Type 0
+  abbrev Told : List Key → Progressed → Progressed → Result (Unit {0}) RebuildErr → List (LaneTurn Peer) → (ℕ → Peer) → Peer → (ℕ → Peer) → Type 0
   Told keys r next result turns a at b = KeysTold shape user target serve from keys r next result turns a at b
 
-  abbrev SoFar : Option Key → Progressed → List (Turn Peer) → (ℕ → Peer) → Peer → (ℕ → Peer) → Type 0
+  abbrev SoFar : Option Key → Progressed → List (LaneTurn Peer) → (ℕ → Peer) → Peer → (ℕ → Peer) → Type 0
   SoFar above r turns a at b = PagesTold shape user target serve from first above r turns a at b
 
-  abbrev Page : Option Key → List Key → Progressed → Progressed → Result (Unit {0}) RebuildErr → List (Turn Peer) → (ℕ → Peer) → Peer → (ℕ → Peer) → Type 0
+  abbrev Page : Option Key → List Key → Progressed → Progressed → Result (Unit {0}) RebuildErr → List (LaneTurn Peer) → (ℕ → Peer) → Peer → (ℕ → Peer) → Type 0
   Page above page r next result turns a at b = PageKeys shape user target serve from first above page r next result turns a at b
 
-  abbrev All : Progressed → Result (Unit {0}) RebuildErr → List (Turn Peer) → (ℕ → Peer) → Peer → (ℕ → Peer) → Type 0
+  abbrev All : Progressed → Result (Unit {0}) RebuildErr → List (LaneTurn Peer) → (ℕ → Peer) → Peer → (ℕ → Peer) → Type 0
   All next result turns a at b = AllTold shape user target serve from first next result turns a at b
 
   first_apart : first ≢ target
@@ -175,7 +175,7 @@ module _ (shape : Shape) (user : UserId) (target : ℕ) (serve : List Command �
   pub pages_none : (a : ℕ → Peer) → SoFar None nothing_yet [] a (a target) a
   pages_none a = record { keys = []; told = keys_none shape user target serve from apart nothing_yet a; so_far = inl (refl, refl) }
 
-  read_leaves : (a b : ℕ → Peer) → OnlyRead (first ∷ []) a b → LeavesBut from target a b
+  read_leaves : (a b : ℕ → Peer) → AreOnlyAsked (first ∷ []) a b → LeavesBut from target a b
   read_leaves a b only = record {
     read = λ c ne. only.read c;
     others = λ c ne out. only.others c (λ has. out (only_cloud first from c here has));
@@ -183,8 +183,8 @@ module _ (shape : Shape) (user : UserId) (target : ℕ) (serve : List Command �
   }
 
   -- the keys of a page that was read first
-  pub page_keys : (cloud : CloudNo) (above : Option Key) (page : List Key) (r next : Progressed) (result : Result (Unit {0}) RebuildErr) (turns : List (Turn Peer)) (a b : ℕ → Peer) (at : Peer) (c : ℕ → Peer) → cloud.0 ≡ first → r.stop ≡ None
-      → OnlyRead (first ∷ []) a b → LeavesBut from target b c → PageTold shape user cloud above (Ok page) a b → Told page r next result turns b at c → Page above page r next result turns a at c
+  pub page_keys : (cloud : CloudNo) (above : Option Key) (page : List Key) (r next : Progressed) (result : Result (Unit {0}) RebuildErr) (turns : List (LaneTurn Peer)) (a b : ℕ → Peer) (at : Peer) (c : ℕ → Peer) → cloud.0 ≡ first → r.stop ≡ None
+      → AreOnlyAsked (first ∷ []) a b → LeavesBut from target b c → PageTold shape user cloud above (Ok page) a b → Told page r next result turns b at c → Page above page r next result turns a at c
   page_keys cloud above page r next result turns a b at c is none only leaves x y =
       let read : Reads (a first) (b first) = subst (λ (z : ℕ). Reads (a z) (b z)) is x.0 in
       let came : page ≡ page_of (files_in shape user (b first).list) above = subst (λ (z : ℕ). page ≡ page_of (files_in shape user (b z).list) above) is x.1 in
@@ -206,7 +206,7 @@ module _ (shape : Shape) (user : UserId) (target : ℕ) (serve : List Command �
       }
 
   -- the keys of the first cloud, where the next page was read
-  behind : (above : Option Key) (r : Progressed) (turns : List (Turn Peer)) (a b c : ℕ → Peer) (at : Peer) (x : SoFar above r turns a at b) → MayRead (b first) (c first)
+  behind : (above : Option Key) (r : Progressed) (turns : List (LaneTurn Peer)) (a b c : ℕ → Peer) (at : Peer) (x : SoFar above r turns a at b) → MayRead (b first) (c first)
       → keys_in shape (c first).list user ≡ x.keys ++ keys_above (files_in shape user (c first).list) above
   behind above r turns a b c at x may = by_way x.so_far
     where
@@ -217,16 +217,16 @@ module _ (shape : Shape) (user : UserId) (target : ℕ) (serve : List Command �
           let same = settled_same (b first) (c first) read.0.0.pending may in
           subst (λ (l : List Command). keys_in shape l user ≡ x.keys ++ keys_above (files_in shape user l) above) (sym same.list) read.1
 
-  both_told : (above : Option Key) (page : List Key) (r next : Progressed) (result : Result (Unit {0}) RebuildErr) (one two : List (Turn Peer)) (a b : ℕ → Peer) (at : Peer) (c : ℕ → Peer) → r.stop ≡ None → LeavesBut from target a b → LeavesBut from target b c
+  both_told : (above : Option Key) (page : List Key) (r next : Progressed) (result : Result (Unit {0}) RebuildErr) (one two : List (LaneTurn Peer)) (a b : ℕ → Peer) (at : Peer) (c : ℕ → Peer) → r.stop ≡ None → LeavesBut from target a b → LeavesBut from target b c
       → (x : SoFar above r one a (b target) b) → Page above page r next result two b at c → Told (x.keys ++ page) nothing_yet next result (one ++ two) a at c
   both_told above page r next result one two a b at c none left leaves x y =
       pages_step shape user target serve from apart x.keys page nothing_yet r next result one two a b at c none left leaves x.told y.told
 
-  both_read : (above : Option Key) (page : List Key) (r next : Progressed) (result : Result (Unit {0}) RebuildErr) (two : List (Turn Peer)) (a b : ℕ → Peer) (at : Peer) (c : ℕ → Peer) → LeavesBut from target a b → Page above page r next result two b at c → Reads (a first) (c first)
+  both_read : (above : Option Key) (page : List Key) (r next : Progressed) (result : Result (Unit {0}) RebuildErr) (two : List (LaneTurn Peer)) (a b : ℕ → Peer) (at : Peer) (c : ℕ → Peer) → LeavesBut from target a b → Page above page r next result two b at c → Reads (a first) (c first)
   both_read above page r next result two a b at c left y = may_reads (a first) (b first) (c first) (left.read first first_apart) y.read
 
   -- another page comes
-  pub pages_more : (above : Option Key) (page front : List Key) (last : Key) (r next : Progressed) (one two : List (Turn Peer)) (a b : ℕ → Peer) (at : Peer) (c : ℕ → Peer) → r.stop ≡ None → page ≡ front ++ last ∷ []
+  pub pages_more : (above : Option Key) (page front : List Key) (last : Key) (r next : Progressed) (one two : List (LaneTurn Peer)) (a b : ℕ → Peer) (at : Peer) (c : ℕ → Peer) → r.stop ≡ None → page ≡ front ++ last ∷ []
       → LeavesBut from target a b → LeavesBut from target b c → SoFar above r one a (b target) b → Page above page r next ended two b at c → SoFar (Some last) next (one ++ two) a at c
   pages_more above page front last r next one two a b at c none ends left leaves x y = record {
     keys = x.keys ++ page;
@@ -244,7 +244,7 @@ module _ (shape : Shape) (user : UserId) (target : ℕ) (serve : List Command �
           ∙ ap (λ (l : List Key). l ++ keys_above (files_in shape user (c first).list) (Some last)) (sym y.are)
 
   -- this page was the last one
-  pub pages_done : (above : Option Key) (page : List Key) (r next : Progressed) (one two : List (Turn Peer)) (a b : ℕ → Peer) (at : Peer) (c : ℕ → Peer) → r.stop ≡ None → length page < 256
+  pub pages_done : (above : Option Key) (page : List Key) (r next : Progressed) (one two : List (LaneTurn Peer)) (a b : ℕ → Peer) (at : Peer) (c : ℕ → Peer) → r.stop ≡ None → length page < 256
       → LeavesBut from target a b → LeavesBut from target b c → SoFar above r one a (b target) b → Page above page r next ended two b at c → All next ended (one ++ two) a at c
   pages_done above page r next one two a b at c none few left leaves x y = record {
     keys = x.keys ++ page;
@@ -255,7 +255,7 @@ module _ (shape : Shape) (user : UserId) (target : ℕ) (serve : List Command �
   }
 
   -- an entry of it stopped the rebuild
-  pub pages_stopped : (above : Option Key) (page : List Key) (r next : Progressed) (e : RebuildErr) (one two : List (Turn Peer)) (a b : ℕ → Peer) (at : Peer) (c : ℕ → Peer) → r.stop ≡ None
+  pub pages_stopped : (above : Option Key) (page : List Key) (r next : Progressed) (e : RebuildErr) (one two : List (LaneTurn Peer)) (a b : ℕ → Peer) (at : Peer) (c : ℕ → Peer) → r.stop ≡ None
       → LeavesBut from target a b → LeavesBut from target b c → SoFar above r one a (b target) b → Page above page r next (stopped e) two b at c → All next (stopped e) (one ++ two) a at c
   pages_stopped above page r next e one two a b at c none left leaves x y = record {
     keys = (x.keys ++ page) ++ rest;
@@ -275,7 +275,7 @@ module _ (shape : Shape) (user : UserId) (target : ℕ) (serve : List Command �
 
   -- ---- no page came
 
-  unread_keys : (e : RestoreErr) (keys : List Key) (r : Progressed) (turns : List (Turn Peer)) (a : ℕ → Peer) (at : Peer) (b : ℕ → Peer) → r.stop ≡ None → NoPage target from e turns a at b → Told keys r r (Err (stopped_as e)) turns a at b
+  unread_keys : (e : RestoreErr) (keys : List Key) (r : Progressed) (turns : List (LaneTurn Peer)) (a : ℕ → Peer) (at : Peer) (b : ℕ → Peer) → r.stop ≡ None → NoPage target from e turns a at b → Told keys r r (Err (stopped_as e)) turns a at b
   unread_keys (refusals.Missing x) keys r turns a at b none y = (r, not_begun shape user target serve from apart keys r turns a b y.none y.same, none, y.ends)
   unread_keys (refusals.Lost x) keys r turns a at b none y = (r, not_begun shape user target serve from apart keys r turns a b y.none y.same, none, y.ends)
   unread_keys (refusals.CloudFault x) keys r turns a at b none y = (r, not_begun shape user target serve from apart keys r turns a b y.none y.same, none, y.ends)
@@ -290,7 +290,7 @@ module _ (shape : Shape) (user : UserId) (target : ℕ) (serve : List Command �
   unread_keys (refusals.BadPad secret place byte) keys r turns a at b none y = (r, not_begun shape user target serve from apart keys r turns a b y.none y.same, none, y.ends)
   unread_keys refusals.NoMemory keys r turns a at b none y = cut_none shape user target serve from apart keys r turns a at b none y.none y.at_is
 
-  pub pages_unread : (above : Option Key) (e : RestoreErr) (r : Progressed) (one two : List (Turn Peer)) (a b : ℕ → Peer) (at : Peer) (c : ℕ → Peer) → r.stop ≡ None
+  pub pages_unread : (above : Option Key) (e : RestoreErr) (r : Progressed) (one two : List (LaneTurn Peer)) (a b : ℕ → Peer) (at : Peer) (c : ℕ → Peer) → r.stop ≡ None
       → LeavesBut from target a b → LeavesBut from target b c → SoFar above r one a (b target) b → NoPage target from e two b at c → All r (Err (stopped_as e)) (one ++ two) a at c
   pages_unread above e r one two a b at c none left leaves x y =
       let rest : List Key = keys_above (files_in shape user (c first).list) above in
@@ -303,7 +303,7 @@ module _ (shape : Shape) (user : UserId) (target : ℕ) (serve : List Command �
 
   -- ---- all pages are a rebuild
 
-  pub all_runs : (rebuilt : Rebuilt) (result : Result (Unit {0}) RebuildErr) (turns : List (Turn Peer)) (a : ℕ → Peer) (at : Peer) (b : ℕ → Peer) → first ≡ first_of from → LeavesBut from target a b → CountsOn (a target) at → HandsOn from result
+  pub all_runs : (rebuilt : Rebuilt) (result : Result (Unit {0}) RebuildErr) (turns : List (LaneTurn Peer)) (a : ℕ → Peer) (at : Peer) (b : ℕ → Peer) → first ≡ first_of from → LeavesBut from target a b → CountsOn (a target) at → HandsOn from result
       → All (progress_of rebuilt) result turns a at b → RunsTo shape user target serve from (whole rebuilt result) turns a at b
   all_runs rebuilt result turns a at b is leaves counts hands x =
       told_runs shape user target serve from rebuilt result x.keys turns a at b (subst (λ (c : ℕ). Contains from c) is here) apart leaves counts
@@ -339,8 +339,8 @@ ends_wider cloud from refusals.NoMemory a b here y = y
 
 -- The pages so far over a link, and the key above which the next one begins.
 pub record Paged {L : Type 0} (t : LinkTelling L) (talk : L → ℕ → Talk → Type 0) (target : ℕ) (from : List ℕ) (shape : Shape) (user : UserId) (first : ℕ) (old link : L) (above : Option Key) (r : Progressed) : Type 0 where
-  pub leads : Leads t talk target from old link (Ok (tt {0})) (Holds {A = Unit {0}} t old shape user target (Ok (tt {0}))) (PagesTold shape user target (serves t old target) from first above r)
-  pub asked : Asked t target from old link false
+  pub leads : Leads t talk target from old link (Ok (tt {0})) (HasRebuildCause {A = Unit {0}} t old shape user target (Ok (tt {0}))) (PagesTold shape user target (serves t old target) from first above r)
+  pub asked : HasAskedToRebuild t target from old link false
   pub lanes : BringsOwn t shape user target from old link
 
 pub first_here : (shape : Shape) (from : List ℕ) (first : ℕ) → length from ≡ shape.k → first ≡ first_of from → Contains from first
@@ -358,7 +358,7 @@ module _ {L : Type 0} (t : LinkTelling L) (talk : L → ℕ → Talk → Type 0)
   }
 
   abbrev pub AllLeads : L → L → Progressed → Result (Unit {0}) RebuildErr → Type 0
-  AllLeads old new next result = Leads t talk target from old new result (Holds t old shape user target result) (AllTold shape user target (serves t old target) from cloud.0 next result)
+  AllLeads old new next result = Leads t talk target from old new result (HasRebuildCause t old shape user target result) (AllTold shape user target (serves t old target) from cloud.0 next result)
 
   page_asked : (mid new : L) (loss : Bool) → ReadAsked t (cloud.0 ∷ []) mid new loss → ReadAsked t from mid new loss
   page_asked mid new loss asked = asked_at t cloud.0 from mid new loss here asked
@@ -368,9 +368,9 @@ module _ {L : Type 0} (t : LinkTelling L) (talk : L → ℕ → Talk → Type 0)
       → ReadLeads t (cloud.0 ∷ []) mid new (ReadCauses {A = List Key} t mid (Err e)) (PageTold shape user cloud above (Err e)) → AllLeads old new r (Err (stopped_as e))
   paged_unread old mid new above r e loss none paged asked leads =
       let wide = page_asked mid new loss asked in
-      leads_then t talk target from old mid new (tt {0}) (stopped (stopped_as e)) _ (Holds t mid shape user target (stopped (stopped_as e))) (Holds t old shape user target (stopped (stopped_as e)))
+      leads_then t talk target from old mid new (tt {0}) (stopped (stopped_as e)) _ (HasRebuildCause t mid shape user target (stopped (stopped_as e))) (HasRebuildCause t old shape user target (stopped (stopped_as e)))
       _ (NoPage target from e) (AllTold shape user target (serves t old target) from cloud.0 r (stopped (stopped_as e))) paged.leads paged.asked.told
-      (read_stops t talk target from mid new (stopped (stopped_as e)) (ReadCauses {A = List Key} t mid (Err e)) (Holds t mid shape user target (stopped (stopped_as e))) (PageTold shape user cloud above (Err e)) (NoPage target from e) apart (wide.asks, wide.passed)
+      (read_stops t talk target from mid new (stopped (stopped_as e)) (ReadCauses {A = List Key} t mid (Err e)) (HasRebuildCause t mid shape user target (stopped (stopped_as e))) (PageTold shape user cloud above (Err e)) (NoPage target from e) apart (wide.asks, wide.passed)
       (read_wider t cloud.0 from mid new (ReadCauses {A = List Key} t mid (Err e)) (PageTold shape user cloud above (Err e)) here leads) (λ p q same. then_stopped (Unit {0}) t target new p q e same)
       (λ a b one x. stopped_holds (Unit {0}) t mid shape user target e a b x)
       (λ a b one x. record { none = refl; at_is = refl; same = one.others target apart; ends = ends_wider cloud.0 from e a b here x }))
@@ -378,22 +378,22 @@ module _ {L : Type 0} (t : LinkTelling L) (talk : L → ℕ → Talk → Type 0)
       (λ us vs a b at c one two x y. pages_unread shape user target (serves t old target) from apart cloud.0 here above e r us vs a b at c none one two x y)
 
   pub unread_asked : (old mid new : L) (above : Option Key) (r : Progressed) (e : RestoreErr) (loss : Bool) → loss ≡ is_lost (stopped (stopped_as e)) → So old mid above r → ReadAsked t (cloud.0 ∷ []) mid new loss
-      → Asked t target from old new (is_lost (stopped (stopped_as e)))
+      → HasAskedToRebuild t target from old new (is_lost (stopped (stopped_as e)))
   unread_asked old mid new above r e loss is paged asked =
       asked_on t target from old mid new _ paged.asked (asked_as t target from mid new loss _ is (asked_reads t target from mid new loss (page_asked mid new loss asked)))
 
   -- a page came, and this became of its keys
   page_leads : (old mid read new : L) (above : Option Key) (page : List Key) (r next : Progressed) (result : Result (Unit {0}) RebuildErr) (T : ByTurns) → r.stop ≡ None → So old mid above r → ReadAsked t (cloud.0 ∷ []) mid read false
       → ReadLeads t (cloud.0 ∷ []) mid read (ReadCauses {A = List Key} t mid (Ok page)) (PageTold shape user cloud above (Ok page)) → KeysLeads t talk target from shape user apart (serves t read target) read new page r next result
-      → ((us vs : List (Turn Peer)) (a b : ℕ → Peer) (at : Peer) (c : ℕ → Peer) → LeavesBut from target a b → LeavesBut from target b c → PagesTold shape user target (serves t old target) from cloud.0 above r us a (b target) b
+      → ((us vs : List (LaneTurn Peer)) (a b : ℕ → Peer) (at : Peer) (c : ℕ → Peer) → LeavesBut from target a b → LeavesBut from target b c → PagesTold shape user target (serves t old target) from cloud.0 above r us a (b target) b
       → PageKeys shape user target (serves t old target) from cloud.0 above page r next result vs b at c → T (us ++ vs) a at c)
-      → Leads t talk target from old new result (Holds t old shape user target result) T
+      → Leads t talk target from old new result (HasRebuildCause t old shape user target result) T
   page_leads old mid read new above page r next result T none paged asked leads keys both =
       let wide = page_asked mid read false asked in
       let serve : List Command → Request → Outcome = serves t old target in
       let same = serves_same t target mid read asked.shape asked.full ∙ serves_same t target old mid paged.asked.shape paged.asked.full in
-      leads_then t talk target from old mid new (tt {0}) result _ (Holds t mid shape user target result) (Holds t old shape user target result) _ (PageKeys shape user target serve from cloud.0 above page r next result) T paged.leads paged.asked.told
-      (page_then t talk target from cloud.0 mid read new result _ (Holds t read shape user target result) (Holds t mid shape user target result) _ (KeysTold shape user target serve from page r next result)
+      leads_then t talk target from old mid new (tt {0}) result _ (HasRebuildCause t mid shape user target result) (HasRebuildCause t old shape user target result) _ (PageKeys shape user target serve from cloud.0 above page r next result) T paged.leads paged.asked.told
+      (page_then t talk target from cloud.0 mid read new result _ (HasRebuildCause t read shape user target result) (HasRebuildCause t mid shape user target result) _ (KeysTold shape user target serve from page r next result)
       (PageKeys shape user target serve from cloud.0 above page r next result) apart here (wide.asks, wide.passed) asked.told leads
       (subst (λ (s : List Command → Request → Outcome). KeysLeads t talk target from shape user apart s read new page r next result) same keys)
       (λ vs a b c one two x y. holds_before t mid read shape user target result vs a b c asked.told (λ c. (one.read c).1.faults) y)
@@ -415,7 +415,7 @@ module _ {L : Type 0} (t : LinkTelling L) (talk : L → ℕ → Talk → Type 0)
       page_leads old mid read new above page r next ended (AllTold shape user target (serves t old target) from cloud.0 next ended) none paged asked leads keys
       (λ us vs a b at c one two x y. pages_done shape user target (serves t old target) from apart cloud.0 here above page r next us vs a b at c none few one two x y)
 
-  pub paged_asked : (old mid read new : L) (above : Option Key) (r : Progressed) (loss : Bool) → So old mid above r → ReadAsked t (cloud.0 ∷ []) mid read false → Asked t target from read new loss → Asked t target from old new loss
+  pub paged_asked : (old mid read new : L) (above : Option Key) (r : Progressed) (loss : Bool) → So old mid above r → ReadAsked t (cloud.0 ∷ []) mid read false → HasAskedToRebuild t target from read new loss → HasAskedToRebuild t target from old new loss
   paged_asked old mid read new above r loss paged asked keys =
       asked_on t target from old mid new loss paged.asked (asked_on t target from mid read new loss (asked_reads t target from mid read false (page_asked mid read false asked)) keys)
 
@@ -427,7 +427,7 @@ module _ {L : Type 0} (t : LinkTelling L) (talk : L → ℕ → Talk → Type 0)
 
   pub paged_more : (old mid read new : L) (above : Option Key) (page front : List Key) (last : Key) (r next : Progressed) → r.stop ≡ None → page ≡ front ++ last ∷ [] → So old mid above r → ReadAsked t (cloud.0 ∷ []) mid read false
       → ReadLeads t (cloud.0 ∷ []) mid read (ReadCauses {A = List Key} t mid (Ok page)) (PageTold shape user cloud above (Ok page)) → KeysLeads t talk target from shape user apart (serves t read target) read new page r next ended
-      → Asked t target from read new false → BringsOwn t shape user target from read new → So old new (Some last) next
+      → HasAskedToRebuild t target from read new false → BringsOwn t shape user target from read new → So old new (Some last) next
   paged_more old mid read new above page front last r next none ends paged asked leads keys keys_asked keys_lanes = record {
     leads = page_leads old mid read new above page r next ended (PagesTold shape user target (serves t old target) from cloud.0 (Some last) next) none paged asked leads keys
         (λ us vs a b at c one two x y. pages_more shape user target (serves t old target) from apart cloud.0 here above page front last r next us vs a b at c none ends one two x y);
@@ -437,7 +437,7 @@ module _ {L : Type 0} (t : LinkTelling L) (talk : L → ℕ → Talk → Type 0)
 
   -- the whole rebuild
   pub all_leads : (old new : L) (rebuilt : Rebuilt) (result : Result (Unit {0}) RebuildErr) → cloud.0 ≡ first_of from → HandsOn from result → AllLeads old new (progress_of rebuilt) result
-      → Leads t talk target from old new result (Holds t old shape user target result) (λ turns a at b. RunsTo shape user target (serves t old target) from (whole rebuilt result) turns a at b)
+      → Leads t talk target from old new result (HasRebuildCause t old shape user target result) (λ turns a at b. RunsTo shape user target (serves t old target) from (whole rebuilt result) turns a at b)
   all_leads old new rebuilt result is hands leads these all before peers =
       let x = leads these all before peers in (
         x.0,

@@ -2,24 +2,24 @@
 use Rattle.std.proofs.Common.{◌≡◌, ℕ, ◌≤◌, Bool, true, false, List, [], ◌∷◌, ◌++◌, Option, Some, None, Result, Ok, Err, refl, sym, ◌∙◌, subst, inl, inr, arith}
 use Rattle.std.specs.Prelude.{IsTrue}
 use Rattle.std.specs.List.{Contains}
-use Rattle.cd_edges.specs.Causes.{Rose}
-use Rattle.cd_base.specs.declared.ids.UserId.{UserId}
-use Rattle.cd_base.specs.declared.shape.Shape.{Shape}
-use Rattle.messages.specs.Requests.{request_bytes}
-use Rattle.messages.specs.declared.request.Request.{Request}
-use Rattle.user_dedup.specs.Link.{LinkTelling, Exchange, LeavesOthers, Passes, ReadsFrom, Talk}
-use Rattle.user_dedup.proofs.Owned.{contains_here, contains_later, contains_nothing}
-use Rattle.upload_job.specs.declared.news.LaneNews.{LaneNews}
-use Rattle.upload_job.specs.Lanes.{LaneView, with_state}
-use Rattle.upload_job.specs.Upload.{FileVersion, Work, work_of}
-use Rattle.lane_steps.specs.Runs.{Turn, Progress, starting, request_of, progress_after, LaneAlong, lane_at}
+use Rattle.lane_steps.specs.CdEdges.Causes.{Rose}
+use Rattle.lane_steps.specs.CdBase.ids.UserId.{UserId}
+use Rattle.lane_steps.specs.CdBase.shape.Shape.{Shape}
+use Rattle.lane_steps.specs.Messages.Requests.{request_bytes}
+use Rattle.lane_steps.specs.Messages.request.Request.{Request}
+use Rattle.lane_steps.specs.UserDedup.Link.{LinkTelling, Exchange, LeavesOthers, Passes, ReadsFrom, Talk}
+use Rattle.lane_steps.proofs.UserDedup.Owned.{contains_here, contains_later, contains_nothing}
+use Rattle.lane_steps.specs.UploadJob.news.LaneNews.{LaneNews}
+use Rattle.lane_steps.specs.UploadJob.Lanes.{LaneView, with_state}
+use Rattle.lane_steps.specs.UploadJob.Upload.{FileVersion, Work, work_of}
+use Rattle.lane_steps.specs.Runs.{LaneTurn, Progress, starting, request_of, progress_after, LaneAlong, lane_at}
 use Rattle.lane_steps.specs.declared.error.StepErr.{StepErr}
 use Rattle.lane_steps.specs.declared.error.StepErr.TheVariants as step_errors
 use Rattle.lane_steps.specs.Steps.{Finishes, Heard, LaneSteps, LosesBy}
-use Rattle.restore_job.specs.Asking.{Asked as Reads}
-use Rattle.restore_job.proofs.Leading.{rose_on}
+use Rattle.kept_files.specs.RestoreJob.Asking.{HasAskedClouds as Reads}
+use Rattle.kept_files.proofs.RestoreJob.Leading.{rose_on}
 use Rattle.rebuild.specs.Filling.{failed_as}
-use Rattle.rebuild.specs.Over.{Asked, AsksFor, AsksOwn, BringsOwn, IsOfLane, is_lost}
+use Rattle.rebuild.specs.Over.{HasAskedToRebuild, AsksFor, AsksOwn, BringsOwn, IsOfLane, is_lost}
 use Rattle.rebuild.proofs.Joining.{only_target}
 use Rattle.rebuild.proofs.Landing.{along_work, run_along}
 
@@ -33,7 +33,7 @@ passes_as : {L : Type 0} (t : LinkTelling L) (Is Was : Exchange → Type 0) (old
 passes_as t Is Was old new [] to one = one
 passes_as t Is Was old new (e ∷ es) to one = (to e one.0, (one.1.0, one.1.1, passes_as t Is Was one.1.0 new es to one.1.2))
 
-pub asked_none : {L : Type 0} (t : LinkTelling L) (target : ℕ) (from : List ℕ) (link : L) → Asked t target from link link false
+pub asked_none : {L : Type 0} (t : LinkTelling L) (target : ℕ) (from : List ℕ) (link : L) → HasAskedToRebuild t target from link link false
 asked_none t target from link = record {
   asks = [];
   passed = refl;
@@ -47,7 +47,7 @@ asked_none t target from link = record {
   lossless = λ h. (refl, h);
 }
 
-pub asked_on : {L : Type 0} (t : LinkTelling L) (target : ℕ) (from : List ℕ) (old mid new : L) (loss : Bool) → Asked t target from old mid false → Asked t target from mid new loss → Asked t target from old new loss
+pub asked_on : {L : Type 0} (t : LinkTelling L) (target : ℕ) (from : List ℕ) (old mid new : L) (loss : Bool) → HasAskedToRebuild t target from old mid false → HasAskedToRebuild t target from mid new loss → HasAskedToRebuild t target from old new loss
 asked_on t target from old mid new loss one two = record {
   asks = one.asks ++ two.asks;
   passed = passes_on t (AsksFor target from) old mid new one.asks two.asks one.passed two.passed;
@@ -62,11 +62,11 @@ asked_on t target from old mid new loss one two = record {
 }
 
 -- where an ask wasn't lost, it counts as one that wasn't
-pub asked_as : {L : Type 0} (t : LinkTelling L) (target : ℕ) (from : List ℕ) (old new : L) (a b : Bool) → a ≡ b → Asked t target from old new a → Asked t target from old new b
-asked_as t target from old new a b e asked = subst (λ (x : Bool). Asked t target from old new x) e asked
+pub asked_as : {L : Type 0} (t : LinkTelling L) (target : ℕ) (from : List ℕ) (old new : L) (a b : Bool) → a ≡ b → HasAskedToRebuild t target from old new a → HasAskedToRebuild t target from old new b
+asked_as t target from old new a b e asked = subst (λ (x : Bool). HasAskedToRebuild t target from old new x) e asked
 
 -- the target alone was asked
-pub asked_wider : {L : Type 0} (t : LinkTelling L) (target : ℕ) (from : List ℕ) (old new : L) (loss : Bool) → Asked t target [] old new loss → Asked t target from old new loss
+pub asked_wider : {L : Type 0} (t : LinkTelling L) (target : ℕ) (from : List ℕ) (old new : L) (loss : Bool) → HasAskedToRebuild t target [] old new loss → HasAskedToRebuild t target from old new loss
 asked_wider t target from old new loss one = record {
   asks = one.asks;
   passed = passes_as t (AsksFor target []) (AsksFor target from) old new one.asks wider one.passed;
@@ -85,7 +85,7 @@ asked_wider t target from old new loss one = record {
     wider e (inr read) = absurd (contains_nothing e.cloud read.0)
 
 -- the clouds that are read were asked
-pub asked_reads : {L : Type 0} (t : LinkTelling L) (target : ℕ) (from : List ℕ) (old new : L) (loss : Bool) → Reads t from old new loss → Asked t target from old new loss
+pub asked_reads : {L : Type 0} (t : LinkTelling L) (target : ℕ) (from : List ℕ) (old new : L) (loss : Bool) → Reads t from old new loss → HasAskedToRebuild t target from old new loss
 asked_reads t target from old new loss one = record {
   asks = one.asks;
   passed = passes_as t (ReadsFrom from) (AsksFor target from) old new one.asks (λ e read. inr read) one.passed;
@@ -105,7 +105,7 @@ module _ {L : Type 0} (t : LinkTelling L) (talk : L → ℕ → Talk → Type 0)
   abbrev TargetAsks : L → L → Type 0
   TargetAsks old new = (asks : List Exchange) × Passes t (AsksFor target []) old asks new
 
-  along_asks : (p last : Progress) (old new : L) (turns : List (Turn L)) → LaneAlong (Heard t talk target) p old turns last new → TargetAsks old new
+  along_asks : (p last : Progress) (old new : L) (turns : List (LaneTurn L)) → LaneAlong (Heard t talk target) p old turns last new → TargetAsks old new
   along_asks p last old new [] along = ([], along.1)
   along_asks p last old new (u ∷ us) along =
       let heard = along.3.1 in
@@ -136,7 +136,7 @@ module _ {L : Type 0} (t : LinkTelling L) (talk : L → ℕ → Talk → Type 0)
 
   pub asked_lane : (old : L) (views : List LaneView) (before : List LaneNews) (r : Result (Unit {0}) StepErr) (new : L) (after : List LaneView) (now : List LaneNews) (loss : Bool)
       → Finishes t talk target old views before r new after now → LeavesOthers t target old new → t.losses old ≤ t.losses new → (loss ≡ true → Rose (t.losses old) (t.losses new))
-      → (IsTrue (t.lossless old) → (loss ≡ false) × IsTrue (t.lossless new)) → Asked t target [] old new loss
+      → (IsTrue (t.lossless old) → (loss ≡ false) × IsTrue (t.lossless new)) → HasAskedToRebuild t target [] old new loss
   asked_lane old views before r new after now loss f others later lost lossless =
       let asks = finished_asks old views before r new after now f in
       record {
@@ -191,7 +191,7 @@ module _ {L : Type 0} (t : LinkTelling L) (talk : L → ℕ → Talk → Type 0)
       → t.passes old (record { cloud = target; content = request_bytes request; reply = reply }) new → Own old new
   own_ask lane request old new reply is asks passes = (record { cloud = target; content = request_bytes request; reply = reply } ∷ [], (inl (refl, of_lane lane request is asks), (new, passes, refl)))
 
-  along_own : (p last : Progress) (old new : L) (turns : List (Turn L)) → IsWork p.lane → LaneAlong (Heard t talk target) p old turns last new → Own old new
+  along_own : (p last : Progress) (old new : L) (turns : List (LaneTurn L)) → IsWork p.lane → LaneAlong (Heard t talk target) p old turns last new → Own old new
   along_own p last old new [] is along = ([], along.1)
   along_own p last old new (u ∷ us) is along =
       let heard = along.3.1 in

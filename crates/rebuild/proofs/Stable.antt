@@ -2,16 +2,16 @@
 use Rattle.std.proofs.Common.{◌≡◌, ℕ, cond, List, [], ◌∷◌, map, Option, Some, Result, refl, ap, ◌∙◌}
 use Rattle.std.specs.Prelude.{find, is_none, option_map, unwrap_or}
 use Rattle.std.specs.List.{Contains}
-use Rattle.cd_base.specs.declared.ids.Tag.{Tag}
-use Rattle.cd_base.specs.declared.ids.UserId.{UserId}
-use Rattle.cd_base.specs.declared.ids.Version.{Version}
-use Rattle.cd_base.specs.declared.shape.Shape.{Shape}
-use Rattle.user_dedup.specs.Cloud.{held_string}
-use Rattle.user_dedup.specs.declared.command.Command.{Command}
-use Rattle.user_dedup.proofs.Owned.{contains_here, contains_later}
-use Rattle.upload_job.specs.Upload.{FileVersion}
-use Rattle.restore_job.specs.Restored
-use Rattle.restore_job.specs.Restored.{Unrestored, Given, no_recipe, recipe_in, given_by, missing, unless, agreed, restored_file}
+use Rattle.lane_steps.specs.CdBase.ids.Tag.{Tag}
+use Rattle.lane_steps.specs.CdBase.ids.UserId.{UserId}
+use Rattle.lane_steps.specs.CdBase.ids.Version.{Version}
+use Rattle.lane_steps.specs.CdBase.shape.Shape.{Shape}
+use Rattle.lane_steps.specs.UserDedup.Cloud.{held_string}
+use Rattle.lane_steps.specs.UserDedup.command.Command.{Command}
+use Rattle.lane_steps.proofs.UserDedup.Owned.{contains_here, contains_later}
+use Rattle.lane_steps.specs.UploadJob.Upload.{FileVersion}
+use Rattle.kept_files.specs.RestoreJob.Restored
+use Rattle.kept_files.specs.RestoreJob.Restored.{Unrestored, Given, no_recipe, recipe_in, given_by, missing, unless, agreed, restored_file}
 use Rattle.rebuild.specs.declared.error.SkipWhy.{SkipWhy}
 use Rattle.rebuild.specs.Found.{finding_under, findings, first_of, keys_in, name_opened, name_judged, version_named, unless_skipped, recipes_differ, version_under}
 

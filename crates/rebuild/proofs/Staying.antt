@@ -3,18 +3,18 @@ use Rattle.std.proofs.Common.{◌≡◌, ◌⊎◌, ℕ, Bool, true, false, cond
 use Rattle.std.specs.Prelude.{◌==◌, find, is_none, option_map}
 use Rattle.std.specs.List.{Contains}
 use Rattle.std.proofs.lemmas.Bool.{cases_eq, ne_eqb}
-use Rattle.cd_base.specs.declared.ids.Tag.{Tag}
-use Rattle.cd_base.specs.declared.ids.UserId.{UserId}
-use Rattle.cd_base.specs.declared.ids.Version.{Version}
-use Rattle.cd_base.specs.declared.shape.Shape.{Shape}
-use Rattle.user_dedup.specs.declared.command.Command.{Command}
-use Rattle.user_dedup.specs.Exec.{Peer, MaySettleAs, Settles, Stays}
-use Rattle.user_dedup.proofs.Owned.{contains_here, contains_later}
-use Rattle.upload_job.specs.Upload.{FileVersion}
-use Rattle.restore_job.specs.Asking.{MayRead, Reads}
-use Rattle.restore_job.specs.Restored
-use Rattle.restore_job.specs.Restored.{Unrestored, missing, recipe_in}
-use Rattle.restore_job.proofs.Leading.{counts_on, no_pending, reads_on, settle_along, settled_same}
+use Rattle.lane_steps.specs.CdBase.ids.Tag.{Tag}
+use Rattle.lane_steps.specs.CdBase.ids.UserId.{UserId}
+use Rattle.lane_steps.specs.CdBase.ids.Version.{Version}
+use Rattle.lane_steps.specs.CdBase.shape.Shape.{Shape}
+use Rattle.lane_steps.specs.UserDedup.command.Command.{Command}
+use Rattle.lane_steps.specs.UserDedup.Exec.{Peer, MaySettleAs, Settles, KeepsPeer}
+use Rattle.lane_steps.proofs.UserDedup.Owned.{contains_here, contains_later}
+use Rattle.lane_steps.specs.UploadJob.Upload.{FileVersion}
+use Rattle.kept_files.specs.RestoreJob.Asking.{MayRead, Reads}
+use Rattle.kept_files.specs.RestoreJob.Restored
+use Rattle.kept_files.specs.RestoreJob.Restored.{Unrestored, missing, recipe_in}
+use Rattle.kept_files.proofs.RestoreJob.Leading.{counts_on, no_pending, reads_on, settle_along, settled_same}
 use Rattle.rebuild.specs.declared.error.SkipWhy.{SkipWhy}
 use Rattle.rebuild.specs.Rebuilding.{up_to}
 use Rattle.rebuild.specs.Steps.{IsFound}
@@ -25,7 +25,7 @@ use Rattle.rebuild.proofs.Stable.{SameOn, version_same}
 pub reads_after : (a b c : Peer) → MayRead a b → Reads b c → Reads a c
 reads_after a b c one two = (go one.0, counts_on a b c one.1 two.1)
   where
-    go : Stays a b ⊎ Settles a b → Settles a c
+    go : KeepsPeer a b ⊎ Settles a b → Settles a c
     go (inl s) = record { list = settle_along a b c.list s two.0.list; pending = two.0.pending }
     go (inr s) = record { list = subst (MaySettleAs a) (sym (no_pending b c.list s.pending two.0.list)) s.list; pending = two.0.pending }
 

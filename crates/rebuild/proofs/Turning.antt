@@ -3,39 +3,39 @@ use Rattle.std.proofs.Common.{◌≡◌, ◌⊎◌, ℕ, Bool, true, false, cond
 use Rattle.std.specs.Prelude.{IsTrue, bytes_eq}
 use Rattle.std.specs.Bool.{MatchBool}
 use Rattle.std.specs.List.{list_all}
-use Rattle.cd_edges.specs.Causes.{Rose}
-use Rattle.cd_base.specs.declared.rooms.Room.{Room}
-use Rattle.user_dedup.specs.Cloud.{fingerprint}
-use Rattle.cd_base.specs.declared.ids.Fp.{Fp}
-use Rattle.cd_base.specs.declared.ids.Tag.{Tag}
-use Rattle.cd_base.specs.declared.ids.UserId.{UserId}
-use Rattle.cd_base.specs.declared.ids.Version.{Version}
-use Rattle.cd_base.specs.declared.shape.Shape.{Shape}
-use Rattle.messages.specs.declared.request.Request.{Request}
-use Rattle.messages.specs.declared.request.Request.TheVariants as requests
-use Rattle.messages.specs.declared.reply.Reply.{Reply}
-use Rattle.messages.specs.declared.reply.Reply.TheVariants as replies
-use Rattle.user_dedup.specs.declared.command.Command.{Command}
-use Rattle.user_dedup.specs.declared.command.Command.TheVariants as commands
-use Rattle.user_dedup.specs.declared.file_list.FileEntry.{FileEntry}
-use Rattle.user_dedup.specs.declared.view.View.{View}
-use Rattle.user_dedup.specs.Cloud.{user_view}
-use Rattle.user_dedup.specs.Owning.{first_lacking, new_strings}
-use Rattle.user_dedup.specs.Pages.{entry_at}
-use Rattle.user_dedup.specs.Requests.{fps_of}
-use Rattle.user_dedup.specs.Dedup.{FullRoom, put_outcome, commit_outcome, by_room, unless_full}
-use Rattle.user_dedup.specs.Exec.{Peer, Exec, ExecTold, ExecUntold, CountsOn, served}
-use Rattle.user_dedup.specs.Link.{LinkTelling, Talk, Does, LeavesOthers}
-use Rattle.upload_job.specs.declared.news.LaneNews.{LaneNews}
-use Rattle.upload_job.specs.declared.news.LaneNews.TheVariants as news
-use Rattle.upload_job.specs.Upload.{Work}
-use Rattle.upload_job.specs.Lane.{LaneState, Asking, Sending, Committing, Done, Refused, onward, lane_request, news_of, unflagged}
-use Rattle.lane_steps.specs.Runs.{Turn, Progress, request_of, progress_after, LaneAlong, Tell}
+use Rattle.lane_steps.specs.CdEdges.Causes.{Rose}
+use Rattle.lane_steps.specs.CdBase.rooms.Room.{Room}
+use Rattle.lane_steps.specs.UserDedup.Cloud.{fingerprint}
+use Rattle.lane_steps.specs.CdBase.ids.Fp.{Fp}
+use Rattle.lane_steps.specs.CdBase.ids.Tag.{Tag}
+use Rattle.lane_steps.specs.CdBase.ids.UserId.{UserId}
+use Rattle.lane_steps.specs.CdBase.ids.Version.{Version}
+use Rattle.lane_steps.specs.CdBase.shape.Shape.{Shape}
+use Rattle.lane_steps.specs.Messages.request.Request.{Request}
+use Rattle.lane_steps.specs.Messages.request.Request.TheVariants as requests
+use Rattle.lane_steps.specs.Messages.reply.Reply.{Reply}
+use Rattle.lane_steps.specs.Messages.reply.Reply.TheVariants as replies
+use Rattle.lane_steps.specs.UserDedup.command.Command.{Command}
+use Rattle.lane_steps.specs.UserDedup.command.Command.TheVariants as commands
+use Rattle.lane_steps.specs.UserDedup.file_list.FileEntry.{FileEntry}
+use Rattle.lane_steps.specs.UserDedup.view.View.{View}
+use Rattle.lane_steps.specs.UserDedup.Cloud.{user_view}
+use Rattle.lane_steps.specs.UserDedup.Owning.{first_lacking, new_strings}
+use Rattle.lane_steps.specs.UserDedup.Pages.{entry_at}
+use Rattle.lane_steps.specs.UserDedup.Requests.{fps_of}
+use Rattle.lane_steps.specs.UserDedup.Dedup.{FullRoom, put_outcome, commit_outcome, by_room, unless_full}
+use Rattle.lane_steps.specs.UserDedup.Exec.{Peer, Exec, ExecTold, ExecUntold, CountsOn, served}
+use Rattle.lane_steps.specs.UserDedup.Link.{LinkTelling, Talk, Does, LeavesOthers}
+use Rattle.lane_steps.specs.UploadJob.news.LaneNews.{LaneNews}
+use Rattle.lane_steps.specs.UploadJob.news.LaneNews.TheVariants as news
+use Rattle.lane_steps.specs.UploadJob.Upload.{Work}
+use Rattle.lane_steps.specs.UploadJob.Lane.{LaneState, Asking, Sending, Committing, Done, Refused, onward, lane_request, news_of, unflagged}
+use Rattle.lane_steps.specs.Runs.{LaneTurn, Progress, request_of, progress_after, LaneAlong, Tell}
 use Rattle.lane_steps.specs.Steps.{Heard}
 use Rattle.rebuild.specs.declared.error.RebuildErr.{RebuildErr}
 use Rattle.rebuild.specs.declared.error.RebuildErr.TheVariants as errors
 use Rattle.rebuild.specs.Rebuilding.{Progressed, lane_ended, last_said}
-use Rattle.restore_job.proofs.Leading.{counts_on}
+use Rattle.kept_files.proofs.RestoreJob.Leading.{counts_on}
 use Rattle.rebuild.specs.Over.{TargetAlong}
 use Rattle.rebuild.specs.Filling.{EndsBy, IsThere, StopsBy, last_of}
 
@@ -297,7 +297,7 @@ does_alike t cloud one two p q request reply alike does =
 -- the turns from one state that the target stood for
 pub record PeerTurns {L : Type 0} (t : LinkTelling L) (talk : L → ℕ → Talk → Type 0) (target : ℕ) (from : List ℕ) (base old new : L) (lane last : Progress) (told : List LaneNews) (p : Peer) : Type 0 where
   pub end : Peer
-  pub turns : List (Turn Peer)
+  pub turns : List (LaneTurn Peer)
   pub along : TargetAlong t talk target from old p turns new end
   pub runs : LaneAlong (Does t target base) lane p turns last end
   pub tells : Tell lane.lane turns told
@@ -317,7 +317,7 @@ others_on t cloud old mid new one two = record {
 pub no_others : {L : Type 0} (t : LinkTelling L) (cloud : ℕ) (link : L) → LeavesOthers t cloud link link
 no_others t cloud link = record { stands = λ other p ne stands. stands; reaches = refl; shape = refl; told = refl; full = refl }
 
-pub peer_turns : {L : Type 0} (t : LinkTelling L) (talk : L → ℕ → Talk → Type 0) (target : ℕ) (from : List ℕ) (base old new : L) (lane last : Progress) (turns : List (Turn L)) (told : List LaneNews) (p : Peer)
+pub peer_turns : {L : Type 0} (t : LinkTelling L) (talk : L → ℕ → Talk → Type 0) (target : ℕ) (from : List ℕ) (base old new : L) (lane last : Progress) (turns : List (LaneTurn L)) (told : List LaneNews) (p : Peer)
     → Alike t base old → LaneAlong (Heard t talk target) lane old turns last new → Tell lane.lane turns told → t.stands old target p → PeerTurns t talk target from base old new lane last told p
 peer_turns {L} t talk target from base old new lane last [] told p alike along tell stands = record {
   end = p;
@@ -336,7 +336,7 @@ peer_turns {L} t talk target from base old new lane last (turn ∷ turns) told p
     let others = heard.passed.others in
     let next : Alike t base mid = record { shape = others.shape ∙ alike.shape; told = others.told ∙ alike.told; full = others.full ∙ alike.full } in
     let rest = peer_turns t talk target from base mid new (progress_after lane turn.reply) last turns tell.1 went.0 next along.3.2 tell.3 went.1 in
-    let one : Turn Peer = record { before = p; request = turn.request; reply = turn.reply } in
+    let one : LaneTurn Peer = record { before = p; request = turn.request; reply = turn.reply } in
     record {
       end = rest.end;
       turns = one ∷ rest.turns;
@@ -349,7 +349,7 @@ peer_turns {L} t talk target from base old new lane last (turn ∷ turns) told p
     }
 
 -- the last turn of some
-pub record LastTurn (Goes : Peer → Request → Reply → Peer → Type 0) (lane last : Progress) (old : Peer) (turns : List (Turn Peer)) (told : List LaneNews) (new : Peer) : Type 0 where
+pub record LastTurn (Goes : Peer → Request → Reply → Peer → Type 0) (lane last : Progress) (old : Peer) (turns : List (LaneTurn Peer)) (told : List LaneNews) (new : Peer) : Type 0 where
   pub work : Work
   pub state : LaneState
   pub lacked : Bool
@@ -365,7 +365,7 @@ pub record LastTurn (Goes : Peer → Request → Reply → Peer → Type 0) (lan
   pub goes : Goes before request reply new
   pub last_is : last ≡ progress_after (record { lane = record { work = work; state = state }; lacked = lacked; stopped = false }) reply
 
-pub last_turn : (Goes : Peer → Request → Reply → Peer → Type 0) (counts : (p q : Peer) (request : Request) (reply : Reply) → Goes p request reply q → CountsOn p q) (lane last : Progress) (old new : Peer) (t : Turn Peer) (turns : List (Turn Peer)) (told : List LaneNews) → LaneAlong Goes lane old (t ∷ turns) last new → Tell lane.lane (t ∷ turns) told
+pub last_turn : (Goes : Peer → Request → Reply → Peer → Type 0) (counts : (p q : Peer) (request : Request) (reply : Reply) → Goes p request reply q → CountsOn p q) (lane last : Progress) (old new : Peer) (t : LaneTurn Peer) (turns : List (LaneTurn Peer)) (told : List LaneNews) → LaneAlong Goes lane old (t ∷ turns) last new → Tell lane.lane (t ∷ turns) told
     → LastTurn Goes lane last old (t ∷ turns) told new
 last_turn Goes counts lane last old new t [] told along tell = record {
   counts = record { faults = omega arith; armings = refl };

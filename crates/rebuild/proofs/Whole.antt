@@ -4,30 +4,30 @@ use Rattle.std.specs.Prelude.{MatchOption}
 use Rattle.std.specs.List.{Contains, flat_map}
 use Rattle.std.proofs.lemmas.List.Concat.{flat_map-cons}
 use Rattle.std.proofs.lemmas.List.Elements.{Contains-append_cases, Contains-append_left}
-use Rattle.cd_base.specs.declared.ids.Tag.{Tag}
-use Rattle.cd_base.specs.declared.ids.UserId.{UserId}
-use Rattle.cd_base.specs.declared.ids.Version.{Version}
-use Rattle.cd_base.specs.declared.shape.Shape.{Shape}
-use Rattle.messages.specs.declared.request.Request.{Request}
-use Rattle.messages.specs.declared.reply.Reply.{Reply}
-use Rattle.user_dedup.specs.declared.command.Command.{Command}
-use Rattle.user_dedup.specs.Dedup.{Outcome}
-use Rattle.user_dedup.specs.Exec.{Peer, CountsOn}
-use Rattle.user_dedup.proofs.Owned.{contains_cases, contains_here, contains_later, contains_nothing}
-use Rattle.upload_job.specs.Upload.{FileVersion}
-use Rattle.lane_steps.specs.Runs.{Turn}
-use Rattle.restore_job.specs.Asking.{AreRead, Reads}
-use Rattle.restore_job.specs.Restored
-use Rattle.restore_job.specs.Restored.{Unrestored, given_by, missing, restored_file}
-use Rattle.restore_job.specs.declared.error.RestoreErr.{RestoreErr}
-use Rattle.restore_job.specs.declared.error.RestoreErr.TheVariants as refusals
+use Rattle.lane_steps.specs.CdBase.ids.Tag.{Tag}
+use Rattle.lane_steps.specs.CdBase.ids.UserId.{UserId}
+use Rattle.lane_steps.specs.CdBase.ids.Version.{Version}
+use Rattle.lane_steps.specs.CdBase.shape.Shape.{Shape}
+use Rattle.lane_steps.specs.Messages.request.Request.{Request}
+use Rattle.lane_steps.specs.Messages.reply.Reply.{Reply}
+use Rattle.lane_steps.specs.UserDedup.command.Command.{Command}
+use Rattle.lane_steps.specs.UserDedup.Dedup.{Outcome}
+use Rattle.lane_steps.specs.UserDedup.Exec.{Peer, CountsOn}
+use Rattle.lane_steps.proofs.UserDedup.Owned.{contains_cases, contains_here, contains_later, contains_nothing}
+use Rattle.lane_steps.specs.UploadJob.Upload.{FileVersion}
+use Rattle.lane_steps.specs.Runs.{LaneTurn}
+use Rattle.kept_files.specs.RestoreJob.Asking.{AreRead, Reads}
+use Rattle.kept_files.specs.RestoreJob.Restored
+use Rattle.kept_files.specs.RestoreJob.Restored.{Unrestored, given_by, missing, restored_file}
+use Rattle.kept_files.specs.RestoreJob.error.RestoreErr.{RestoreErr}
+use Rattle.kept_files.specs.RestoreJob.error.RestoreErr.TheVariants as refusals
 use Rattle.rebuild.specs.declared.error.SkipWhy.{SkipWhy}
 use Rattle.rebuild.specs.declared.error.SkipWhy.TheVariants as whys
 use Rattle.rebuild.specs.declared.error.RebuildErr.{RebuildErr}
 use Rattle.rebuild.specs.declared.error.RebuildErr.TheVariants as errors
 use Rattle.rebuild.specs.declared.skips.Rebuilt.{Rebuilt}
 use Rattle.rebuild.specs.Found.{Finding, cloud_no, finding_under, findings, first_of, keys_in, name_judged, name_opened, recipes_differ, unless_skipped, version_named, version_under}
-use Rattle.rebuild.specs.Rebuilding.{Progressed, BringsAll, BringsOne, IsCut, LeavesBut, ReadStopped, RunsTo, asked_for, asked_under, nothing_yet}
+use Rattle.rebuild.specs.Rebuilding.{Progressed, BringsAll, BringsOne, IsRebuildCut, LeavesBut, ReadStopped, RunsTo, asked_for, asked_under, nothing_yet}
 use Rattle.rebuild.specs.Over.{HandsOn}
 use Rattle.rebuild.specs.Steps.{IsFound, ReadEnds}
 use Rattle.rebuild.specs.Several.{AllFound, KeysCut, KeysTold, keys_of, progress_of, whole}
@@ -118,19 +118,19 @@ module _ (shape : Shape) (user : UserId) (target : ℕ) (serve : List Command �
             | inr later ↦ none g later
           ])
 
-  no_turns : (found : List Finding) (r last : Progressed) (old new : Peer) (turns : List (Turn Peer)) → NoVersion found → BringsAll shape target serve found r old turns last new → turns ≡ []
+  no_turns : (found : List Finding) (r last : Progressed) (old new : Peer) (turns : List (LaneTurn Peer)) → NoVersion found → BringsAll shape target serve found r old turns last new → turns ≡ []
   no_turns [] r last old new turns none x = x.1
   no_turns (f ∷ found) r last old new turns none x =
       let why = none f (contains_here f found) in
       let one : BringsOne shape target serve f.key (Err why.0) r old x.2 x.0 x.1 = subst (λ (o : Result FileVersion SkipWhy). BringsOne shape target serve f.key o r old x.2 x.0 x.1) why.1 x.4 in
-      x.5 ∙ ap (λ (l : List (Turn Peer)). l ++ x.3) one.1 ∙ by_stop x.0.stop x.6 (λ m. no_turns found x.0 last x.1 new x.3 (λ g has. none g (contains_later f found g has)) m)
+      x.5 ∙ ap (λ (l : List (LaneTurn Peer)). l ++ x.3) one.1 ∙ by_stop x.0.stop x.6 (λ m. no_turns found x.0 last x.1 new x.3 (λ g has. none g (contains_later f found g has)) m)
     where
       by_stop : (o : Option Reply) → MatchOption o (BringsAll shape target serve found x.0 x.1 x.3 last new) (λ said. (x.3 ≡ []) × (last ≡ x.0) × (new ≡ x.1))
           → (BringsAll shape target serve found x.0 x.1 x.3 last new → x.3 ≡ []) → x.3 ≡ []
       by_stop None m rest = rest m
       by_stop (Some said) m rest = m.0
 
-  settled_by : (keys : List (Tag × Version)) (r : Progressed) (turns : List (Turn Peer)) (a : ℕ → Peer) (at : Peer) (b : ℕ → Peer) → (x : KeysCut shape user target serve from keys r turns a at b)
+  settled_by : (keys : List (Tag × Version)) (r : Progressed) (turns : List (LaneTurn Peer)) (a : ℕ → Peer) (at : Peer) (b : ℕ → Peer) → (x : KeysCut shape user target serve from keys r turns a at b)
       → (x.turns_before ++ x.turns_behind ≡ []) ⊎ AllSettled b
   settled_by keys r turns a at b x =
       elim (settled_or (x.found ++ x.ahead) a b x.each) [
@@ -142,7 +142,7 @@ module _ (shape : Shape) (user : UserId) (target : ℕ) (serve : List Command �
             none_left x.turns_behind g.more
             (no_turns g.front x.last g.last x.mid g.end (x.turns_behind ++ g.more)
             (λ f has. none f (contains_behind x.found x.ahead f (subst (λ (l : List Finding). Contains l f) (sym (sym (append-nil x.ahead) ∙ g.split)) (Contains-append_left g.front g.left f has)))) g.brings) in
-            inl (ap (λ (l : List (Turn Peer)). l ++ x.turns_behind) before ∙ behind)
+            inl (ap (λ (l : List (LaneTurn Peer)). l ++ x.turns_behind) before ∙ behind)
       ]
     where
       contains_behind : (xs ys : List Finding) (f : Finding) → Contains ys f → Contains (xs ++ ys) f
@@ -166,16 +166,16 @@ module _ (shape : Shape) (user : UserId) (target : ℕ) (serve : List Command �
   stopped_read (refusals.BadPad secret place byte) a b apart leaves hands y = absurd y
   stopped_read refusals.NoMemory a b apart leaves hands y = absurd hands.0
 
-  cut_runs : (keys : List (Tag × Version)) (turns : List (Turn Peer)) (a : ℕ → Peer) (at : Peer) (b : ℕ → Peer) → Contains from (first_of from) → (Contains from target → ⊥) → LeavesBut from target a b → CountsOn (a target) at
-      → keys_in shape (b (first_of from)).list user ≡ keys → KeysCut shape user target serve from keys nothing_yet turns a at b → IsCut shape user target serve from turns a at b
+  cut_runs : (keys : List (Tag × Version)) (turns : List (LaneTurn Peer)) (a : ℕ → Peer) (at : Peer) (b : ℕ → Peer) → Contains from (first_of from) → (Contains from target → ⊥) → LeavesBut from target a b → CountsOn (a target) at
+      → keys_in shape (b (first_of from)).list user ≡ keys → KeysCut shape user target serve from keys nothing_yet turns a at b → IsRebuildCut shape user target serve from turns a at b
   cut_runs keys turns a at b first apart leaves counts is x =
       let rest : List Finding = map (finding_under shape (λ cloud. (b cloud).list) from user) x.front.rest in
-      subst (λ (l : List (Turn Peer)). IsCut shape user target serve from l a at b) (sym x.split)
+      subst (λ (l : List (LaneTurn Peer)). IsRebuildCut shape user target serve from l a at b) (sym x.split)
       (cut_by shape user target serve from a b x.found (x.ahead ++ rest) x.last x.mid at x.turns_before x.turns_behind first apart
       (findings_are (x.found ++ x.ahead) x.front.rest a b x.each (is ∙ x.front.split) ∙ append_assoc x.found x.ahead rest)
       x.brings x.none (x.goes rest) leaves counts (settled_by keys nothing_yet turns a at b x))
 
-  pub told_runs : (rebuilt : Rebuilt) (result : Result (Unit {0}) RebuildErr) (keys : List (Tag × Version)) (turns : List (Turn Peer)) (a : ℕ → Peer) (at : Peer) (b : ℕ → Peer)
+  pub told_runs : (rebuilt : Rebuilt) (result : Result (Unit {0}) RebuildErr) (keys : List (Tag × Version)) (turns : List (LaneTurn Peer)) (a : ℕ → Peer) (at : Peer) (b : ℕ → Peer)
       → Contains from (first_of from) → (Contains from target → ⊥) → LeavesBut from target a b → CountsOn (a target) at → ReadBy result (Reads (a (first_of from)) (b (first_of from))) → keys_in shape (b (first_of from)).list user ≡ keys → HandsOn from result
       → KeysTold shape user target serve from keys nothing_yet (progress_of rebuilt) result turns a at b → RunsTo shape user target serve from (whole rebuilt result) turns a at b
   told_runs rebuilt (Ok u) keys turns a at b first apart leaves counts read is hands y =

@@ -1,25 +1,25 @@
 -- What becomes of one entry of the first cloud.
 use Rattle.std.specs.Prelude.{◌≡◌, ℕ, ◌+◌, Bool, true, false, List, [], ◌∷◌, Option, Some, None, Result, Ok, Err, ◌⊎◌}
-use Rattle.cd_base.specs.declared.ids.Tag.{Tag}
-use Rattle.cd_base.specs.declared.ids.UserId.{UserId}
-use Rattle.cd_base.specs.declared.ids.Version.{Version}
-use Rattle.cd_base.specs.declared.shape.Shape.{Shape}
-use Rattle.messages.specs.declared.request.Request.{Request}
-use Rattle.messages.specs.declared.reply.Reply.{Reply}
-use Rattle.user_dedup.specs.declared.command.Command.{Command}
-use Rattle.user_dedup.specs.Dedup.{Outcome}
-use Rattle.user_dedup.specs.Exec.{Peer}
-use Rattle.upload_job.specs.Upload.{FileVersion}
-use Rattle.lane_steps.specs.Runs.{Turn}
-use Rattle.restore_job.specs.declared.error.RestoreErr.{RestoreErr}
-use Rattle.restore_job.specs.declared.error.RestoreErr.TheVariants as refusals
+use Rattle.lane_steps.specs.CdBase.ids.Tag.{Tag}
+use Rattle.lane_steps.specs.CdBase.ids.UserId.{UserId}
+use Rattle.lane_steps.specs.CdBase.ids.Version.{Version}
+use Rattle.lane_steps.specs.CdBase.shape.Shape.{Shape}
+use Rattle.lane_steps.specs.Messages.request.Request.{Request}
+use Rattle.lane_steps.specs.Messages.reply.Reply.{Reply}
+use Rattle.lane_steps.specs.UserDedup.command.Command.{Command}
+use Rattle.lane_steps.specs.UserDedup.Dedup.{Outcome}
+use Rattle.lane_steps.specs.UserDedup.Exec.{Peer}
+use Rattle.lane_steps.specs.UploadJob.Upload.{FileVersion}
+use Rattle.lane_steps.specs.Runs.{LaneTurn}
+use Rattle.kept_files.specs.RestoreJob.error.RestoreErr.{RestoreErr}
+use Rattle.kept_files.specs.RestoreJob.error.RestoreErr.TheVariants as refusals
 use Rattle.rebuild.specs.declared.error.SkipWhy.{SkipWhy}
 use Rattle.rebuild.specs.declared.error.SkipWhy.TheVariants as whys
 use Rattle.rebuild.specs.declared.error.RebuildErr.{RebuildErr}
 use Rattle.rebuild.specs.declared.error.RebuildErr.TheVariants as errors
 use Rattle.rebuild.specs.Found.{Finding}
 use Rattle.rebuild.specs.Rebuilding.{Progressed, with_skip, BringsOne, StopsAs}
-use Rattle.rebuild.specs.Filling.{GoesOn}
+use Rattle.rebuild.specs.Filling.{IsFilledFurther}
 use Rattle.rebuild.specs.Steps.{IsFound, ReadEnds}
 
 -- a refusal of a cloud that is read, as an error of the rebuild
@@ -38,19 +38,19 @@ noted key None r = record { files = r.files + 1; skips = r.skips; stop = None }
 noted key (Some why) r = with_skip key why r
 
 -- it was cut behind these turns, whatever entries are left, and would go on so
-abbrev pub EntryCut : Shape → ℕ → (List Command → Request → Outcome) → Tag × Version → Result FileVersion SkipWhy → Peer → List (Turn Peer) → Peer → Type 0
+abbrev pub EntryCut : Shape → ℕ → (List Command → Request → Outcome) → Tag × Version → Result FileVersion SkipWhy → Peer → List (LaneTurn Peer) → Peer → Type 0
 EntryCut shape target serve key found start turns at =
     (fs : List Finding) (r : Progressed) → r.stop ≡ None
-    → GoesOn shape target serve (record { key = key; found = found } ∷ fs) r start turns at
+    → IsFilledFurther shape target serve (record { key = key; found = found } ∷ fs) r start turns at
 
 -- the target's reply stopped it
-abbrev pub EntryStops : Shape → ℕ → (List Command → Request → Outcome) → Tag × Version → Result FileVersion SkipWhy → RebuildErr → Peer → List (Turn Peer) → Peer → Type 0
+abbrev pub EntryStops : Shape → ℕ → (List Command → Request → Outcome) → Tag × Version → Result FileVersion SkipWhy → RebuildErr → Peer → List (LaneTurn Peer) → Peer → Type 0
 EntryStops shape target serve key found e start turns end =
     (said : Reply) × StopsAs said e
     × ((r : Progressed) → (next : Progressed) × BringsOne shape target serve key found r start turns next end × (next.stop ≡ Some said))
 
 -- what was found under the key was brought to the told target, or skipped
-abbrev pub EntryBrought : Shape → ℕ → (List Command → Request → Outcome) → Tag × Version → Result FileVersion SkipWhy → Result (Option SkipWhy) RebuildErr → List (Turn Peer) → Peer → Peer → Peer → Type 0
+abbrev pub EntryBrought : Shape → ℕ → (List Command → Request → Outcome) → Tag × Version → Result FileVersion SkipWhy → Result (Option SkipWhy) RebuildErr → List (LaneTurn Peer) → Peer → Peer → Peer → Type 0
 EntryBrought shape target serve key found (Ok skip) turns start at end =
     (r : Progressed) → BringsOne shape target serve key found r start turns (noted key skip r) end
 EntryBrought shape target serve key found (Err errors.NoMemory) turns start at end = EntryCut shape target serve key found start turns at
@@ -58,17 +58,17 @@ EntryBrought shape target serve key found (Err errors.TargetLost) turns start at
 EntryBrought shape target serve key found (Err e) turns start at end = EntryStops shape target serve key found e start turns end
 
 -- the target had no turn
-abbrev pub NoTurn : List (Turn Peer) → Peer → Peer → Peer → Type 0
+abbrev pub NoTurn : List (LaneTurn Peer) → Peer → Peer → Peer → Type 0
 NoTurn turns start at end = (turns ≡ []) × (at ≡ start) × (end ≡ start)
 
 -- this is found under the key, and so brought
-abbrev pub EntryFound : Shape → UserId → ℕ → (List Command → Request → Outcome) → List ℕ → Tag × Version → Result (Option SkipWhy) RebuildErr → List (Turn Peer) → (ℕ → Peer) → Peer → (ℕ → Peer) → Type 0
+abbrev pub EntryFound : Shape → UserId → ℕ → (List Command → Request → Outcome) → List ℕ → Tag × Version → Result (Option SkipWhy) RebuildErr → List (LaneTurn Peer) → (ℕ → Peer) → Peer → (ℕ → Peer) → Type 0
 EntryFound shape user target serve from key result turns before at after =
     (found : Result FileVersion SkipWhy) × IsFound shape user from key found before after
     × EntryBrought shape target serve key found result turns (before target) at (after target)
 
 -- An entry of told clouds. Where a cloud that is read stopped it, or memory ran out before anything was found, the target had no turn.
-abbrev pub EntryTold : Shape → UserId → ℕ → (List Command → Request → Outcome) → List ℕ → Tag × Version → Result (Option SkipWhy) RebuildErr → List (Turn Peer) → (ℕ → Peer) → Peer → (ℕ → Peer) → Type 0
+abbrev pub EntryTold : Shape → UserId → ℕ → (List Command → Request → Outcome) → List ℕ → Tag × Version → Result (Option SkipWhy) RebuildErr → List (LaneTurn Peer) → (ℕ → Peer) → Peer → (ℕ → Peer) → Type 0
 EntryTold shape user target serve from key (Err (errors.FromRestore e)) turns before at after =
     NoTurn turns (before target) at (after target) × ReadEnds from e before after
 EntryTold shape user target serve from key (Err errors.NoMemory) turns before at after =

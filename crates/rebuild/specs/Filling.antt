@@ -1,20 +1,20 @@
 -- The target's lane for one version.
 use Rattle.std.specs.Prelude.{◌≡◌, ℕ, Bool, true, false, List, [], ◌∷◌, ◌++◌, Option, Some, None, Result, Ok, Err, ◌⊎◌}
-use Rattle.cd_edges.specs.Causes.{Rose}
-use Rattle.cd_base.specs.declared.ids.Tag.{Tag}
-use Rattle.cd_base.specs.declared.ids.Version.{Version}
-use Rattle.cd_base.specs.declared.shape.Shape.{Shape}
-use Rattle.messages.specs.declared.request.Request.{Request}
-use Rattle.messages.specs.declared.reply.Reply.{Reply}
-use Rattle.messages.specs.declared.reply.Reply.TheVariants as replies
-use Rattle.user_dedup.specs.declared.command.Command.{Command}
-use Rattle.user_dedup.specs.Dedup.{Outcome}
-use Rattle.user_dedup.specs.Exec.{Peer, Exec, CountsOn}
-use Rattle.upload_job.specs.declared.news.LaneNews.{LaneNews}
-use Rattle.upload_job.specs.declared.news.LaneNews.TheVariants as news
-use Rattle.upload_job.specs.Upload.{FileVersion}
-use Rattle.upload_job.specs.Lane.{LaneState, Done, Refused}
-use Rattle.lane_steps.specs.Runs.{Turn, Progress, LaneRun}
+use Rattle.lane_steps.specs.CdEdges.Causes.{Rose}
+use Rattle.lane_steps.specs.CdBase.ids.Tag.{Tag}
+use Rattle.lane_steps.specs.CdBase.ids.Version.{Version}
+use Rattle.lane_steps.specs.CdBase.shape.Shape.{Shape}
+use Rattle.lane_steps.specs.Messages.request.Request.{Request}
+use Rattle.lane_steps.specs.Messages.reply.Reply.{Reply}
+use Rattle.lane_steps.specs.Messages.reply.Reply.TheVariants as replies
+use Rattle.lane_steps.specs.UserDedup.command.Command.{Command}
+use Rattle.lane_steps.specs.UserDedup.Dedup.{Outcome}
+use Rattle.lane_steps.specs.UserDedup.Exec.{Peer, Exec, CountsOn}
+use Rattle.lane_steps.specs.UploadJob.news.LaneNews.{LaneNews}
+use Rattle.lane_steps.specs.UploadJob.news.LaneNews.TheVariants as news
+use Rattle.lane_steps.specs.UploadJob.Upload.{FileVersion}
+use Rattle.lane_steps.specs.UploadJob.Lane.{LaneState, Done, Refused}
+use Rattle.lane_steps.specs.Runs.{LaneTurn, Progress, LaneRun}
 use Rattle.lane_steps.specs.declared.error.StepErr.{StepErr}
 use Rattle.lane_steps.specs.declared.error.StepErr.TheVariants as step_errors
 use Rattle.rebuild.specs.declared.error.RebuildErr.{RebuildErr}
@@ -49,11 +49,11 @@ EndsBy said r = r ≡ Err errors.NoMemory
 
 -- Some of what is still to be brought would be: from a state on, with the turns that there were, and more behind the state that these
 -- led to. The target's own reply, which is none that a share is lacking, or nothing would end it.
-pub record GoesOn (shape : Shape) (target : ℕ) (serve : List Command → Request → Outcome) (fs : List Finding) (r : Progressed) (start : Peer) (turns : List (Turn Peer)) (at : Peer) : Type 0 where
+pub record IsFilledFurther (shape : Shape) (target : ℕ) (serve : List Command → Request → Outcome) (fs : List Finding) (r : Progressed) (start : Peer) (turns : List (LaneTurn Peer)) (at : Peer) : Type 0 where
   pub front : List Finding
   pub left : List Finding
   pub split : fs ≡ front ++ left
-  pub more : List (Turn Peer)
+  pub more : List (LaneTurn Peer)
   pub last : Progressed
   pub end : Peer
   pub brings : BringsAll shape target serve front r start (turns ++ more) last end
@@ -62,12 +62,12 @@ pub record GoesOn (shape : Shape) (target : ℕ) (serve : List Command → Reque
   pub ends : ((left ≡ []) × (last.stop ≡ None)) ⊎ ((said : Reply) × (e : RebuildErr) × (last.stop ≡ Some said) × StopsAs said e × IsNoLack e)
 
 -- the lane of the version was cut behind these turns
-abbrev pub LaneCut : Shape → ℕ → (List Command → Request → Outcome) → FileVersion → Peer → List (Turn Peer) → Peer → Type 0
+abbrev pub LaneCut : Shape → ℕ → (List Command → Request → Outcome) → FileVersion → Peer → List (LaneTurn Peer) → Peer → Type 0
 LaneCut shape target serve v start turns at =
-    (f : Finding) (fs : List Finding) (r : Progressed) → f.found ≡ Ok v → r.stop ≡ None → GoesOn shape target serve (f ∷ fs) r start turns at
+    (f : Finding) (fs : List Finding) (r : Progressed) → f.found ≡ Ok v → r.stop ≡ None → IsFilledFurther shape target serve (f ∷ fs) r start turns at
 
 -- the lane of the version ended so
-pub record LaneEnds (shape : Shape) (target : ℕ) (serve : List Command → Request → Outcome) (v : FileVersion) (start : Peer) (turns : List (Turn Peer)) (end : Peer) (Ends : LaneState → Reply → Type 0) : Type 0 where
+pub record LaneEnds (shape : Shape) (target : ℕ) (serve : List Command → Request → Outcome) (v : FileVersion) (start : Peer) (turns : List (LaneTurn Peer)) (end : Peer) (Ends : LaneState → Reply → Type 0) : Type 0 where
   pub last : Progress
   pub said : Reply
   pub run : LaneRun (Exec shape true serve) (lane_of shape target v) start turns last end
@@ -84,7 +84,7 @@ abbrev pub StopsBy : RebuildErr → LaneState → Reply → Type 0
 StopsBy e state said = StopsAs said e × ((key : Tag × Version) (r : Progressed) → (lane_ended key state said r).stop ≡ Some said)
 
 -- a told target was brought this version, from one state on to another, behind which the last ask may have been lost
-abbrev pub BringsTold : Shape → ℕ → (List Command → Request → Outcome) → FileVersion → Result Bool RebuildErr → List (Turn Peer) → Peer → Peer → Peer → Type 0
+abbrev pub BringsTold : Shape → ℕ → (List Command → Request → Outcome) → FileVersion → Result Bool RebuildErr → List (LaneTurn Peer) → Peer → Peer → Peer → Type 0
 BringsTold shape target serve v (Ok there) turns start at end = LaneEnds shape target serve v start turns end (IsThere there)
 BringsTold shape target serve v (Err errors.NoMemory) turns start at end = LaneCut shape target serve v start turns at
 BringsTold shape target serve v (Err errors.TargetLost) turns start at end = LaneCut shape target serve v start turns at
@@ -103,7 +103,7 @@ BringCaused told result start end = Unit {0}
 
 -- What holds, told or not: a result has its cause, and says what the target said last, if that made it, and that so they ended; and its
 -- turns are so.
-pub record BringHolds {A : Type 0} (told : Bool) (Own Ended : List (Turn Peer) → Type 0) (result : Result A RebuildErr) (turns : List (Turn Peer)) (start end : Peer) : Type 0 where
+pub record BringHolds {A : Type 0} (told : Bool) (Own Ended : List (LaneTurn Peer) → Type 0) (result : Result A RebuildErr) (turns : List (LaneTurn Peer)) (start end : Peer) : Type 0 where
   pub caused : BringCaused told result start end
   pub said : SaidLast result turns
   pub ended : OfReply result (Ended turns)

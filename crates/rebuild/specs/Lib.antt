@@ -1,12 +1,17 @@
 pub mod Entering
+pub mod FileRecipe
 pub mod Filling
 pub mod Found
 pub mod Kept
 pub mod KeptFiles
 pub mod LaneSteps
+pub mod MessageFields
+pub mod Messages
 pub mod Over
 pub mod Rebuilding
+pub mod ReedSolomon
 pub mod Several
 pub mod Standing
 pub mod Steps
 pub mod Turns
+pub mod UploadJob

@@ -1,21 +1,21 @@
 -- What a rebuild does to the clouds of a link, and what its errors say, told or not.
 use Rattle.std.specs.Prelude.{◌≡◌, ℕ, ◌≤◌, ◌⊎◌, Bool, true, false, IsTrue, List, [], ◌∷◌, Some, Result, Err}
 use Rattle.std.specs.List.{Contains}
-use Rattle.cd_edges.specs.Causes.{Rose}
-use Rattle.user_dedup.specs.Exec.{Peer}
-use Rattle.cd_base.specs.declared.ids.UserId.{UserId}
-use Rattle.cd_base.specs.declared.shape.Shape.{Shape}
-use Rattle.messages.specs.Requests.{request_bytes}
-use Rattle.messages.specs.declared.request.Request.{Request}
-use Rattle.user_dedup.specs.Link.{LinkTelling, Exchange, Passes, ReadsFrom, Does, LosesAsk}
-use Rattle.upload_job.specs.Lane.{LaneState}
-use Rattle.upload_job.specs.Upload.{FileVersion, work_of}
-use Rattle.lane_steps.specs.Runs.{Turn, request_of}
+use Rattle.lane_steps.specs.CdEdges.Causes.{Rose}
+use Rattle.lane_steps.specs.UserDedup.Exec.{Peer}
+use Rattle.lane_steps.specs.CdBase.ids.UserId.{UserId}
+use Rattle.lane_steps.specs.CdBase.shape.Shape.{Shape}
+use Rattle.lane_steps.specs.Messages.Requests.{request_bytes}
+use Rattle.lane_steps.specs.Messages.request.Request.{Request}
+use Rattle.lane_steps.specs.UserDedup.Link.{LinkTelling, Exchange, Passes, ReadsFrom, Does, LosesAsk}
+use Rattle.lane_steps.specs.UploadJob.Lane.{LaneState}
+use Rattle.lane_steps.specs.UploadJob.Upload.{FileVersion, work_of}
+use Rattle.lane_steps.specs.Runs.{LaneTurn, request_of}
 use Rattle.lane_steps.specs.Steps.{Talks, Heard, LostAsk}
-use Rattle.restore_job.specs.Asking.{PeersOf, TellsAll, is_loss}
-use Rattle.restore_job.specs.Refusals.{Names}
-use Rattle.restore_job.specs.declared.error.RestoreErr.{RestoreErr}
-use Rattle.restore_job.specs.declared.error.RestoreErr.TheVariants as refusals
+use Rattle.kept_files.specs.RestoreJob.Asking.{PeersOf, TellsAll, is_loss}
+use Rattle.kept_files.specs.RestoreJob.Refusals.{Names}
+use Rattle.kept_files.specs.RestoreJob.error.RestoreErr.{RestoreErr}
+use Rattle.kept_files.specs.RestoreJob.error.RestoreErr.TheVariants as refusals
 use Rattle.rebuild.specs.declared.error.RebuildErr.{RebuildErr}
 use Rattle.rebuild.specs.declared.error.RebuildErr.TheVariants as errors
 use Rattle.rebuild.specs.Rebuilding.{LeavesBut}
@@ -29,7 +29,7 @@ Reading t from old new = (asks : List Exchange) × Passes t (ReadsFrom from) old
 
 -- The link's way, from a state in which the target stands for this peer: the clouds are read, the target has a turn, the clouds are
 -- read again, and so on; and what the target stands for at last.
-abbrev pub TargetAlong : {L : Type 0} → LinkTelling L → Talks L → ℕ → List ℕ → L → Peer → List (Turn Peer) → L → Peer → Type 0
+abbrev pub TargetAlong : {L : Type 0} → LinkTelling L → Talks L → ℕ → List ℕ → L → Peer → List (LaneTurn Peer) → L → Peer → Type 0
 TargetAlong t talk target from old p [] new last = Reading t from old new × t.stands new target p × (last ≡ p)
 TargetAlong {L} t talk target from old p (u ∷ us) new last =
     (mid : L) × (next : L) × Reading t from old mid × t.stands mid target p × (u.before ≡ p)
@@ -45,11 +45,11 @@ ThenLost t target old p result new q = (new ≡ old) × (q ≡ p)
 -- that they stand for now. The target had turns, between which the clouds were read, and was then at some state. The turns and the peers
 -- before and after are always so related, and further so, with that state, where the target and the clouds that are read are told.
 abbrev pub Leads : {L A : Type 0} → LinkTelling L → Talks L → ℕ → List ℕ → L → L → Result A RebuildErr
-    → (List (Turn Peer) → (ℕ → Peer) → (ℕ → Peer) → Type 0) → (List (Turn Peer) → (ℕ → Peer) → Peer → (ℕ → Peer) → Type 0) → Type 0
+    → (List (LaneTurn Peer) → (ℕ → Peer) → (ℕ → Peer) → Type 0) → (List (LaneTurn Peer) → (ℕ → Peer) → Peer → (ℕ → Peer) → Type 0) → Type 0
 Leads {L} t talk target from old new result Always Related =
     (these : ℕ → Bool) → ((cloud : ℕ) → Contains (target ∷ from) cloud → IsTrue (these cloud))
     → (before : ℕ → Peer) → PeersOf t old these before
-    → (after : ℕ → Peer) × (turns : List (Turn Peer)) × (last : L) × (at : Peer)
+    → (after : ℕ → Peer) × (turns : List (LaneTurn Peer)) × (last : L) × (at : Peer)
     × PeersOf t new these after × LeavesBut from target before after
     × TargetAlong t talk target from old (before target) turns last at × ThenLost t target last at result new (after target)
     × Always turns before after
@@ -64,7 +64,7 @@ AsksFor target from e = (e.cloud ≡ target) ⊎ ReadsFrom from e
 -- A link after the asks of a rebuild: the other clouds stand for what they stood for, whatever these stand for, and what the
 -- link tells beside its clouds stays. An ask is lost only where the count of losses rose, and never where the link tells that
 -- it loses nothing, which it then tells still.
-pub record Asked {L : Type 0} (t : LinkTelling L) (target : ℕ) (from : List ℕ) (old new : L) (loss : Bool) : Type 0 where
+pub record HasAskedToRebuild {L : Type 0} (t : LinkTelling L) (target : ℕ) (from : List ℕ) (old new : L) (loss : Bool) : Type 0 where
   pub asks : List Exchange
   pub passed : Passes t (AsksFor target from) old asks new
   pub others : (cloud : ℕ) (p : Peer) → (Contains (target ∷ from) cloud → ⊥) → t.stands old cloud p → t.stands new cloud p
@@ -139,8 +139,8 @@ Causes t link target result before after = Unit {0}
 
 -- What holds, told or not: a result has its cause, and says what the target said last, if that made it, at the end of its lane; and the
 -- target's turns are those of the lanes of some versions of this user, one after another.
-pub record Holds {L A : Type 0} (t : LinkTelling L) (link : L) (shape : Shape) (user : UserId) (target : ℕ) (result : Result A RebuildErr)
-    (turns : List (Turn Peer)) (before after : ℕ → Peer) : Type 0 where
+pub record HasRebuildCause {L A : Type 0} (t : LinkTelling L) (link : L) (shape : Shape) (user : UserId) (target : ℕ) (result : Result A RebuildErr)
+    (turns : List (LaneTurn Peer)) (before after : ℕ → Peer) : Type 0 where
   pub caused : Causes t link target result before after
   pub said : SaidLast result turns
   pub ended : OfReply result (EndsLane shape user target turns)

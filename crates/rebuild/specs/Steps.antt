@@ -1,37 +1,37 @@
 -- What the steps of a rebuild leave.
 use Rattle.std.specs.Prelude.{◌≡◌, ◌⊎◌, ℕ, ◌≤◌, List, [], ◌∷◌, length, Option, Some, None, Result, Ok, Err}
 use Rattle.std.specs.List.{Contains, flat_map}
-use Rattle.cd_edges.specs.Causes.{Rose}
-use Rattle.cd_base.specs.Limits.{IsPath}
-use Rattle.cd_base.specs.declared.ids.CloudNo.{CloudNo}
-use Rattle.cd_base.specs.declared.ids.Tag.{Tag}
-use Rattle.cd_base.specs.declared.ids.UserId.{UserId}
-use Rattle.cd_base.specs.declared.ids.Version.{Version}
-use Rattle.cd_base.specs.declared.shape.Shape.{Shape}
-use Rattle.caont_rs.specs.Opening.{opened}
-use Rattle.caont_rs.specs.declared.opening.RecoverErr.{RecoverErr}
-use Rattle.caont_rs.specs.declared.opening.RecoverErr.TheVariants as opening
-use Rattle.messages.specs.declared.reply.Reply.{Reply}
-use Rattle.messages.specs.declared.reply.Reply.TheVariants as replies
-use Rattle.recipe.specs.declared.recipe.Recipe.{Recipe}
-use Rattle.recipe.specs.Spelling.{file_limit}
-use Rattle.user_dedup.specs.Cloud.{user_view}
-use Rattle.user_dedup.specs.Pages.{page_of}
-use Rattle.user_dedup.specs.Exec.{Peer}
-use Rattle.user_dedup.specs.Link.{LinkTelling}
-use Rattle.upload_job.specs.Upload.{FileVersion}
-use Rattle.restore_job.specs.Asking.{Reads, AreRead}
-use Rattle.restore_job.specs.Restored
-use Rattle.restore_job.specs.Restored.{Unrestored, agreed, differing, missing}
-use Rattle.restore_job.specs.Steps.{Ready, ReadyWhere, givens}
-use Rattle.restore_job.specs.declared.error.RestoreErr.{RestoreErr}
-use Rattle.restore_job.specs.declared.error.RestoreErr.TheVariants as refusals
+use Rattle.lane_steps.specs.CdEdges.Causes.{Rose}
+use Rattle.lane_steps.specs.CdBase.Limits.{IsPath}
+use Rattle.lane_steps.specs.CdBase.ids.CloudNo.{CloudNo}
+use Rattle.lane_steps.specs.CdBase.ids.Tag.{Tag}
+use Rattle.lane_steps.specs.CdBase.ids.UserId.{UserId}
+use Rattle.lane_steps.specs.CdBase.ids.Version.{Version}
+use Rattle.lane_steps.specs.CdBase.shape.Shape.{Shape}
+use Rattle.lane_steps.specs.CaontRs.Opening.{opened}
+use Rattle.lane_steps.specs.CaontRs.opening.RecoverErr.{RecoverErr}
+use Rattle.lane_steps.specs.CaontRs.opening.RecoverErr.TheVariants as opening
+use Rattle.lane_steps.specs.Messages.reply.Reply.{Reply}
+use Rattle.lane_steps.specs.Messages.reply.Reply.TheVariants as replies
+use Rattle.lane_steps.specs.Recipe.recipe.Recipe.{Recipe}
+use Rattle.lane_steps.specs.Recipe.Spelling.{file_limit}
+use Rattle.lane_steps.specs.UserDedup.Cloud.{user_view}
+use Rattle.lane_steps.specs.UserDedup.Pages.{page_of}
+use Rattle.lane_steps.specs.UserDedup.Exec.{Peer}
+use Rattle.lane_steps.specs.UserDedup.Link.{LinkTelling}
+use Rattle.lane_steps.specs.UploadJob.Upload.{FileVersion}
+use Rattle.kept_files.specs.RestoreJob.Asking.{Reads, AreRead}
+use Rattle.kept_files.specs.RestoreJob.Restored
+use Rattle.kept_files.specs.RestoreJob.Restored.{Unrestored, agreed, differing, missing}
+use Rattle.kept_files.specs.RestoreJob.Steps.{Ready, ReadyWhere, givens}
+use Rattle.kept_files.specs.RestoreJob.error.RestoreErr.{RestoreErr}
+use Rattle.kept_files.specs.RestoreJob.error.RestoreErr.TheVariants as refusals
 use Rattle.rebuild.specs.declared.error.SkipWhy.{SkipWhy}
 use Rattle.rebuild.specs.declared.error.SkipWhy.TheVariants as whys
 use Rattle.rebuild.specs.declared.naming.NameErr.{NameErr}
 use Rattle.rebuild.specs.declared.naming.NameErr.TheVariants as name_errors
-use Rattle.rebuild.specs.declared.versions.Found.{Found as FoundThere}
-use Rattle.rebuild.specs.declared.versions.Found.TheVariants as founds
+use Rattle.rebuild.specs.declared.versions.FoundVersion.{FoundVersion as FoundThere}
+use Rattle.rebuild.specs.declared.versions.FoundVersion.TheVariants as founds
 use Rattle.rebuild.specs.Found.{cloud_no, skip_of, name_judged, version_named, version_under}
 use Rattle.rebuild.specs.Rebuilding.{up_to}
 use Rattle.rebuild.specs.Over.{ReadCaused}

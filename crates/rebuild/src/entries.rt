@@ -2,22 +2,19 @@
 
 ghost use Rattle.std.specs.Prelude.{◌≡◌, ◌<◌, ◌∷◌, [], ℕ, IsTrue};
 ghost use Rattle.std.specs.List.{Contains};
-ghost use Rattle.cd_base.specs.Numbers.{numbers_of};
-ghost use Rattle.reed_solomon.specs.Dispersal.{AreChoice};
-ghost use Rattle.user_dedup.specs.Link.{serves};
+ghost use Rattle.lane_steps.specs.CdBase.Numbers.{numbers_of};
+ghost use Rattle.kept_files.specs.ReedSolomon.Dispersal.{AreChoice};
+ghost use Rattle.lane_steps.specs.UserDedup.Link.{serves};
 ghost use Rattle.rebuild.specs.Entering.{EntryBrought, EntryTold, entered_as, stopped_as};
 ghost use Rattle.rebuild.specs.Filling.{BringHolds, OfTarget};
-ghost use Rattle.rebuild.specs.Over.{Asked, BringsOwn, HandsOn, Holds, Leads, is_lost};
+ghost use Rattle.rebuild.specs.Over.{HasAskedToRebuild, BringsOwn, HandsOn, HasRebuildCause, Leads, is_lost};
 ghost use Rattle.rebuild.specs.Steps.{VersionFits, found_of};
 ghost use Rattle.rebuild.specs.Turns.{EndsLane, OwnLanes};
 
-use crate::{Found, RebuildErr, SkipWhy, bring, find_version};
-use cd_base::{Bytes, CloudNo, Shape, Tag, UserId, Version};
-use frames::ReplyBuf;
-use restore_job::RestoreErr;
+use crate::{FoundVersion, RebuildErr, SkipWhy, bring, find_version};
+use kept_files::RestoreErr;
+use lane_steps::{Bytes, CloudNo, LaneNews, Link, ReplyBuf, Shape, Tag, UserId, Version};
 use std::alloc::Global;
-use upload_job::LaneNews;
-use user_dedup::Link;
 
 /// A refusal of a cloud that is read, as an error of the rebuild.
 pub fn stopped(e: RestoreErr) -> RebuildErr
@@ -59,7 +56,7 @@ fn bring_found<L: Link>(
     user: UserId,
     target: CloudNo,
     version: Version,
-    found: &Found,
+    found: &FoundVersion,
     content: &mut Bytes,
     reply: &mut ReplyBuf,
     told: &mut Vec<LaneNews>,
@@ -75,11 +72,11 @@ fn bring_found<L: Link>(
         (λ turns before at after. EntryBrought shape target.0 (serves L.tells link.old target.0) (tag, version)
         (found_of user (tag, version) found.now) result turns (before target.0) at (after target.0)) }
     ensures own { OfTarget result }
-    ensures asked { Asked L.tells target.0 [] link.old link.new (is_lost result) }
+    ensures asked { HasAskedToRebuild L.tells target.0 [] link.old link.new (is_lost result) }
     ensures lanes { BringsOwn L.tells shape user target.0 [] link.old link.new }
 {
     match found {
-        Found::Version { path, file } => {
+        FoundVersion::Version { path, file } => {
             match bring(
                 alloc,
                 link,
@@ -97,7 +94,7 @@ fn bring_found<L: Link>(
                 Err(e) => Err(e),
             }
         }
-        Found::Skipped(why) => Ok(Some(*why)),
+        FoundVersion::Skipped(why) => Ok(Some(*why)),
     }
 }
 
@@ -128,11 +125,11 @@ pub fn rebuild_entry<L: Link>(
     requires within { target.0 < shape.n }
     requires apart { ¬ Contains (numbers_of clouds.now) target.0 }
     ensures rebuilt { Leads L.tells L.talk target.0 (numbers_of clouds.now) link.old link.new result
-        (Holds L.tells link.old shape user target.0 result)
+        (HasRebuildCause L.tells link.old shape user target.0 result)
         (EntryTold shape user target.0 (serves L.tells link.old target.0) (numbers_of clouds.now)
         (tag, version) result) }
     ensures hands_on { HandsOn (numbers_of clouds.now) result }
-    ensures asked { Asked L.tells target.0 (numbers_of clouds.now) link.old link.new (is_lost result) }
+    ensures asked { HasAskedToRebuild L.tells target.0 (numbers_of clouds.now) link.old link.new (is_lost result) }
     ensures lanes { BringsOwn L.tells shape user target.0 (numbers_of clouds.now) link.old link.new }
 {
     match find_version(alloc, link, shape, user, tag, version, clouds, reply) {

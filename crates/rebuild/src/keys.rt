@@ -2,19 +2,16 @@
 
 ghost use Rattle.std.specs.Prelude.{◌≡◌, ◌<◌, ◌+◌, ◌∷◌, [], ℕ, IsTrue, MatchOption, OnOk, length};
 ghost use Rattle.std.specs.List.{Contains};
-ghost use Rattle.cd_base.specs.Numbers.{numbers_of};
-ghost use Rattle.reed_solomon.specs.Dispersal.{AreChoice};
-ghost use Rattle.user_dedup.specs.Link.{serves};
+ghost use Rattle.lane_steps.specs.CdBase.Numbers.{numbers_of};
+ghost use Rattle.kept_files.specs.ReedSolomon.Dispersal.{AreChoice};
+ghost use Rattle.lane_steps.specs.UserDedup.Link.{serves};
 ghost use Rattle.rebuild.specs.Entering.{noted};
-ghost use Rattle.rebuild.specs.Over.{Asked, BringsOwn, HandsOn, Holds, Leads, is_lost};
+ghost use Rattle.rebuild.specs.Over.{HasAskedToRebuild, BringsOwn, HandsOn, HasRebuildCause, Leads, is_lost};
 ghost use Rattle.rebuild.specs.Several.{KeysTold, progress_of};
 
 use crate::{RebuildErr, Rebuilt, Skip, SkipWhy, rebuild_entry};
-use cd_base::{Bytes, CloudNo, NoMemory, Shape, Tag, UserId, Version};
-use frames::ReplyBuf;
+use lane_steps::{Bytes, CloudNo, LaneNews, Link, NoMemory, ReplyBuf, Shape, Tag, UserId, Version};
 use std::alloc::Global;
-use upload_job::LaneNews;
-use user_dedup::Link;
 
 // Counts a version more.
 fn count(files: &mut u32) -> Result<(), NoMemory>
@@ -81,11 +78,11 @@ pub fn rebuild_keys<L: Link>(
     requires within { target.0 < shape.n }
     requires apart { ¬ Contains (numbers_of clouds.now) target.0 }
     ensures rebuilt { Leads L.tells L.talk target.0 (numbers_of clouds.now) link.old link.new result
-        (Holds L.tells link.old shape user target.0 result)
+        (HasRebuildCause L.tells link.old shape user target.0 result)
         (KeysTold shape user target.0 (serves L.tells link.old target.0) (numbers_of clouds.now) keys.now
         (progress_of rebuilt.old) (progress_of rebuilt.new) result) }
     ensures hands_on { HandsOn (numbers_of clouds.now) result }
-    ensures asked { Asked L.tells target.0 (numbers_of clouds.now) link.old link.new (is_lost result) }
+    ensures asked { HasAskedToRebuild L.tells target.0 (numbers_of clouds.now) link.old link.new (is_lost result) }
     ensures lanes { BringsOwn L.tells shape user target.0 (numbers_of clouds.now) link.old link.new }
     ensures counted { OnOk result (rebuilt.new.files + length rebuilt.new.skipped
         ≡ rebuilt.old.files + length rebuilt.old.skipped + length keys.now) }

@@ -3,24 +3,24 @@
 ghost use Rattle.std.specs.Prelude.{◌≡◌, ◌<◌, ◌≤◌, ◌++◌, ◌∷◌, [], ℕ, List, Option, Some, None, true, length, map};
 ghost use Rattle.std.specs.Prelude.{slice_index, Ok};
 ghost use Rattle.std.specs.List.{Contains};
-ghost use Rattle.cd_base.specs.Limits.{IsPath};
-ghost use Rattle.cd_base.specs.declared.ids.Tag.{Tag};
-ghost use Rattle.cd_base.specs.declared.ids.UserId.{UserId};
-ghost use Rattle.cd_base.specs.declared.ids.Version.{Version};
-ghost use Rattle.cd_base.specs.declared.shape.Shape.{Shape};
-ghost use Rattle.message_fields.specs.Keys.{key_limit};
-ghost use Rattle.recipe.specs.Spelling.{file_limit};
-ghost use Rattle.reed_solomon.specs.Dispersal.{AreChoice};
-ghost use Rattle.user_dedup.specs.declared.command.Command.{Command};
+ghost use Rattle.lane_steps.specs.CdBase.Limits.{IsPath};
+ghost use Rattle.lane_steps.specs.CdBase.ids.Tag.{Tag};
+ghost use Rattle.lane_steps.specs.CdBase.ids.UserId.{UserId};
+ghost use Rattle.lane_steps.specs.CdBase.ids.Version.{Version};
+ghost use Rattle.lane_steps.specs.CdBase.shape.Shape.{Shape};
+ghost use Rattle.lane_steps.specs.MessageFields.Keys.{key_limit};
+ghost use Rattle.lane_steps.specs.Recipe.Spelling.{file_limit};
+ghost use Rattle.kept_files.specs.ReedSolomon.Dispersal.{AreChoice};
+ghost use Rattle.lane_steps.specs.UserDedup.command.Command.{Command};
 ghost use Rattle.kept_files.specs.Kept.{Keeps, key_of};
-ghost use Rattle.user_dedup.specs.declared.file_list.FileEntry.{FileEntry};
-ghost use Rattle.user_dedup.specs.Pages.{key_of as key_of_entry, sorted_keys, page_of};
-ghost use Rattle.user_dedup.specs.Dedup.{FullRoom};
-ghost use Rattle.user_dedup.specs.Exec.{Peer, served};
-ghost use Rattle.lane_steps.specs.Runs.{Turn};
+ghost use Rattle.lane_steps.specs.UserDedup.file_list.FileEntry.{FileEntry};
+ghost use Rattle.lane_steps.specs.UserDedup.Pages.{key_of as key_of_entry, sorted_keys, page_of};
+ghost use Rattle.lane_steps.specs.UserDedup.Dedup.{FullRoom};
+ghost use Rattle.lane_steps.specs.UserDedup.Exec.{Peer, served};
+ghost use Rattle.lane_steps.specs.Runs.{LaneTurn};
 ghost use Rattle.rebuild.specs.Found.{keys_above, version_under};
-ghost use Rattle.messages.specs.Requests.{request_bytes};
-ghost use Rattle.user_dedup.specs.Requests.{asker};
+ghost use Rattle.lane_steps.specs.Messages.Requests.{request_bytes};
+ghost use Rattle.lane_steps.specs.UserDedup.Requests.{asker};
 ghost use Rattle.rebuild.specs.Over.{IsOfLane};
 ghost use Rattle.rebuild.specs.Turns.{OwnLanes};
 ghost use Rattle.rebuild.specs.Rebuilding.{Rebuilds};
@@ -43,7 +43,7 @@ pub fn law_of_found_versions()
 /// its cause.
 pub fn law_of_refills()
     ensures { (shape : Shape) (user : UserId) (target : ℕ) (full : List Command → Command → Option FullRoom)
-        (from : List ℕ) (turns : List (Turn Peer)) (rebuilt : Rebuilt) (before after : ℕ → Peer)
+        (from : List ℕ) (turns : List (LaneTurn Peer)) (rebuilt : Rebuilt) (before after : ℕ → Peer)
         → AreChoice shape from → Rebuilds shape user target (served shape target full) from turns
         (Ok rebuilt) before after
         → RefillsKept shape target from user after rebuilt × SkipsCaused shape target from user after rebuilt }
@@ -51,7 +51,7 @@ pub fn law_of_refills()
 
 /// What a target is asked in the lanes of a user's versions it is asked for that user, by requests that such lanes have.
 pub fn law_of_own_lanes()
-    ensures { (shape : Shape) (user : UserId) (target : ℕ) (turns : List (Turn Peer)) (turn : Turn Peer)
+    ensures { (shape : Shape) (user : UserId) (target : ℕ) (turns : List (LaneTurn Peer)) (turn : LaneTurn Peer)
         → OwnLanes shape user target turns → Contains turns turn
         → (asker turn.request ≡ user) × IsOfLane shape user target (request_bytes turn.request) }
 {}

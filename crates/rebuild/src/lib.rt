@@ -15,10 +15,12 @@ mod versions;
 
 pub use entries::rebuild_entry;
 pub use error::{RebuildErr, SkipWhy};
+pub use kept_files::{RestoreErr, restore};
 pub use keys::rebuild_keys;
+pub use lane_steps::{Entries, Job, KEY_LIMIT, LaneNews, Link, ReplyBuf};
 pub use laws::{law_of_found_versions, law_of_own_lanes, law_of_pages, law_of_refills};
 pub use listing::fetch_page;
 pub use rebuilding::rebuild;
 pub use skips::{Rebuilt, Skip, Skips};
 pub use target::bring;
-pub use versions::{Found, find_version};
+pub use versions::{FoundVersion, find_version};

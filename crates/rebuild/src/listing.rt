@@ -1,25 +1,24 @@
 //! The keys of a user's entries at a cloud, page by page.
 
 ghost use Rattle.std.specs.Prelude.{◌≡◌, ◌≤◌, ◌<◌, ◌^◌, ◌∷◌, [], ℕ, length, IsTrue, IfOk, IfErr, Ok, OnErr, Err, None};
-ghost use Rattle.cd_base.specs.Reading.{AreBytes};
-ghost use Rattle.frames.specs.Frames.{frame_limit};
-ghost use Rattle.messages.specs.ReplyReading.{reply_at};
-ghost use Rattle.messages.specs.Requests.{IsRequest};
-ghost use Rattle.messages.specs.declared.request.Request.{Request};
-ghost use Rattle.messages.specs.declared.request.Request.TheVariants as requests;
-ghost use Rattle.user_dedup.specs.Link.{Asks, IsReading, LeavesOthers};
-ghost use Rattle.user_dedup.specs.Requests.{IsAsked};
-ghost use Rattle.restore_job.specs.Asking.{Asked, Leads, is_lost};
-ghost use Rattle.restore_job.specs.Refusals.{Names};
+ghost use Rattle.lane_steps.specs.CdBase.Reading.{AreBytes};
+ghost use Rattle.lane_steps.specs.Frames.Frames.{frame_limit};
+ghost use Rattle.lane_steps.specs.Messages.ReplyReading.{reply_at};
+ghost use Rattle.lane_steps.specs.Messages.Requests.{IsRequest};
+ghost use Rattle.lane_steps.specs.Messages.request.Request.{Request};
+ghost use Rattle.lane_steps.specs.Messages.request.Request.TheVariants as requests;
+ghost use Rattle.lane_steps.specs.UserDedup.Link.{Asks, IsReading, LeavesOthers};
+ghost use Rattle.lane_steps.specs.UserDedup.Requests.{IsAsked};
+ghost use Rattle.kept_files.specs.RestoreJob.Asking.{HasAskedClouds, Leads, is_lost};
+ghost use Rattle.kept_files.specs.RestoreJob.Refusals.{Names};
 ghost use Rattle.rebuild.specs.Steps.{PageFrom, PageIs, PageTold, ReadCauses, RefusesPage, skip_as};
 
-use cd_base::{Bytes, CloudNo, NoMemory, Shape, Tag, UserId, Version};
-use frames::ReplyBuf;
-use message_fields::Entries;
-use messages::{MsgErr, Reply, Request};
-use restore_job::RestoreErr;
+use kept_files::RestoreErr;
+use lane_steps::{
+    Bytes, CloudNo, Entries, Link, Lost, MsgErr, NoMemory, Reply, ReplyBuf, Request, Shape, Tag,
+    UserId, Version,
+};
 use std::alloc::Global;
-use user_dedup::{Link, Lost};
 
 // Asks a cloud.
 fn ask<L: Link>(
@@ -32,7 +31,7 @@ fn ask<L: Link>(
     requires some { 1 ≤ length request.now }
     requires framed { length request.now ≤ frame_limit }
     requires reading { IsReading request.now }
-    ensures asked { Asked L.tells (cloud.0 ∷ []) link.old link.new (is_lost result) }
+    ensures asked { HasAskedClouds L.tells (cloud.0 ∷ []) link.old link.new (is_lost result) }
     ensures exec { (r : Request) → IsAsked (L.tells.shape link.old) request.now r
         → Asks L.tells cloud.0 link.old r reply.new result link.new }
     ensures others { LeavesOthers L.tells cloud.0 link.old link.new }
@@ -140,7 +139,7 @@ pub fn fetch_page<L: Link>(
 ) -> Result<Entries, RestoreErr>
     requires shape { L.tells.shape link.old ≡ shape }
     requires reached { IsTrue (L.tells.reaches link.old cloud.0) }
-    ensures asked { Asked L.tells (cloud.0 ∷ []) link.old link.new (is_lost result) }
+    ensures asked { HasAskedClouds L.tells (cloud.0 ∷ []) link.old link.new (is_lost result) }
     ensures told { Leads L.tells (cloud.0 ∷ []) link.old link.new (ReadCauses L.tells link.old result)
         (PageTold shape user cloud after result) }
     ensures named { IfErr result (Names (λ c. c ≡ cloud.0)) }

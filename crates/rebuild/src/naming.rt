@@ -3,22 +3,20 @@
 ghost use Rattle.std.specs.Prelude.{◌≡◌, ◌==◌, ◌*◌, ◌≤◌, ◌++◌, ◌∷◌, [], ℕ, List, None, MatchOption, length, position};
 ghost use Rattle.std.specs.Prelude.{All, IfOk, OnOk, IfSome, ◌<◌};
 ghost use Rattle.std.specs.List.{flat_map};
-ghost use Rattle.cd_base.specs.Lengths.{share_len_of};
-ghost use Rattle.cd_base.specs.Limits.{IsPath};
-ghost use Rattle.cd_base.specs.Numbers.{numbers_of};
-ghost use Rattle.cd_base.specs.declared.ids.Version.{Version};
-ghost use Rattle.caont_rs.specs.Opening.{opened};
-ghost use Rattle.recipe.specs.Spelling.{Fits, item_limit};
-ghost use Rattle.reed_solomon.specs.Dispersal.{AreChoice};
+ghost use Rattle.lane_steps.specs.CdBase.Lengths.{share_len_of};
+ghost use Rattle.lane_steps.specs.CdBase.Limits.{IsPath};
+ghost use Rattle.lane_steps.specs.CdBase.Numbers.{numbers_of};
+ghost use Rattle.lane_steps.specs.CdBase.ids.Version.{Version};
+ghost use Rattle.lane_steps.specs.CaontRs.Opening.{opened};
+ghost use Rattle.lane_steps.specs.Recipe.Spelling.{Fits, item_limit};
+ghost use Rattle.kept_files.specs.ReedSolomon.Dispersal.{AreChoice};
 ghost use Rattle.rebuild.specs.Found.{name_judged, path_judged};
-ghost use Rattle.restore_job.specs.Restored.{differing};
+ghost use Rattle.kept_files.specs.RestoreJob.Restored.{differing};
 ghost use Rattle.rebuild.specs.Steps.{ComparesAs, NameIs, NameOpens, judged_by, tested};
 
 use crate::SkipWhy;
-use caont_rs::{RecoverErr, recover, tag_of};
-use cd_base::{Bytes, CloudNo, Fp, NoMemory, Shape, Tag};
-use recipe::Recipe;
-use restore_job::{RestoreErr, compare};
+use kept_files::{RestoreErr, compare};
+use lane_steps::{Bytes, CloudNo, Fp, NoMemory, Recipe, RecoverErr, Shape, Tag, recover, tag_of};
 use std::alloc::Global;
 
 /// Why recipes give no path.

@@ -2,27 +2,26 @@
 
 ghost use Rattle.std.specs.Prelude.{◌≡◌, ◌≤◌, ◌<◌, ◌+◌, ◌^◌, ◌∷◌, [], ◌++◌, ℕ, List, MatchOption, length, All, IsTrue};
 ghost use Rattle.std.specs.List.{Contains};
-ghost use Rattle.cd_base.specs.Numbers.{numbers_of};
-ghost use Rattle.cd_base.specs.declared.ids.Tag.{Tag};
-ghost use Rattle.cd_base.specs.declared.ids.Version.{Version};
-ghost use Rattle.message_fields.specs.Keys.{key_limit};
-ghost use Rattle.reed_solomon.specs.Dispersal.{AreChoice};
-ghost use Rattle.user_dedup.specs.Exec.{Peer};
-ghost use Rattle.user_dedup.specs.Link.{serves};
+ghost use Rattle.lane_steps.specs.CdBase.Numbers.{numbers_of};
+ghost use Rattle.lane_steps.specs.CdBase.ids.Tag.{Tag};
+ghost use Rattle.lane_steps.specs.CdBase.ids.Version.{Version};
+ghost use Rattle.lane_steps.specs.MessageFields.Keys.{key_limit};
+ghost use Rattle.kept_files.specs.ReedSolomon.Dispersal.{AreChoice};
+ghost use Rattle.lane_steps.specs.UserDedup.Exec.{Peer};
+ghost use Rattle.lane_steps.specs.UserDedup.Link.{serves};
 ghost use Rattle.rebuild.specs.Found.{first_of as first_in};
 ghost use Rattle.rebuild.specs.Rebuilding.{RunsTo, nothing_yet};
-ghost use Rattle.rebuild.specs.Over.{Asked, BringsOwn, HandsOn, Holds, Leads, is_lost};
+ghost use Rattle.rebuild.specs.Over.{HasAskedToRebuild, BringsOwn, HandsOn, HasRebuildCause, Leads, is_lost};
 ghost use Rattle.rebuild.specs.Kept.{Refills};
 ghost use Rattle.rebuild.specs.Several.{progress_of, whole};
 
 use crate::entries::stopped;
 use crate::{RebuildErr, Rebuilt, Skips, fetch_page, rebuild_keys};
-use cd_base::{Bytes, CloudNo, Clouds, NoMemory, Shape, Tag, UserId, Version};
-use frames::ReplyBuf;
-use message_fields::KEY_LIMIT;
+use lane_steps::{
+    Bytes, CloudNo, Clouds, KEY_LIMIT, LaneNews, Link, NoMemory, ReplyBuf, Shape, Tag, UserId,
+    Version,
+};
 use std::alloc::Global;
-use upload_job::LaneNews;
-use user_dedup::Link;
 
 // The first of some clouds.
 fn first_of(clouds: &[CloudNo]) -> CloudNo
@@ -78,10 +77,10 @@ fn rebuild_pages<L: Link>(
     requires apart { ¬ Contains (numbers_of clouds.now) target.0 }
     requires fresh { progress_of rebuilt.old ≡ nothing_yet }
     ensures rebuilt { Leads L.tells L.talk target.0 (numbers_of clouds.now) link.old link.new result
-        (Holds L.tells link.old shape user target.0 result)
+        (HasRebuildCause L.tells link.old shape user target.0 result)
         (λ turns before at after. RunsTo shape user target.0 (serves L.tells link.old target.0) (numbers_of clouds.now)
         (whole rebuilt.new result) turns before at after) }
-    ensures asked { Asked L.tells target.0 (numbers_of clouds.now) link.old link.new (is_lost result) }
+    ensures asked { HasAskedToRebuild L.tells target.0 (numbers_of clouds.now) link.old link.new (is_lost result) }
     ensures lanes { BringsOwn L.tells shape user target.0 (numbers_of clouds.now) link.old link.new }
     ensures hands_on { HandsOn (numbers_of clouds.now) result }
 {
@@ -149,7 +148,7 @@ pub fn rebuild<L: Link>(
     // not, only the clouds that are read and the target are asked, the former for what adds nothing, and between the
     // target's turns; and an error has its cause. After want of memory it is the front of one that would go on.
     ensures rebuilt { Leads L.tells L.talk target.0 from.now link.old link.new result
-        (Holds L.tells link.old shape user target.0 result)
+        (HasRebuildCause L.tells link.old shape user target.0 result)
         (λ turns before at after.
         RunsTo shape user target.0 (serves L.tells link.old target.0) from.now result turns before at after
         × Refills shape target.0 from.now user after result) }
@@ -159,7 +158,7 @@ pub fn rebuild<L: Link>(
         → L.tells.stands link.old cloud p → L.tells.stands link.new cloud p }
 
     // An ask is lost only where the link's count of losses rose, and never where it tells that it loses nothing.
-    ensures asked { Asked L.tells target.0 from.now link.old link.new (is_lost result) }
+    ensures asked { HasAskedToRebuild L.tells target.0 from.now link.old link.new (is_lost result) }
 
     // Told or not, the target was asked for nothing but what brings versions of this user.
     ensures lanes { BringsOwn L.tells shape user target.0 from.now link.old link.new }

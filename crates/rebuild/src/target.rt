@@ -2,21 +2,20 @@
 
 ghost use Rattle.std.specs.Prelude.{◌≡◌, ◌≤◌, ◌<◌, ◌^◌, [], ℕ, List, length, IsTrue};
 ghost use Rattle.std.specs.List.{Contains};
-ghost use Rattle.cd_base.specs.Limits.{IsPath};
-ghost use Rattle.recipe.specs.Spelling.{file_limit};
-ghost use Rattle.user_dedup.specs.Link.{serves};
+ghost use Rattle.lane_steps.specs.CdBase.Limits.{IsPath};
+ghost use Rattle.lane_steps.specs.Recipe.Spelling.{file_limit};
+ghost use Rattle.lane_steps.specs.UserDedup.Link.{serves};
 ghost use Rattle.rebuild.specs.Filling.{BringHolds, BringsTold, EndsBy, OfTarget, failed_as, last_of};
-ghost use Rattle.rebuild.specs.Over.{Asked, BringsOwn, Leads, is_lost};
+ghost use Rattle.rebuild.specs.Over.{HasAskedToRebuild, BringsOwn, Leads, is_lost};
 ghost use Rattle.rebuild.specs.Rebuilding.{lane_of};
 ghost use Rattle.rebuild.specs.Turns.{LaneEnded, LaneGoes};
 
 use crate::RebuildErr;
-use cd_base::{Bytes, CloudNo, NoMemory, Shape, UserId, Version};
-use frames::ReplyBuf;
-use lane_steps::{StepErr, finish_any};
+use lane_steps::{
+    Bytes, CloudNo, Job, LaneNews, Link, NoMemory, ReplyBuf, Shape, StepErr, UserId, Version,
+    finish_any,
+};
 use std::alloc::Global;
-use upload_job::{Job, LaneNews};
-use user_dedup::Link;
 
 // The last of some news.
 fn last_news(told: &[LaneNews]) -> Option<LaneNews>
@@ -107,7 +106,7 @@ pub fn bring<L: Link>(
         (record { user = user; path = path.now; number = version; file = file.now }) result turns (before target.0) at
         (after target.0)) }
     ensures own { OfTarget result }
-    ensures asked { Asked L.tells target.0 [] link.old link.new (is_lost result) }
+    ensures asked { HasAskedToRebuild L.tells target.0 [] link.old link.new (is_lost result) }
     ensures lanes { BringsOwn L.tells shape user target.0 [] link.old link.new }
 {
     let mut job = match Job::for_lane(alloc, shape, user, path, version, file, target) {

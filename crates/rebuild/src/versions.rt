@@ -2,27 +2,24 @@
 
 ghost use Rattle.std.specs.Prelude.{◌≡◌, ℕ, length, All, IsTrue, IfOk, IfErr, Ok, None, false};
 ghost use Rattle.std.specs.List.{Contains};
-ghost use Rattle.cd_base.specs.Limits.{IsPath};
-ghost use Rattle.cd_base.specs.Numbers.{numbers_of};
-ghost use Rattle.recipe.specs.Spelling.{Fits};
-ghost use Rattle.reed_solomon.specs.Dispersal.{AreChoice};
-ghost use Rattle.restore_job.specs.Asking.{Asked, Leads, is_lost};
-ghost use Rattle.restore_job.specs.Refusals.{Names};
+ghost use Rattle.lane_steps.specs.CdBase.Limits.{IsPath};
+ghost use Rattle.lane_steps.specs.CdBase.Numbers.{numbers_of};
+ghost use Rattle.lane_steps.specs.Recipe.Spelling.{Fits};
+ghost use Rattle.kept_files.specs.ReedSolomon.Dispersal.{AreChoice};
+ghost use Rattle.kept_files.specs.RestoreJob.Asking.{HasAskedClouds, Leads, is_lost};
+ghost use Rattle.kept_files.specs.RestoreJob.Refusals.{Names};
 ghost use Rattle.rebuild.specs.Steps.{FindsTold, OpensCaused, OpensTold, ReadCauses, RefusedAs, UnnamedAs, VersionFits};
 ghost use Rattle.rebuild.specs.Steps.{judged_by, skip_as};
 
 use crate::SkipWhy;
 use crate::naming::{NameErr, named};
-use cd_base::{Bytes, CloudNo, Shape, Tag, UserId, Version};
-use frames::ReplyBuf;
-use recipe::Recipe;
-use restore_job::{RestoreErr, fetch_version, restore_agreed};
+use kept_files::{RestoreErr, fetch_version, restore_agreed};
+use lane_steps::{Bytes, CloudNo, Link, Recipe, ReplyBuf, Shape, Tag, UserId, Version};
 use std::alloc::Global;
-use user_dedup::Link;
 
 /// What k clouds have under a key.
 #[derive(Debug, Drop)]
-pub enum Found {
+pub enum FoundVersion {
     /// A version of a file: its path, and its bytes.
     Version { path: Bytes, file: Bytes },
     /// None, for this reason.
@@ -30,16 +27,16 @@ pub enum Found {
 }
 
 // A restore's error: a reason to skip the version, or one to stop.
-fn refused(e: RestoreErr) -> Result<Found, RestoreErr>
+fn refused(e: RestoreErr) -> Result<FoundVersion, RestoreErr>
     ensures { RefusedAs e result }
 {
     match e {
-        RestoreErr::Missing { cloud } => Ok(Found::Skipped(SkipWhy::Missing { cloud })),
+        RestoreErr::Missing { cloud } => Ok(FoundVersion::Skipped(SkipWhy::Missing { cloud })),
         RestoreErr::RecipesDiffer {
             cloud_a,
             cloud_b,
             place,
-        } => Ok(Found::Skipped(SkipWhy::RecipesDiffer {
+        } => Ok(FoundVersion::Skipped(SkipWhy::RecipesDiffer {
             cloud_a,
             cloud_b,
             place,
@@ -49,7 +46,7 @@ fn refused(e: RestoreErr) -> Result<Found, RestoreErr>
             secret,
             found,
             wanted,
-        } => Ok(Found::Skipped(SkipWhy::ShareLength {
+        } => Ok(FoundVersion::Skipped(SkipWhy::ShareLength {
             cloud,
             secret,
             found,
@@ -59,13 +56,13 @@ fn refused(e: RestoreErr) -> Result<Found, RestoreErr>
             secret,
             named,
             found,
-        } => Ok(Found::Skipped(SkipWhy::BadSecret {
+        } => Ok(FoundVersion::Skipped(SkipWhy::BadSecret {
             secret,
             named,
             found,
         })),
         RestoreErr::BadPad { secret, at, byte } => {
-            Ok(Found::Skipped(SkipWhy::BadPad { secret, at, byte }))
+            Ok(FoundVersion::Skipped(SkipWhy::BadPad { secret, at, byte }))
         }
         RestoreErr::Lost { .. } => Err(e),
         RestoreErr::CloudFault { .. } => Err(e),
@@ -79,7 +76,7 @@ fn refused(e: RestoreErr) -> Result<Found, RestoreErr>
 }
 
 // Why there is no path: a reason to skip the version, or want of memory.
-fn unnamed(e: NameErr) -> Result<Found, RestoreErr>
+fn unnamed(e: NameErr) -> Result<FoundVersion, RestoreErr>
     ensures named { UnnamedAs e result }
     ensures refusal { IfErr result (λ e. skip_as e ≡ None) }
     ensures fit { IfOk result VersionFits }
@@ -87,7 +84,7 @@ fn unnamed(e: NameErr) -> Result<Found, RestoreErr>
     ensures found { is_lost result ≡ false }
 {
     match e {
-        NameErr::Wrong(why) => Ok(Found::Skipped(why)),
+        NameErr::Wrong(why) => Ok(FoundVersion::Skipped(why)),
         NameErr::NoMemory => Err(RestoreErr::NoMemory),
     }
 }
@@ -102,14 +99,14 @@ fn read_file<L: Link>(
     recipes: &[Recipe],
     path: Bytes,
     reply: &mut ReplyBuf,
-) -> Result<Found, RestoreErr>
+) -> Result<FoundVersion, RestoreErr>
     requires shape { L.tells.shape link.old ≡ shape }
     requires reached { (cloud : ℕ) → Contains (numbers_of clouds.now) cloud → IsTrue (L.tells.reaches link.old cloud) }
     requires choice { AreChoice shape (numbers_of clouds.now) }
     requires pairs { length clouds.now ≡ length recipes.now }
     requires fits { All (Fits shape) recipes.now }
     requires path { IsPath path }
-    ensures asked { Asked L.tells (numbers_of clouds.now) link.old link.new (is_lost result) }
+    ensures asked { HasAskedClouds L.tells (numbers_of clouds.now) link.old link.new (is_lost result) }
     ensures told { (tag : Tag) (version : Version) → Leads L.tells (numbers_of clouds.now) link.old link.new
         (OpensCaused L.tells link.old shape user (tag, version) (numbers_of clouds.now) recipes.now result)
         (OpensTold shape user (tag, version) (numbers_of clouds.now) recipes.now (Ok path) result) }
@@ -120,7 +117,7 @@ fn read_file<L: Link>(
     let mut file = Bytes::new(alloc);
     let came = restore_agreed(alloc, link, shape, user, clouds, recipes, reply, &mut file);
     match came {
-        Ok(()) => Ok(Found::Version { path, file }),
+        Ok(()) => Ok(FoundVersion::Version { path, file }),
         Err(e) => refused(e),
     }
 }
@@ -135,13 +132,13 @@ fn open_version<L: Link>(
     clouds: &[CloudNo],
     recipes: &[Recipe],
     reply: &mut ReplyBuf,
-) -> Result<Found, RestoreErr>
+) -> Result<FoundVersion, RestoreErr>
     requires shape { L.tells.shape link.old ≡ shape }
     requires reached { (cloud : ℕ) → Contains (numbers_of clouds.now) cloud → IsTrue (L.tells.reaches link.old cloud) }
     requires choice { AreChoice shape (numbers_of clouds.now) }
     requires pairs { length clouds.now ≡ length recipes.now }
     requires fits { All (Fits shape) recipes.now }
-    ensures asked { Asked L.tells (numbers_of clouds.now) link.old link.new (is_lost result) }
+    ensures asked { HasAskedClouds L.tells (numbers_of clouds.now) link.old link.new (is_lost result) }
     ensures told { (version : Version) → Leads L.tells (numbers_of clouds.now) link.old link.new
         (OpensCaused L.tells link.old shape user (tag, version) (numbers_of clouds.now) recipes.now result)
         (OpensTold shape user (tag, version) (numbers_of clouds.now) recipes.now
@@ -168,11 +165,11 @@ pub fn find_version<L: Link>(
     version: Version,
     clouds: &[CloudNo],
     reply: &mut ReplyBuf,
-) -> Result<Found, RestoreErr>
+) -> Result<FoundVersion, RestoreErr>
     requires shape { L.tells.shape link.old ≡ shape }
     requires reached { (cloud : ℕ) → Contains (numbers_of clouds.now) cloud → IsTrue (L.tells.reaches link.old cloud) }
     requires choice { AreChoice shape (numbers_of clouds.now) }
-    ensures asked { Asked L.tells (numbers_of clouds.now) link.old link.new (is_lost result) }
+    ensures asked { HasAskedClouds L.tells (numbers_of clouds.now) link.old link.new (is_lost result) }
     ensures told { Leads L.tells (numbers_of clouds.now) link.old link.new (ReadCauses L.tells link.old result)
         (FindsTold shape user (tag, version) (numbers_of clouds.now) result) }
     ensures named { IfErr result (Names (Contains (numbers_of clouds.now))) }

@@ -8,8 +8,8 @@ use Rattle.grammar.specs.Readers.{◌>>=◌, ◌▷▷◌}
 use Rattle.grammar.specs.Fields.{number_at, bytes_at, checked}
 use Rattle.grammar.proofs.Laws.{bind_ok, bind_err, ok_is}
 use Rattle.grammar.proofs.FieldLaws.{guard_ok, test_ok}
-use Rattle.cd_base.specs.Lengths.{share_len_of}
-use Rattle.cd_base.specs.declared.shape.Shape.{Shape}
+use Rattle.grammar.specs.CdBase.Lengths.{share_len_of}
+use Rattle.grammar.specs.CdBase.shape.Shape.{Shape}
 use Rattle.recipe.specs.declared.items.Item.{Item}
 use Rattle.recipe.specs.Spelling.{is_name_len, is_file_len, is_count, is_len, total}
 use Rattle.recipe.specs.Reading.{make_item, item_at, items_at, file_at, ended, tail_at, recipe_left}

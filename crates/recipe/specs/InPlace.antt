@@ -4,7 +4,7 @@ use Rattle.std.specs.Int.{w32, from_be_bytes}
 use Rattle.recipe.specs.declared.items.Item.{Item}
 use Rattle.recipe.specs.declared.recipe.Recipe.{Recipe}
 use Rattle.recipe.specs.declared.recipe.Malformed.{Malformed}
-use Rattle.recipe.specs.declared.reading.Left.{Left}
+use Rattle.recipe.specs.declared.reading.BytesLeft.{BytesLeft}
 use Rattle.recipe.specs.Spelling.{spelling, item_limit}
 
 -- the item that bytes begin with
@@ -23,7 +23,7 @@ pub record LiesIn (bytes : List ℕ) (count : ℕ) (items : List ℕ) (r : Recip
   pub few : count ≤ item_limit
 
 -- what a function returned, seen by view, is what reading gives
-abbrev pub Finds : {X Y : Type 0} → (X → Y) → Result X Left → Result Y ℕ → Type 0
+abbrev pub Finds : {X Y : Type 0} → (X → Y) → Result X BytesLeft → Result Y ℕ → Type 0
 Finds view (Ok x) read = read ≡ Ok (view x)
 Finds view (Err fault) read = read ≡ Err fault.0
 

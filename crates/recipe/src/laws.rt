@@ -1,8 +1,8 @@
 //! The laws of a recipe's bytes, for the proofs of callers. The calls do nothing.
 
 ghost use Rattle.std.specs.Prelude.{◌≡◌, ℕ, List, ◌+◌, ◌*◌, ◌≤◌, Ok, length};
-ghost use Rattle.cd_base.specs.Limits.{recipe_limit};
-ghost use Rattle.cd_base.specs.declared.shape.Shape.{Shape};
+ghost use Rattle.grammar.specs.CdBase.Limits.{recipe_limit};
+ghost use Rattle.grammar.specs.CdBase.shape.Shape.{Shape};
 ghost use Rattle.recipe.specs.Spelling.{Fits, spelling};
 ghost use Rattle.recipe.specs.Reading.{recipe_at};
 ghost use Rattle.recipe.specs.declared.recipe.Recipe.{Recipe};

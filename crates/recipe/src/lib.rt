@@ -9,6 +9,9 @@ mod rules;
 mod view;
 mod writing;
 
+pub use grammar::{
+    Bytes, CloudNo, Clouds, Fp, NoMemory, Place, Shape, Tag, UserId, Version, sha256,
+};
 pub use items::{Item, Items};
 pub use recipe::{Malformed, Recipe, RecipeErr};
 pub use rules::ITEM_LIMIT;

@@ -7,7 +7,7 @@ use crate::Items;
 use crate::rules::{
     ITEM_LIMIT, are_items_of, is_count_of, is_file_len_of, is_name_len_of, total_is,
 };
-use cd_base::{Bytes, Shape};
+use grammar::{Bytes, Shape};
 
 /// What one cloud knows of a file: its share of the name, and the secrets in order.
 #[derive(Debug, Drop)]

@@ -4,7 +4,7 @@ ghost use Rattle.std.specs.Prelude.{◌≡◌, ◌==◌, length, IsTrue, ◌↔�
 ghost use Rattle.recipe.specs.Spelling.{is_name_len, is_file_len, is_count, is_len, AreItems, total};
 
 use crate::Item;
-use cd_base::{FILE_LIMIT, SECRET_LIMIT};
+use grammar::{FILE_LIMIT, SECRET_LIMIT};
 
 /// The most secrets of a file.
 pub const ITEM_LIMIT: usize = 32_768;

@@ -1,15 +1,15 @@
 //! A recipe read where its bytes lie.
 
 ghost use Rattle.std.specs.Prelude.{◌≡◌, ◌^◌, ◌*◌, ◌<◌, ◌≤◌, ◌↔◌, ℕ, length, slice_get, Ok, Err, IfOk};
-ghost use Rattle.cd_base.specs.declared.shape.Shape.{Shape};
+ghost use Rattle.grammar.specs.CdBase.shape.Shape.{Shape};
 ghost use Rattle.recipe.specs.Spelling.{IsRecipe, item_limit, spelling};
 ghost use Rattle.recipe.specs.Reading.{Reads, recipe_left, recipe_at};
 ghost use Rattle.recipe.specs.InPlace.{Checks, Finds, first_item, items_in};
 ghost use Rattle.recipe.specs.declared.recipe.Recipe.{Recipe};
 
-use crate::reading::{Left, name_len_of, share_of, tail_of};
+use crate::reading::{BytesLeft, name_len_of, share_of, tail_of};
 use crate::{Item, Items, Malformed, Recipe, RecipeErr};
-use cd_base::{Bytes, Fp, NoMemory, Shape};
+use grammar::{Bytes, Fp, NoMemory, Shape};
 use std::alloc::Global;
 use std::marker::Model;
 
@@ -51,7 +51,7 @@ fn item_in(bytes: &[u8]) -> Item
 }
 
 #[tactic(auto, unfolding(crate::specs::Reading::recipe_left))]
-fn view_of(shape: Shape, bytes: &[u8]) -> Result<RecipeView<'_>, Left>
+fn view_of(shape: Shape, bytes: &[u8]) -> Result<RecipeView<'_>, BytesLeft>
     requires { length bytes.now < 2 ^ 32 }
     ensures { Finds (λ x. x) result (recipe_left shape bytes.now) }
 {
@@ -81,7 +81,7 @@ impl<'a> RecipeView<'a> {
     {
         match view_of(shape, bytes) {
             Ok(view) => Ok(view),
-            Err(Left(left)) => Err(Malformed {
+            Err(BytesLeft(left)) => Err(Malformed {
                 at: bytes.len().saturating_sub(left) as u32,
             }),
         }

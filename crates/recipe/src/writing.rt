@@ -5,7 +5,7 @@ ghost use Rattle.std.specs.List.{flat_map};
 ghost use Rattle.recipe.specs.Spelling.{item, item_limit, spelling};
 
 use crate::{Item, Recipe};
-use cd_base::{Bytes, NoMemory};
+use grammar::{Bytes, NoMemory};
 
 // Writes an item.
 fn write_item(i: &Item, out: &mut [u8])

@@ -2,28 +2,28 @@
 use Rattle.std.proofs.Common.{◌≡◌, ℕ, List, map, Option, Some, None, Result, Ok, Err, refl, sym, ap, ◌∙◌, subst, inl}
 use Rattle.std.specs.Prelude.{IsTrue, IsSome, All, option_map}
 use Rattle.std.specs.FinMap.{get}
-use Rattle.cd_base.specs.declared.ids.Fp.{Fp}
-use Rattle.cd_base.specs.declared.shape.Shape.{Shape}
-use Rattle.cd_edges.specs.declared.area.Area.TheVariants.{Shares, Recipes}
-use Rattle.cd_edges.specs.Disk.{Cloud, Store, Image, LeavesOnly, reads}
-use Rattle.cd_edges.proofs.Calls.{called_twice, failed_after}
-use Rattle.cd_edges.proofs.Moments.{joined, weaker, told_on}
-use Rattle.compact_lists.proofs.Rooms.{strings_kept}
-use Rattle.compact_lists.proofs.Spent.{spent_kept}
+use Rattle.cloud_server.specs.CdBase.ids.Fp.{Fp}
+use Rattle.cloud_server.specs.CdBase.shape.Shape.{Shape}
+use Rattle.cloud_server.specs.CdEdges.area.Area.TheVariants.{Shares, Recipes}
+use Rattle.cloud_server.specs.CdEdges.Disk.{Cloud, Store, Image, LeavesOnly, reads}
+use Rattle.cloud_server.proofs.CdEdges.Calls.{called_twice, failed_after}
+use Rattle.cloud_server.proofs.CdEdges.Moments.{joined, weaker, told_on}
+use Rattle.compact_memories.proofs.CompactLists.RoomLaws.{strings_kept}
+use Rattle.compact_memories.proofs.CompactLists.Spent.{spent_kept}
 use Rattle.compact_memories.specs.declared.alive.Reclaimed.{Reclaimed}
-use Rattle.journal_start.specs.declared.start.Header.{Header}
-use Rattle.user_dedup.specs.declared.command.Command.{Command}
-use Rattle.user_dedup.specs.Cloud.{user_view}
-use Rattle.user_dedup.specs.Compact.{compact}
-use Rattle.user_dedup.specs.Dedup.{IsSound}
-use Rattle.user_dedup.specs.Pages.{entry_at}
-use Rattle.user_dedup.proofs.Compacting.{same_own, same_entries}
-use Rattle.cloud_areas.specs.Standing.{Chain, StandsFor}
-use Rattle.cloud_memory.specs.Memory.{Memory, Remembers, summary, summary_of}
-use Rattle.cloud_memory.specs.Rooms.{memory_of}
-use Rattle.audit_base.specs.Whole.{tables_of}
+use Rattle.cloud_server.specs.JournalStart.start.Header.{Header}
+use Rattle.compact_memories.specs.UserDedup.command.Command.{Command}
+use Rattle.compact_memories.specs.UserDedup.Cloud.{user_view}
+use Rattle.compact_memories.specs.UserDedup.Compact.{compact}
+use Rattle.compact_memories.specs.UserDedup.Dedup.{IsSound}
+use Rattle.compact_memories.specs.UserDedup.Pages.{entry_at}
+use Rattle.compact_memories.proofs.UserDedup.Compacting.{same_own, same_entries}
+use Rattle.compact_memories.specs.CloudAreas.Standing.{Chain, StandsFor}
+use Rattle.compact_memories.specs.CloudMemory.Memory.{Memory, Remembers, summary, summary_of}
+use Rattle.compact_memories.specs.CloudMemory.Rooms.{memory_of}
+use Rattle.blob_audit.specs.AuditBase.Whole.{tables_of}
 use Rattle.blob_audit.specs.Reading.{AreStored}
-use Rattle.checkpoints.specs.Known.{AreListed}
+use Rattle.compact_memories.specs.Checkpoints.Known.{AreListed}
 use Rattle.cloud_server.specs.BlobCopy.CompactMemories.Kept.{live_sum}
 use Rattle.cloud_server.specs.BlobCopy.Copies.{share_blob, entry_blob, IsRight}
 use Rattle.cloud_server.specs.BlobCopy.Copying.{AreAllCopied, StandsForKept, copies_start, shares_so_far, entries_so_far}

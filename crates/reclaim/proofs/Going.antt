@@ -1,19 +1,19 @@
 -- Steps of a copy, one behind another, and the switch behind them.
 use Rattle.std.proofs.Common.{◌≡◌, ◌<◌, ◌≤◌, ◌+◌, ◌-◌, ℕ, Bool, true, false, List, [], ◌∷◌, length, take, Option, Some, None, Result, Ok, Err, refl, sym, ◌∙◌, subst, arith, inl, inr, ◌⊎◌, length-take}
 use Rattle.std.specs.Prelude.{IsTrue}
-use Rattle.cd_base.specs.declared.ids.Fp.{Fp}
-use Rattle.cd_edges.specs.Disk.{Cloud, Image, LeavesOnly, reads}
-use Rattle.cd_edges.specs.Shelf.{IsCall, KeepsCounts}
-use Rattle.cd_edges.proofs.Calls.{called_twice, failed_after}
-use Rattle.cd_edges.proofs.Moments.{joined, told_on}
-use Rattle.user_dedup.specs.declared.command.Command.{Command}
-use Rattle.cloud_areas.specs.Standing.{Chain, StandsFor}
-use Rattle.file_index.specs.declared.key.Entry.{Entry}
-use Rattle.file_index.specs.declared.key.FileKey.{FileKey}
+use Rattle.cloud_server.specs.CdBase.ids.Fp.{Fp}
+use Rattle.cloud_server.specs.CdEdges.Disk.{Cloud, Image, LeavesOnly, reads}
+use Rattle.cloud_server.specs.CdEdges.Shelf.{IsCall, KeepsCounts}
+use Rattle.cloud_server.proofs.CdEdges.Calls.{called_twice, failed_after}
+use Rattle.cloud_server.proofs.CdEdges.Moments.{joined, told_on}
+use Rattle.compact_memories.specs.UserDedup.command.Command.{Command}
+use Rattle.compact_memories.specs.CloudAreas.Standing.{Chain, StandsFor}
+use Rattle.compact_memories.specs.FileIndex.key.Entry.{Entry}
+use Rattle.compact_memories.specs.FileIndex.key.FileKey.{FileKey}
 use Rattle.compact_memories.proofs.Relaying.{laid_grows}
-use Rattle.container_log.specs.Laying.{Placed}
-use Rattle.container_log.specs.Places.{end_of_laid}
-use Rattle.checkpoints.specs.Picking.{onto, picked}
+use Rattle.compact_memories.specs.ContainerLog.Laying.{Placed}
+use Rattle.compact_memories.specs.ContainerLog.Places.{end_of_laid}
+use Rattle.compact_memories.specs.Checkpoints.Picking.{onto, picked}
 use Rattle.cloud_server.specs.BlobCopy.CompactMemories.Kept.{live_at}
 use Rattle.cloud_server.specs.BlobCopy.CompactMemories.Moved.{lens_of, entry_lens}
 use Rattle.cloud_server.specs.BlobCopy.Copies.{HasCopied, KeepsBeside, region_len}
@@ -25,7 +25,7 @@ use Rattle.cloud_server.specs.declared.copies.ReclaimErr.{ReclaimErr}
 use Rattle.cloud_server.specs.declared.copies.ReclaimErr.TheVariants as why
 use Rattle.cloud_server.specs.Copies.{OnReclaimFault, IfRottenThere, IsDoneOrFault, at_copies, AreLaid, KeepsCopies, KeepsAllBut, copied_so_far}
 use Rattle.reclaim.specs.Inner.{Steps, CopiesAll, AreRight}
-use Rattle.reclaim.specs.Reclaims.{IsOutOf, Spares}
+use Rattle.reclaim.specs.Reclaims.{IsOutOf, KeepsOtherRegion}
 use Rattle.reclaim.proofs.Whole.{more_right}
 
 -- ---- a step leaves less to copy
@@ -108,14 +108,14 @@ out_of start end b le out = elim out [
 laid_behind : (start end : ℕ) (lens : List ℕ) → end ≡ end_of_laid start lens → start ≤ end
 laid_behind start end lens is = subst (λ (n : ℕ). start ≤ n) (sym is) (laid_grows start lens)
 
-spares_beside : (store : OpenStore) (copies : Copies) (old new : Cloud) → AreLaid store copies → KeepsBeside (at_copies store copies) old new → Spares (copies_start store) old new
+spares_beside : (store : OpenStore) (copies : Copies) (old new : Cloud) → AreLaid store copies → KeepsBeside (at_copies store copies) old new → KeepsOtherRegion (copies_start store) old new
 spares_beside store copies old new laid beside = record {
   journal = beside.journal;
   shares = λ b out at. beside.shares b (out_of (copies_start store) copies.shares_end b (laid_behind (copies_start store) copies.shares_end (lens_of (shares_so_far store copies.copying)) laid.shares_end) out) at;
   recipes = λ b out at. beside.recipes b (out_of (copies_start store) copies.recipes_end b (laid_behind (copies_start store) copies.recipes_end (entry_lens (entries_so_far store copies.copying)) laid.recipes_end) out) at;
 }
 
-spares_twice : (start : ℕ) (a b c : Cloud) → Spares start a b → Spares start b c → Spares start a c
+spares_twice : (start : ℕ) (a b c : Cloud) → KeepsOtherRegion start a b → KeepsOtherRegion start b c → KeepsOtherRegion start a c
 spares_twice start a b c first second = record {
   journal = second.journal ∙ first.journal;
   shares = λ p out at. second.shares p out (first.shares p out at);
@@ -133,7 +133,7 @@ pub record SoFar (first now : OpenStore) (from to : Copies) (before after : ℕ 
   pub moments : (list : List Command) (c : Chain) → KeepsCopies list c first from (before first.header.cloud.0) → (end : Cloud)
       → LeavesOnly (after first.header.cloud.0) end (λ image. StandsFor image first.header list)
       → LeavesOnly (before first.header.cloud.0) end (λ image. StandsFor image first.header list)
-  pub spared : IsTrue (before first.header.cloud.0).told → Spares (copies_start first) (before first.header.cloud.0) (after first.header.cloud.0)
+  pub spared : IsTrue (before first.header.cloud.0).told → KeepsOtherRegion (copies_start first) (before first.header.cloud.0) (after first.header.cloud.0)
   pub right : IsTrue (before first.header.cloud.0).told → AreRight first from (reads (before first.header.cloud.0).now) → AreRight first to (reads (after first.header.cloud.0).now)
   pub call : IsCall before after first.header.cloud.0 faults_before faults_after
   pub counts : KeepsCounts (before first.header.cloud.0) (after first.header.cloud.0) faults_before faults_after
@@ -175,7 +175,7 @@ module _ (Same : Type 0) (first mid new : OpenStore) (from through to : Copies) 
   laid_between : AreLaid between through
   laid_between = subst (λ (s : OpenStore). AreLaid s through) so.same so.laid
 
-  spared_on : IsTrue (a n).told → KeepsBeside (at_copies between through) (b n) (c n) → Spares (copies_start first) (a n) (c n)
+  spared_on : IsTrue (a n).told → KeepsBeside (at_copies between through) (b n) (c n) → KeepsOtherRegion (copies_start first) (a n) (c n)
   spared_on told beside = spares_twice (copies_start first) (a n) (b n) (c n) (so.spared told) (spares_beside between through (b n) (c n) laid_between beside)
 
   right_on : IsTrue (a n).told → HasCopied (at_copies between through) through.copying to.copying (reads (b n).now) (reads (c n).now) → KeepsBeside (at_copies between through) (b n) (c n)

@@ -3,3 +3,4 @@ mod Going
 mod Summed
 mod Unlike
 mod Whole
+pub mod CdEdges

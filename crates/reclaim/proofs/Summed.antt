@@ -4,35 +4,35 @@ use Rattle.std.specs.Prelude.{filter, option_map, IsSome}
 use Rattle.std.specs.FinMap.{FinMap, get}
 use Rattle.std.specs.List.{Contains}
 use Rattle.std.proofs.lemmas.Bool.{cases_eq, eqb-true}
-use Rattle.cd_base.specs.declared.ids.Fp.{Fp}
-use Rattle.cd_base.specs.declared.place.Place.{Place}
-use Rattle.cd_base.specs.declared.shape.Shape.{Shape}
-use Rattle.cd_base.specs.Order.{fp_exact}
-use Rattle.file_index.specs.declared.key.Entry.{Entry}
-use Rattle.file_index.specs.declared.key.FileKey.{FileKey}
-use Rattle.share_index.specs.Order.{owner_cmp}
-use Rattle.share_index.specs.Shares.{owners_of}
-use Rattle.share_index.proofs.Owning.{value-of}
-use Rattle.share_index.proofs.Placing.{fp_total}
-use Rattle.user_dedup.specs.declared.command.Command.{Command}
-use Rattle.user_dedup.specs.declared.file_list.FileEntry.{FileEntry}
-use Rattle.user_dedup.specs.Cloud.{fingerprint, strings_in}
-use Rattle.user_dedup.specs.Compact.{sorted_fps}
-use Rattle.user_dedup.proofs.Filtered.{from_filter, in_filter}
-use Rattle.user_dedup.proofs.Once.{Once, fps_once}
-use Rattle.user_dedup.proofs.Sorting.{fps_have, fps_from}
-use Rattle.user_dedup.proofs.Views.{owned_is_held, held_is}
-use Rattle.cloud_memory.specs.declared.cloud.CloudMemory.{CloudMemory}
-use Rattle.cloud_memory.specs.Memory.{Remembers, summary, summary_of}
-use Rattle.cloud_memory.specs.Rooms.{memory_of}
-use Rattle.checkpoints.specs.Known.{AreListed, recipe_or}
-use Rattle.checkpoints.proofs.Apartness.{Apart, are_apart, in_map, from_map}
-use Rattle.checkpoints.proofs.Holders.{owners_some}
-use Rattle.checkpoints.proofs.OwnLaw.{owner_of_own}
-use Rattle.checkpoints.proofs.Sought.{from_picked, in_picked, apart_picked, map_picked}
-use Rattle.compact_lists.specs.Live.{IsAlive, bytes_held}
-use Rattle.compact_lists.proofs.Parts.{one_place}
-use Rattle.compact_lists.proofs.Sums.{sum_alike, sum_mapped}
+use Rattle.cloud_server.specs.CdBase.ids.Fp.{Fp}
+use Rattle.cloud_server.specs.CdBase.place.Place.{Place}
+use Rattle.cloud_server.specs.CdBase.shape.Shape.{Shape}
+use Rattle.cloud_server.specs.CdBase.Order.{fp_exact}
+use Rattle.compact_memories.specs.FileIndex.key.Entry.{Entry}
+use Rattle.compact_memories.specs.FileIndex.key.FileKey.{FileKey}
+use Rattle.compact_memories.specs.ShareIndex.Order.{owner_cmp}
+use Rattle.compact_memories.specs.ShareIndex.Shares.{owners_of}
+use Rattle.compact_memories.proofs.ShareIndexLaws.Owning.{value-of}
+use Rattle.compact_memories.proofs.ShareIndexLaws.Placing.{fp_total}
+use Rattle.compact_memories.specs.UserDedup.command.Command.{Command}
+use Rattle.compact_memories.specs.UserDedup.file_list.FileEntry.{FileEntry}
+use Rattle.compact_memories.specs.UserDedup.Cloud.{fingerprint, strings_in}
+use Rattle.compact_memories.specs.UserDedup.Compact.{sorted_fps}
+use Rattle.compact_memories.proofs.UserDedup.Filtered.{from_filter, in_filter}
+use Rattle.compact_memories.proofs.UserDedup.Once.{Once, fps_once}
+use Rattle.compact_memories.proofs.UserDedup.Sorting.{fps_have, fps_from}
+use Rattle.compact_memories.proofs.UserDedup.Views.{owned_is_held, held_is}
+use Rattle.compact_memories.specs.CloudMemory.cloud.CloudMemory.{CloudMemory}
+use Rattle.compact_memories.specs.CloudMemory.Memory.{Remembers, summary, summary_of}
+use Rattle.compact_memories.specs.CloudMemory.Rooms.{memory_of}
+use Rattle.compact_memories.specs.Checkpoints.Known.{AreListed, recipe_or}
+use Rattle.compact_memories.proofs.Checkpoints.Apartness.{Apart, are_apart, in_map, from_map}
+use Rattle.compact_memories.proofs.Checkpoints.Holders.{owners_some}
+use Rattle.compact_memories.proofs.Checkpoints.OwnLaw.{owner_of_own}
+use Rattle.compact_memories.proofs.Checkpoints.Sought.{from_picked, in_picked, apart_picked, map_picked}
+use Rattle.compact_memories.specs.CompactLists.Live.{IsAlive, bytes_held}
+use Rattle.compact_memories.proofs.CompactLists.Parts.{one_place}
+use Rattle.compact_memories.proofs.CompactLists.Sums.{sum_alike, sum_mapped}
 use Rattle.compact_memories.specs.Kept.{live_at, live_places, live_entries, live_sum}
 use Rattle.compact_memories.proofs.Live.{live_as, live_from, live_to}
 use Rattle.compact_memories.proofs.Weights.{once_map, sum_keys}

@@ -2,19 +2,19 @@
 use Rattle.std.proofs.Common.{◌≡◌, ◌<◌, ℕ, zero, suc, List, Option, Some, refl, sym, ap, ◌∙◌, subst, arith, inl, inr}
 use Rattle.std.specs.FinMap.{get}
 use Rattle.std.specs.List.{Contains}
-use Rattle.cd_base.specs.declared.ids.Fp.{Fp}
-use Rattle.cd_base.specs.declared.place.Place.{Place}
-use Rattle.cd_edges.specs.declared.area.Area.TheVariants.{Shares, Recipes}
-use Rattle.cd_edges.specs.Disk.{Image}
-use Rattle.file_index.specs.declared.key.Entry.{Entry}
-use Rattle.file_index.specs.declared.key.FileKey.{FileKey}
-use Rattle.share_index.specs.Shares.{owners_of}
-use Rattle.cloud_memory.specs.declared.cloud.CloudMemory.{CloudMemory}
-use Rattle.checkpoints.specs.Known.{AreListed}
-use Rattle.checkpoints.proofs.Sought.{from_picked}
+use Rattle.cloud_server.specs.CdBase.ids.Fp.{Fp}
+use Rattle.cloud_server.specs.CdBase.place.Place.{Place}
+use Rattle.cloud_server.specs.CdEdges.area.Area.TheVariants.{Shares, Recipes}
+use Rattle.cloud_server.specs.CdEdges.Disk.{Image}
+use Rattle.compact_memories.specs.FileIndex.key.Entry.{Entry}
+use Rattle.compact_memories.specs.FileIndex.key.FileKey.{FileKey}
+use Rattle.compact_memories.specs.ShareIndex.Shares.{owners_of}
+use Rattle.compact_memories.specs.CloudMemory.cloud.CloudMemory.{CloudMemory}
+use Rattle.compact_memories.specs.Checkpoints.Known.{AreListed}
+use Rattle.compact_memories.proofs.Checkpoints.Sought.{from_picked}
 use Rattle.compact_memories.specs.Kept.{live_at, live_places, live_entries}
 use Rattle.compact_memories.proofs.Live.{live_gives}
-use Rattle.audit_base.specs.Whole.{IsOwned, IsStored, stored_at, tables_of}
+use Rattle.blob_audit.specs.AuditBase.Whole.{IsOwned, IsStored, stored_at, tables_of}
 use Rattle.blob_audit.specs.Reading.{IsUnlike, Share, File}
 use Rattle.blob_audit.proofs.Owners.{owned_by_some}
 use Rattle.cloud_server.specs.BlobCopy.Answers.{IsRotten, SomeRotten}

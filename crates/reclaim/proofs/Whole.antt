@@ -3,19 +3,19 @@ use Rattle.std.proofs.Common.{◌≡◌, ℕ, ◌+◌, ◌≤◌, List, [], ◌�
 use Rattle.std.specs.Prelude.{All}
 use Rattle.std.proofs.lemmas.List.{map-append}
 use Rattle.std.proofs.lemmas.List.Elements.{All-nil, All-cons, All-head, All-tail, All-same, All-append, All-contains}
-use Rattle.cd_base.specs.declared.ids.Fp.{Fp}
-use Rattle.cd_base.specs.declared.place.Place.{Place}
-use Rattle.cd_edges.specs.declared.area.Area.TheVariants.{Shares, Recipes}
-use Rattle.cd_edges.specs.Disk.{Cloud, Image, reads}
-use Rattle.container_log.specs.Laying.{Placed, IsAt}
-use Rattle.container_log.specs.Places.{place_of, end_after, end_of_laid}
-use Rattle.file_index.specs.declared.key.Entry.{Entry}
-use Rattle.file_index.specs.declared.key.FileKey.{FileKey}
-use Rattle.file_index.specs.Files.{key_of}
-use Rattle.user_dedup.specs.Strings.{fingerprint}
-use Rattle.cloud_areas.proofs.Lists.{in_map}
-use Rattle.cloud_memory.specs.declared.cloud.CloudMemory.{CloudMemory}
-use Rattle.cloud_memory.specs.Rooms.{memory_of}
+use Rattle.cloud_server.specs.CdBase.ids.Fp.{Fp}
+use Rattle.cloud_server.specs.CdBase.place.Place.{Place}
+use Rattle.cloud_server.specs.CdEdges.area.Area.TheVariants.{Shares, Recipes}
+use Rattle.cloud_server.specs.CdEdges.Disk.{Cloud, Image, reads}
+use Rattle.compact_memories.specs.ContainerLog.Laying.{Placed, IsAt}
+use Rattle.compact_memories.specs.ContainerLog.Places.{place_of, end_after, end_of_laid}
+use Rattle.compact_memories.specs.FileIndex.key.Entry.{Entry}
+use Rattle.compact_memories.specs.FileIndex.key.FileKey.{FileKey}
+use Rattle.compact_memories.specs.FileIndex.Files.{key_of}
+use Rattle.compact_memories.specs.UserDedup.Strings.{fingerprint}
+use Rattle.compact_memories.proofs.CloudAreas.Lists.{in_map}
+use Rattle.compact_memories.specs.CloudMemory.cloud.CloudMemory.{CloudMemory}
+use Rattle.compact_memories.specs.CloudMemory.Rooms.{memory_of}
 use Rattle.compact_memories.proofs.Relaying.{laid_grows}
 use Rattle.cloud_server.specs.BlobCopy.CompactMemories.Kept.{live_in, live_places, entries_in, live_entries}
 use Rattle.cloud_server.specs.BlobCopy.CompactMemories.Moved.{IsMoved, other_region, new_places, lens_of, new_entries, entry_lens}
@@ -25,7 +25,7 @@ use Rattle.cloud_server.specs.OpenStore.store.OpenStore.{OpenStore}
 use Rattle.cloud_server.specs.declared.copies.Copies.{Copies}
 use Rattle.cloud_server.specs.Copies.{at_copies, AreLaid}
 use Rattle.reclaim.specs.Inner.{laid_blob, laid_blobs, AreRight}
-use Rattle.audit_base.specs.Whole.{IsStored, tables_of}
+use Rattle.blob_audit.specs.AuditBase.Whole.{IsStored, tables_of}
 use Rattle.blob_audit.specs.Reading.{AreStored}
 
 -- ---- blobs at new places

@@ -1,2 +1,2 @@
 -- What audit_base says of a memory, for callers.
-pub use Rattle.audit_base.specs.Whole
+pub use Rattle.blob_audit.specs.AuditBase.Whole

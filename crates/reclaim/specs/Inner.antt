@@ -1,13 +1,13 @@
 -- What the steps of a reclaim do. No public clause cites this module.
 use Rattle.std.specs.Prelude.{◌≡◌, ◌≢◌, ◌<◌, ℕ, Bool, List, [], ◌∷◌, map, All, Result, IsTrue, IfOk, OnOk, OnErr}
-use Rattle.cd_edges.specs.declared.area.Area.{Area}
-use Rattle.cd_edges.specs.declared.area.Area.TheVariants.{Journal, Shares, Recipes}
-use Rattle.cd_edges.specs.Disk.{Cloud, Image, LeavesOnly, reads}
-use Rattle.cd_edges.specs.Shelf.{IsCall, HasFailed, KeepsCounts}
-use Rattle.container_log.specs.Places.{place_of, end_after}
-use Rattle.user_dedup.specs.declared.command.Command.{Command}
-use Rattle.user_dedup.specs.Compact.{compact}
-use Rattle.cloud_areas.specs.Standing.{Chain, StandsFor}
+use Rattle.cloud_server.specs.CdEdges.area.Area.{Area}
+use Rattle.cloud_server.specs.CdEdges.area.Area.TheVariants.{Journal, Shares, Recipes}
+use Rattle.cloud_server.specs.CdEdges.Disk.{Cloud, Image, LeavesOnly, reads}
+use Rattle.cloud_server.specs.CdEdges.Shelf.{IsCall, HasFailed, KeepsCounts}
+use Rattle.compact_memories.specs.ContainerLog.Places.{place_of, end_after}
+use Rattle.compact_memories.specs.UserDedup.command.Command.{Command}
+use Rattle.compact_memories.specs.UserDedup.Compact.{compact}
+use Rattle.compact_memories.specs.CloudAreas.Standing.{Chain, StandsFor}
 use Rattle.cloud_server.specs.BlobCopy.Answers.{SomeRotten}
 use Rattle.cloud_server.specs.BlobCopy.CompactMemories.Kept.{live_sum, commands_in}
 use Rattle.cloud_server.specs.BlobCopy.CompactMemories.Moved.{IsMoved, other_region}
@@ -21,9 +21,9 @@ use Rattle.cloud_server.specs.Serving.{ServesAs, settled_with}
 use Rattle.cloud_server.specs.declared.copies.Copies.{Copies}
 use Rattle.cloud_server.specs.declared.copies.ReclaimErr.{ReclaimErr}
 use Rattle.cloud_server.specs.Copies.{OnReclaimFault, IfRottenThere, IsDoneOrFault, MatchCopied, at_copies, AreLaid, KeepsCopies, KeepsAllBut, copied_so_far, no_copies}
-use Rattle.audit_base.specs.Whole.{tables_of}
+use Rattle.blob_audit.specs.AuditBase.Whole.{tables_of}
 use Rattle.blob_audit.specs.Reading.{AreStored, IsUnlike}
-use Rattle.reclaim.specs.Reclaims.{KeepsLive, Spares}
+use Rattle.reclaim.specs.Reclaims.{KeepsLive, KeepsOtherRegion}
 use Rattle.reclaim.specs.Sums.{IsSumOf}
 
 -- ---- copies that read right
@@ -74,7 +74,7 @@ pub record CopiesAll (old new : OpenStore) (from to : Copies) (before after : �
   pub right : IsTrue (before old.header.cloud.0).told → AreRight old from (reads (before old.header.cloud.0).now) → OnOk result (AreRight old to (reads (after old.header.cloud.0).now))
   pub laid : OnOk result (AreLaid new to)
   pub rotten : IsTrue (before old.header.cloud.0).told → IfRottenThere result (SomeRotten old.memory (reads (after old.header.cloud.0).now))
-  pub spared : IsTrue (before old.header.cloud.0).told → OnReclaimFault result (Unit {0}) (Spares (copies_start old) (before old.header.cloud.0) (after old.header.cloud.0))
+  pub spared : IsTrue (before old.header.cloud.0).told → OnReclaimFault result (Unit {0}) (KeepsOtherRegion (copies_start old) (before old.header.cloud.0) (after old.header.cloud.0))
   pub same : KeepsAllBut old new
   pub stage : OnReclaimFault result (¬ (IsOpen new)) (IsOpen new)
   pub call : IsCall before after old.header.cloud.0 faults_before faults_after
@@ -118,7 +118,7 @@ pub record Reclaims (old new : OpenStore) (copies : Copies) (before after : ℕ 
   pub number : OnOk result (new.commands ≡ commands_in (memory_of old.memory))
   pub region : OnOk result (new.region ≡ other_region old.region)
   pub rotten : IsTrue (before old.header.cloud.0).told → IfRottenThere result (IsUnlike (reads (after old.header.cloud.0).now) (tables_of old.memory))
-  pub spared : IsTrue (before old.header.cloud.0).told → IfRottenThere result (λ named found. Spares (copies_start old) (before old.header.cloud.0) (after old.header.cloud.0))
+  pub spared : IsTrue (before old.header.cloud.0).told → IfRottenThere result (λ named found. KeepsOtherRegion (copies_start old) (before old.header.cloud.0) (after old.header.cloud.0))
   pub given_up : OnErr result (IsOpen new → KeepsAllBut old new)
   pub opened : OnOk result (IsOpen new)
   pub still_open : IfRottenThere result (λ named found. IsOpen new)

@@ -1,7 +1,14 @@
 pub mod AuditBase
 pub mod BlobAudit
 pub mod BlobCopy
+pub mod CdBase
+pub mod CdEdges
+pub mod CloudAreas
+pub mod CloudMemory
 pub mod CloudServer
+pub mod CompactMemories
 pub mod Inner
+pub mod JournalStart
 pub mod Reclaims
 pub mod Sums
+pub mod UserDedup

@@ -2,25 +2,25 @@
 use Rattle.std.specs.Prelude.{◌≡◌, ◌↔◌, ◌⊎◌, ◌+◌, ◌≤◌, ℕ, List, length, IsSome, Some}
 use Rattle.std.specs.List.{Contains}
 use Rattle.std.specs.FinMap.{get}
-use Rattle.cd_base.specs.declared.ids.Fp.{Fp}
-use Rattle.cd_base.specs.declared.ids.Tag.{Tag}
-use Rattle.cd_base.specs.declared.ids.UserId.{UserId}
-use Rattle.cd_base.specs.declared.ids.Version.{Version}
-use Rattle.cd_base.specs.declared.place.Place.{Place}
-use Rattle.cd_base.specs.declared.shape.Shape.{Shape}
-use Rattle.cd_edges.specs.declared.area.Area.TheVariants.{Journal, Shares, Recipes}
-use Rattle.cd_edges.specs.Disk.{Cloud}
-use Rattle.container_log.specs.Laying.{Placed, IsAt}
+use Rattle.cloud_server.specs.CdBase.ids.Fp.{Fp}
+use Rattle.cloud_server.specs.CdBase.ids.Tag.{Tag}
+use Rattle.cloud_server.specs.CdBase.ids.UserId.{UserId}
+use Rattle.cloud_server.specs.CdBase.ids.Version.{Version}
+use Rattle.cloud_server.specs.CdBase.place.Place.{Place}
+use Rattle.cloud_server.specs.CdBase.shape.Shape.{Shape}
+use Rattle.cloud_server.specs.CdEdges.area.Area.TheVariants.{Journal, Shares, Recipes}
+use Rattle.cloud_server.specs.CdEdges.Disk.{Cloud}
+use Rattle.compact_memories.specs.ContainerLog.Laying.{Placed, IsAt}
 use Rattle.cloud_server.specs.BlobCopy.Copies.{region_len}
-use Rattle.file_index.specs.declared.key.Entry.{Entry}
-use Rattle.file_index.specs.Files.{key_of}
-use Rattle.user_dedup.specs.declared.command.Command.{Command}
-use Rattle.user_dedup.specs.Cloud.{user_view}
-use Rattle.user_dedup.specs.Compact.{compact}
-use Rattle.user_dedup.specs.Pages.{entry_at}
-use Rattle.spent_table.specs.Spending.{spent_by}
-use Rattle.cloud_memory.specs.Memory.{Memory, as_spent}
-use Rattle.compact_lists.specs.Live.{live_of, IsAlive}
+use Rattle.compact_memories.specs.FileIndex.key.Entry.{Entry}
+use Rattle.compact_memories.specs.FileIndex.Files.{key_of}
+use Rattle.compact_memories.specs.UserDedup.command.Command.{Command}
+use Rattle.compact_memories.specs.UserDedup.Cloud.{user_view}
+use Rattle.compact_memories.specs.UserDedup.Compact.{compact}
+use Rattle.compact_memories.specs.UserDedup.Pages.{entry_at}
+use Rattle.compact_memories.specs.SpentTable.Spending.{spent_by}
+use Rattle.compact_memories.specs.CloudMemory.Memory.{Memory, as_spent}
+use Rattle.compact_memories.specs.CompactLists.Live.{live_of, IsAlive}
 
 -- Each user has what it had, and the memory has nothing else: the same fingerprints and the same entries; spent is what it keeps; each place is that
 -- of a fingerprint that some user owns, and each recipe that of an entry.
@@ -37,7 +37,7 @@ abbrev pub IsOutOf : ℕ → Placed → Type 0
 IsOutOf start b = (b.place + length b.blob ≤ start) ⊎ (start + region_len ≤ b.place)
 
 -- The journal stays, and what lies out of the region that begins there lies there still.
-pub record Spares (start : ℕ) (old new : Cloud) : Type 0 where
+pub record KeepsOtherRegion (start : ℕ) (old new : Cloud) : Type 0 where
   pub journal : new.now Journal ≡ old.now Journal
   pub shares : (b : Placed) → IsOutOf start b → IsAt (old.now Shares).read b → IsAt (new.now Shares).read b
   pub recipes : (b : Placed) → IsOutOf start b → IsAt (old.now Recipes).read b → IsAt (new.now Recipes).read b

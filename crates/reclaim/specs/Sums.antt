@@ -1,16 +1,16 @@
 -- The numbers of a reclaim, by the list.
 use Rattle.std.specs.Prelude.{◌≡◌, ℕ, List, length, map, Option, IsSome}
 use Rattle.std.specs.List.{Contains, sum_by}
-use Rattle.cd_base.specs.declared.ids.Fp.{Fp}
-use Rattle.cd_base.specs.declared.shape.Shape.{Shape}
-use Rattle.file_index.specs.declared.key.FileKey.{FileKey}
-use Rattle.user_dedup.specs.declared.command.Command.{Command}
-use Rattle.user_dedup.specs.declared.file_list.FileEntry.{FileEntry}
-use Rattle.user_dedup.specs.Cloud.{fingerprint, strings_in, user_view}
-use Rattle.user_dedup.specs.Pages.{entry_at}
-use Rattle.cloud_areas.specs.Checkpoints.{Lists}
-use Rattle.checkpoints.specs.Known.{recipe_or}
-use Rattle.compact_lists.specs.Live.{IsAlive, bytes_held}
+use Rattle.cloud_server.specs.CdBase.ids.Fp.{Fp}
+use Rattle.cloud_server.specs.CdBase.shape.Shape.{Shape}
+use Rattle.compact_memories.specs.FileIndex.key.FileKey.{FileKey}
+use Rattle.compact_memories.specs.UserDedup.command.Command.{Command}
+use Rattle.compact_memories.specs.UserDedup.file_list.FileEntry.{FileEntry}
+use Rattle.compact_memories.specs.UserDedup.Cloud.{fingerprint, strings_in, user_view}
+use Rattle.compact_memories.specs.UserDedup.Pages.{entry_at}
+use Rattle.compact_memories.specs.CloudAreas.Checkpoints.{Lists}
+use Rattle.compact_memories.specs.Checkpoints.Known.{recipe_or}
+use Rattle.compact_memories.specs.CompactLists.Live.{IsAlive, bytes_held}
 use Rattle.compact_memories.specs.declared.alive.Reclaimed.{Reclaimed}
 
 -- It is the sum over all for which it is so, each counted once.

@@ -1,12 +1,12 @@
 //! Copies, step by step, and the switch to them.
 
 ghost use Rattle.std.specs.Prelude.{◌≡◌, List, IsTrue, IfOk, OnOk, OnErr};
-ghost use Rattle.cd_edges.specs.Disk.{LeavesOnly, reads};
-ghost use Rattle.cd_edges.specs.Shelf.{IsCall, HasFailed, KeepsCounts};
-ghost use Rattle.user_dedup.specs.declared.command.Command.{Command};
-ghost use Rattle.user_dedup.specs.Compact.{compact};
-ghost use Rattle.checkpoints.specs.Known.{AreListed};
-ghost use Rattle.audit_base.specs.Whole.{tables_of};
+ghost use Rattle.cloud_server.specs.CdEdges.Disk.{LeavesOnly, reads};
+ghost use Rattle.cloud_server.specs.CdEdges.Shelf.{IsCall, HasFailed, KeepsCounts};
+ghost use Rattle.compact_memories.specs.UserDedup.command.Command.{Command};
+ghost use Rattle.compact_memories.specs.UserDedup.Compact.{compact};
+ghost use Rattle.compact_memories.specs.Checkpoints.Known.{AreListed};
+ghost use Rattle.blob_audit.specs.AuditBase.Whole.{tables_of};
 ghost use Rattle.blob_audit.specs.Reading.{AreStored, IsUnlike};
 ghost use Rattle.cloud_server.specs.BlobCopy.CompactMemories.Kept.{live_sum, commands_in};
 ghost use Rattle.cloud_server.specs.BlobCopy.CompactMemories.Moved.{IsMoved, other_region};
@@ -17,11 +17,10 @@ ghost use Rattle.cloud_server.specs.Copies.{no_copies, AreLaid};
 ghost use Rattle.cloud_server.specs.OpenStore.Store.{IsOpen, ServesSome};
 ghost use Rattle.cloud_server.specs.Serving.{IsServing, number_of, settled_with};
 ghost use Rattle.reclaim.specs.Inner.{CopiesAll, Reclaims};
-ghost use Rattle.reclaim.specs.Reclaims.{KeepsLive, Spares};
+ghost use Rattle.reclaim.specs.Reclaims.{KeepsLive, KeepsOtherRegion};
 ghost use Rattle.reclaim.specs.Sums.{IsSumOf};
 
-use cd_edges::Shelf;
-use cloud_server::{ReclaimErr, Reclaimed, Server};
+use cloud_server::{ReclaimErr, Reclaimed, Server, Shelf};
 
 // Copies all that is alive, step by step.
 fn copy_all<V: Shelf>(server: &mut Server, shelf: &mut V) -> Result<(), ReclaimErr>
@@ -119,7 +118,7 @@ pub fn reclaim<V: Shelf>(server: &mut Server, shelf: &mut V) -> Result<Reclaimed
     ensures rotten { IsTrue (V.cloud_at shelf.old (number_of server.old)).told → IfRottenThere result
         (IsUnlike (reads (V.cloud_at shelf.new (number_of server.old)).now) (tables_of server.old.store.memory)) }
     ensures spared { IsTrue (V.cloud_at shelf.old (number_of server.old)).told → IfRottenThere result
-        (λ named found. Spares (copies_start server.old.store) (V.cloud_at shelf.old (number_of server.old))
+        (λ named found. KeepsOtherRegion (copies_start server.old.store) (V.cloud_at shelf.old (number_of server.old))
         (V.cloud_at shelf.new (number_of server.old))) }
     ensures given_up { OnErr result (IsOpen server.new.store → KeepsAllBut server.old.store server.new.store) }
     ensures open { OnOk result (IsOpen server.new.store) }

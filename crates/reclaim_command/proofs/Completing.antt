@@ -1,17 +1,17 @@
 -- Where nothing fails, a reclaim answers 0 or runs out of memory: each other status has a cause that isn't there.
 use Rattle.std.proofs.Common.{◌≡◌, ◌⊎◌, inl, inr, ℕ, Result, Ok, Err}
-use Rattle.backup_command.specs.Writing.{Output}
+use Rattle.cloud_opening.specs.BackupCommand.Writing.{Output}
 use Rattle.cloud_opening.specs.Opened.{CloudCall, CloudFails, IsUnfailing}
-use Rattle.cloud_opening.specs.Unhindered.{IsUnhindered}
+use Rattle.cloud_opening.specs.Unhindered.{IsOpeningUnhindered}
 use Rattle.cloud_opening.proofs.Completing.{not_risen, opens, status_of}
 use Rattle.reclaim.specs.CloudServer.Copies.{IsDoneOrFault, OnReclaimFault}
 use Rattle.reclaim.specs.CloudServer.copies.ReclaimErr.{ReclaimErr}
 use Rattle.reclaim.specs.CloudServer.copies.ReclaimErr.TheVariants as errors
-use Rattle.compact_memories.specs.declared.alive.Reclaimed.{Reclaimed}
+use Rattle.reclaim.specs.CompactMemories.alive.Reclaimed.{Reclaimed}
 use Rattle.reclaim_command.specs.GivenBack.{IsReclaimed, Opened, Unmade, Unopened}
 use Rattle.reclaim_command.specs.Said.{reclaim_status}
 
-module _ (call : CloudCall) (out : Output) (well : IsUnhindered call out) where
+module _ (call : CloudCall) (out : Output) (well : IsOpeningUnhindered call out) where
   due_of : (result : Result Reclaimed ReclaimErr) → IsDoneOrFault result → OnReclaimFault result (CloudFails call) (IsUnfailing call)
       → (reclaim_status result ≡ 0) ⊎ (reclaim_status result ≡ 6)
   due_of (Ok sum) done counts = inl (λ i. 0)

@@ -1,14 +1,14 @@
 -- A reclaim by an open server, behind the opening.
 use Rattle.std.proofs.Common.{◌≡◌, ◌⊎◌, inl, inr, false, true, ℕ, IsTrue, List, Result, Ok, Err, refl, sym, ap, ◌∙◌, subst}
 use Rattle.std.specs.Prelude.{IfOk, OnOk}
-use Rattle.backup_command.specs.Writing.{Output, Writes}
-use Rattle.cd_base.specs.declared.ids.CloudNo.{CloudNo}
-use Rattle.cd_base.specs.declared.shape.Shape.{Shape}
-use Rattle.cd_edges.specs.Disk.{Cloud, Image, IsImage, LeavesOnly}
-use Rattle.cd_edges.specs.Shelf.{HasFailed, KeepsCounts}
-use Rattle.cd_edges.proofs.Moments.{joined, weaker}
-use Rattle.cloud_areas.specs.Standing.{StandsFor}
-use Rattle.cloud_memory.specs.Rooms.{memory_of}
+use Rattle.cloud_opening.specs.BackupCommand.Writing.{Output, HasWrittenOrCause}
+use Rattle.reclaim.specs.CdBase.ids.CloudNo.{CloudNo}
+use Rattle.reclaim.specs.CdBase.shape.Shape.{Shape}
+use Rattle.reclaim.specs.CdEdges.Disk.{Cloud, Image, IsImage, LeavesOnly}
+use Rattle.reclaim.specs.CdEdges.Shelf.{HasFailed, KeepsCounts}
+use Rattle.reclaim.proofs.CdEdges.Moments.{joined, weaker}
+use Rattle.reclaim.specs.CloudAreas.Standing.{StandsFor}
+use Rattle.reclaim.specs.CloudMemory.Rooms.{memory_of}
 use Rattle.cloud_opening.specs.CloudServer.Names.{header_of}
 use Rattle.cloud_opening.specs.CloudServer.Serving.{IsServing, number_of, settled_with}
 use Rattle.cloud_opening.specs.CloudServer.server.Server.{Server}
@@ -19,19 +19,19 @@ use Rattle.cloud_opening.specs.Said.{SaysUnopened}
 use Rattle.cloud_opening.specs.declared.opening.Unopened.{Unopened as OpeningErr}
 use Rattle.cloud_opening.specs.declared.opening.Unopened.TheVariants as unopened
 use Rattle.cloud_opening.proofs.Standing.{failed_since, kept_since, stands_still}
-use Rattle.half_journal.specs.Openings.{MayBecome}
-use Rattle.journal_start.specs.declared.rooms.Rooms.{Rooms}
-use Rattle.journal_start.specs.declared.start.Header.{Header}
+use Rattle.cloud_opening.specs.HalfJournal.Openings.{MayBecome}
+use Rattle.reclaim.specs.JournalStart.rooms.UserRooms.{UserRooms}
+use Rattle.reclaim.specs.JournalStart.start.Header.{Header}
 use Rattle.reclaim.specs.BlobCopy.Copying.{StandsForKept}
 use Rattle.reclaim.specs.CloudServer.Copies.{OnReclaimFault}
 use Rattle.reclaim.specs.CloudServer.copies.ReclaimErr.{ReclaimErr}
 use Rattle.reclaim.specs.CloudServer.copies.ReclaimErr.TheVariants as errors
-use Rattle.compact_memories.specs.declared.alive.Reclaimed.{Reclaimed}
+use Rattle.reclaim.specs.CompactMemories.alive.Reclaimed.{Reclaimed}
 use Rattle.reclaim.specs.Reclaims.{KeepsLive}
 use Rattle.reclaim.specs.Sums.{IsSumOf}
-use Rattle.user_dedup.specs.Compact.{compact}
-use Rattle.user_dedup.specs.Exec.{MaySettleAs}
-use Rattle.user_dedup.specs.declared.command.Command.{Command}
+use Rattle.reclaim.specs.UserDedup.Compact.{compact}
+use Rattle.reclaim.specs.UserDedup.Exec.{MaySettleAs}
+use Rattle.reclaim.specs.UserDedup.command.Command.{Command}
 use Rattle.reclaim_command.specs.GivenBack.{IsReclaimOf, IsReclaimed, MayBeLeft, Opened, StandsNow, Unmade, Unopened}
 use Rattle.reclaim_command.specs.Said.{reclaim_status, reclaim_text}
 use Rattle.reclaim_command.specs.Steps.{ReclaimedBy}
@@ -80,7 +80,7 @@ as_before : (old : Cloud) (header : Header) (image : Image) → MayBecome old.no
 as_before old header image (inl left) = left
 as_before old header image (inr begun) = absurd (let never : false ≡ true = begun.0 in cc)
 
-module _ (shape : Shape) (cloud : CloudNo) (rooms : Rooms) (server : Server) (old mid new : Cloud) (before middle now : ℕ) (out : Output)
+module _ (shape : Shape) (cloud : CloudNo) (rooms : UserRooms) (server : Server) (old mid new : Cloud) (before middle now : ℕ) (out : Output)
     (status : ℕ) (told : mid.told ≡ old.told) (first : OpenedBy rooms server (cloud_call shape cloud old mid before middle)) where
   abbrev whole : CloudCall
   whole = cloud_call shape cloud old new before now
@@ -89,22 +89,22 @@ module _ (shape : Shape) (cloud : CloudNo) (rooms : Rooms) (server : Server) (ol
   then_call = cloud_call server.store.header.shape server.store.header.cloud mid new middle now
 
   -- the server has the header of the cloud's own rooms
-  own_is : (own : Rooms) (list : List Command) → StandsWithin whole own list → server.store.header ≡ header_within own whole
-  own_is own list s = first.header_is ∙ ap (λ (r : Rooms). header_within r whole)
+  own_is : (own : UserRooms) (list : List Command) → StandsWithin whole own list → server.store.header ≡ header_within own whole
+  own_is own list s = first.header_is ∙ ap (λ (r : UserRooms). header_within r whole)
       (sym (first.opened.own_rooms own list (stands_still shape cloud old mid new before middle now own list s)))
 
-  serves : (own : Rooms) (list : List Command) → StandsWithin whole own list → ServesSome list server.store mid
+  serves : (own : UserRooms) (list : List Command) → StandsWithin whole own list → ServesSome list server.store mid
   serves own list s = (first.served own list (stands_still shape cloud old mid new before middle now own list s)).ready first.at_end
 
   module _ (by : ReclaimedBy server then_call out status) where
-    moments : (own : Rooms) (list : List Command) → StandsWithin whole own list → LeavesOnly old new (MayBeLeft whole own list)
+    moments : (own : UserRooms) (list : List Command) → StandsWithin whole own list → LeavesOnly old new (MayBeLeft whole own list)
     moments own list s = joined old mid new (MayBeLeft whole own list)
         (weaker old mid _ (MayBeLeft whole own list) (first.opened.spared s.told).any_moment
         (λ image left. inl (as_before old (header_within rooms whole) image left)))
         (weaker mid new _ (MayBeLeft whole own list) (by.any_moment list (serves own list s))
         (λ image left. inr (subst (λ (h : Header). StandsForKept h list image) (own_is own list s) left)))
 
-    compacted : (own : Rooms) (list : List Command) → StandsWithin whole own list
+    compacted : (own : UserRooms) (list : List Command) → StandsWithin whole own list
         → OnOk by.result (StandsNow (header_within own whole) new (compact shape list))
     compacted own list s = on_ok by.result _ (StandsNow (header_within own whole) new (compact shape list))
         (λ serving. subst (λ (h : Header). StandsNow h new (compact h.shape list)) (own_is own list s)
@@ -133,7 +133,7 @@ module _ (shape : Shape) (cloud : CloudNo) (rooms : Rooms) (server : Server) (ol
     pub reclaimed : IsReclaimed status whole out
     reclaimed = Opened rooms server.store.memory server.store.region mid middle by.after.store.memory by.result first.opened
         reclaim_of
-        (subst (λ (h : Header). Writes (reclaim_text h.cloud by.result) (reclaim_status by.result) out status) first.header_is by.written)
+        (subst (λ (h : Header). HasWrittenOrCause (reclaim_text h.cloud by.result) (reclaim_status by.result) out status) first.header_is by.written)
 
 -- ---- a cloud that isn't opened
 
@@ -144,7 +144,7 @@ unopened_reclaim call (unopened.Refused error) out status opens says = Unopened 
 
 -- ---- the same by the number of the cloud that the server has
 
-pub reclaimed_at : (rooms : Rooms) (server : Server) (shape : Shape) (cloud : CloudNo) (old new : ℕ → Cloud) (before now : ℕ) (out : Output)
+pub reclaimed_at : (rooms : UserRooms) (server : Server) (shape : Shape) (cloud : CloudNo) (old new : ℕ → Cloud) (before now : ℕ) (out : Output)
     (status : ℕ) → server.store.header ≡ header_of shape rooms cloud.0
     → ReclaimedBy server (cloud_call server.store.header.shape server.store.header.cloud (old (number_of server)) (new (number_of server)) before now) out status
     → ReclaimedBy server (cloud_call server.store.header.shape server.store.header.cloud (old cloud.0) (new cloud.0) before now) out status

@@ -1,15 +1,15 @@
 -- What is written of a reclaim, and the status that is due with it.
 use Rattle.std.specs.Prelude.{ℕ, List, [], ◌∷◌, Result, Ok, Err, codes, decimal}
-use Rattle.cd_base.specs.declared.ids.CloudNo.{CloudNo}
-use Rattle.cd_base.specs.declared.ids.Fp.{Fp}
-use Rattle.compact_memories.specs.declared.alive.Reclaimed.{Reclaimed}
+use Rattle.reclaim.specs.CdBase.ids.CloudNo.{CloudNo}
+use Rattle.reclaim.specs.CdBase.ids.Fp.{Fp}
+use Rattle.reclaim.specs.CompactMemories.alive.Reclaimed.{Reclaimed}
 use Rattle.reclaim.specs.CloudServer.copies.ReclaimErr.{ReclaimErr}
 use Rattle.reclaim.specs.CloudServer.copies.ReclaimErr.TheVariants as errors
-use Rattle.transcript.specs.declared.ending.Ending.TheVariants as endings
-use Rattle.transcript.specs.declared.line.Line.TheVariants as lines
-use Rattle.transcript.specs.declared.refusal.Refusal.TheVariants as refusals
-use Rattle.transcript.specs.Endings.{ending_text}
-use Rattle.transcript.specs.Transcript.{ended, line_text}
+use Rattle.cloud_opening.specs.Transcript.ending.Ending.TheVariants as endings
+use Rattle.cloud_opening.specs.Transcript.line.Line.TheVariants as lines
+use Rattle.cloud_opening.specs.Transcript.refusal.Refusal.TheVariants as refusals
+use Rattle.cloud_opening.specs.Transcript.Endings.{ending_text}
+use Rattle.cloud_opening.specs.Transcript.Transcript.{ended, line_text}
 
 -- `reclaimed CLOUD SHARES RECIPES DROPPED`
 abbrev pub reclaimed_text : CloudNo → Reclaimed → List ℕ

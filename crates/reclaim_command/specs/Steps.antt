@@ -1,9 +1,9 @@
 -- What a reclaim comes to, by the server that was opened. No public clause cites this module.
 use Rattle.std.specs.Prelude.{◌≡◌, ℕ, IsTrue, List, Result, IfOk, OnOk}
-use Rattle.backup_command.specs.Writing.{Output, Writes}
-use Rattle.cd_edges.specs.Disk.{LeavesOnly, reads}
-use Rattle.cloud_areas.specs.Placing.{region_start}
-use Rattle.cloud_memory.specs.Rooms.{memory_of}
+use Rattle.cloud_opening.specs.BackupCommand.Writing.{Output, HasWrittenOrCause}
+use Rattle.reclaim.specs.CdEdges.Disk.{LeavesOnly, reads}
+use Rattle.reclaim.specs.CloudAreas.Placing.{region_start}
+use Rattle.reclaim.specs.CloudMemory.Rooms.{memory_of}
 use Rattle.cloud_opening.specs.CloudServer.Serving.{IsServing, settled_with}
 use Rattle.cloud_opening.specs.CloudServer.server.Server.{Server}
 use Rattle.cloud_opening.specs.OpenStore.Store.{ServesSome}
@@ -13,13 +13,13 @@ use Rattle.reclaim.specs.BlobAudit.Reading.{AreStored, IsUnlike}
 use Rattle.reclaim.specs.BlobCopy.Copying.{StandsForKept}
 use Rattle.reclaim.specs.CloudServer.Copies.{IfRottenThere, IsDoneOrFault, OnReclaimFault}
 use Rattle.reclaim.specs.CloudServer.copies.ReclaimErr.{ReclaimErr}
-use Rattle.compact_memories.specs.Kept.{live_sum}
-use Rattle.compact_memories.specs.Moved.{IsMoved, other_region}
-use Rattle.compact_memories.specs.declared.alive.Reclaimed.{Reclaimed}
-use Rattle.reclaim.specs.Reclaims.{KeepsLive, Spares}
+use Rattle.reclaim.specs.CompactMemories.Kept.{live_sum}
+use Rattle.reclaim.specs.CompactMemories.Moved.{IsMoved, other_region}
+use Rattle.reclaim.specs.CompactMemories.alive.Reclaimed.{Reclaimed}
+use Rattle.reclaim.specs.Reclaims.{KeepsLive, KeepsOtherRegion}
 use Rattle.reclaim.specs.Sums.{IsSumOf}
-use Rattle.user_dedup.specs.Compact.{compact}
-use Rattle.user_dedup.specs.declared.command.Command.{Command}
+use Rattle.reclaim.specs.UserDedup.Compact.{compact}
+use Rattle.reclaim.specs.UserDedup.command.Command.{Command}
 use Rattle.reclaim_command.specs.Said.{reclaim_status, reclaim_text}
 
 -- An open server gave back what is dead in its cloud, and is `after` then.
@@ -39,7 +39,8 @@ pub record ReclaimedBy (server : Server) (call : CloudCall) (out : Output) (stat
   pub whole : IsTrue call.old.told → OnOk result (AreStored (reads call.new.now) (tables_of after.store.memory))
   pub rotten : IsTrue call.old.told → IfRottenThere result (IsUnlike (reads call.new.now) (tables_of server.store.memory))
   pub spared : IsTrue call.old.told
-      → IfRottenThere result (λ named found. Spares (region_start (other_region server.store.region)) call.old call.new)
+      → IfRottenThere result (λ named found. KeepsOtherRegion
+      (region_start (other_region server.store.region)) call.old call.new)
   pub same : after.store.header ≡ server.store.header
   pub counts : OnReclaimFault result (CloudFails call) (IsUnfailing call)
-  pub written : Writes (reclaim_text call.cloud result) (reclaim_status result) out status
+  pub written : HasWrittenOrCause (reclaim_text call.cloud result) (reclaim_status result) out status

@@ -1,16 +1,13 @@
 //! What is written, with the status.
 
 ghost use Rattle.std.specs.Prelude.{◌≡◌, ◌++◌, OnOk};
-ghost use Rattle.backup_command.specs.Writing.{Writes, output_of};
+ghost use Rattle.cloud_opening.specs.BackupCommand.Writing.{HasWrittenOrCause, output_of};
 ghost use Rattle.reclaim_command.specs.Said.{reclaim_status, reclaim_text, reclaimed_text, rotten_text};
 
-use cd_base::{Bytes, CloudNo, Fp, NoMemory};
-use cd_edges::Sink;
-use cloud_opening::write_text;
-use reclaim::{ReclaimErr, Reclaimed};
+use cloud_opening::Word::Number;
+use cloud_opening::{Ending, Line, Refusal, put_first, write_ending, write_line, write_text};
+use reclaim::{Bytes, CloudNo, Fp, NoMemory, ReclaimErr, Reclaimed, Sink};
 use std::alloc::Global;
-use transcript::Word::Number;
-use transcript::{Ending, Line, Refusal, put_first, write_ending, write_line};
 
 // Appends the line of what was given back. For want of memory a part of it may stand there.
 #[tactic(auto, using(transcript::proofs::Joined::joined))]
@@ -77,7 +74,7 @@ pub fn write_reclaimed<K: Sink>(
     cloud: CloudNo,
     came: Result<Reclaimed, ReclaimErr>,
 ) -> u8
-    ensures { Writes (reclaim_text cloud came) (reclaim_status came)
+    ensures { HasWrittenOrCause (reclaim_text cloud came) (reclaim_status came)
         (output_of (K.written sink.old) (K.written sink.new) (K.faults sink.old) (K.faults sink.new)) result }
 {
     let mut line = Bytes::new(alloc);

@@ -1,20 +1,18 @@
 //! The reclaim of a cloud.
 
 ghost use Rattle.std.specs.Prelude.{◌≡◌, ◌⊎◌, ◌<◌};
-ghost use Rattle.cd_edges.specs.Shelf.{IsCall};
-ghost use Rattle.backup_command.specs.Writing.{output_of};
+ghost use Rattle.reclaim.specs.CdEdges.Shelf.{IsCall};
+ghost use Rattle.cloud_opening.specs.BackupCommand.Writing.{output_of};
 ghost use Rattle.cloud_opening.specs.CloudServer.Serving.{number_of};
 ghost use Rattle.cloud_opening.specs.OpenStore.Store.{IsOpen};
 ghost use Rattle.cloud_opening.specs.Opened.{cloud_call};
-ghost use Rattle.cloud_opening.specs.Unhindered.{IsUnhindered};
+ghost use Rattle.cloud_opening.specs.Unhindered.{IsOpeningUnhindered};
 ghost use Rattle.reclaim_command.specs.GivenBack.{IsReclaimed};
 ghost use Rattle.reclaim_command.specs.Steps.{ReclaimedBy};
 
 use crate::lines::write_reclaimed;
-use cd_base::{CloudNo, Shape};
-use cd_edges::{Shelf, Sink};
 use cloud_opening::{Server, open_cloud, write_unopened};
-use reclaim::reclaim;
+use reclaim::{CloudNo, Shape, Shelf, Sink, reclaim};
 use std::alloc::Global;
 
 // Gives back the dead space of an open server's cloud.
@@ -69,7 +67,7 @@ pub fn reclaim_cloud<K: Sink, V: Shelf>(
         (output_of (K.written sink.old) (K.written sink.new) (K.faults sink.old) (K.faults sink.new)) }
     ensures call { IsCall (V.cloud_at shelf.old) (V.cloud_at shelf.new) cloud.0
         (V.faults shelf.old) (V.faults shelf.new) }
-    ensures complete { IsUnhindered (cloud_call shape cloud (V.cloud_at shelf.old cloud.0)
+    ensures complete { IsOpeningUnhindered (cloud_call shape cloud (V.cloud_at shelf.old cloud.0)
         (V.cloud_at shelf.new cloud.0) (V.faults shelf.old) (V.faults shelf.new))
         (output_of (K.written sink.old) (K.written sink.new) (K.faults sink.old) (K.faults sink.new))
         → (result ≡ 0) ⊎ (result ≡ 6) }

@@ -2,12 +2,12 @@
 use Rattle.std.proofs.Common.{◌≡◌, ℕ, zero, suc, ◌-◌, ◌^◌, ◌<◌, ◌≤◌, Bool, eqb, cond, true, false, List, [], ◌∷◌, ◌++◌, length, Result, Ok, Err, refl, sym, ap, subst, ◌∙◌, arith, inl, inr, eqb-true}
 use Rattle.std.specs.Int.{w32, w64, to_be_bytes}
 use Rattle.std.proofs.lemmas.List.{append-nil, length-append}
-use Rattle.grammar.specs.Readers.{◌>>=◌, ◌▷◌}
-use Rattle.grammar.specs.Fields.{number_at, bytes_at}
-use Rattle.grammar.proofs.Laws.{bind_ok, ok_is, err_is, lawful_then}
-use Rattle.grammar.proofs.FieldLaws.{IsBytes, Anything, LawfulBytes, lawful_bytes}
-use Rattle.message_fields.specs.Parts.{made}
-use Rattle.message_fields.proofs.PartLaws.{bytes_tail, lawful_u32, lawful_u64}
+use Rattle.record_body.specs.Grammar.Readers.{◌>>=◌, ◌▷◌}
+use Rattle.record_body.specs.Grammar.Fields.{number_at, bytes_at}
+use Rattle.record_body.proofs.Grammar.Laws.{bind_ok, ok_is, err_is, lawful_then}
+use Rattle.record_body.proofs.Grammar.FieldLaws.{IsBytes, Anything, LawfulBytes, lawful_bytes}
+use Rattle.record_body.specs.MessageFields.Parts.{made}
+use Rattle.record_body.proofs.MessageFields.PartLaws.{bytes_tail, lawful_u32, lawful_u64}
 use Rattle.record_body.specs.declared.body.BodyErr.{BodyErr}
 use Rattle.record_body.specs.declared.body.BodyErr.TheVariants as errors
 use Rattle.record_body.specs.Reading as first_reading
@@ -201,11 +201,11 @@ extra (Kept items) x rest fits = later_extra (Kept items) x rest tt fits
 extra (Spent s) x rest fits = later_extra (Spent s) x rest tt fits
 
 -- what is said of a Put and of a Commit where there are no other kinds
-lifted_is : (bytes : List ℕ) (b : first.Body) → first.IsBody bytes b → IsBody bytes (lifted b)
+lifted_is : (bytes : List ℕ) (b : first.FirstBody) → first.IsFirstBody bytes b → IsBody bytes (lifted b)
 lifted_is bytes (first.Put user items) is = record { fits = is.fits; spelled = is.spelled }
 lifted_is bytes (first.Commit c) is = record { fits = is.fits; spelled = is.spelled }
 
-lifted_ok : (r : Result first.Body BodyErr) (b : Body) → lifted_answer r ≡ Ok b → (o : first.Body) × (r ≡ Ok o) × (lifted o ≡ b)
+lifted_ok : (r : Result first.FirstBody BodyErr) (b : Body) → lifted_answer r ≡ Ok b → (o : first.FirstBody) × (r ≡ Ok o) × (lifted o ≡ b)
 lifted_ok (Ok o) b e = (o, refl, same_body (lifted o) b e)
 lifted_ok (Err e) b is = absurd cc
 
@@ -233,11 +233,11 @@ body_law bytes b known = (
 
 -- ---- a Put or a Commit
 
-first_bytes : (b : first.Body) → is_later (first.body_bytes b) ≡ false
+first_bytes : (b : first.FirstBody) → is_later (first.body_bytes b) ≡ false
 first_bytes (first.Put user items) = refl
 first_bytes (first.Commit c) = refl
 
-pub as_before : (bytes : List ℕ) (b : first.Body) → IsBytes bytes → first_reading.body_at bytes ≡ Ok b → body_at bytes ≡ Ok (lifted b)
+pub as_before : (bytes : List ℕ) (b : first.FirstBody) → IsBytes bytes → first_reading.body_at bytes ≡ Ok b → body_at bytes ≡ Ok (lifted b)
 as_before bytes b known e =
     let is = (first_laws.body_law bytes b known).0 e in
     first_at bytes (ap is_later is.spelled ∙ first_bytes b) ∙ ap lifted_answer e

@@ -1,11 +1,11 @@
 -- A proper beginning of a body is too short: the first field that fails lacks bytes.
 use Rattle.std.proofs.Common.{◌≡◌, ℕ, ◌^◌, ◌<◌, true, false, List, [], ◌∷◌, ◌++◌, length, Err, IsTrue, refl, sym, ap, ◌∙◌}
 use Rattle.std.specs.Int.{w32, w64, to_be_bytes}
-use Rattle.grammar.specs.Fields.{number_at}
-use Rattle.grammar.proofs.FieldLaws.{lawful_bytes, lawful_checked, wide16, wide32, wide64}
-use Rattle.message_fields.specs.Fingerprints.{is_batch}
-use Rattle.message_fields.proofs.PartLaws.{lawful_u32, lawful_u64}
-use Rattle.message_fields.proofs.FpLaws.{batch_to, small_batch}
+use Rattle.record_body.specs.Grammar.Fields.{number_at}
+use Rattle.record_body.proofs.Grammar.FieldLaws.{lawful_bytes, lawful_checked, wide16, wide32, wide64}
+use Rattle.record_body.specs.MessageFields.Fingerprints.{is_batch}
+use Rattle.record_body.proofs.MessageFields.PartLaws.{lawful_u32, lawful_u64}
+use Rattle.record_body.proofs.MessageFields.FpLaws.{batch_to, small_batch}
 use Rattle.record_body.specs.declared.body.BodyErr.TheVariants as errors
 use Rattle.record_body.specs.Spelling as first
 use Rattle.record_body.specs.Reading as first_reading
@@ -78,12 +78,12 @@ later_short b [] x rest later fits e = none_short
 later_short b (kind ∷ front) x rest later fits e =
     later_at (kind ∷ front) (later_front b front kind x rest later e) ∙ ap (judged (length (kind ∷ front))) (front_cut b (kind ∷ front) x rest later fits e)
 
-first_front : (b : first.Body) (front : List ℕ) (kind x : ℕ) (rest : List ℕ) → first.body_bytes b ≡ kind ∷ front ++ x ∷ rest → is_later (kind ∷ front) ≡ false
+first_front : (b : first.FirstBody) (front : List ℕ) (kind x : ℕ) (rest : List ℕ) → first.body_bytes b ≡ kind ∷ front ++ x ∷ rest → is_later (kind ∷ front) ≡ false
 first_front (first.Put user items) front kind x rest e =
     ap (λ (k : ℕ). is_later (k ∷ front)) (sym (peeled 1 kind _ (front ++ x ∷ rest) e).0)
 first_front (first.Commit c) front kind x rest e = ap (λ (k : ℕ). is_later (k ∷ front)) (sym (peeled 2 kind _ (front ++ x ∷ rest) e).0)
 
-first_short : (b : first.Body) (front : List ℕ) (x : ℕ) (rest : List ℕ) → first.FitsBody b → first.body_bytes b ≡ front ++ x ∷ rest → body_at front ≡ Err errors.Short
+first_short : (b : first.FirstBody) (front : List ℕ) (x : ℕ) (rest : List ℕ) → first.FitsBody b → first.body_bytes b ≡ front ++ x ∷ rest → body_at front ≡ Err errors.Short
 first_short b [] x rest fits e = none_short
 first_short b (kind ∷ front) x rest fits e =
     first_at (kind ∷ front) (first_front b front kind x rest e) ∙ ap lifted_answer (first_cuts.short b (kind ∷ front) x rest fits e)

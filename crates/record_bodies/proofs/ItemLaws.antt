@@ -1,11 +1,11 @@
 -- Items of a Kept are read as they are spelled.
 use Rattle.std.proofs.Common.{List, length, refl}
 use Rattle.std.specs.Prelude.{All}
-use Rattle.grammar.proofs.Laws.{lawful_then}
-use Rattle.grammar.proofs.FieldLaws.{IsBytes, Anything, LawfulBytes, lawful_bytes}
-use Rattle.message_fields.specs.Fingerprints.{IsBatch, is_batch}
-use Rattle.message_fields.proofs.PartLaws.{lawful_made, lawful_times, lawful_counted}
-use Rattle.message_fields.proofs.FpLaws.{batch_from, batch_to, small_batch}
+use Rattle.record_body.proofs.Grammar.Laws.{lawful_then}
+use Rattle.record_body.proofs.Grammar.FieldLaws.{IsBytes, Anything, LawfulBytes, lawful_bytes}
+use Rattle.record_body.specs.MessageFields.Fingerprints.{IsBatch, is_batch}
+use Rattle.record_body.proofs.MessageFields.PartLaws.{lawful_made, lawful_times, lawful_counted}
+use Rattle.record_body.proofs.MessageFields.FpLaws.{batch_from, batch_to, small_batch}
 use Rattle.record_body.proofs.ItemLaws.{lawful_place}
 use Rattle.record_bodies.specs.declared.body.KeptItem.{KeptItem}
 use Rattle.record_bodies.specs.Spelling.{kept_bytes, kept_fields, FitsKept}

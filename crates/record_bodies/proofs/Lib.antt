@@ -3,3 +3,4 @@ pub mod BodyLaws
 pub mod Cuts
 pub mod Spelled
 pub mod Walks
+pub mod RecordBody

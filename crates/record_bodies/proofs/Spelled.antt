@@ -6,7 +6,7 @@ use Rattle.std.specs.Int.{w32, w64, to_be_bytes}
 use Rattle.std.proofs.lemmas.List.{length-append}
 use Rattle.std.proofs.lemmas.List.Concat.{flat_map-cons}
 use Rattle.std.proofs.lemmas.List.Elements.{All-head, All-tail}
-use Rattle.cd_base.specs.declared.place.Place.{Place}
+use Rattle.record_body.specs.CdBase.place.Place.{Place}
 use Rattle.record_body.specs.Spelling.{place_bytes, placed_bytes}
 use Rattle.record_body.specs.Spelling as first
 use Rattle.record_body.proofs.Spelled as first_spelled

@@ -4,19 +4,19 @@ use Rattle.std.specs.Prelude.{IsErr}
 use Rattle.std.specs.Int.{w16, from_be_bytes}
 use Rattle.std.proofs.lemmas.Bool.{ltb-false}
 use Rattle.std.proofs.lemmas.List.{drop_at, drop-drop, length-append, length-drop}
-use Rattle.grammar.specs.Readers.{◌>>=◌}
-use Rattle.grammar.specs.Fields.{number_at, checked}
-use Rattle.grammar.proofs.Laws.{bind_ok, ok_is}
-use Rattle.grammar.proofs.FieldLaws.{IsBytes, guard_ok, test_ok}
-use Rattle.message_fields.specs.Parts.{times, behind}
-use Rattle.message_fields.specs.Fingerprints.{is_batch}
-use Rattle.message_fields.proofs.PartLaws.{bytes_drop}
-use Rattle.message_fields.proofs.Loops.{behind_ok}
+use Rattle.record_body.specs.Grammar.Readers.{◌>>=◌}
+use Rattle.record_body.specs.Grammar.Fields.{number_at, checked}
+use Rattle.record_body.proofs.Grammar.Laws.{bind_ok, ok_is}
+use Rattle.record_body.proofs.Grammar.FieldLaws.{IsBytes, guard_ok, test_ok}
+use Rattle.record_body.specs.MessageFields.Parts.{times, behind}
+use Rattle.record_body.specs.MessageFields.Fingerprints.{is_batch}
+use Rattle.record_body.proofs.MessageFields.PartLaws.{bytes_drop}
+use Rattle.record_body.proofs.MessageFields.Loops.{behind_ok}
 use Rattle.record_bodies.specs.declared.body.KeptItem.{KeptItem}
 use Rattle.record_bodies.specs.declared.body.FoundKept.{FoundKept}
 use Rattle.record_bodies.specs.Spelling.{kept_bytes}
 use Rattle.record_bodies.specs.Reading.{item_at, items_at}
-use Rattle.record_bodies.specs.InPlace.{read_items, is_read, Walk, LiesIn, IsItemAt, StepsOver}
+use Rattle.record_bodies.specs.InPlace.{read_items, is_read, Walk, AreItemsIn, IsItemAt, StepsOver}
 use Rattle.record_bodies.proofs.ItemLaws.{lawful_item}
 use Rattle.record_bodies.proofs.Spelled.{length-item}
 
@@ -35,7 +35,7 @@ read_ok : (r : Result (List KeptItem × List ℕ) ℕ) → IsTrue (is_read r) �
 read_ok (Ok x) h = (x.1, refl)
 read_ok (Err left) h = absurd (let no : false ≡ true = h in cc)
 
-pub length-read : (body : List ℕ) (at count : ℕ) → LiesIn body at count → length (read_items (times item_at count (drop at body))) ≡ count
+pub length-read : (body : List ℕ) (at count : ℕ) → AreItemsIn body at count → length (read_items (times item_at count (drop at body))) ≡ count
 length-read body at count lies =
     let r = read_ok (times item_at count (drop at body)) lies.read in
     counted count (drop at body) (read_items (times item_at count (drop at body))) r.0 r.1
@@ -65,7 +65,7 @@ pub not_read : (body : List ℕ) (at left : ℕ) → item_at (drop at body) ≡ 
 not_read body at left e = rw e refl
 
 -- there is one while items are to come
-pub item_there : (body : List ℕ) (at count m : ℕ) → LiesIn body at count → count ≡ suc m → IsErr (item_at (drop at body)) → ⊥
+pub item_there : (body : List ℕ) (at count m : ℕ) → AreItemsIn body at count → count ≡ suc m → IsErr (item_at (drop at body)) → ⊥
 item_there body at count m lies some none = fails (item_at (drop at body)) refl none
   where
     fails : (r : Result (KeptItem × List ℕ) ℕ) → item_at (drop at body) ≡ r → IsErr r → ⊥
@@ -97,10 +97,10 @@ abbrev found_at : KeptItem → ℕ → FoundKept
 found_at item at = record { item = item; fp_at = at; place_at = at + 32 }
 
 pub record Steps (body : List ℕ) (at count next m : ℕ) (item : KeptItem) : Type 0 where
-  pub lies : LiesIn body next m
+  pub lies : AreItemsIn body next m
   pub over : StepsOver (walk_at body at count) (found_at item at) (walk_at body next m)
 
-pub steps : (body : List ℕ) (at count next m : ℕ) (item : KeptItem) → LiesIn body at count → count ≡ suc m → IsItemAt body at item next → Steps body at count next m item
+pub steps : (body : List ℕ) (at count next m : ℕ) (item : KeptItem) → AreItemsIn body at count → count ≡ suc m → IsItemAt body at item next → Steps body at count next m item
 steps body at count next m item lies some is =
     let all : times item_at count (drop at body) ≡ before item (times item_at m (drop next body)) =
     ap (λ (n : ℕ). times item_at n (drop at body)) some ∙ first_item m (drop at body) item (drop next body) is.read in
@@ -129,7 +129,7 @@ count_rest bytes n rest e =
 
 -- the items of a Kept lie in its body, from place 3 on
 pub record Begins (body fields : List ℕ) (count : ℕ) (rest : List ℕ) : Type 0 where
-  pub lies : LiesIn body 3 count
+  pub lies : AreItemsIn body 3 count
   pub read : items_at fields ≡ Ok (read_items (times item_at count (drop 3 body)), rest)
 
 pub begins : (body fields : List ℕ) (count : ℕ) (items rest : List ℕ) → body ≡ 4 ∷ fields

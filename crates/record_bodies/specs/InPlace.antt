@@ -1,6 +1,6 @@
 -- Items of a Kept in the bytes of a body.
 use Rattle.std.specs.Prelude.{◌≡◌, ℕ, ◌+◌, ◌≤◌, Bool, true, false, List, [], ◌∷◌, length, drop, Result, Ok, Err, IsTrue}
-use Rattle.message_fields.specs.Parts.{times}
+use Rattle.record_body.specs.MessageFields.Parts.{times}
 use Rattle.record_bodies.specs.declared.body.KeptItem.{KeptItem}
 use Rattle.record_bodies.specs.declared.body.FoundKept.{FoundKept}
 use Rattle.record_bodies.specs.Spelling.{FitsKept}
@@ -23,7 +23,7 @@ pub record Walk : Type 0 where
   pub items : List KeptItem
 
 -- so many items lie in the body from the place on
-pub record LiesIn (body : List ℕ) (at count : ℕ) : Type 0 where
+pub record AreItemsIn (body : List ℕ) (at count : ℕ) : Type 0 where
   pub within : at ≤ length body
   pub read : IsTrue (is_read (times item_at count (drop at body)))
 

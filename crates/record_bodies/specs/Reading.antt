@@ -2,10 +2,10 @@
 -- on, and so 0 where a field lacks bytes.
 use Rattle.std.specs.Prelude.{ℕ, zero, suc, ◌-◌, ◌&&◌, Bool, false, List, [], ◌∷◌, length, Result, Ok, Err, ◌==◌, nat_le, if◌then◌else◌}
 use Rattle.std.specs.Int.{w16, w32, w64}
-use Rattle.grammar.specs.Readers.{◌▷◌, ◌▷▷◌}
-use Rattle.grammar.specs.Fields.{number_at, bytes_at, checked}
-use Rattle.message_fields.specs.Parts.{made, times}
-use Rattle.message_fields.specs.Fingerprints.{is_batch}
+use Rattle.record_body.specs.Grammar.Readers.{◌▷◌, ◌▷▷◌}
+use Rattle.record_body.specs.Grammar.Fields.{number_at, bytes_at, checked}
+use Rattle.record_body.specs.MessageFields.Parts.{made, times}
+use Rattle.record_body.specs.MessageFields.Fingerprints.{is_batch}
 use Rattle.record_body.specs.declared.body.BodyErr.{BodyErr}
 use Rattle.record_body.specs.declared.body.BodyErr.TheVariants as errors
 use Rattle.record_body.specs.Reading.{place_at}
@@ -68,7 +68,7 @@ is_later [] = false
 is_later (kind ∷ fields) = nat_le 3 kind && nat_le kind 5
 
 -- the answer for a Put or a Commit
-abbrev pub lifted_answer : Result first.Body BodyErr → Result Body BodyErr
+abbrev pub lifted_answer : Result first.FirstBody BodyErr → Result Body BodyErr
 lifted_answer (Ok b) = Ok (lifted b)
 lifted_answer (Err e) = Err e
 

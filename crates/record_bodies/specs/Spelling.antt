@@ -2,8 +2,8 @@
 use Rattle.std.specs.Prelude.{◌≡◌, ℕ, ◌<◌, ◌^◌, List, ◌∷◌, ◌++◌, length, All}
 use Rattle.std.specs.List.{flat_map}
 use Rattle.std.specs.Int.{w16, w32, w64, to_be_bytes}
-use Rattle.cd_base.specs.declared.ids.UserId.{UserId}
-use Rattle.message_fields.specs.Fingerprints.{IsBatch}
+use Rattle.record_body.specs.CdBase.ids.UserId.{UserId}
+use Rattle.record_body.specs.MessageFields.Fingerprints.{IsBatch}
 use Rattle.record_body.specs.declared.body.PutItem.{PutItem}
 use Rattle.record_body.specs.declared.body.CommitBody.{CommitBody}
 use Rattle.record_body.specs.Spelling.{place_bytes, FitsPlace}
@@ -22,7 +22,7 @@ pub data Body : Type 0 where
   Spent : (spent : SpentBody) → Body
 
 -- a Put or a Commit
-abbrev pub lifted : first.Body → Body
+abbrev pub lifted : first.FirstBody → Body
 lifted (first.Put user items) = Put user items
 lifted (first.Commit commit) = Commit commit
 

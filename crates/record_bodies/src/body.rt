@@ -1,6 +1,6 @@
 //! The values of the bodies of a Delete, a Kept and a Spent.
 
-use cd_base::{Fp, Place, Tag, UserId, Version};
+use record_body::{Fp, Place, Tag, UserId, Version};
 
 /// A Delete: the version of a user's file that is taken out.
 #[derive(Clone, Copy, Debug, PartialEq, Eq)]

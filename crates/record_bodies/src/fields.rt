@@ -1,14 +1,15 @@
 //! Reading the fields of a Delete, a Kept and a Spent, from left to right.
 
-ghost use Rattle.message_fields.specs.Parts.{times, behind};
-ghost use Rattle.message_fields.specs.Readings.{IsReading};
+ghost use Rattle.record_body.specs.MessageFields.Parts.{times, behind};
+ghost use Rattle.record_body.specs.MessageFields.Readings.{IsReading};
 ghost use Rattle.record_body.specs.Reading.{place_at};
 ghost use Rattle.record_bodies.specs.Reading.{item_at, delete_at, spent_at};
 ghost use Rattle.record_bodies.specs.Spelling.{Delete, Spent};
 
 use crate::{DeleteBody, KeptItem, SpentBody};
-use cd_base::{Place, Tag, Version};
-use message_fields::{Left, array_of, fp_of, share_len_of, u32_of, u64_of, user_of};
+use record_body::{
+    Left, Place, Tag, Version, array_of, fp_of, share_len_of, u32_of, u64_of, user_of,
+};
 
 #[tactic(auto, unfolding(record_body::specs::Reading::place_at))]
 fn place_of(bytes: &[u8]) -> Result<(Place, &[u8]), Left>

@@ -1,9 +1,9 @@
 //! The items of a Kept, one after another, in the bytes that they came in.
 
 ghost use Rattle.std.specs.Prelude.{◌≡◌, ◌≤◌, [], length, drop, IsErr, MatchOption};
-ghost use Rattle.message_fields.specs.Parts.{times};
+ghost use Rattle.record_body.specs.MessageFields.Parts.{times};
 ghost use Rattle.record_bodies.specs.Reading.{item_at};
-ghost use Rattle.record_bodies.specs.InPlace.{LiesIn, IsItemAt, StepsOver, read_items};
+ghost use Rattle.record_bodies.specs.InPlace.{AreItemsIn, IsItemAt, StepsOver, read_items};
 
 use crate::fields::item_of;
 use crate::{FoundKept, KeptItem};
@@ -20,15 +20,15 @@ pub struct KeptItems<'a> {
 
 impl<'a> Model for KeptItems<'a> {
     ghost use Rattle.std.specs.Prelude.{drop};
-    ghost use Rattle.message_fields.specs.Parts.{times};
+    ghost use Rattle.record_body.specs.MessageFields.Parts.{times};
     ghost use Rattle.record_bodies.specs.Reading.{item_at};
-    ghost use Rattle.record_bodies.specs.InPlace.{Walk, LiesIn, read_items};
+    ghost use Rattle.record_bodies.specs.InPlace.{Walk, AreItemsIn, read_items};
 
     ghost Value = { Walk };
 
     ghost view = { λ w. record { body = w.body.now; at = w.at; items = read_items (times item_at w.count (drop w.at w.body.now)) } };
 
-    ghost invariant = { λ w. LiesIn w.body.now w.at w.count };
+    ghost invariant = { λ w. AreItemsIn w.body.now w.at w.count };
 }
 
 // The item that begins at a place of a body, and the place behind it.
@@ -46,7 +46,7 @@ fn item_from(body: &[u8], at: usize) -> Option<(KeptItem, usize)>
 impl<'a> KeptItems<'a> {
     // The walk over so many items, from a place of the body on.
     pub(crate) fn over(body: &'a [u8], at: usize, count: usize) -> KeptItems<'a>
-        requires { LiesIn body.now at count }
+        requires { AreItemsIn body.now at count }
         ensures body { result.body ≡ body.now }
         ensures at { result.at ≡ at }
         ensures items { result.items ≡ read_items (times item_at count (drop at body.now)) }

@@ -26,7 +26,7 @@ pub fn reading_laws()
     ensures short { (b : Body) (front : List ℕ) (x : ℕ) (rest : List ℕ) → FitsBody b
         → body_bytes b ≡ front ++ x ∷ rest → body_at front ≡ Err Short }
     // the bytes of a Put and of a Commit are read as they are where there are no other kinds
-    ensures before { (bytes : List ℕ) (b : first.Body) → All (λ x. x < 256) bytes
+    ensures before { (bytes : List ℕ) (b : first.FirstBody) → All (λ x. x < 256) bytes
         → first_reading.body_at bytes ≡ Ok b → body_at bytes ≡ Ok (lifted b) }
 {}
 

@@ -13,6 +13,6 @@ mod writing;
 
 pub use body::{DeleteBody, FoundKept, KeptItem, SpentBody};
 pub use items::KeptItems;
-pub use record_body::{BodyErr, CommitBody, FoundItem, PutItem, PutItems};
+pub use record_body::{BodyErr, CommitBody, FoundItem, PutItem, PutItems, Room, UserId};
 pub use view::BodyView;
 pub use writing::BodyBuf;

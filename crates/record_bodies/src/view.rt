@@ -1,7 +1,7 @@
 //! A body in the bytes that it came in.
 
 ghost use Rattle.std.specs.Prelude.{◌≡◌, ◌∷◌, ◌↔◌, length, Ok, Err, MatchResult, IfOk, IfErr};
-ghost use Rattle.message_fields.specs.Readings.{IsReading};
+ghost use Rattle.record_body.specs.MessageFields.Readings.{IsReading};
 ghost use Rattle.record_body.specs.Reading as first_reading;
 ghost use Rattle.record_body.specs.Reading.{IsPlaced};
 ghost use Rattle.record_bodies.specs.Spelling.{Body, IsBody};
@@ -10,9 +10,7 @@ ghost use Rattle.record_bodies.specs.Seen.{seen, StartsIn};
 
 use crate::fields::{behind_items, delete_of, spent_of};
 use crate::{BodyErr, CommitBody, DeleteBody, KeptItems, PutItems, SpentBody};
-use cd_base::UserId;
-use message_fields::{Left, batch_of};
-use record_body::BodyView as FirstView;
+use record_body::{FirstBodyView as FirstView, Left, UserId, batch_of};
 
 /// A body in the bytes that it came in. It takes no memory.
 #[derive(Debug, Drop)]

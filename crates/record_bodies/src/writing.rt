@@ -5,7 +5,7 @@ ghost use Rattle.record_body.specs.Spelling.{put_front, placed_bytes, item_bytes
 ghost use Rattle.record_bodies.specs.Spelling.{Commit, Delete, Spent, kept_front, kept_bytes, body_bytes};
 
 use crate::{CommitBody, DeleteBody, KeptItem, PutItem, SpentBody};
-use cd_base::{NoMemory, Place, UserId};
+use record_body::{NoMemory, Place, UserId};
 use std::alloc::Global;
 use std::marker::Model;
 

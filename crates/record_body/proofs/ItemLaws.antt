@@ -4,9 +4,9 @@ use Rattle.std.specs.Prelude.{All}
 use Rattle.std.specs.List.{flat_map}
 use Rattle.std.specs.Int.{w16, to_be_bytes}
 use Rattle.std.proofs.lemmas.Bool.{and_parts, leb-true, le-leb}
-use Rattle.cd_base.specs.declared.place.Place.{Place}
-use Rattle.grammar.proofs.Laws.{Takes, bind_ok, bind_err, ok_is, err_is, lawful_then}
-use Rattle.grammar.proofs.FieldLaws.{IsBytes, Anything, LawfulBytes, lawful_bytes, lawful_checked, wide32}
+use Rattle.message_fields.specs.CdBase.place.Place.{Place}
+use Rattle.message_fields.proofs.Grammar.Laws.{Takes, bind_ok, bind_err, ok_is, err_is, lawful_then}
+use Rattle.message_fields.proofs.Grammar.FieldLaws.{IsBytes, Anything, LawfulBytes, lawful_bytes, lawful_checked, wide32}
 use Rattle.message_fields.specs.Parts.{made}
 use Rattle.message_fields.specs.Fingerprints.{IsBatch, is_batch}
 use Rattle.message_fields.specs.Shares.{is_share_len}

@@ -3,3 +3,5 @@ pub mod BodyLaws
 pub mod Walks
 pub mod Spelled
 pub mod Cuts
+pub mod MessageFields
+pub mod Grammar

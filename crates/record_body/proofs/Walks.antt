@@ -4,20 +4,20 @@ use Rattle.std.specs.Prelude.{IsErr, IfSome}
 use Rattle.std.specs.Int.{w16, w32, from_be_bytes}
 use Rattle.std.proofs.lemmas.Bool.{ltb-false}
 use Rattle.std.proofs.lemmas.List.{drop_at, drop-drop, length-append, length-drop}
-use Rattle.grammar.specs.Readers.{◌>>=◌}
-use Rattle.grammar.specs.Fields.{number_at, checked}
-use Rattle.grammar.proofs.Laws.{bind_ok, ok_is}
-use Rattle.grammar.proofs.FieldLaws.{IsBytes, guard_ok, test_ok}
+use Rattle.message_fields.specs.Grammar.Readers.{◌>>=◌}
+use Rattle.message_fields.specs.Grammar.Fields.{number_at, checked}
+use Rattle.message_fields.proofs.Grammar.Laws.{bind_ok, ok_is}
+use Rattle.message_fields.proofs.Grammar.FieldLaws.{IsBytes, guard_ok, test_ok}
 use Rattle.message_fields.specs.Parts.{times, behind}
 use Rattle.message_fields.specs.Fingerprints.{is_batch}
 use Rattle.message_fields.proofs.PartLaws.{bytes_drop}
 use Rattle.message_fields.proofs.Loops.{behind_ok}
-use Rattle.cd_base.specs.declared.place.Place.{Place}
+use Rattle.message_fields.specs.CdBase.place.Place.{Place}
 use Rattle.record_body.specs.declared.body.PutItem.{PutItem}
 use Rattle.record_body.specs.declared.body.FoundItem.{FoundItem}
 use Rattle.record_body.specs.Spelling.{placed_bytes, item_bytes, FitsItem}
 use Rattle.record_body.specs.Reading.{item_at, items_at}
-use Rattle.record_body.specs.InPlace.{read_items, is_read, Walk, LiesIn, IsItemAt, StepsOver}
+use Rattle.record_body.specs.InPlace.{read_items, is_read, FirstWalk, AreFirstItemsIn, IsFirstItemAt, IsFirstStepOver}
 use Rattle.record_body.proofs.ItemLaws.{lawful_item}
 
 -- ---- how many there are
@@ -35,7 +35,7 @@ read_ok : (r : Result (List PutItem × List ℕ) ℕ) → IsTrue (is_read r) →
 read_ok (Ok x) h = (x.1, refl)
 read_ok (Err left) h = absurd (let no : false ≡ true = h in cc)
 
-pub length-read : (body : List ℕ) (at count : ℕ) → LiesIn body at count → length (read_items (times item_at count (drop at body))) ≡ count
+pub length-read : (body : List ℕ) (at count : ℕ) → AreFirstItemsIn body at count → length (read_items (times item_at count (drop at body))) ≡ count
 length-read body at count lies =
     let r = read_ok (times item_at count (drop at body)) lies.read in
     counted count (drop at body) (read_items (times item_at count (drop at body))) r.0 r.1
@@ -65,7 +65,7 @@ pub not_read : (body : List ℕ) (at left : ℕ) → item_at (drop at body) ≡ 
 not_read body at left e = rw e refl
 
 -- there is one while items are to come
-pub item_there : (body : List ℕ) (at count m : ℕ) → LiesIn body at count → count ≡ suc m → IsErr (item_at (drop at body)) → ⊥
+pub item_there : (body : List ℕ) (at count m : ℕ) → AreFirstItemsIn body at count → count ≡ suc m → IsErr (item_at (drop at body)) → ⊥
 item_there body at count m lies some none = fails (item_at (drop at body)) refl none
   where
     fails : (r : Result (PutItem × List ℕ) ℕ) → item_at (drop at body) ≡ r → IsErr r → ⊥
@@ -82,7 +82,7 @@ flag_there (Some place) = omega arith
 some_bytes : (item : PutItem) → FitsItem item → 33 ≤ length (item_bytes item)
 some_bytes item fits = omega (arith, fits.0, flag_there item.place, length-append item.fp.0 (placed_bytes item.place))
 
-pub item_ends : (body : List ℕ) (at : ℕ) (item : PutItem) (rest : List ℕ) (next : ℕ) → IsBytes body → at ≤ length body → item_at (drop at body) ≡ Ok (item, rest) → next ≡ length body - length rest → IsItemAt body at item next
+pub item_ends : (body : List ℕ) (at : ℕ) (item : PutItem) (rest : List ℕ) (next : ℕ) → IsBytes body → at ≤ length body → item_at (drop at body) ≡ Ok (item, rest) → next ≡ length body - length rest → IsFirstItemAt body at item next
 item_ends body at item rest next known within e is_next =
     let t = lawful_item.takes (drop at body) item rest (bytes_drop at body known) e in
     let parts : drop at body ≡ item_bytes item ++ rest = t.0.parts in
@@ -105,17 +105,17 @@ placed_within : (item : PutItem) (at len : ℕ) → FitsItem item → at + lengt
 placed_within item at len fits le =
     place_there item.place at len (omega (arith, fits.0, length-append item.fp.0 (placed_bytes item.place)))
 
-abbrev walk_at : List ℕ → ℕ → ℕ → Walk
+abbrev walk_at : List ℕ → ℕ → ℕ → FirstWalk
 walk_at body at count = record { body = body; at = at; items = read_items (times item_at count (drop at body)) }
 
 abbrev found_at : PutItem → ℕ → FoundItem
 found_at item at = record { item = item; fp_at = at; flag_at = at + 32; place_at = at + 33 }
 
 pub record Steps (body : List ℕ) (at count next m : ℕ) (item : PutItem) : Type 0 where
-  pub lies : LiesIn body next m
-  pub over : StepsOver (walk_at body at count) (found_at item at) (walk_at body next m)
+  pub lies : AreFirstItemsIn body next m
+  pub over : IsFirstStepOver (walk_at body at count) (found_at item at) (walk_at body next m)
 
-pub steps : (body : List ℕ) (at count next m : ℕ) (item : PutItem) → LiesIn body at count → count ≡ suc m → IsItemAt body at item next → Steps body at count next m item
+pub steps : (body : List ℕ) (at count next m : ℕ) (item : PutItem) → AreFirstItemsIn body at count → count ≡ suc m → IsFirstItemAt body at item next → Steps body at count next m item
 steps body at count next m item lies some is =
     let all : times item_at count (drop at body) ≡ before item (times item_at m (drop next body)) =
     ap (λ (n : ℕ). times item_at n (drop at body)) some ∙ first_item m (drop at body) item (drop next body) is.read in
@@ -152,7 +152,7 @@ count_rest bytes n rest e =
 
 -- the items of a Put lie in its body, from place 7 on
 pub record Begins (body : List ℕ) (count : ℕ) (items rest : List ℕ) (fields : List ℕ) : Type 0 where
-  pub lies : LiesIn body 7 count
+  pub lies : AreFirstItemsIn body 7 count
   pub read : items_at fields ≡ Ok (read_items (times item_at count (drop 7 body)), rest)
 
 pub begins : (body fields : List ℕ) (user : ℕ) (behind_user : List ℕ) (count : ℕ) (items rest : List ℕ) → body ≡ 1 ∷ fields → number_at w32 fields ≡ Ok (user, behind_user)

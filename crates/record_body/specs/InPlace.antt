@@ -17,25 +17,25 @@ is_read (Ok x) = true
 is_read (Err left) = false
 
 -- a walk over items: the body, the place in it of the next item, and the items from there on
-pub record Walk : Type 0 where
+pub record FirstWalk : Type 0 where
   pub body : List ℕ
   pub at : ℕ
   pub items : List PutItem
 
 -- so many items lie in the body from the place on
-pub record LiesIn (body : List ℕ) (at count : ℕ) : Type 0 where
+pub record AreFirstItemsIn (body : List ℕ) (at count : ℕ) : Type 0 where
   pub within : at ≤ length body
   pub read : IsTrue (is_read (times item_at count (drop at body)))
 
 -- an item in a body: where it begins, and the place behind it
-pub record IsItemAt (body : List ℕ) (at : ℕ) (item : PutItem) (next : ℕ) : Type 0 where
+pub record IsFirstItemAt (body : List ℕ) (at : ℕ) (item : PutItem) (next : ℕ) : Type 0 where
   pub read : item_at (drop at body) ≡ Ok (item, drop next body)
   pub fits : FitsItem item
   pub ends : next ≡ at + length (item_bytes item)
   pub within : next ≤ length body
 
 -- one step of a walk, over an item
-pub record StepsOver (old : Walk) (found : FoundItem) (new : Walk) : Type 0 where
+pub record IsFirstStepOver (old : FirstWalk) (found : FoundItem) (new : FirstWalk) : Type 0 where
   pub items : old.items ≡ found.item ∷ new.items
   pub fits : FitsItem found.item
   pub fp_at : found.fp_at ≡ old.at

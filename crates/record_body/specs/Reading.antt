@@ -2,9 +2,9 @@
 -- on, and so 0 where a field lacks bytes.
 use Rattle.std.specs.Prelude.{ℕ, zero, suc, ◌-◌, ◌<◌, Bool, List, [], ◌∷◌, length, Option, Some, None, Result, Ok, Err, ◌==◌, nat_le, if◌then◌else◌}
 use Rattle.std.specs.Int.{w16, w32, w64}
-use Rattle.cd_base.specs.declared.place.Place.{Place}
-use Rattle.grammar.specs.Readers.{◌▷◌, ◌▷▷◌}
-use Rattle.grammar.specs.Fields.{number_at, bytes_at, checked}
+use Rattle.message_fields.specs.CdBase.place.Place.{Place}
+use Rattle.message_fields.specs.Grammar.Readers.{◌▷◌, ◌▷▷◌}
+use Rattle.message_fields.specs.Grammar.Fields.{number_at, bytes_at, checked}
 use Rattle.message_fields.specs.Parts.{made, times}
 use Rattle.message_fields.specs.Fingerprints.{is_batch}
 use Rattle.message_fields.specs.Shares.{is_share_len}
@@ -12,7 +12,7 @@ use Rattle.record_body.specs.declared.body.PutItem.{PutItem}
 use Rattle.record_body.specs.declared.body.CommitBody.{CommitBody}
 use Rattle.record_body.specs.declared.body.BodyErr.{BodyErr}
 use Rattle.record_body.specs.declared.body.BodyErr.TheVariants as errors
-use Rattle.record_body.specs.Spelling.{Body, Put, Commit}
+use Rattle.record_body.specs.Spelling.{FirstBody, Put, Commit}
 
 -- ---- an item of a Put
 
@@ -39,7 +39,7 @@ item_at = made (λ x. record { fp = record { 0 = x.0 }; place = x.1 }) (bytes_at
 unfoldable pub items_at : List ℕ → Result (List PutItem × List ℕ) ℕ
 items_at = made (λ x. x.1) (checked is_batch (number_at w16) ▷▷ times item_at)
 
-unfoldable pub put_at : List ℕ → Result (Body × List ℕ) ℕ
+unfoldable pub put_at : List ℕ → Result (FirstBody × List ℕ) ℕ
 put_at = made (λ x. Put (record { 0 = x.0 }) x.1) (number_at w32 ▷ items_at)
 
 -- a recipe has at least one byte
@@ -49,32 +49,32 @@ is_recipe_len n = nat_le 1 n
 abbrev pub make_commit : ℕ × (List ℕ × (ℕ × (ℕ × (ℕ × List ℕ)))) → CommitBody
 make_commit x = record { user = record { 0 = x.0 }; tag = record { 0 = x.1.0 }; version = record { 0 = x.1.1.0 }; at = x.1.1.1.0; len = x.1.1.1.1.0; fp = record { 0 = x.1.1.1.1.1 } }
 
-unfoldable pub commit_at : List ℕ → Result (Body × List ℕ) ℕ
+unfoldable pub commit_at : List ℕ → Result (FirstBody × List ℕ) ℕ
 commit_at = made (λ x. Commit (make_commit x)) (number_at w32 ▷ (bytes_at 32 ▷ (number_at w64 ▷ (number_at w64 ▷ (checked is_recipe_len (number_at w32) ▷ bytes_at 32)))))
 
 -- by the kind; an unknown one is wrong at its place
-unfoldable pub fields_at : ℕ → List ℕ → Result (Body × List ℕ) ℕ
+unfoldable pub fields_at : ℕ → List ℕ → Result (FirstBody × List ℕ) ℕ
 fields_at kind fields =
     if kind == 1 then put_at fields
     else if kind == 2 then commit_at fields
     else Err (length (kind ∷ fields))
 
 -- a body, and what follows it
-unfoldable pub front_at : List ℕ → Result (Body × List ℕ) ℕ
+unfoldable pub front_at : List ℕ → Result (FirstBody × List ℕ) ℕ
 front_at [] = Err 0
 front_at (kind ∷ fields) = fields_at kind fields
 
 -- ---- all the bytes
 
 -- the answer for so many bytes, counted from the front
-abbrev pub judged : ℕ → Result (Body × List ℕ) ℕ → Result Body BodyErr
+abbrev pub judged : ℕ → Result (FirstBody × List ℕ) ℕ → Result FirstBody BodyErr
 judged len (Ok (b, [])) = Ok b
 judged len (Ok (b, x ∷ rest)) = Err (errors.Extra (len - length (x ∷ rest)))
 judged len (Err zero) = Err errors.Short
 judged len (Err (suc left)) = Err (errors.Field (len - suc left))
 
 -- the body that the bytes are, or the first thing that fails
-unfoldable pub body_at : List ℕ → Result Body BodyErr
+unfoldable pub body_at : List ℕ → Result FirstBody BodyErr
 body_at bytes = judged (length bytes) (front_at bytes)
 
 -- an error's place is one of so many bytes

@@ -1,14 +1,14 @@
 -- The body that a view in the bytes is of.
 use Rattle.std.specs.Prelude.{◌≡◌, ℕ, List}
-use Rattle.record_body.specs.declared.view.BodyView.{BodyView}
-use Rattle.record_body.specs.declared.view.BodyView.TheVariants as views
-use Rattle.record_body.specs.Spelling.{Body, Put, Commit}
+use Rattle.record_body.specs.declared.view.FirstBodyView.{FirstBodyView}
+use Rattle.record_body.specs.declared.view.FirstBodyView.TheVariants as views
+use Rattle.record_body.specs.Spelling.{FirstBody, Put, Commit}
 
-abbrev pub seen : BodyView → Body
+abbrev pub seen : FirstBodyView → FirstBody
 seen (views.Put user items) = Put user items.items
 seen (views.Commit commit) = Commit commit
 
 -- the walk over the items goes over these bytes, from the first item on
-abbrev pub StartsIn : List ℕ → BodyView → Type 0
+abbrev pub StartsIn : List ℕ → FirstBodyView → Type 0
 StartsIn bytes (views.Put user items) = (items.body ≡ bytes) × (items.at ≡ 7)
 StartsIn bytes (views.Commit commit) = Unit {0}

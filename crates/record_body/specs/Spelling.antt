@@ -2,17 +2,17 @@
 use Rattle.std.specs.Prelude.{◌≡◌, ℕ, ◌<◌, ◌≤◌, ◌^◌, List, [], ◌∷◌, ◌++◌, length, All, Option, Some, None}
 use Rattle.std.specs.List.{flat_map}
 use Rattle.std.specs.Int.{w16, w32, w64, to_be_bytes}
-use Rattle.cd_base.specs.declared.ids.UserId.{UserId}
-use Rattle.cd_base.specs.declared.place.Place.{Place}
+use Rattle.message_fields.specs.CdBase.ids.UserId.{UserId}
+use Rattle.message_fields.specs.CdBase.place.Place.{Place}
 use Rattle.message_fields.specs.Fingerprints.{IsBatch}
 use Rattle.message_fields.specs.Shares.{share_limit}
 use Rattle.record_body.specs.declared.body.PutItem.{PutItem}
 use Rattle.record_body.specs.declared.body.CommitBody.{CommitBody}
 
 -- What a record says: that a user's shares are stored, or that a version of a user's file is entered.
-pub data Body : Type 0 where
-  Put : (user : UserId) (items : List PutItem) → Body
-  Commit : (commit : CommitBody) → Body
+pub data FirstBody : Type 0 where
+  Put : (user : UserId) (items : List PutItem) → FirstBody
+  Commit : (commit : CommitBody) → FirstBody
 
 -- ---- spelling
 
@@ -35,7 +35,7 @@ abbrev pub commit_fields : CommitBody → List ℕ
 commit_fields c = to_be_bytes w32 c.user.0 ++ (c.tag.0 ++ (to_be_bytes w64 c.version.0 ++ (to_be_bytes w64 c.at ++ (to_be_bytes w32 c.len ++ c.fp.0))))
 
 -- the kind, and then the fields
-abbrev pub body_bytes : Body → List ℕ
+abbrev pub body_bytes : FirstBody → List ℕ
 body_bytes (Put user items) = 1 ∷ (to_be_bytes w32 user.0 ++ (to_be_bytes w16 (length items) ++ flat_map item_bytes items))
 body_bytes (Commit commit) = 2 ∷ commit_fields commit
 
@@ -62,11 +62,11 @@ pub record FitsCommit (c : CommitBody) : Type 0 where
   pub fp : length c.fp.0 ≡ 32
 
 -- each field is in its range, and a Put has 1 to 256 items
-abbrev pub FitsBody : Body → Type 0
+abbrev pub FitsBody : FirstBody → Type 0
 FitsBody (Put user items) = (user.0 < 2 ^ 32) × (IsBatch items × All FitsItem items)
 FitsBody (Commit commit) = FitsCommit commit
 
 -- The bytes are this body: its one spelling, and each field is in its range.
-pub record IsBody (bytes : List ℕ) (b : Body) : Type 0 where
+pub record IsFirstBody (bytes : List ℕ) (b : FirstBody) : Type 0 where
   pub fits : FitsBody b
   pub spelled : bytes ≡ body_bytes b

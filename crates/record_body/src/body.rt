@@ -1,6 +1,6 @@
 //! The values of a body, and why bytes are no body.
 
-use cd_base::{Fp, Place, Tag, UserId, Version};
+use message_fields::{Fp, Place, Tag, UserId, Version};
 
 /// A share of a Put: its fingerprint, and where the share now lies if it was placed nowhere before. A place names 1 to 8,208
 /// bytes.

@@ -1,15 +1,16 @@
 //! Reading the fields of a body, from left to right.
 
 ghost use Rattle.std.specs.Int.{w32};
-ghost use Rattle.grammar.specs.Fields.{number_at, checked};
+ghost use Rattle.message_fields.specs.Grammar.Fields.{number_at, checked};
 ghost use Rattle.message_fields.specs.Parts.{times, behind};
 ghost use Rattle.message_fields.specs.Readings.{IsReading};
 ghost use Rattle.record_body.specs.Reading.{place_at, placed_at, item_at, commit_at, is_recipe_len};
 ghost use Rattle.record_body.specs.Spelling.{Commit};
 
 use crate::{CommitBody, PutItem};
-use cd_base::{Place, Tag, Version};
-use message_fields::{Left, array_of, fp_of, share_len_of, u32_of, u64_of, user_of};
+use message_fields::{
+    Left, Place, Tag, Version, array_of, fp_of, share_len_of, u32_of, u64_of, user_of,
+};
 
 // The length of a recipe, at least 1.
 fn recipe_len_of(bytes: &[u8]) -> Result<(u32, &[u8]), Left>

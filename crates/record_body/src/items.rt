@@ -3,7 +3,7 @@
 ghost use Rattle.std.specs.Prelude.{◌≡◌, ◌≤◌, [], length, drop, IsErr, MatchOption};
 ghost use Rattle.message_fields.specs.Parts.{times};
 ghost use Rattle.record_body.specs.Reading.{item_at};
-ghost use Rattle.record_body.specs.InPlace.{LiesIn, IsItemAt, StepsOver, read_items};
+ghost use Rattle.record_body.specs.InPlace.{AreFirstItemsIn, IsFirstItemAt, IsFirstStepOver, read_items};
 
 use crate::fields::item_of;
 use crate::{FoundItem, PutItem};
@@ -22,19 +22,19 @@ impl<'a> Model for PutItems<'a> {
     ghost use Rattle.std.specs.Prelude.{drop};
     ghost use Rattle.message_fields.specs.Parts.{times};
     ghost use Rattle.record_body.specs.Reading.{item_at};
-    ghost use Rattle.record_body.specs.InPlace.{Walk, LiesIn, read_items};
+    ghost use Rattle.record_body.specs.InPlace.{FirstWalk, AreFirstItemsIn, read_items};
 
-    ghost Value = { Walk };
+    ghost Value = { FirstWalk };
 
     ghost view = { λ w. record { body = w.body.now; at = w.at; items = read_items (times item_at w.count (drop w.at w.body.now)) } };
 
-    ghost invariant = { λ w. LiesIn w.body.now w.at w.count };
+    ghost invariant = { λ w. AreFirstItemsIn w.body.now w.at w.count };
 }
 
 // The item that begins at a place of a body, and the place behind it.
 fn item_from(body: &[u8], at: usize) -> Option<(PutItem, usize)>
     requires { at ≤ length body.now }
-    ensures { MatchOption result (IsErr (item_at (drop at body.now))) (λ x. IsItemAt body.now at x.0 x.1) }
+    ensures { MatchOption result (IsErr (item_at (drop at body.now))) (λ x. IsFirstItemAt body.now at x.0 x.1) }
 {
     let (_, bytes) = body.split_at(at);
     match item_of(bytes) {
@@ -46,7 +46,7 @@ fn item_from(body: &[u8], at: usize) -> Option<(PutItem, usize)>
 impl<'a> PutItems<'a> {
     // The walk over so many items, from a place of the body on.
     pub(crate) fn over(body: &'a [u8], at: usize, count: usize) -> PutItems<'a>
-        requires { LiesIn body.now at count }
+        requires { AreFirstItemsIn body.now at count }
         ensures body { result.body ≡ body.now }
         ensures at { result.at ≡ at }
         ensures items { result.items ≡ read_items (times item_at count (drop at body.now)) }
@@ -76,7 +76,7 @@ impl<'a> PutItems<'a> {
     /// behind the item. An item has 33 bytes, or 45 with a place.
     pub fn next(&mut self) -> Option<FoundItem>
         ensures { MatchOption result ((self.old.items ≡ [])
-            × (self.new ≡ self.old)) (λ found. StepsOver self.old found self.new) }
+            × (self.new ≡ self.old)) (λ found. IsFirstStepOver self.old found self.new) }
     {
         if self.count == 0 {
             return None;

@@ -2,26 +2,28 @@
 
 ghost use Rattle.std.specs.Prelude.{◌≡◌, ◌↔◌, ℕ, ◌<◌, ◌≤◌, ◌+◌, ◌*◌, List, ◌∷◌, ◌++◌, length, All, Ok, Err, count_by, is_some};
 ghost use Rattle.std.specs.List.{flat_map};
-ghost use Rattle.cd_base.specs.declared.ids.UserId.{UserId};
+ghost use Rattle.message_fields.specs.CdBase.ids.UserId.{UserId};
 ghost use Rattle.record_body.specs.declared.body.PutItem.{PutItem};
 ghost use Rattle.record_body.specs.declared.body.CommitBody.{CommitBody};
 ghost use Rattle.record_body.specs.declared.body.BodyErr.TheVariants.{Extra, Short};
-ghost use Rattle.record_body.specs.Spelling.{Body, Put, Commit, FitsItem, FitsBody, FitsCommit, IsBody, put_front, item_bytes, body_bytes};
+ghost use Rattle.record_body.specs.Spelling.{FirstBody, Put, Commit, FitsItem, FitsBody, FitsCommit, IsFirstBody, put_front, item_bytes, body_bytes};
 ghost use Rattle.record_body.specs.Reading.{body_at};
 
 /// Reading and spelling are inverse.
 pub fn reading_laws()
     // bytes are read as a body exactly where they are its spelling
-    ensures exact { (bytes : List ℕ) (b : Body) → All (λ x. x < 256) bytes → (body_at bytes ≡ Ok b) ↔ IsBody bytes b }
+    ensures exact { (bytes : List ℕ) (b : FirstBody) → All (λ x. x < 256) bytes
+        → (body_at bytes ≡ Ok b) ↔ IsFirstBody bytes b }
     // a body is read again
-    ensures again { (b : Body) → FitsBody b → body_at (body_bytes b) ≡ Ok b }
+    ensures again { (b : FirstBody) → FitsBody b → body_at (body_bytes b) ≡ Ok b }
     // no two bodies have one spelling
-    ensures one { (a b : Body) → FitsBody a → FitsBody b → body_bytes a ≡ body_bytes b → a ≡ b }
+    ensures one { (a b : FirstBody) → FitsBody a → FitsBody b → body_bytes a ≡ body_bytes b → a ≡ b }
     // bytes behind a body are refused at the first of them
-    ensures extra { (b : Body) (x : ℕ) (rest : List ℕ) → FitsBody b
+    ensures extra { (b : FirstBody) (x : ℕ) (rest : List ℕ) → FitsBody b
         → body_at (body_bytes b ++ x ∷ rest) ≡ Err (Extra (length (body_bytes b))) }
     // each proper beginning of a body is too short
-    ensures short { (b : Body) (front : List ℕ) (x : ℕ) (rest : List ℕ) → FitsBody b → body_bytes b ≡ front ++ x ∷ rest
+    ensures short { (b : FirstBody) (front : List ℕ) (x : ℕ) (rest : List ℕ) → FitsBody b
+        → body_bytes b ≡ front ++ x ∷ rest
         → body_at front ≡ Err Short }
 {}
 
@@ -33,7 +35,7 @@ pub fn length_laws()
         ≡ 7 + 33 * length items + 12 * count_by (λ item. is_some item.place) items }
     ensures commit { (commit : CommitBody) → FitsCommit commit → length (body_bytes (Commit commit)) ≡ 89 }
     // the longest body
-    ensures longest { (b : Body) → FitsBody b → length (body_bytes b) ≤ 11527 }
+    ensures longest { (b : FirstBody) → FitsBody b → length (body_bytes b) ≤ 11527 }
 {}
 
 /// What `RecordBuf` holds after a Put is begun and its items are appended.

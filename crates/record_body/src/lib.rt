@@ -12,5 +12,9 @@ mod writing;
 
 pub use body::{BodyErr, CommitBody, FoundItem, PutItem};
 pub use items::PutItems;
-pub use view::BodyView;
+pub use message_fields::{
+    Fp, Left, NoMemory, Place, Room, Tag, UserId, Version, array_of, batch_of, fp_of, share_len_of,
+    u16_of, u32_of, u64_of, user_of,
+};
+pub use view::FirstBodyView;
 pub use writing::RecordBuf;

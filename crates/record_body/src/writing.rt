@@ -4,7 +4,7 @@ ghost use Rattle.std.specs.Prelude.{◌≡◌, ◌+◌, ◌≤◌, ◌++◌, [],
 ghost use Rattle.record_body.specs.Spelling.{Commit, put_front, placed_bytes, item_bytes, body_bytes};
 
 use crate::{CommitBody, PutItem};
-use cd_base::{NoMemory, Place, UserId};
+use message_fields::{NoMemory, Place, UserId};
 use std::alloc::Global;
 use std::marker::Model;
 

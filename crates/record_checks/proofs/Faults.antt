@@ -2,7 +2,7 @@
 use mathlib.Core.Bool.{beq}
 use Rattle.std.proofs.Common.{◌≡◌, ℕ, ◌+◌, ◌/◌, ◌%◌, ◌≤◌, Bool, true, false, Option, Some, None, refl, sym, ap, ◌∙◌, arith}
 use Rattle.std.specs.Prelude.{◌↔◌, IsTrue, is_some, IsSome}
-use Rattle.container_log.specs.Places.{LiesInOne}
+use Rattle.cloud_memory.specs.ContainerLog.Places.{LiesInOne}
 
 -- a test that fails
 pub not_so : {A : Type 0} (b : Bool) → (IsTrue b ↔ A) → b ≡ false → ¬ A

@@ -2,21 +2,21 @@
 use Rattle.std.proofs.Common.{◌≡◌, ℕ, ◌+◌, Bool, true, false, List, length, Ok, Err, inl, inr, refl, sym, ap, ◌∙◌, subst, arith}
 use Rattle.std.specs.Prelude.{◌⊎◌, ◌↔◌, IsTrue, Result, max, sum_by, OnOk, MatchResult, if◌then◌else◌}
 use Rattle.std.specs.FinMap.{get}
-use Rattle.cd_base.specs.declared.ids.Fp.{Fp}
-use Rattle.cd_base.specs.declared.ids.UserId.{UserId}
-use Rattle.file_index.specs.declared.key.FileKey.{FileKey}
-use Rattle.file_index.specs.Files.{used_by as files_used}
-use Rattle.pool_map.specs.declared.accounts.Accounts.{Accounts}
-use Rattle.pool_map.specs.Accounts.{use_for, limit_for, keys_of}
-use Rattle.journal_start.specs.declared.rooms.Rooms.{Rooms}
-use Rattle.user_dedup.specs.Spending.{files_limit}
-use Rattle.record_bodies.specs.declared.body.KeptItem.{KeptItem}
-use Rattle.record_bodies.specs.Spelling.{Put, Commit, Kept}
-use Rattle.record_body.specs.declared.body.CommitBody.{CommitBody}
-use Rattle.record_body.specs.declared.body.PutItem.{PutItem}
-use Rattle.spent_table.specs.declared.Spent.{Spent}
-use Rattle.spent_table.specs.Spending.{of_shares, of_recipe}
-use Rattle.user_dedup.specs.Requests.{fps_of}
+use Rattle.cloud_memory.specs.CdBase.ids.Fp.{Fp}
+use Rattle.cloud_memory.specs.CdBase.ids.UserId.{UserId}
+use Rattle.cloud_memory.specs.FileIndex.key.FileKey.{FileKey}
+use Rattle.cloud_memory.specs.FileIndex.Files.{used_by as files_used}
+use Rattle.cloud_memory.specs.PoolMap.accounts.Accounts.{Accounts}
+use Rattle.cloud_memory.specs.PoolMap.Accounts.{use_for, limit_for, keys_of}
+use Rattle.cloud_memory.specs.JournalStart.rooms.UserRooms.{UserRooms}
+use Rattle.cloud_memory.specs.UserDedup.Spending.{files_limit}
+use Rattle.cloud_memory.specs.RecordBodies.body.KeptItem.{KeptItem}
+use Rattle.cloud_memory.specs.RecordBodies.Spelling.{Put, Commit, Kept}
+use Rattle.cloud_memory.specs.RecordBody.body.CommitBody.{CommitBody}
+use Rattle.cloud_memory.specs.RecordBody.body.PutItem.{PutItem}
+use Rattle.cloud_memory.specs.SpentTable.Spent.{Spent}
+use Rattle.cloud_memory.specs.SpentTable.Spending.{of_shares, of_recipe}
+use Rattle.cloud_memory.specs.UserDedup.Requests.{fps_of}
 use Rattle.cloud_memory.specs.declared.cloud.CloudMemory.{CloudMemory}
 use Rattle.cloud_memory.specs.Memory.{Memory}
 use Rattle.cloud_memory.specs.Rooms.{memory_of, HasRooms}
@@ -26,7 +26,7 @@ use Rattle.record_checks.specs.declared.ground.Ground.{Ground}
 use Rattle.record_checks.specs.Checks.{first_field, kept_items, AreRight, AreRightKepts, KeptsFault, CommitFits, RecipeLies, IsNamed, IsWhole, recipe_fp_at, spends_behind}
 use Rattle.record_checks.specs.Noting.{EndsGrow}
 use Rattle.record_checks.specs.Judging.{JudgesBody, PutPast, PutTaken, Unplaced, Entered, NotWhole, CommitPast, CommitTaken, KeptDamaged, KeptPast, KeptTaken}
-use Rattle.record_checks.specs.Steps.{JudgedAs, HasRoomFor, HasKeptRoom, SpendsShares, IsRightCommit, CommitFault, PlaceFails, TagFails}
+use Rattle.record_checks.specs.Steps.{JudgedAs, HasRoomForItems, HasKeptRoom, SpendsShares, IsRightCommit, CommitFault, PlaceFails, TagFails}
 use Rattle.record_checks.proofs.Rooming.{own_after, placed_after}
 use Rattle.record_checks.proofs.KeptWalking.{placed_after as kepts_placed}
 
@@ -36,7 +36,7 @@ not_inside inside e (inr a) = a
 
 module _ (g : Ground) (inside : Bool) (read : List ℕ) (marks : List Bool) where
   -- a Put for which there is no room
-  pub put_refused : (cloud : CloudMemory) (user : UserId) (items : List PutItem) → HasRooms g.rooms cloud → ¬ (HasRoomFor g.rooms cloud user items)
+  pub put_refused : (cloud : CloudMemory) (user : UserId) (items : List PutItem) → HasRooms g.rooms cloud → ¬ (HasRoomForItems g.rooms cloud user items)
       → AreRight g inside user (memory_of cloud) items → JudgesBody g inside read marks (memory_of cloud) (Put user items) (Err first_field)
   put_refused cloud user items rooms lacks right = PutPast user items right (λ fits. lacks (record {
     rooms_are = rooms;
@@ -45,7 +45,7 @@ module _ (g : Ground) (inside : Bool) (read : List ℕ) (marks : List Bool) wher
   }))
 
   -- a Put of the checkpoint
-  pub put_inside : (cloud : CloudMemory) (new : Memory) (user : UserId) (items : List PutItem) → inside ≡ true → HasRoomFor g.rooms cloud user items
+  pub put_inside : (cloud : CloudMemory) (new : Memory) (user : UserId) (items : List PutItem) → inside ≡ true → HasRoomForItems g.rooms cloud user items
       → AreRight g inside user (memory_of cloud) items → new ≡ with_items user (memory_of cloud) items → JudgesBody g inside read marks (memory_of cloud) (Put user items) (Ok new)
   put_inside cloud new user items is room right taken =
       let filled = with_items user (memory_of cloud) items in
@@ -60,7 +60,7 @@ module _ (g : Ground) (inside : Bool) (read : List ℕ) (marks : List Bool) wher
 
   -- a Put behind it
   pub put_behind : (cloud : CloudMemory) (mid new : Memory) (user : UserId) (items : List PutItem) (owners held : ℕ) (result : Result Unit ℕ) → inside ≡ false
-      → HasRoomFor g.rooms cloud user items → AreRight g inside user (memory_of cloud) items → mid ≡ with_items user (memory_of cloud) items → owners ≡ length items
+      → HasRoomForItems g.rooms cloud user items → AreRight g inside user (memory_of cloud) items → mid ≡ with_items user (memory_of cloud) items → owners ≡ length items
       → held ≡ sum_by (λ (item : PutItem). placed_len (get mid.places item.fp.0)) items → SpendsShares g.rooms mid user owners held result new
       → JudgedAs g inside read marks (memory_of cloud) (Put user items) result new
   put_behind cloud mid new user items owners held result behind room right taken count sum spends_so =
@@ -145,7 +145,7 @@ ok_or_none P (Ok u) p = p
 ok_or_none P (Err e) p = tt
 
 -- the user has as many entries as it may, by the index and by the rooms
-pub full_of_files : (rooms : Rooms) (cloud : CloudMemory) (user : UserId) → HasRooms rooms cloud
+pub full_of_files : (rooms : UserRooms) (cloud : CloudMemory) (user : UserId) → HasRooms rooms cloud
     → (files_used cloud.files user.0 ≡ limit_for cloud.files.accounts user.0) ↔ (keys_of (λ (k : FileKey). k.user) cloud.files.files user.0 ≡ files_limit rooms user)
 full_of_files rooms cloud user has = (
   λ full. subst (λ (a : Accounts). use_for (λ (k : FileKey). k.user) a cloud.files.files user.0 ≡ limit_for a user.0) has.files full,

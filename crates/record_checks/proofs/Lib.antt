@@ -8,3 +8,11 @@ pub mod OneAnswer
 mod Overlaying
 pub mod Rooming
 pub mod Walking
+pub mod CloudMemoryLaws
+pub mod UserDedup
+pub mod FileIndex
+pub mod RecordBodies
+pub mod ShareIndex
+pub mod RecordBody
+pub mod Recipe
+pub mod ContainerLog

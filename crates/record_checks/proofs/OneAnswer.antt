@@ -2,14 +2,14 @@
 use Rattle.std.proofs.Common.{◌≡◌, ℕ, ◌+◌, Bool, List, length, Option, Some, None, Ok, Err, refl, sym, ap, ◌∙◌, subst}
 use Rattle.std.specs.Prelude.{IsSome, Result, is_some}
 use Rattle.std.specs.FinMap.{get}
-use Rattle.cd_base.specs.declared.ids.UserId.{UserId}
-use Rattle.file_index.specs.declared.key.Entry.{Entry}
-use Rattle.record_bodies.specs.declared.body.KeptItem.{KeptItem}
-use Rattle.record_bodies.specs.Reading.{body_at}
-use Rattle.record_bodies.specs.Spelling.{Body}
-use Rattle.record_body.specs.declared.body.BodyErr.{BodyErr}
-use Rattle.record_body.specs.declared.body.PutItem.{PutItem}
-use Rattle.record_body.specs.Spelling.{item_bytes}
+use Rattle.cloud_memory.specs.CdBase.ids.UserId.{UserId}
+use Rattle.cloud_memory.specs.FileIndex.key.Entry.{Entry}
+use Rattle.cloud_memory.specs.RecordBodies.body.KeptItem.{KeptItem}
+use Rattle.cloud_memory.specs.RecordBodies.Reading.{body_at}
+use Rattle.cloud_memory.specs.RecordBodies.Spelling.{Body}
+use Rattle.cloud_memory.specs.RecordBody.body.BodyErr.{BodyErr}
+use Rattle.cloud_memory.specs.RecordBody.body.PutItem.{PutItem}
+use Rattle.cloud_memory.specs.RecordBody.Spelling.{item_bytes}
 use Rattle.cloud_memory.specs.Memory.{Memory}
 use Rattle.cloud_memory.specs.Steps.{with_item, with_kept}
 use Rattle.record_checks.specs.declared.damage.Damage.{Damage}

@@ -3,21 +3,21 @@ use Rattle.std.proofs.Common.{◌≡◌, ℕ, ◌+◌, ◌<◌, ◌^◌, Bool, t
 use Rattle.std.specs.Prelude.{◌==◌, ◌↔◌, nat_lt, count_by, is_some, IsSome, IfSome, if◌then◌else◌}
 use Rattle.std.specs.FinMap.{FinMap, get, insert, len, len-insert}
 use Rattle.std.proofs.lemmas.List.Sums.{sum_by-cons}
-use Rattle.cd_base.specs.declared.ids.Fp.{Fp}
-use Rattle.cd_base.specs.declared.ids.UserId.{UserId}
-use Rattle.pool_map.specs.declared.accounts.Accounts.{Accounts}
-use Rattle.pool_map.specs.declared.accounts.Accounts.TheVariants.{PerUser}
-use Rattle.pool_map.specs.Accounts.{limit_for, use_for, keys_of}
-use Rattle.journal_start.specs.declared.rooms.Rooms.{Rooms}
-use Rattle.pool_map.specs.MapSums.{sum_by-insert_new}
-use Rattle.record_body.specs.declared.body.PutItem.{PutItem}
-use Rattle.share_index.specs.declared.key.Owner.{Owner}
-use Rattle.cd_base.specs.declared.place.Place.{Place}
-use Rattle.share_index.specs.Order.{owner_cmp, owner_of}
-use Rattle.cd_base.specs.Order.{fp_cmp}
-use Rattle.share_index.proofs.Owning.{owner_total}
-use Rattle.share_index.proofs.Placing.{fp_total}
-use Rattle.user_dedup.specs.Spending.{Spent, nothing, limits_of}
+use Rattle.cloud_memory.specs.CdBase.ids.Fp.{Fp}
+use Rattle.cloud_memory.specs.CdBase.ids.UserId.{UserId}
+use Rattle.cloud_memory.specs.PoolMap.accounts.Accounts.{Accounts}
+use Rattle.cloud_memory.specs.PoolMap.accounts.Accounts.TheVariants.{PerUser}
+use Rattle.cloud_memory.specs.PoolMap.Accounts.{limit_for, use_for, keys_of}
+use Rattle.cloud_memory.specs.JournalStart.rooms.UserRooms.{UserRooms}
+use Rattle.cloud_memory.specs.PoolMap.MapSums.{sum_by-insert_new}
+use Rattle.cloud_memory.specs.RecordBody.body.PutItem.{PutItem}
+use Rattle.cloud_memory.specs.ShareIndex.key.Owner.{Owner}
+use Rattle.cloud_memory.specs.CdBase.place.Place.{Place}
+use Rattle.cloud_memory.specs.ShareIndex.Order.{owner_cmp, owner_of}
+use Rattle.cloud_memory.specs.CdBase.Order.{fp_cmp}
+use Rattle.cloud_memory.proofs.ShareIndexLaws.Owning.{owner_total}
+use Rattle.cloud_memory.proofs.ShareIndexLaws.Placing.{fp_total}
+use Rattle.cloud_memory.specs.UserDedup.Spending.{SpentByUser, nothing, limits_of}
 use Rattle.cloud_memory.specs.CloudAreas.Placing.{end_of}
 use Rattle.cloud_memory.specs.declared.cloud.CloudMemory.{CloudMemory}
 use Rattle.cloud_memory.specs.Memory.{Memory}
@@ -26,7 +26,7 @@ use Rattle.cloud_memory.specs.Rooms.{memory_of, HasRooms}
 use Rattle.cloud_memory.specs.Steps.{with_item, with_items, places_with}
 use Rattle.record_checks.specs.declared.ground.Ground.{Ground}
 use Rattle.record_checks.specs.Checks.{IsRightItem, AreRight}
-use Rattle.record_checks.specs.Steps.{has_place, HasRoomFor}
+use Rattle.record_checks.specs.Steps.{has_place, HasRoomForItems}
 use Rattle.record_checks.proofs.Faults.{none_there}
 
 pub keys_more : (m : FinMap owner_cmp ℕ) (user : UserId) (fp : List ℕ) → get m (owner_of user.0 fp) ≡ None
@@ -48,13 +48,13 @@ places_more places fp None flagged = omega arith
 places_more places fp (Some p) flagged = one_placed places fp p (flagged.0 refl)
 
 -- the user's limit, by the index
-pub limit_is : (rooms : Rooms) (user : UserId) → (limits_of rooms user).owners ≡ limit_for (PerUser rooms.users rooms.owners) user.0
+pub limit_is : (rooms : UserRooms) (user : UserId) → (limits_of rooms user).owners ≡ limit_for (PerUser rooms.users rooms.owners) user.0
 limit_is rooms user = by_test (nat_lt user.0 rooms.users)
   where
-    allowed : Spent
+    allowed : SpentByUser
     allowed = record { owners = rooms.owners; shares = rooms.shares; recipes = rooms.recipes }
 
-    by_test : (b : Bool) → (if◌then◌else◌ {A = Spent} b allowed nothing).owners ≡ (if b then rooms.owners else 0)
+    by_test : (b : Bool) → (if◌then◌else◌ {A = SpentByUser} b allowed nothing).owners ≡ (if b then rooms.owners else 0)
     by_test true = refl
     by_test false = refl
 
@@ -75,7 +75,7 @@ module _ (g : Ground) (inside : Bool) (user : UserId) where
       let count = counted item items in
       omega (arith, rest, one, count)
 
-  pub item_room : (cloud : CloudMemory) (item : PutItem) (items : List PutItem) → HasRoomFor g.rooms cloud user (item ∷ items) → IsRightItem g inside (memory_of cloud) user item
+  pub item_room : (cloud : CloudMemory) (item : PutItem) (items : List PutItem) → HasRoomForItems g.rooms cloud user (item ∷ items) → IsRightItem g inside (memory_of cloud) user item
       → IfSome item.place (λ (p : Place). end_of p < 2 ^ 64) → HasItemRoom cloud user item
   item_room cloud item items room right small = record {
     new = none_there (get cloud.shares.owners (owner_of user.0 item.fp.0)) right.new;
@@ -97,8 +97,8 @@ module _ (g : Ground) (inside : Bool) (user : UserId) where
         end = few;
       }
 
-  pub room_after : (cloud next : CloudMemory) (item : PutItem) (items : List PutItem) → HasRoomFor g.rooms cloud user (item ∷ items) → IsRightItem g inside (memory_of cloud) user item
-      → memory_of next ≡ with_item user (memory_of cloud) item → HasRooms g.rooms next → HasRoomFor g.rooms next user items
+  pub room_after : (cloud next : CloudMemory) (item : PutItem) (items : List PutItem) → HasRoomForItems g.rooms cloud user (item ∷ items) → IsRightItem g inside (memory_of cloud) user item
+      → memory_of next ≡ with_item user (memory_of cloud) item → HasRooms g.rooms next → HasRoomForItems g.rooms next user items
   room_after cloud next item items room right taken rooms = record {
     rooms_are = rooms;
     owners =

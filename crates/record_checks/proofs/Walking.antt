@@ -1,11 +1,11 @@
 -- The shares of a Put, one after another.
 use Rattle.std.proofs.Common.{◌≡◌, ℕ, ◌+◌, ◌<◌, ◌≤◌, Bool, List, [], length, Option, Some, None, refl, sym, ap, ◌∙◌, subst, arith}
 use Rattle.std.specs.Prelude.{max, IfSome}
-use Rattle.cd_base.specs.declared.ids.UserId.{UserId}
-use Rattle.record_body.specs.declared.body.FoundItem.{FoundItem}
-use Rattle.record_body.specs.declared.body.PutItem.{PutItem}
-use Rattle.record_body.specs.InPlace.{Walk, StepsOver}
-use Rattle.cd_base.specs.declared.place.Place.{Place}
+use Rattle.cloud_memory.specs.CdBase.ids.UserId.{UserId}
+use Rattle.cloud_memory.specs.RecordBody.body.FoundItem.{FoundItem}
+use Rattle.cloud_memory.specs.RecordBody.body.PutItem.{PutItem}
+use Rattle.cloud_memory.specs.RecordBody.InPlace.{FirstWalk, IsFirstStepOver}
+use Rattle.cloud_memory.specs.CdBase.place.Place.{Place}
 use Rattle.cloud_memory.specs.CloudAreas.Placing.{end_of}
 use Rattle.cloud_memory.specs.Memory.{Memory}
 use Rattle.cloud_memory.specs.Steps.{with_item, with_items, end_with}
@@ -28,17 +28,17 @@ module _ (g : Ground) (inside : Bool) (user : UserId) where
   lies_within m (Some p) lies = lies.within
 
   -- What becomes of the rest, over what is left of the memory, is what becomes of all.
-  pub record Walking (first m : Memory) (all walk : Walk) : Type 0 where
+  pub record Walking (first m : Memory) (all walk : FirstWalk) : Type 0 where
     pub faults : (place : ℕ) → ItemsFault g inside user m walk.at walk.items place → ItemsFault g inside user first all.at all.items place
     pub right : AreRight g inside user m walk.items → AreRight g inside user first all.items
     pub left : with_items user m walk.items ≡ with_items user first all.items
     pub body_is : walk.body ≡ all.body
     pub ends : EndsGrow g first m
 
-  pub begins : (m : Memory) (all : Walk) → Walking m m all all
+  pub begins : (m : Memory) (all : FirstWalk) → Walking m m all all
   begins m all = record { faults = λ place f. f; right = λ r. r; left = refl; body_is = refl; ends = no_growth g m }
 
-  pub goes_on : (first m next_m : Memory) (all walk next : Walk) (found : FoundItem) → Walking first m all walk → StepsOver walk found next
+  pub goes_on : (first m next_m : Memory) (all walk next : FirstWalk) (found : FoundItem) → Walking first m all walk → IsFirstStepOver walk found next
       → IsRightItem g inside m user found.item → next_m ≡ with_item user m found.item → Walking first next_m all next
   goes_on first m next_m all walk next found w steps right taken = subst (λ (x : Memory). Walking first x all next) (sym taken) (record {
     faults = λ place f.
@@ -52,20 +52,20 @@ module _ (g : Ground) (inside : Bool) (user : UserId) where
         record { shares = more.0; shares_within = more.1; recipes = w.ends.recipes; recipes_within = w.ends.recipes_within };
   })
 
-  pub fails : (first m : Memory) (all walk next : Walk) (found : FoundItem) (place : ℕ) → Walking first m all walk → StepsOver walk found next
+  pub fails : (first m : Memory) (all walk next : FirstWalk) (found : FoundItem) (place : ℕ) → Walking first m all walk → IsFirstStepOver walk found next
       → ItemFault g inside m user found.item found.fp_at place → ItemsFault g inside user first all.at all.items place
   fails first m all walk next found place w steps fault =
       w.faults place (subst (λ (l : List PutItem). ItemsFault g inside user m walk.at l place) (sym steps.items)
       (Here m walk.at found.item next.items place (subst (λ (n : ℕ). ItemFault g inside m user found.item n place) steps.fp_at fault)))
 
-  pub ends_right : (first m : Memory) (all walk : Walk) → Walking first m all walk → walk.items ≡ [] → AreRight g inside user first all.items
+  pub ends_right : (first m : Memory) (all walk : FirstWalk) → Walking first m all walk → walk.items ≡ [] → AreRight g inside user first all.items
   ends_right first m all walk w none = w.right (subst (AreRight g inside user m) (sym none) tt)
 
-  pub ends_left : (first m : Memory) (all walk : Walk) → Walking first m all walk → walk.items ≡ [] → m ≡ with_items user first all.items
+  pub ends_left : (first m : Memory) (all walk : FirstWalk) → Walking first m all walk → walk.items ≡ [] → m ≡ with_items user first all.items
   ends_left first m all walk w none = sym (ap (with_items user m) none) ∙ w.left
 
   -- the place of a fault is one of the body
-  pub fault_within : (first m : Memory) (all walk next : Walk) (found : FoundItem) (place : ℕ) → Walking first m all walk → StepsOver walk found next
+  pub fault_within : (first m : Memory) (all walk next : FirstWalk) (found : FoundItem) (place : ℕ) → Walking first m all walk → IsFirstStepOver walk found next
       → ItemFault g inside m user found.item found.fp_at place → place < length all.body
   fault_within first m all walk next found place w steps fault = subst (λ (l : List ℕ). place < length l) w.body_is (go place fault)
     where
@@ -82,7 +82,7 @@ module _ (g : Ground) (inside : Bool) (user : UserId) where
           by_place (Some p) far lies = let a = steps.fp_at in let b = steps.place_at in omega (arith, far, a, b)
 
 -- the places in the journal of the farthest blob, so far and of the rest
-pub field_on : (at : ℕ) (body : List ℕ) (all walk next : Walk) (found : FoundItem) (end first : ℕ) (field start new : Option Damage) → StepsOver walk found next
+pub field_on : (at : ℕ) (body : List ℕ) (all walk next : FirstWalk) (found : FoundItem) (end first : ℕ) (field start new : Option Damage) → IsFirstStepOver walk found next
     → put_field at body end walk.at field walk.items ≡ put_field at body first all.at start all.items
     → new ≡ farther_field end field found.item.place (damaged_at at body found.place_at)
     → put_field at body (end_with end found.item.place) next.at new next.items ≡ put_field at body first all.at start all.items

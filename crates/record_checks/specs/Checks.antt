@@ -2,39 +2,39 @@
 use Rattle.std.specs.Prelude.{◌≡◌, ◌≢◌, ◌⊎◌, ◌↔◌, ℕ, ◌+◌, ◌-◌, ◌*◌, ◌≤◌, Bool, true, false, IsTrue, List, [], ◌∷◌, length, slice_index, slice_index_or, Option, Some, None, IsSome, IfSome, Ok, if◌then◌else◌}
 use Rattle.std.specs.FinMap.{get, len}
 use Rattle.std.specs.Int.{w32, to_be_bytes}
-use Rattle.cd_base.specs.Limits.{recipe_limit}
-use Rattle.cd_base.specs.declared.ids.Fp.{Fp}
-use Rattle.cd_base.specs.declared.ids.UserId.{UserId}
-use Rattle.cd_base.specs.declared.shape.Shape.{Shape}
-use Rattle.container_log.specs.Places.{LiesInOne}
-use Rattle.file_index.specs.declared.key.Entry.{Entry}
-use Rattle.file_index.specs.Files.{key_of}
-use Rattle.pool_map.specs.Accounts.{keys_of}
-use Rattle.recipe.specs.declared.recipe.Recipe.{Recipe}
-use Rattle.recipe.specs.Spelling.{IsRecipe}
-use Rattle.record_bodies.specs.Reading.{body_at}
-use Rattle.record_bodies.specs.Spelling.{Body, Commit, Delete}
-use Rattle.record_bodies.specs.declared.body.DeleteBody.{DeleteBody}
-use Rattle.record_bodies.specs.declared.body.KeptItem.{KeptItem}
-use Rattle.record_bodies.specs.declared.body.SpentBody.{SpentBody}
-use Rattle.record_body.specs.declared.body.BodyErr.{BodyErr}
-use Rattle.record_body.specs.declared.body.BodyErr.TheVariants as errors
-use Rattle.record_body.specs.declared.body.CommitBody.{CommitBody}
-use Rattle.record_body.specs.declared.body.PutItem.{PutItem}
-use Rattle.record_body.specs.Spelling.{item_bytes}
-use Rattle.cd_base.specs.declared.place.Place.{Place}
-use Rattle.share_index.specs.Order.{owner_of}
-use Rattle.spent_table.specs.Spending.{spent_by}
-use Rattle.user_dedup.specs.Cloud.{fingerprint}
-use Rattle.user_dedup.specs.Requests.{fps_of}
-use Rattle.user_dedup.specs.Spending.{limits_of, files_limit}
+use Rattle.cloud_memory.specs.CdBase.Limits.{recipe_limit}
+use Rattle.cloud_memory.specs.CdBase.ids.Fp.{Fp}
+use Rattle.cloud_memory.specs.CdBase.ids.UserId.{UserId}
+use Rattle.cloud_memory.specs.CdBase.shape.Shape.{Shape}
+use Rattle.cloud_memory.specs.ContainerLog.Places.{LiesInOne}
+use Rattle.cloud_memory.specs.FileIndex.key.Entry.{Entry}
+use Rattle.cloud_memory.specs.FileIndex.Files.{key_of}
+use Rattle.cloud_memory.specs.PoolMap.Accounts.{keys_of}
+use Rattle.cloud_memory.specs.Recipe.recipe.Recipe.{Recipe}
+use Rattle.cloud_memory.specs.Recipe.Spelling.{IsRecipe}
+use Rattle.cloud_memory.specs.RecordBodies.Reading.{body_at}
+use Rattle.cloud_memory.specs.RecordBodies.Spelling.{Body, Commit, Delete}
+use Rattle.cloud_memory.specs.RecordBodies.body.DeleteBody.{DeleteBody}
+use Rattle.cloud_memory.specs.RecordBodies.body.KeptItem.{KeptItem}
+use Rattle.cloud_memory.specs.RecordBodies.body.SpentBody.{SpentBody}
+use Rattle.cloud_memory.specs.RecordBody.body.BodyErr.{BodyErr}
+use Rattle.cloud_memory.specs.RecordBody.body.BodyErr.TheVariants as errors
+use Rattle.cloud_memory.specs.RecordBody.body.CommitBody.{CommitBody}
+use Rattle.cloud_memory.specs.RecordBody.body.PutItem.{PutItem}
+use Rattle.cloud_memory.specs.RecordBody.Spelling.{item_bytes}
+use Rattle.cloud_memory.specs.CdBase.place.Place.{Place}
+use Rattle.cloud_memory.specs.ShareIndex.Order.{owner_of}
+use Rattle.cloud_memory.specs.SpentTable.Spending.{spent_by}
+use Rattle.cloud_memory.specs.UserDedup.Cloud.{fingerprint}
+use Rattle.cloud_memory.specs.UserDedup.Requests.{fps_of}
+use Rattle.cloud_memory.specs.UserDedup.Spending.{limits_of, files_limit}
 use Rattle.cloud_memory.specs.CloudAreas.Placing.{region_start, end_of}
 use Rattle.cloud_memory.specs.Memory.{Memory}
 use Rattle.cloud_memory.specs.Sharing.{AreOwned}
 use Rattle.cloud_memory.specs.Steps.{with_item, with_kept, spends, spent_on}
 use Rattle.record_checks.specs.declared.damage.Damage.{Damage}
 use Rattle.record_checks.specs.declared.ground.Ground.{Ground}
-use Rattle.spent_table.specs.declared.Spent.{Spent}
+use Rattle.cloud_memory.specs.SpentTable.Spent.{Spent}
 
 -- ---- the bytes of a body that begins at a place of the journal
 

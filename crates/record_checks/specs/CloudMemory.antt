@@ -1,7 +1,10 @@
 -- What cloud_memory says, for callers.
+pub use Rattle.cloud_memory.specs.CloudAreas
 pub use Rattle.cloud_memory.specs.Fitting
+pub use Rattle.cloud_memory.specs.Greatest
 pub use Rattle.cloud_memory.specs.Memory
 pub use Rattle.cloud_memory.specs.News
+pub use Rattle.cloud_memory.specs.Records
 pub use Rattle.cloud_memory.specs.Rooms
 pub use Rattle.cloud_memory.specs.Sharing
 pub use Rattle.cloud_memory.specs.Steps

@@ -1,18 +1,18 @@
 -- What becomes of a record, by its checks in their order.
 use Rattle.std.specs.Prelude.{◌≡◌, ℕ, Bool, IsFalse, List, Some, None, IsSome, Result, Ok, Err}
-use Rattle.cd_base.specs.declared.ids.UserId.{UserId}
-use Rattle.file_index.specs.declared.key.Entry.{Entry}
-use Rattle.file_index.specs.Files.{key_of}
-use Rattle.record_bodies.specs.declared.body.DeleteBody.{DeleteBody}
-use Rattle.record_bodies.specs.declared.body.KeptItem.{KeptItem}
-use Rattle.record_bodies.specs.declared.body.SpentBody.{SpentBody}
-use Rattle.record_bodies.specs.Reading.{body_at}
-use Rattle.record_bodies.specs.Spelling as bodies
-use Rattle.record_bodies.specs.Spelling.{Body}
-use Rattle.record_body.specs.declared.body.BodyErr.{BodyErr}
-use Rattle.record_body.specs.declared.body.CommitBody.{CommitBody}
-use Rattle.record_body.specs.declared.body.PutItem.{PutItem}
-use Rattle.user_dedup.specs.Requests.{fps_of}
+use Rattle.cloud_memory.specs.CdBase.ids.UserId.{UserId}
+use Rattle.cloud_memory.specs.FileIndex.key.Entry.{Entry}
+use Rattle.cloud_memory.specs.FileIndex.Files.{key_of}
+use Rattle.cloud_memory.specs.RecordBodies.body.DeleteBody.{DeleteBody}
+use Rattle.cloud_memory.specs.RecordBodies.body.KeptItem.{KeptItem}
+use Rattle.cloud_memory.specs.RecordBodies.body.SpentBody.{SpentBody}
+use Rattle.cloud_memory.specs.RecordBodies.Reading.{body_at}
+use Rattle.cloud_memory.specs.RecordBodies.Spelling as bodies
+use Rattle.cloud_memory.specs.RecordBodies.Spelling.{Body}
+use Rattle.cloud_memory.specs.RecordBody.body.BodyErr.{BodyErr}
+use Rattle.cloud_memory.specs.RecordBody.body.CommitBody.{CommitBody}
+use Rattle.cloud_memory.specs.RecordBody.body.PutItem.{PutItem}
+use Rattle.cloud_memory.specs.UserDedup.Requests.{fps_of}
 use Rattle.cloud_memory.specs.Memory.{Memory}
 use Rattle.cloud_memory.specs.Steps.{with_items, with_kepts, with_spent, with_entry, without_entry, spent_on}
 use Rattle.record_checks.specs.declared.damage.Damage.{Damage}

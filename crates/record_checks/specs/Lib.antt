@@ -1,6 +1,16 @@
 pub mod Checks
 pub mod CloudAreas
 pub mod CloudMemory
+pub mod ContainerLog
+pub mod FileIndex
+pub mod JournalStart
 pub mod Judging
 pub mod Noting
+pub mod PoolMap
+pub mod Recipe
+pub mod RecordBodies
+pub mod RecordBody
+pub mod ShareIndex
+pub mod SpentTable
 pub mod Steps
+pub mod UserDedup

@@ -2,16 +2,16 @@
 use Rattle.std.specs.Prelude.{◌≡◌, ◌⊎◌, ◌↔◌, ℕ, ◌+◌, ◌*◌, ◌≤◌, Bool, IsTrue, IsFalse, List, length, count_by, bytes_eq, take, is_some, None, IsSome, Result, Ok, Err}
 use Rattle.std.specs.List.{list_any}
 use Rattle.std.specs.FinMap.{get, len}
-use Rattle.cd_base.specs.declared.ids.Fp.{Fp}
-use Rattle.cd_base.specs.declared.ids.UserId.{UserId}
-use Rattle.pool_map.specs.Accounts.{keys_of}
-use Rattle.journal_start.specs.declared.rooms.Rooms.{Rooms}
-use Rattle.record_bodies.specs.declared.body.KeptItem.{KeptItem}
-use Rattle.record_bodies.specs.Spelling.{Body}
-use Rattle.record_body.specs.declared.body.CommitBody.{CommitBody}
-use Rattle.record_body.specs.declared.body.PutItem.{PutItem}
-use Rattle.spent_table.specs.Spending.{spent_by, of_shares}
-use Rattle.user_dedup.specs.Spending.{limits_of}
+use Rattle.cloud_memory.specs.CdBase.ids.Fp.{Fp}
+use Rattle.cloud_memory.specs.CdBase.ids.UserId.{UserId}
+use Rattle.cloud_memory.specs.PoolMap.Accounts.{keys_of}
+use Rattle.cloud_memory.specs.JournalStart.rooms.UserRooms.{UserRooms}
+use Rattle.cloud_memory.specs.RecordBodies.body.KeptItem.{KeptItem}
+use Rattle.cloud_memory.specs.RecordBodies.Spelling.{Body}
+use Rattle.cloud_memory.specs.RecordBody.body.CommitBody.{CommitBody}
+use Rattle.cloud_memory.specs.RecordBody.body.PutItem.{PutItem}
+use Rattle.cloud_memory.specs.SpentTable.Spending.{spent_by, of_shares}
+use Rattle.cloud_memory.specs.UserDedup.Spending.{limits_of}
 use Rattle.cloud_memory.specs.declared.cloud.CloudMemory.{CloudMemory}
 use Rattle.cloud_memory.specs.Memory.{Memory}
 use Rattle.cloud_memory.specs.Rooms.{HasRooms}
@@ -48,12 +48,13 @@ abbrev pub keeps_fp : List KeptItem → ℕ → Fp → Bool
 keeps_fp items count fp = list_any (λ (item : KeptItem). bytes_eq item.fp.0 fp.0) (take count items)
 
 -- The indexes have room for these items of the user's.
-pub record HasRoomFor (rooms : Rooms) (cloud : CloudMemory) (user : UserId) (items : List PutItem) : Type 0 where
+pub record HasRoomForItems (rooms : UserRooms) (cloud : CloudMemory) (user : UserId)
+    (items : List PutItem) : Type 0 where
   pub rooms_are : HasRooms rooms cloud
   pub owners : keys_of (λ k. k.user) cloud.shares.owners user.0 + length items ≤ (limits_of rooms user).owners
   pub fps : len cloud.shares.places + count_by has_place items ≤ rooms.users * rooms.owners
 
-pub record HasKeptRoom (rooms : Rooms) (cloud : CloudMemory) (items : List KeptItem) : Type 0 where
+pub record HasKeptRoom (rooms : UserRooms) (cloud : CloudMemory) (items : List KeptItem) : Type 0 where
   pub rooms_are : HasRooms rooms cloud
   pub fps : len cloud.shares.places + length items ≤ rooms.users * rooms.owners
 
@@ -68,14 +69,14 @@ pub data CommitFault (g : Ground) (inside : Bool) (m : Memory) (c : CommitBody) 
   TagFails : RecipeLies g inside m c → IsSome (commit_entry m c) → CommitFault g inside m c tag_at
 
 -- The user has spent so many shares with so many bytes more, within its limits; or it would pass one, and its field is named.
-abbrev pub MaySpend : Rooms → Memory → UserId → ℕ → ℕ → Type 0
+abbrev pub MaySpend : UserRooms → Memory → UserId → ℕ → ℕ → Type 0
 MaySpend rooms m user owners shares =
     ((spent_by m.spent user).owners + owners ≤ (limits_of rooms user).owners) × ((spent_by m.spent user).shares + shares ≤ (limits_of rooms user).shares)
 
-abbrev pub SpendsShares : Rooms → Memory → UserId → ℕ → ℕ → Result Unit ℕ → Memory → Type 0
+abbrev pub SpendsShares : UserRooms → Memory → UserId → ℕ → ℕ → Result Unit ℕ → Memory → Type 0
 SpendsShares rooms old user owners shares (Ok u) new = MaySpend rooms old user owners shares × (new ≡ spends user (of_shares owners shares) old)
 SpendsShares rooms old user owners shares (Err place) new = (¬ (MaySpend rooms old user owners shares)) × (place ≡ first_field) × (new ≡ old)
 
 -- behind the checkpoint the user may spend the recipe's bytes
-abbrev pub MaySpendRecipe : Rooms → Bool → Memory → CommitBody → Type 0
+abbrev pub MaySpendRecipe : UserRooms → Bool → Memory → CommitBody → Type 0
 MaySpendRecipe rooms inside m c = IsTrue inside ⊎ ((spent_by m.spent c.user).recipes + c.len ≤ (limits_of rooms c.user).recipes)

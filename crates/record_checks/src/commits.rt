@@ -2,11 +2,11 @@
 
 ghost use Rattle.std.specs.Prelude.{◌≡◌, ◌↔◌, ℕ, ◌+◌, ◌<◌, ◌≤◌, ◌^◌, Bool, List, length, slice_get, Some, None};
 ghost use Rattle.std.specs.Prelude.{IsTrue, IfNone, IfErr, OnOk, MatchOption};
-ghost use Rattle.cd_base.specs.declared.ids.Fp.{Fp as Digest};
-ghost use Rattle.record_bodies.specs.Spelling.{Commit, Delete};
-ghost use Rattle.spent_table.specs.Spending.{of_recipe};
-ghost use Rattle.user_dedup.specs.Owning.{fps_in};
-ghost use Rattle.user_dedup.specs.Requests.{fps_of};
+ghost use Rattle.cloud_memory.specs.CdBase.ids.Fp.{Fp as Digest};
+ghost use Rattle.cloud_memory.specs.RecordBodies.Spelling.{Commit, Delete};
+ghost use Rattle.cloud_memory.specs.SpentTable.Spending.{of_recipe};
+ghost use Rattle.cloud_memory.specs.UserDedup.Owning.{fps_in};
+ghost use Rattle.cloud_memory.specs.UserDedup.Requests.{fps_of};
 ghost use Rattle.cloud_memory.specs.Rooms.{memory_of, HasRooms};
 ghost use Rattle.cloud_memory.specs.Sharing.{AreOwned};
 ghost use Rattle.record_checks.specs.Checks.{RecipeLies, IsNamed, spends_behind};
@@ -16,12 +16,9 @@ ghost use Rattle.record_checks.specs.Steps.{JudgedAs, IsRightCommit, CommitFault
 use crate::Ground;
 use crate::limits::recipes_limit;
 use crate::places::recipe_lies;
-use cd_base::{Fp, Shape, UserId, sha256};
-use cloud_memory::CloudMemory;
-use recipe::RecipeView;
-use record_bodies::DeleteBody;
-use record_body::CommitBody;
-use spent_table::Spent;
+use cloud_memory::{
+    CloudMemory, CommitBody, DeleteBody, Fp, RecipeView, Shape, Spent, UserId, sha256,
+};
 
 // Where fields stand in the body: the user, the tag, a Commit's place, and its recipe's fingerprint.
 const USER: usize = 1;

@@ -1,7 +1,6 @@
 //! What is known of a store before its records.
 
-use cd_base::Shape;
-use journal_start::Rooms;
+use cloud_memory::{Shape, UserRooms};
 
 /// What is known of a store before its records: by its start and its device.
 #[derive(Clone, Copy, Debug, PartialEq, Eq)]
@@ -9,7 +8,7 @@ pub struct Ground {
     /// The store's shape.
     pub shape: Shape,
     /// The rooms of its users.
-    pub rooms: Rooms,
+    pub rooms: UserRooms,
     /// The region that its blobs lie in.
     pub region: u8,
     /// The length of the area of shares, in bytes.

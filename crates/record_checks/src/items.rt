@@ -3,22 +3,20 @@
 ghost use Rattle.std.specs.Prelude.{◌≡◌, ◌↔◌, ◌+◌, ◌<◌, ◌≤◌, ◌^◌, ℕ, length, take, IsTrue, IsFalse, IfSome, IfNone};
 ghost use Rattle.std.specs.Prelude.{IfErr, OnOk, MatchOption, MatchResult};
 ghost use Rattle.std.specs.FinMap.{get};
-ghost use Rattle.cd_base.specs.declared.ids.UserId.{UserId as Number};
+ghost use Rattle.cloud_memory.specs.CdBase.ids.UserId.{UserId as Number};
 ghost use Rattle.cloud_memory.specs.CloudAreas.Placing.{end_of};
 ghost use Rattle.cloud_memory.specs.Memory.{Memory};
 ghost use Rattle.cloud_memory.specs.Rooms.{memory_of, HasRooms};
 ghost use Rattle.cloud_memory.specs.Steps.{with_items, end_with};
 ghost use Rattle.record_checks.specs.Checks.{IsOwn, Lies, IsRightItem, ItemFault, AreRight, ItemsFault, ShareLies};
 ghost use Rattle.record_checks.specs.Noting.{EndsGrow, put_field};
-ghost use Rattle.record_checks.specs.Steps.{Facts, names_fp, HasRoomFor};
+ghost use Rattle.record_checks.specs.Steps.{Facts, names_fp, HasRoomForItems};
 ghost use Rattle.cloud_memory.specs.CloudAreas.Placing.{region_start};
 
 use crate::noting::note;
 use crate::places::{first_of, lies};
 use crate::{Damage, Ground};
-use cd_base::{Fp, Place, UserId};
-use cloud_memory::CloudMemory;
-use record_body::{FoundItem, PutItem, PutItems};
+use cloud_memory::{CloudMemory, FoundItem, Fp, Place, PutItem, PutItems, UserId};
 
 // Whether the share's place, if the record gives it one, is one where it may lie.
 fn is_laid(ground: &Ground, inside: bool, end: u64, place: Option<Place>) -> bool
@@ -77,7 +75,7 @@ pub(crate) fn take_items(
     user: UserId,
     items: PutItems<'_>,
 ) -> Result<(), usize>
-    requires room { HasRoomFor ground.now.rooms memory.old user items.items }
+    requires room { HasRoomForItems ground.now.rooms memory.old user items.items }
     requires body { items.body ≡ body.now }
     requires end { at + length body.now < 2 ^ 64 }
     ensures right { MatchResult result (λ _. AreRight ground.now inside user (memory_of memory.old) items.entry.items)

@@ -4,7 +4,7 @@ ghost use Rattle.std.specs.Prelude.{◌≡◌, ◌↔◌, ◌+◌, ◌*◌, ◌<
 ghost use Rattle.std.specs.Prelude.{IsSome, IfNone, IfErr, OnOk, MatchOption, MatchResult};
 ghost use Rattle.std.specs.FinMap.{get};
 ghost use Rattle.cloud_memory.specs.CloudAreas.Placing.{end_of};
-ghost use Rattle.record_bodies.specs.Spelling.{Kept};
+ghost use Rattle.cloud_memory.specs.RecordBodies.Spelling.{Kept};
 ghost use Rattle.cloud_memory.specs.Memory.{Memory};
 ghost use Rattle.cloud_memory.specs.Rooms.{memory_of, HasRooms};
 ghost use Rattle.cloud_memory.specs.Steps.{with_kepts};
@@ -16,9 +16,7 @@ use crate::limits::places_limit;
 use crate::noting::note;
 use crate::places::{first_of, lies};
 use crate::{Damage, Ground};
-use cd_base::{Fp, Place};
-use cloud_memory::CloudMemory;
-use record_bodies::{FoundKept, KeptItems};
+use cloud_memory::{CloudMemory, FoundKept, Fp, KeptItems, Place};
 
 // Where the number of items stands in the body.
 const COUNT: usize = 1;

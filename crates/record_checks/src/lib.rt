@@ -16,7 +16,11 @@ mod puts;
 mod record;
 mod taking;
 
-pub use cloud_memory::CloudMemory;
+pub use cloud_memory::{
+    BodyBuf, BodyErr, BodyView, Bytes, CloudMemory, CommitBody, DeleteBody, Fp, KeptItem,
+    KeptItems, Log, NoMemory, Place, PutItem, PutItems, RecipeView, Shape, Spent, Tag, UserId,
+    UserRooms, Version, sha256,
+};
 pub use commits::{commit_fault, named, whole};
 pub use damage::Damage;
 pub use ground::Ground;

@@ -1,13 +1,12 @@
 //! What a user may have.
 
 ghost use Rattle.std.specs.Prelude.{◌≡◌, ◌*◌, ◌<◌, ◌^◌};
-ghost use Rattle.user_dedup.specs.Spending.{limits_of};
+ghost use Rattle.cloud_memory.specs.UserDedup.Spending.{limits_of};
 
-use cd_base::UserId;
-use journal_start::Rooms;
+use cloud_memory::{UserId, UserRooms};
 
 /// How many shares the user may put.
-pub(crate) fn owners_limit(rooms: &Rooms, user: UserId) -> u64
+pub(crate) fn owners_limit(rooms: &UserRooms, user: UserId) -> u64
     ensures value { result ≡ (limits_of rooms.now user).owners }
     ensures few { result < 2 ^ 32 }
 {
@@ -19,7 +18,7 @@ pub(crate) fn owners_limit(rooms: &Rooms, user: UserId) -> u64
 }
 
 /// How many bytes of shares the user may put.
-pub(crate) fn shares_limit(rooms: &Rooms, user: UserId) -> u64
+pub(crate) fn shares_limit(rooms: &UserRooms, user: UserId) -> u64
     ensures { result ≡ (limits_of rooms.now user).shares }
 {
     if user.0 < rooms.users {
@@ -30,7 +29,7 @@ pub(crate) fn shares_limit(rooms: &Rooms, user: UserId) -> u64
 }
 
 /// How many bytes of recipes the user may commit.
-pub(crate) fn recipes_limit(rooms: &Rooms, user: UserId) -> u64
+pub(crate) fn recipes_limit(rooms: &UserRooms, user: UserId) -> u64
     ensures { result ≡ (limits_of rooms.now user).recipes }
 {
     if user.0 < rooms.users {
@@ -41,7 +40,7 @@ pub(crate) fn recipes_limit(rooms: &Rooms, user: UserId) -> u64
 }
 
 /// How many fingerprints may have a place.
-pub(crate) fn places_limit(rooms: &Rooms) -> u64
+pub(crate) fn places_limit(rooms: &UserRooms) -> u64
     ensures { result ≡ rooms.now.users * rooms.now.owners }
 {
     u64::from(rooms.users) * u64::from(rooms.owners)

@@ -2,13 +2,12 @@
 
 ghost use Rattle.std.specs.Prelude.{◌≡◌, ◌+◌, ◌-◌, ◌<◌, ◌≤◌, ◌^◌, length, nat_lt, IfSome};
 ghost use Rattle.cloud_memory.specs.CloudAreas.Placing.{end_of};
-ghost use Rattle.record_body.specs.Reading.{IsPlaced};
+ghost use Rattle.cloud_memory.specs.RecordBody.Reading.{IsPlaced};
 ghost use Rattle.record_checks.specs.Checks.{damaged_at, body_fault};
 ghost use Rattle.record_checks.specs.Noting.{farther_field};
 
 use crate::Damage;
-use cd_base::Place;
-use record_bodies::BodyErr;
+use cloud_memory::{BodyErr, Place};
 
 /// The damage at a byte of a body that begins at a place of the journal.
 pub(crate) fn damaged(body: &[u8], at: u64, place: usize) -> Damage

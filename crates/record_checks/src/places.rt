@@ -1,16 +1,13 @@
 //! Where a blob may lie.
 
 ghost use Rattle.std.specs.Prelude.{◌≡◌, ◌↔◌, ◌≤◌, ◌+◌, ◌^◌, ◌<◌, max, IsTrue, IfSome};
-ghost use Rattle.container_log.specs.Places.{LiesInOne};
+ghost use Rattle.cloud_memory.specs.ContainerLog.Places.{LiesInOne};
 ghost use Rattle.cloud_memory.specs.CloudAreas.Placing.{region_start, end_of};
 ghost use Rattle.record_checks.specs.Checks.{Lies, RecipeLies};
 ghost use Rattle.cloud_memory.specs.Rooms.{memory_of};
 
 use crate::Ground;
-use cd_base::{Place, RECIPE_LIMIT};
-use cloud_memory::CloudMemory;
-use container_log::CONTAINER;
-use record_body::CommitBody;
+use cloud_memory::{CONTAINER, CloudMemory, CommitBody, Place, RECIPE_LIMIT};
 
 // The bytes of a region of an area of blobs.
 const REGION: u64 = 34_359_738_368;

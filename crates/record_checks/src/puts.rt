@@ -3,20 +3,17 @@
 ghost use Rattle.std.specs.Prelude.{◌≡◌, ℕ, ◌+◌, ◌*◌, ◌<◌, ◌≤◌, ◌↔◌, ◌^◌, Bool, List, length, count_by, IsTrue, IfErr, OnOk};
 ghost use Rattle.std.specs.List.{sum_by};
 ghost use Rattle.std.specs.FinMap.{get};
-ghost use Rattle.record_bodies.specs.Spelling.{Put};
-ghost use Rattle.record_body.specs.declared.body.PutItem.{PutItem as Item};
+ghost use Rattle.cloud_memory.specs.RecordBodies.Spelling.{Put};
+ghost use Rattle.cloud_memory.specs.RecordBody.body.PutItem.{PutItem as Item};
 ghost use Rattle.cloud_memory.specs.Rooms.{memory_of, HasRooms};
 ghost use Rattle.cloud_memory.specs.Steps.{placed_len, spends};
 ghost use Rattle.record_checks.specs.Noting.{EndsGrow, put_field};
-ghost use Rattle.record_checks.specs.Steps.{JudgedAs, has_place, HasRoomFor, SpendsShares};
+ghost use Rattle.record_checks.specs.Steps.{JudgedAs, has_place, HasRoomForItems, SpendsShares};
 
 use crate::items::{look_over, take_items};
 use crate::limits::{owners_limit, places_limit, shares_limit};
 use crate::{Damage, Ground};
-use cd_base::UserId;
-use cloud_memory::CloudMemory;
-use record_body::PutItems;
-use spent_table::Spent;
+use cloud_memory::{CloudMemory, PutItems, Spent, UserId};
 
 // Where the user stands in the body.
 const USER: usize = 1;
@@ -49,7 +46,7 @@ fn count_of(items: &PutItems<'_>) -> u32
 fn has_room(memory: &CloudMemory, ground: &Ground, user: UserId, items: &PutItems<'_>) -> bool
     requires rooms { HasRooms ground.now.rooms memory.now }
     requires few { length items.now.items ≤ 256 }
-    ensures { IsTrue result ↔ HasRoomFor ground.now.rooms memory.now user items.now.items }
+    ensures { IsTrue result ↔ HasRoomForItems ground.now.rooms memory.now user items.now.items }
 {
     let own = u64::from(memory.owned_by(user)) + items.len() as u64;
     let placed = u64::from(memory.placed()) + placed_in(items);

@@ -2,13 +2,13 @@
 
 ghost use Rattle.std.specs.Prelude.{◌≡◌, ◌↔◌, ◌+◌, ◌<◌, ◌≤◌, ◌^◌, Bool, length, Ok, Err, OnOk, IfErr, MatchResult};
 ghost use Rattle.std.specs.Prelude.{MatchOption, IfSome, IsTrue, IsFalse};
-ghost use Rattle.cd_base.specs.Limits.{recipe_limit};
-ghost use Rattle.cd_base.specs.declared.place.Place.{Place as Lying};
+ghost use Rattle.cloud_memory.specs.CdBase.Limits.{recipe_limit};
+ghost use Rattle.cloud_memory.specs.CdBase.place.Place.{Place as Lying};
 ghost use Rattle.cloud_memory.specs.Rooms.{memory_of, HasRooms};
 ghost use Rattle.record_checks.specs.declared.ground.Ground.{Ground as Known};
 ghost use Rattle.record_checks.specs.Checks.{Asks, AsksFor, IsOfCheckpoint};
-ghost use Rattle.record_bodies.specs.Spelling.{Commit, Delete, IsBody};
-ghost use Rattle.record_bodies.specs.Seen.{seen, StartsIn};
+ghost use Rattle.cloud_memory.specs.RecordBodies.Spelling.{Commit, Delete, IsBody};
+ghost use Rattle.cloud_memory.specs.RecordBodies.Seen.{seen, StartsIn};
 ghost use Rattle.record_checks.specs.Steps.{JudgedAs};
 ghost use Rattle.record_checks.specs.Judging.{Judges};
 ghost use Rattle.record_checks.specs.Noting.{noted, IsNoted, EndsGrow};
@@ -19,9 +19,7 @@ use crate::noting::{damaged, damaged_body, note};
 use crate::puts::take_put;
 use crate::taking::take_spent;
 use crate::{Damage, Ground, Taking};
-use cd_base::{Place, RECIPE_LIMIT};
-use cloud_memory::CloudMemory;
-use record_bodies::{BodyView, CommitBody, DeleteBody};
+use cloud_memory::{BodyView, CloudMemory, CommitBody, DeleteBody, Place, RECIPE_LIMIT};
 
 // Where the place of a Commit stands in its body.
 const PLACE: usize = 45;

@@ -2,7 +2,7 @@
 
 ghost use Rattle.std.specs.Prelude.{◌≡◌, ℕ, ◌+◌, ◌<◌, ◌^◌, Bool, List, length, slice_set, slice_index_or, true};
 ghost use Rattle.std.specs.Prelude.{IsTrue, ◌↔◌, IfErr, OnOk};
-ghost use Rattle.record_bodies.specs.Spelling.{Spent as SpentRecord};
+ghost use Rattle.cloud_memory.specs.RecordBodies.Spelling.{Spent as SpentRecord};
 ghost use Rattle.cloud_memory.specs.Rooms.{memory_of, HasRooms};
 ghost use Rattle.record_checks.specs.Checks.{MayHaveSpent};
 ghost use Rattle.record_checks.specs.Noting.{nothing_noted, EndsGrow};
@@ -10,10 +10,7 @@ ghost use Rattle.record_checks.specs.Steps.{JudgedAs};
 
 use crate::limits::{owners_limit, recipes_limit, shares_limit};
 use crate::{Damage, Ground};
-use cd_base::UserId;
-use cloud_memory::CloudMemory;
-use record_bodies::SpentBody;
-use spent_table::Spent;
+use cloud_memory::{CloudMemory, Spent, SpentBody, UserId};
 
 // Where the user stands in the body of a Spent.
 const USER: usize = 1;

@@ -2,23 +2,23 @@
 use Rattle.std.proofs.Common.{◌≡◌, ℕ, ◌≤◌, List, [], ◌∷◌, ◌++◌, length, Option, Some, None, refl, sym, ap, ◌∙◌, subst, arith}
 use Rattle.std.specs.Prelude.{All}
 use Rattle.std.specs.List.{Contains}
-use Rattle.cd_base.specs.declared.ids.UserId.{UserId}
-use Rattle.cd_base.specs.declared.shape.Shape.{Shape}
+use Rattle.cd_edges.specs.CdBase.ids.UserId.{UserId}
+use Rattle.cd_edges.specs.CdBase.shape.Shape.{Shape}
 use Rattle.messages.specs.declared.request.Request.TheVariants as requests
 use Rattle.messages.specs.declared.request.Request.{Request}
-use Rattle.user_dedup.specs.declared.file_list.FileEntry.{FileEntry}
-use Rattle.user_dedup.specs.declared.view.View.{View}
-use Rattle.user_dedup.specs.Dedup.{put_outcome, commit_outcome}
-use Rattle.user_dedup.specs.Owning.{first_lacking, FindsLacking, new_strings}
-use Rattle.user_dedup.specs.Pages.{entry_at}
-use Rattle.user_dedup.specs.Requests.{fps_of, asker}
-use Rattle.user_dedup.proofs.Owned.{finds}
-use Rattle.user_dedup.proofs.Sound.{put_adds, commit_adds}
-use Rattle.user_dedup.specs.declared.command.Command.{Command}
-use Rattle.user_dedup.specs.declared.command.Command.TheVariants as commands
-use Rattle.user_dedup.specs.Dedup.{delete_outcome, answer_over, IsSound}
-use Rattle.user_dedup.specs.Cloud.{user_of, user_view}
-use Rattle.user_dedup.proofs.Sound.{deletes_from, sound_before}
+use Rattle.record_checks.specs.UserDedup.file_list.FileEntry.{FileEntry}
+use Rattle.record_checks.specs.UserDedup.view.View.{View}
+use Rattle.record_checks.specs.UserDedup.Dedup.{put_outcome, commit_outcome}
+use Rattle.record_checks.specs.UserDedup.Owning.{first_lacking, FindsLacking, new_strings}
+use Rattle.record_checks.specs.UserDedup.Pages.{entry_at}
+use Rattle.record_checks.specs.UserDedup.Requests.{fps_of, asker}
+use Rattle.record_checks.proofs.UserDedup.Owned.{finds}
+use Rattle.record_checks.proofs.UserDedup.Sound.{put_adds, commit_adds}
+use Rattle.record_checks.specs.UserDedup.command.Command.{Command}
+use Rattle.record_checks.specs.UserDedup.command.Command.TheVariants as commands
+use Rattle.record_checks.specs.UserDedup.Dedup.{delete_outcome, answer_over, IsSound}
+use Rattle.record_checks.specs.UserDedup.Cloud.{user_of, user_view}
+use Rattle.record_checks.proofs.UserDedup.Sound.{deletes_from, sound_before}
 
 -- the entry that there is
 abbrev pub HasOne : Option FileEntry → Type 0

@@ -6,40 +6,40 @@ use Rattle.std.specs.FinMap.{get}
 use Rattle.std.proofs.lemmas.Bool.{false_from_ne_true}
 use Rattle.std.proofs.lemmas.List.{map-append}
 use Rattle.std.proofs.lemmas.List.Elements.{All-head, Contains-append_right}
-use Rattle.cd_base.specs.declared.ids.Fp.{Fp}
-use Rattle.cd_base.specs.declared.ids.Tag.{Tag}
-use Rattle.cd_base.specs.declared.ids.UserId.{UserId}
-use Rattle.cd_base.specs.declared.ids.Version.{Version}
-use Rattle.cd_base.specs.declared.shape.Shape.{Shape}
-use Rattle.container_log.specs.Laying.{Placed, IsAt}
-use Rattle.file_index.specs.declared.key.Entry.{Entry}
-use Rattle.file_index.specs.Files.{key_of}
-use Rattle.journal_start.specs.declared.rooms.Rooms.{Rooms}
-use Rattle.journal_start.specs.Ranges.{AreRooms}
-use Rattle.record_body.specs.declared.body.PutItem.{PutItem}
-use Rattle.record_bodies.specs.declared.body.DeleteBody.{DeleteBody}
-use Rattle.record_bodies.specs.Spelling as bodies
-use Rattle.record_bodies.specs.Spelling.{Body}
-use Rattle.cd_base.specs.declared.place.Place.{Place}
-use Rattle.share_index.specs.Order.{owner_of}
-use Rattle.spent_table.specs.declared.Spent.{Spent as Row}
-use Rattle.spent_table.specs.Spending.{spent_by, both}
-use Rattle.user_dedup.specs.declared.file_list.FileEntry.{FileEntry}
-use Rattle.user_dedup.specs.declared.view.View.{View}
-use Rattle.user_dedup.specs.Cloud.{fingerprint}
-use Rattle.user_dedup.specs.Owning.{is_among}
-use Rattle.user_dedup.specs.Pages.{entry_at}
-use Rattle.user_dedup.specs.Requests.{fps_of as names_of}
-use Rattle.user_dedup.proofs.New.{are_new}
-use Rattle.user_dedup.proofs.Owned.{fp_same, contains_here, contains_later, among_contains}
-use Rattle.user_dedup.proofs.Sound.{found_entry}
-use Rattle.user_dedup.specs.declared.command.Command.{Command}
-use Rattle.user_dedup.specs.declared.command.Command.TheVariants as commands
-use Rattle.user_dedup.specs.Dedup.{IsSound}
-use Rattle.user_dedup.specs.Cloud.{user_view, strings_in}
-use Rattle.user_dedup.specs.Spending.{Spent, spent_of, IsWithin}
-use Rattle.user_dedup.proofs.Spending.{front_within, each_within}
-use Rattle.user_dedup.proofs.Views.{own_adds}
+use Rattle.cd_edges.specs.CdBase.ids.Fp.{Fp}
+use Rattle.cd_edges.specs.CdBase.ids.Tag.{Tag}
+use Rattle.cd_edges.specs.CdBase.ids.UserId.{UserId}
+use Rattle.cd_edges.specs.CdBase.ids.Version.{Version}
+use Rattle.cd_edges.specs.CdBase.shape.Shape.{Shape}
+use Rattle.record_checks.specs.ContainerLog.Laying.{Placed, IsAt}
+use Rattle.record_checks.specs.FileIndex.key.Entry.{Entry}
+use Rattle.record_checks.specs.FileIndex.Files.{key_of}
+use Rattle.record_checks.specs.JournalStart.rooms.UserRooms.{UserRooms}
+use Rattle.record_checks.specs.JournalStart.Ranges.{AreRooms}
+use Rattle.record_checks.specs.RecordBody.body.PutItem.{PutItem}
+use Rattle.record_checks.specs.RecordBodies.body.DeleteBody.{DeleteBody}
+use Rattle.record_checks.specs.RecordBodies.Spelling as bodies
+use Rattle.record_checks.specs.RecordBodies.Spelling.{Body}
+use Rattle.cd_edges.specs.CdBase.place.Place.{Place}
+use Rattle.record_checks.specs.ShareIndex.Order.{owner_of}
+use Rattle.record_checks.specs.SpentTable.Spent.{Spent as Row}
+use Rattle.record_checks.specs.SpentTable.Spending.{spent_by, both}
+use Rattle.record_checks.specs.UserDedup.file_list.FileEntry.{FileEntry}
+use Rattle.record_checks.specs.UserDedup.view.View.{View}
+use Rattle.record_checks.specs.UserDedup.Cloud.{fingerprint}
+use Rattle.record_checks.specs.UserDedup.Owning.{is_among}
+use Rattle.record_checks.specs.UserDedup.Pages.{entry_at}
+use Rattle.record_checks.specs.UserDedup.Requests.{fps_of as names_of}
+use Rattle.record_checks.proofs.UserDedup.New.{are_new}
+use Rattle.record_checks.proofs.UserDedup.Owned.{fp_same, contains_here, contains_later, among_contains}
+use Rattle.record_checks.proofs.UserDedup.Sound.{found_entry}
+use Rattle.record_checks.specs.UserDedup.command.Command.{Command}
+use Rattle.record_checks.specs.UserDedup.command.Command.TheVariants as commands
+use Rattle.record_checks.specs.UserDedup.Dedup.{IsSound}
+use Rattle.record_checks.specs.UserDedup.Cloud.{user_view, strings_in}
+use Rattle.record_checks.specs.UserDedup.Spending.{SpentByUser, spent_of, IsWithin}
+use Rattle.record_checks.proofs.UserDedup.Spending.{front_within, each_within}
+use Rattle.record_checks.proofs.UserDedup.Views.{own_adds}
 use Rattle.record_checks.specs.CloudAreas.Chains.{commit_of, PlacedNew, AreItems, IsRecord, LiesIn}
 use Rattle.record_checks.specs.CloudAreas.Placing.{places_given, places_of, end_of, region_start, AreBehind, shares_end, recipes_end}
 use Rattle.record_checks.proofs.CloudAreas.Apart.{Apart, apart_from}
@@ -66,7 +66,7 @@ ReadsNone g area inside m body = ((place : Place) → Asks g inside m body place
 
 -- ---- what a memory of a list within its rooms has
 
-module _ (shape : Shape) (rooms : Rooms) (list : List Command) (m : Memory) (r : Remembers shape list m) where
+module _ (shape : Shape) (rooms : UserRooms) (list : List Command) (m : Memory) (r : Remembers shape list m) where
   pub own_known : (user : UserId) (fp : Fp) → IsSome (get m.owners (owner_of user.0 fp.0)) → Contains (user_view shape list user).own fp
   own_known user fp some = by_test (is_among (user_view shape list user).own fp) refl (ap is_some (sym (r.owners user fp)) ∙ some)
     where
@@ -185,7 +185,7 @@ module _ (g : Ground) (user : UserId) where
 
 -- ---- a record
 
-module _ (shape : Shape) (rooms : Rooms) (region shares_len : ℕ) (area : List ℕ) (cloud : ℕ) (list : List Command) (before : List Body) (m : Memory) (are_rooms : AreRooms rooms)
+module _ (shape : Shape) (rooms : UserRooms) (region shares_len : ℕ) (area : List ℕ) (cloud : ℕ) (list : List Command) (before : List Body) (m : Memory) (are_rooms : AreRooms rooms)
     (left : IsLeft shape area rooms.users region list before m) where
   abbrev g : Ground
   g = record { shape = shape; rooms = rooms; region = region; shares_len = shares_len; recipes_len = length area }
@@ -209,8 +209,8 @@ module _ (shape : Shape) (rooms : Rooms) (region shares_len : ℕ) (area : List 
       let fits = each_within shape rooms grown user within in
       let a = fits.owners in
       let b = fits.shares in
-      let c : (spent_by filled.spent user).owners + length items ≡ (spent_of grown user).owners = ap (λ (s : Spent). s.owners) row in
-      let d : (spent_by filled.spent user).shares + (spent_on filled items).shares ≡ (spent_of grown user).shares = ap (λ (s : Spent). s.shares) row in
+      let c : (spent_by filled.spent user).owners + length items ≡ (spent_of grown user).owners = ap (λ (s : SpentByUser). s.owners) row in
+      let d : (spent_by filled.spent user).shares + (spent_on filled items).shares ≡ (spent_of grown user).shares = ap (λ (s : SpentByUser). s.shares) row in
       record {
         own = owned_within shape rooms grown within filled.owners user (own_known shape rooms grown (with_put user items m) new.remembers user);
         placed = placed_within shape rooms grown within filled.places (λ fp some. (new.remembers.placed fp).0 some);
@@ -231,7 +231,7 @@ module _ (shape : Shape) (rooms : Rooms) (region shares_len : ℕ) (area : List 
       sym (ap as_spent (row_here m.spent user (both (spent_by m.spent user) more) known)) ∙ new.remembers.spent user in
       let fits = each_within shape rooms grown user within in
       let a = fits.recipes in
-      let b : (spent_by m.spent user).recipes + length recipe ≡ (spent_of grown user).recipes = ap (λ (s : Spent). s.recipes) row in
+      let b : (spent_by m.spent user).recipes + length recipe ≡ (spent_of grown user).recipes = ap (λ (s : SpentByUser). s.recipes) row in
       record {
         entries = λ full.
             let more_one = more_files m.files user tag version (record { at = at; len = length recipe; fp = fingerprint recipe }) lacks in

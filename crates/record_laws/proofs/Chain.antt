@@ -5,23 +5,23 @@ use Rattle.std.specs.List.{Contains}
 use Rattle.std.proofs.lemmas.List.{take-append-le, drop-append-le}
 use Rattle.std.proofs.lemmas.List.Elements.{All-contains, Contains-append_left, Contains-append_right}
 use Rattle.std.proofs.lemmas.List.Sums.{fold-append}
-use Rattle.cd_base.specs.declared.ids.Fp.{Fp}
-use Rattle.cd_base.specs.declared.shape.Shape.{Shape}
+use Rattle.cd_edges.specs.CdBase.ids.Fp.{Fp}
+use Rattle.cd_edges.specs.CdBase.shape.Shape.{Shape}
 use Rattle.cd_edges.specs.declared.area.Area.TheVariants.{Shares, Recipes}
 use Rattle.cd_edges.specs.Disk.{Image}
-use Rattle.container_log.specs.Laying.{Placed, IsAt}
-use Rattle.journal_start.specs.declared.rooms.Rooms.{Rooms}
-use Rattle.journal_start.specs.Ranges.{AreRooms}
-use Rattle.journal_start.specs.declared.start.Header.{Header}
-use Rattle.record_bodies.specs.Spelling.{Body}
-use Rattle.cd_base.specs.declared.place.Place.{Place}
-use Rattle.user_dedup.specs.declared.command.Command.{Command}
-use Rattle.user_dedup.specs.Dedup.{IsSound}
-use Rattle.user_dedup.specs.Cloud.{held_bytes}
-use Rattle.user_dedup.specs.Spending.{IsWithin}
-use Rattle.user_dedup.proofs.Sound.{sound_before}
-use Rattle.user_dedup.proofs.Spending.{front_within}
-use Rattle.record_checks.specs.CloudAreas.Chains.{Says, Summed, Then, AreLong, BothHaveRoom}
+use Rattle.record_checks.specs.ContainerLog.Laying.{Placed, IsAt}
+use Rattle.record_checks.specs.JournalStart.rooms.UserRooms.{UserRooms}
+use Rattle.record_checks.specs.JournalStart.Ranges.{AreRooms}
+use Rattle.record_checks.specs.JournalStart.start.Header.{Header}
+use Rattle.record_checks.specs.RecordBodies.Spelling.{Body}
+use Rattle.cd_edges.specs.CdBase.place.Place.{Place}
+use Rattle.record_checks.specs.UserDedup.command.Command.{Command}
+use Rattle.record_checks.specs.UserDedup.Dedup.{IsSound}
+use Rattle.record_checks.specs.UserDedup.Cloud.{held_bytes}
+use Rattle.record_checks.specs.UserDedup.Spending.{IsWithin}
+use Rattle.record_checks.proofs.UserDedup.Sound.{sound_before}
+use Rattle.record_checks.proofs.UserDedup.Spending.{front_within}
+use Rattle.record_checks.specs.CloudAreas.Chains.{AreRecordsOfList, Summed, Then, AreLong, BothHaveRoom}
 use Rattle.record_checks.specs.CloudAreas.Placing.{shares_placed, shares_in}
 use Rattle.record_checks.specs.CloudAreas.Standing.{Chain, region_in, Holds}
 use Rattle.record_checks.proofs.CloudAreas.Entries.{share_lies}
@@ -51,7 +51,7 @@ drop_all {X} n xs len = subst (λ k. drop k xs ≡ []) len (none xs)
 
 -- a chain has the records of its checkpoint
 pub checkpoint_within : (format : ℕ) (shape : Shape) (region count commands : ℕ) (bodies : List Body) (list : List Command) (recipes : List Placed)
-    → Says format shape region count commands bodies list recipes → count ≤ length bodies
+    → AreRecordsOfList format shape region count commands bodies list recipes → count ≤ length bodies
 checkpoint_within format shape region count commands _ _ _ (Summed bodies list recipes is len number) = omega (arith, len)
 checkpoint_within format shape region count commands _ _ _ (Then before old laid body command more says is) =
     let rest = checkpoint_within format shape region count commands before old laid says in
@@ -60,7 +60,7 @@ checkpoint_within format shape region count commands _ _ _ (Then before old laid
 
 -- the places of the records before are as long as they were
 pub long_before : (format : ℕ) (shape : Shape) (region count commands : ℕ) (before : List Body) (old : List Command) (laid : List Placed) (command : Command) (body : Body)
-    → Says format shape region count commands before old laid → AreLong (old ++ command ∷ []) (shares_in (before ++ body ∷ [])) → AreLong old (shares_in before)
+    → AreRecordsOfList format shape region count commands before old laid → AreLong (old ++ command ∷ []) (shares_in (before ++ body ∷ [])) → AreLong old (shares_in before)
 long_before format shape region count commands before old laid command body says long =
     contained (λ (x : Fp × Place). x.1.len ≡ length (held_bytes old x.0)) (shares_in before) (λ x c.
     All-contains (λ (y : Fp × Place). y.1.len ≡ length (held_bytes (old ++ command ∷ []) y.0)) (shares_in (before ++ body ∷ [])) x long
@@ -76,8 +76,8 @@ chain_more shape area users region count before body le =
     ∙ ap (left_by shape area false (start (take count before))) (drop-append-le count before (body ∷ []) le)
     ∙ fold-append (record_left shape area false) (start (take count before)) (drop count before) (body ∷ [])
 
-module _ (format : ℕ) (shape : Shape) (cloud : ℕ) (rooms : Rooms) (region count commands : ℕ) (area : List ℕ) (later : (format == 1) ≡ false) (are : AreRooms rooms) where
-  pub all_left : (bodies : List Body) (list : List Command) (recipes : List Placed) → Says format shape region count commands bodies list recipes
+module _ (format : ℕ) (shape : Shape) (cloud : ℕ) (rooms : UserRooms) (region count commands : ℕ) (area : List ℕ) (later : (format == 1) ≡ false) (are : AreRooms rooms) where
+  pub all_left : (bodies : List Body) (list : List Command) (recipes : List Placed) → AreRecordsOfList format shape region count commands bodies list recipes
       → IsSound shape cloud list → IsWithin shape rooms list → AreLong list (shares_in bodies) → All (IsAt area) recipes
       → IsLeft shape area rooms.users region list bodies (chain_left shape area rooms.users region count bodies)
   all_left _ _ _ (Summed bodies list recipes is len number) sound within long lie =

@@ -7,36 +7,36 @@ use Rattle.std.specs.FinMap.{get, get-empty}
 use Rattle.std.proofs.lemmas.Bool.{cases_eq}
 use Rattle.std.proofs.lemmas.List.Elements.{All-contains}
 use Rattle.std.proofs.lemmas.List.Sums.{fold-append}
-use Rattle.cd_base.specs.declared.ids.Fp.{Fp}
-use Rattle.cd_base.specs.declared.ids.Tag.{Tag}
-use Rattle.cd_base.specs.declared.ids.UserId.{UserId}
-use Rattle.cd_base.specs.declared.ids.Version.{Version}
-use Rattle.cd_base.specs.declared.shape.Shape.{Shape}
-use Rattle.container_log.specs.Laying.{Placed, IsAt}
-use Rattle.file_index.specs.declared.key.Entry.{Entry}
-use Rattle.file_index.specs.Files as files
-use Rattle.file_index.specs.Order.{key_cmp}
-use Rattle.record_body.specs.declared.body.CommitBody.{CommitBody}
-use Rattle.record_bodies.specs.declared.body.SpentBody.{SpentBody}
-use Rattle.record_bodies.specs.Spelling as bodies
-use Rattle.record_bodies.specs.Spelling.{Body}
-use Rattle.share_index.specs.Order.{owner_cmp, owner_of}
-use Rattle.spent_table.specs.Spending.{nothing as no_row, spent_by}
-use Rattle.user_dedup.specs.declared.file_list.FileEntry.{FileEntry}
-use Rattle.user_dedup.specs.Owning.{is_among}
-use Rattle.user_dedup.specs.Pages as pages
-use Rattle.user_dedup.specs.Pages.{entry_at}
-use Rattle.user_dedup.specs.Requests.{fps_of as names_of}
-use Rattle.user_dedup.proofs.Owned.{among_contains, contains_among}
-use Rattle.user_dedup.proofs.Sound.{found_entry}
-use Rattle.user_dedup.specs.declared.command.Command.{Command}
-use Rattle.user_dedup.specs.Dedup.{IsSound}
-use Rattle.user_dedup.specs.Cloud.{user_view, named_by, named_in}
-use Rattle.user_dedup.specs.Spending.{Spent, nothing, spent_of, files_of}
-use Rattle.user_dedup.proofs.Filtered.{in_filter}
-use Rattle.user_dedup.proofs.Sound.{keys_apart}
+use Rattle.cd_edges.specs.CdBase.ids.Fp.{Fp}
+use Rattle.cd_edges.specs.CdBase.ids.Tag.{Tag}
+use Rattle.cd_edges.specs.CdBase.ids.UserId.{UserId}
+use Rattle.cd_edges.specs.CdBase.ids.Version.{Version}
+use Rattle.cd_edges.specs.CdBase.shape.Shape.{Shape}
+use Rattle.record_checks.specs.ContainerLog.Laying.{Placed, IsAt}
+use Rattle.record_checks.specs.FileIndex.key.Entry.{Entry}
+use Rattle.record_checks.specs.FileIndex.Files as files
+use Rattle.record_checks.specs.FileIndex.Order.{key_cmp}
+use Rattle.record_checks.specs.RecordBody.body.CommitBody.{CommitBody}
+use Rattle.record_checks.specs.RecordBodies.body.SpentBody.{SpentBody}
+use Rattle.record_checks.specs.RecordBodies.Spelling as bodies
+use Rattle.record_checks.specs.RecordBodies.Spelling.{Body}
+use Rattle.record_checks.specs.ShareIndex.Order.{owner_cmp, owner_of}
+use Rattle.record_checks.specs.SpentTable.Spending.{nothing as no_row, spent_by}
+use Rattle.record_checks.specs.UserDedup.file_list.FileEntry.{FileEntry}
+use Rattle.record_checks.specs.UserDedup.Owning.{is_among}
+use Rattle.record_checks.specs.UserDedup.Pages as pages
+use Rattle.record_checks.specs.UserDedup.Pages.{entry_at}
+use Rattle.record_checks.specs.UserDedup.Requests.{fps_of as names_of}
+use Rattle.record_checks.proofs.UserDedup.Owned.{among_contains, contains_among}
+use Rattle.record_checks.proofs.UserDedup.Sound.{found_entry}
+use Rattle.record_checks.specs.UserDedup.command.Command.{Command}
+use Rattle.record_checks.specs.UserDedup.Dedup.{IsSound}
+use Rattle.record_checks.specs.UserDedup.Cloud.{user_view, named_by, named_in}
+use Rattle.record_checks.specs.UserDedup.Spending.{SpentByUser, nothing, spent_of, files_of}
+use Rattle.record_checks.proofs.UserDedup.Filtered.{in_filter}
+use Rattle.record_checks.proofs.UserDedup.Sound.{keys_apart}
 use Rattle.record_checks.specs.CloudAreas.Chains.{AreLong}
-use Rattle.record_checks.specs.CloudAreas.Checkpoints.{put_body, of_user, fps_of, items_in, key_of, HasEntry, SpentIs, ListSpent, IsCheckpoint}
+use Rattle.record_checks.specs.CloudAreas.Checkpoints.{put_body, of_user, fps_of, items_in, key_of, HasEntry, SpentIs, ListSpent, IsCheckpointOfList}
 use Rattle.record_checks.specs.CloudAreas.Placing.{shares_in}
 use Rattle.record_checks.proofs.CloudAreas.Apart.{apart_from}
 use Rattle.record_checks.proofs.CloudAreas.Entries.{entry_of}
@@ -55,13 +55,13 @@ use Rattle.record_laws.proofs.Counts.{same_sum, sums_match, times_flat, files_ap
 use Rattle.record_laws.proofs.Places.{all_placed, shares_end_all, recipes_end_all, Finds, places_remembered}
 use Rattle.record_laws.proofs.Segments.{over, names, puts_own, kept_own, commits_own, spents_own, puts_files, kept_files, spents_files, IsOfList, AreOfList, entry_of_list, commits_of_list, commits_enter, puts_spent, kept_spent, commits_spent, spents_rows, row_listed, row_unlisted}
 
-spent_nothing : (s : Spent) → (s ≡ nothing) ⊎ (s ≢ nothing)
+spent_nothing : (s : SpentByUser) → (s ≡ nothing) ⊎ (s ≢ nothing)
 spent_nothing s = elim (cases_eq s.owners 0) [
-  | inr more ↦ inr (λ same. more (ap (λ (x : Spent). x.owners) same))
+  | inr more ↦ inr (λ same. more (ap (λ (x : SpentByUser). x.owners) same))
   | inl owners ↦ elim (cases_eq s.shares 0) [
-    | inr more ↦ inr (λ same. more (ap (λ (x : Spent). x.shares) same))
+    | inr more ↦ inr (λ same. more (ap (λ (x : SpentByUser). x.shares) same))
     | inl shares ↦ elim (cases_eq s.recipes 0) [
-      | inr more ↦ inr (λ same. more (ap (λ (x : Spent). x.recipes) same))
+      | inr more ↦ inr (λ same. more (ap (λ (x : SpentByUser). x.recipes) same))
       | inl recipes ↦ inl (λ i. record { owners = owners i; shares = shares i; recipes = recipes i })
     ]
   ]
@@ -71,7 +71,7 @@ some_is : {X : Type 0} (x y : X) → Some x ≡ Some y → x ≡ y
 some_is x y e = cc
 
 module _ (format : ℕ) (shape : Shape) (cloud : ℕ) (list : List Command) (records : List Body) (recipes : List Placed) (users region : ℕ) (area : List ℕ)
-    (later : (format == 1) ≡ false) (sound : IsSound shape cloud list) (is : IsCheckpoint format shape list records recipes)
+    (later : (format == 1) ≡ false) (sound : IsSound shape cloud list) (is : IsCheckpointOfList format shape list records recipes)
     (long : AreLong list (shares_in records)) (lie : All (IsAt area) recipes)
     (known : (q : UserId) → spent_of list q ≢ nothing → q.0 < users) (few : (q : UserId) → files_of shape list q ≤ 16384) where
   abbrev m0 : Memory

@@ -4,34 +4,34 @@ use Rattle.std.specs.Prelude.{◌==◌, IsSome}
 use Rattle.std.specs.List.{Contains}
 use Rattle.std.specs.FinMap.{FinMap, get, insert, len}
 use Rattle.std.proofs.lemmas.List.{length-map}
-use Rattle.cd_base.specs.declared.ids.Fp.{Fp}
-use Rattle.cd_base.specs.declared.ids.Tag.{Tag}
-use Rattle.cd_base.specs.declared.ids.UserId.{UserId}
-use Rattle.cd_base.specs.declared.ids.Version.{Version}
-use Rattle.cd_base.specs.declared.shape.Shape.{Shape}
-use Rattle.file_index.specs.declared.key.Entry.{Entry}
-use Rattle.file_index.specs.declared.key.FileKey.{FileKey}
-use Rattle.file_index.specs.Files.{key_of}
-use Rattle.file_index.specs.Order.{key_cmp, key_exact}
-use Rattle.file_index.proofs.Order.{key_total}
-use Rattle.pool_map.specs.Accounts.{keys_of}
-use Rattle.journal_start.specs.declared.rooms.Rooms.{Rooms}
-use Rattle.pool_map.specs.MapSums.{sum_by-insert_new}
-use Rattle.share_index.specs.declared.key.Owner.{Owner}
-use Rattle.cd_base.specs.declared.place.Place.{Place}
-use Rattle.share_index.specs.Order.{owner_cmp, owner_of, owner_exact}
-use Rattle.cd_base.specs.Order.{fp_cmp, fp_exact}
-use Rattle.share_index.proofs.Owning.{owner_total}
-use Rattle.share_index.proofs.Placing.{fp_total}
-use Rattle.user_dedup.specs.declared.file_list.FileEntry.{FileEntry}
-use Rattle.user_dedup.specs.Cloud.{fingerprint, no_view}
-use Rattle.user_dedup.specs.Pages.{entry_at}
-use Rattle.user_dedup.specs.Pages as pages
-use Rattle.user_dedup.proofs.Sound.{found_entry}
-use Rattle.user_dedup.specs.declared.command.Command.{Command}
-use Rattle.user_dedup.specs.Cloud.{commands_of, strings_in, user_view}
-use Rattle.user_dedup.specs.Spending.{limits_of, files_limit, IsWithin}
-use Rattle.user_dedup.proofs.Spending.{each_within}
+use Rattle.cd_edges.specs.CdBase.ids.Fp.{Fp}
+use Rattle.cd_edges.specs.CdBase.ids.Tag.{Tag}
+use Rattle.cd_edges.specs.CdBase.ids.UserId.{UserId}
+use Rattle.cd_edges.specs.CdBase.ids.Version.{Version}
+use Rattle.cd_edges.specs.CdBase.shape.Shape.{Shape}
+use Rattle.record_checks.specs.FileIndex.key.Entry.{Entry}
+use Rattle.record_checks.specs.FileIndex.key.FileKey.{FileKey}
+use Rattle.record_checks.specs.FileIndex.Files.{key_of}
+use Rattle.record_checks.specs.FileIndex.Order.{key_cmp, key_exact}
+use Rattle.record_checks.proofs.FileIndex.Order.{key_total}
+use Rattle.record_checks.specs.PoolMap.Accounts.{keys_of}
+use Rattle.record_checks.specs.JournalStart.rooms.UserRooms.{UserRooms}
+use Rattle.record_checks.specs.PoolMap.MapSums.{sum_by-insert_new}
+use Rattle.record_checks.specs.ShareIndex.key.Owner.{Owner}
+use Rattle.cd_edges.specs.CdBase.place.Place.{Place}
+use Rattle.record_checks.specs.ShareIndex.Order.{owner_cmp, owner_of, owner_exact}
+use Rattle.cd_edges.specs.CdBase.Order.{fp_cmp, fp_exact}
+use Rattle.record_checks.proofs.ShareIndex.Owning.{owner_total}
+use Rattle.record_checks.proofs.ShareIndex.Placing.{fp_total}
+use Rattle.record_checks.specs.UserDedup.file_list.FileEntry.{FileEntry}
+use Rattle.record_checks.specs.UserDedup.Cloud.{fingerprint, no_view}
+use Rattle.record_checks.specs.UserDedup.Pages.{entry_at}
+use Rattle.record_checks.specs.UserDedup.Pages as pages
+use Rattle.record_checks.proofs.UserDedup.Sound.{found_entry}
+use Rattle.record_checks.specs.UserDedup.command.Command.{Command}
+use Rattle.record_checks.specs.UserDedup.Cloud.{commands_of, strings_in, user_view}
+use Rattle.record_checks.specs.UserDedup.Spending.{limits_of, files_limit, IsWithin}
+use Rattle.record_checks.proofs.UserDedup.Spending.{each_within}
 use Rattle.record_checks.proofs.CloudAreas.Lists.{in_map}
 use Rattle.record_checks.proofs.MemoryProofs.FullRooms.{own_few, strings_within}
 use Rattle.record_checks.proofs.MemoryProofs.KeyCounts.{few_keys, all_keys}
@@ -40,7 +40,7 @@ use Rattle.record_checks.proofs.MemoryProofs.KeyCounts.{few_keys, all_keys}
 abbrev key_by : UserId → Tag × Version → FileKey
 key_by user k = key_of user.0 k.0.0 k.1.0
 
-module _ (shape : Shape) (rooms : Rooms) (list : List Command) (within : IsWithin shape rooms list) where
+module _ (shape : Shape) (rooms : UserRooms) (list : List Command) (within : IsWithin shape rooms list) where
   -- of a user's keys, where all are the user's own
   pub owned_within : (owners : FinMap owner_cmp ℕ) (user : UserId) → ((fp : Fp) → IsSome (get owners (owner_of user.0 fp.0)) → Contains (user_view shape list user).own fp)
       → keys_of (λ (k : Owner). k.user) owners user.0 ≤ (limits_of rooms user).owners

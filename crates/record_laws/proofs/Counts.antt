@@ -3,17 +3,17 @@ use Rattle.std.proofs.Common.{◌≡◌, ℕ, suc, ◌≤◌, Bool, true, false,
 use Rattle.std.specs.Prelude.{filter, ◌==◌}
 use Rattle.std.specs.List.{Contains, flat_map, sum_by}
 use Rattle.std.proofs.lemmas.List.Sums.{sum_by-cons, sum_by-append}
-use Rattle.cd_base.specs.declared.ids.Fp.{Fp}
-use Rattle.cd_base.specs.declared.ids.Tag.{Tag}
-use Rattle.cd_base.specs.declared.ids.UserId.{UserId}
-use Rattle.cd_base.specs.declared.ids.Version.{Version}
-use Rattle.record_body.specs.declared.body.CommitBody.{CommitBody}
-use Rattle.user_dedup.specs.declared.file_list.FileEntry.{FileEntry}
-use Rattle.user_dedup.specs.Pages as pages
-use Rattle.user_dedup.specs.Pages.{entry_at}
-use Rattle.user_dedup.proofs.Owned.{contains_here, contains_later}
-use Rattle.user_dedup.proofs.Sound.{found_entry, no_entry}
-use Rattle.user_dedup.proofs.Filtered.{from_filter}
+use Rattle.cd_edges.specs.CdBase.ids.Fp.{Fp}
+use Rattle.cd_edges.specs.CdBase.ids.Tag.{Tag}
+use Rattle.cd_edges.specs.CdBase.ids.UserId.{UserId}
+use Rattle.cd_edges.specs.CdBase.ids.Version.{Version}
+use Rattle.record_checks.specs.RecordBody.body.CommitBody.{CommitBody}
+use Rattle.record_checks.specs.UserDedup.file_list.FileEntry.{FileEntry}
+use Rattle.record_checks.specs.UserDedup.Pages as pages
+use Rattle.record_checks.specs.UserDedup.Pages.{entry_at}
+use Rattle.record_checks.proofs.UserDedup.Owned.{contains_here, contains_later}
+use Rattle.record_checks.proofs.UserDedup.Sound.{found_entry, no_entry}
+use Rattle.record_checks.proofs.UserDedup.Filtered.{from_filter}
 use Rattle.record_checks.specs.CloudAreas.Checkpoints.{key_of}
 use Rattle.record_checks.proofs.CloudAreas.Apart.{Apart, contains_get, one_by}
 use Rattle.record_checks.proofs.CloudAreas.Counting.{split_at, beside}

@@ -2,17 +2,17 @@
 use Rattle.std.proofs.Common.{◌≡◌, ◌⊎◌, inl, inr, ℕ, ◌<◌, ◌≤◌, List, [], ◌∷◌, ◌++◌, length, refl, sym, ap, ◌∙◌, subst, arith, append_assoc, length-append}
 use Rattle.std.specs.Prelude.{All}
 use Rattle.std.proofs.lemmas.List.Elements.{All-contains, Contains-append_left}
-use Rattle.cd_base.specs.declared.shape.Shape.{Shape}
-use Rattle.container_log.specs.Laying.{Placed, IsAt}
-use Rattle.journal_start.specs.declared.rooms.Rooms.{Rooms}
-use Rattle.record_bodies.specs.Spelling.{Body}
-use Rattle.user_dedup.specs.declared.command.Command.{Command}
-use Rattle.user_dedup.specs.Dedup.{IsSound}
-use Rattle.user_dedup.specs.Spending.{IsWithin}
-use Rattle.user_dedup.proofs.Sound.{last_same, sound_before}
-use Rattle.user_dedup.proofs.Spending.{front_within}
-use Rattle.record_checks.specs.CloudAreas.Chains.{IsRecord, Says, Summed, Then, AreLong}
-use Rattle.record_checks.specs.CloudAreas.Checkpoints.{IsCheckpoint}
+use Rattle.cd_edges.specs.CdBase.shape.Shape.{Shape}
+use Rattle.record_checks.specs.ContainerLog.Laying.{Placed, IsAt}
+use Rattle.record_checks.specs.JournalStart.rooms.UserRooms.{UserRooms}
+use Rattle.record_checks.specs.RecordBodies.Spelling.{Body}
+use Rattle.record_checks.specs.UserDedup.command.Command.{Command}
+use Rattle.record_checks.specs.UserDedup.Dedup.{IsSound}
+use Rattle.record_checks.specs.UserDedup.Spending.{IsWithin}
+use Rattle.record_checks.proofs.UserDedup.Sound.{last_same, sound_before}
+use Rattle.record_checks.proofs.UserDedup.Spending.{front_within}
+use Rattle.record_checks.specs.CloudAreas.Chains.{IsRecord, AreRecordsOfList, Summed, Then, AreLong}
+use Rattle.record_checks.specs.CloudAreas.Checkpoints.{IsCheckpointOfList}
 use Rattle.record_checks.specs.CloudAreas.Placing.{shares_in}
 use Rattle.record_checks.proofs.CloudAreas.Lists.{contained}
 use Rattle.record_laws.proofs.Chain.{long_before, checkpoint_within}
@@ -35,20 +35,20 @@ from_end (x ∷ xs) = inr (elim (from_end xs) [
 -- ---- a record
 
 -- what is so of the list that the records up to one have come to
-pub record IsFine (shape : Shape) (cloud : ℕ) (rooms : Rooms) (area : List ℕ) (list : List Command) (records : List Body) (recipes : List Placed) : Type 0 where
+pub record IsFine (shape : Shape) (cloud : ℕ) (rooms : UserRooms) (area : List ℕ) (list : List Command) (records : List Body) (recipes : List Placed) : Type 0 where
   pub sound : IsSound shape cloud list
   pub within : IsWithin shape rooms list
   pub long : AreLong list (shares_in records)
   pub lie : All (IsAt area) recipes
 
-module _ (format : ℕ) (shape : Shape) (cloud : ℕ) (rooms : Rooms) (region count commands : ℕ) (area : List ℕ) where
+module _ (format : ℕ) (shape : Shape) (cloud : ℕ) (rooms : UserRooms) (region count commands : ℕ) (area : List ℕ) where
   -- the record is one of a checkpoint's
   pub record IsInside (before : List Body) (body : Body) : Type 0 where
     pub list : List Command
     pub records : List Body
     pub recipes : List Placed
     pub after : List Body
-    pub is : IsCheckpoint format shape list records recipes
+    pub is : IsCheckpointOfList format shape list records recipes
     pub whole : records ≡ before ++ body ∷ after
     pub len : length records ≡ count
     pub fine : IsFine shape cloud rooms area list records recipes
@@ -59,11 +59,11 @@ module _ (format : ℕ) (shape : Shape) (cloud : ℕ) (rooms : Rooms) (region co
     pub command : Command
     pub laid : List Placed
     pub more : List Placed
-    pub says : Says format shape region count commands before list laid
+    pub says : AreRecordsOfList format shape region count commands before list laid
     pub is : IsRecord region before list command body more
     pub fine : IsFine shape cloud rooms area (list ++ command ∷ []) (before ++ body ∷ []) (laid ++ more)
 
-  pub stands_in : (bodies : List Body) (list : List Command) (recipes : List Placed) → Says format shape region count commands bodies list recipes
+  pub stands_in : (bodies : List Body) (list : List Command) (recipes : List Placed) → AreRecordsOfList format shape region count commands bodies list recipes
       → IsFine shape cloud rooms area list bodies recipes → (before : List Body) (body : Body) (after : List Body) → bodies ≡ before ++ body ∷ after
       → IsInside before body ⊎ IsBehind before body
   stands_in _ _ _ (Summed bodies list recipes is len number) fine before body after whole =

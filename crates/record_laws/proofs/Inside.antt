@@ -10,39 +10,39 @@ use Rattle.std.proofs.lemmas.List.{map-append}
 use Rattle.std.proofs.lemmas.List.Elements.{All-contains, filter-append, Contains-append_left, Contains-append_right}
 use Rattle.std.proofs.lemmas.List.Sums.{fold-append}
 use Rattle.std.proofs.lemmas.Slice.Eq.{bytes_eq-Decides}
-use Rattle.cd_base.specs.declared.ids.Fp.{Fp}
-use Rattle.cd_base.specs.declared.ids.Tag.{Tag}
-use Rattle.cd_base.specs.declared.ids.UserId.{UserId}
-use Rattle.cd_base.specs.declared.ids.Version.{Version}
-use Rattle.cd_base.specs.declared.shape.Shape.{Shape}
-use Rattle.container_log.specs.Laying.{Placed, IsAt}
-use Rattle.file_index.specs.declared.key.Entry.{Entry}
-use Rattle.file_index.specs.Files as files
-use Rattle.file_index.specs.Order.{key_cmp}
-use Rattle.journal_start.specs.declared.rooms.Rooms.{Rooms}
-use Rattle.journal_start.specs.Ranges.{AreRooms}
-use Rattle.record_body.specs.declared.body.CommitBody.{CommitBody}
-use Rattle.record_body.specs.declared.body.PutItem.{PutItem}
-use Rattle.record_bodies.specs.declared.body.KeptItem.{KeptItem}
-use Rattle.record_bodies.specs.declared.body.SpentBody.{SpentBody}
-use Rattle.record_bodies.specs.Spelling as bodies
-use Rattle.record_bodies.specs.Spelling.{Body}
-use Rattle.cd_base.specs.declared.place.Place.{Place}
-use Rattle.share_index.specs.Order.{owner_cmp, owner_of}
-use Rattle.cd_base.specs.Order.{fp_cmp}
-use Rattle.user_dedup.specs.declared.file_list.FileEntry.{FileEntry}
-use Rattle.user_dedup.specs.Cloud.{fingerprint}
-use Rattle.user_dedup.specs.Owning.{is_among}
-use Rattle.user_dedup.specs.Pages.{entry_at}
-use Rattle.user_dedup.specs.Requests.{fps_of as names_of}
-use Rattle.user_dedup.proofs.Owned.{contains_here, contains_later, contains_nothing, contains_cases, among_contains, contains_among}
-use Rattle.user_dedup.proofs.Sound.{found_entry}
-use Rattle.user_dedup.specs.declared.command.Command.{Command}
-use Rattle.user_dedup.specs.Cloud.{user_view, strings_in}
-use Rattle.user_dedup.specs.Spending.{Spent, nothing, spent_of}
-use Rattle.user_dedup.proofs.Sound.{entries_owned}
-use Rattle.user_dedup.proofs.Spending.{each_within}
-use Rattle.record_checks.specs.CloudAreas.Checkpoints.{PutRecord, put_body, of_user, fps_of, items_in, key_of, AreFlagged, IsCheckpoint}
+use Rattle.cd_edges.specs.CdBase.ids.Fp.{Fp}
+use Rattle.cd_edges.specs.CdBase.ids.Tag.{Tag}
+use Rattle.cd_edges.specs.CdBase.ids.UserId.{UserId}
+use Rattle.cd_edges.specs.CdBase.ids.Version.{Version}
+use Rattle.cd_edges.specs.CdBase.shape.Shape.{Shape}
+use Rattle.record_checks.specs.ContainerLog.Laying.{Placed, IsAt}
+use Rattle.record_checks.specs.FileIndex.key.Entry.{Entry}
+use Rattle.record_checks.specs.FileIndex.Files as files
+use Rattle.record_checks.specs.FileIndex.Order.{key_cmp}
+use Rattle.record_checks.specs.JournalStart.rooms.UserRooms.{UserRooms}
+use Rattle.record_checks.specs.JournalStart.Ranges.{AreRooms}
+use Rattle.record_checks.specs.RecordBody.body.CommitBody.{CommitBody}
+use Rattle.record_checks.specs.RecordBody.body.PutItem.{PutItem}
+use Rattle.record_checks.specs.RecordBodies.body.KeptItem.{KeptItem}
+use Rattle.record_checks.specs.RecordBodies.body.SpentBody.{SpentBody}
+use Rattle.record_checks.specs.RecordBodies.Spelling as bodies
+use Rattle.record_checks.specs.RecordBodies.Spelling.{Body}
+use Rattle.cd_edges.specs.CdBase.place.Place.{Place}
+use Rattle.record_checks.specs.ShareIndex.Order.{owner_cmp, owner_of}
+use Rattle.cd_edges.specs.CdBase.Order.{fp_cmp}
+use Rattle.record_checks.specs.UserDedup.file_list.FileEntry.{FileEntry}
+use Rattle.record_checks.specs.UserDedup.Cloud.{fingerprint}
+use Rattle.record_checks.specs.UserDedup.Owning.{is_among}
+use Rattle.record_checks.specs.UserDedup.Pages.{entry_at}
+use Rattle.record_checks.specs.UserDedup.Requests.{fps_of as names_of}
+use Rattle.record_checks.proofs.UserDedup.Owned.{contains_here, contains_later, contains_nothing, contains_cases, among_contains, contains_among}
+use Rattle.record_checks.proofs.UserDedup.Sound.{found_entry}
+use Rattle.record_checks.specs.UserDedup.command.Command.{Command}
+use Rattle.record_checks.specs.UserDedup.Cloud.{user_view, strings_in}
+use Rattle.record_checks.specs.UserDedup.Spending.{SpentByUser, nothing, spent_of}
+use Rattle.record_checks.proofs.UserDedup.Sound.{entries_owned}
+use Rattle.record_checks.proofs.UserDedup.Spending.{each_within}
+use Rattle.record_checks.specs.CloudAreas.Checkpoints.{PutRecord, put_body, of_user, fps_of, items_in, key_of, AreFlagged, IsCheckpointOfList}
 use Rattle.record_checks.specs.CloudAreas.Placing.{shares_placed, shares_in, fps_placed}
 use Rattle.record_checks.proofs.CloudAreas.Apart.{Apart, apart_from}
 use Rattle.record_checks.proofs.CloudAreas.Entries.{entry_of}
@@ -156,8 +156,8 @@ some_raised (suc n) k = some_raised n (raised k)
 
 -- ---- a record
 
-module _ (format : ℕ) (shape : Shape) (cloud : ℕ) (rooms : Rooms) (region shares_len : ℕ) (area : List ℕ) (later : (format == 1) ≡ false) (are_rooms : AreRooms rooms)
-    (list : List Command) (records : List Body) (recipes : List Placed) (is : IsCheckpoint format shape list records recipes)
+module _ (format : ℕ) (shape : Shape) (cloud : ℕ) (rooms : UserRooms) (region shares_len : ℕ) (area : List ℕ) (later : (format == 1) ≡ false) (are_rooms : AreRooms rooms)
+    (list : List Command) (records : List Body) (recipes : List Placed) (is : IsCheckpointOfList format shape list records recipes)
     (fine : IsFine shape cloud rooms area list records recipes) where
   abbrev g : Ground
   g = record { shape = shape; rooms = rooms; region = region; shares_len = shares_len; recipes_len = length area }
@@ -405,9 +405,9 @@ module _ (format : ℕ) (shape : Shape) (cloud : ℕ) (rooms : Rooms) (region sh
       let other : (y : SpentBody) → Contains spents y → y.user.0 ≢ s.user.0 = λ y c same.
       let named : y.user ≡ s.user = λ i. record { 0 = same i } in
       apart_behind (map user_in spents) (map user_in back) s.user users (subst (Contains (map user_in spents)) named (in_map user_in spents y c)) in
-      let owners : s.owners ≡ (spent_of list s.user).owners = ap (λ (y : Spent). y.owners) numbers in
-      let shares : s.shares ≡ (spent_of list s.user).shares = ap (λ (y : Spent). y.shares) numbers in
-      let recipes_spent : s.recipes ≡ (spent_of list s.user).recipes = ap (λ (y : Spent). y.recipes) numbers in
+      let owners : s.owners ≡ (spent_of list s.user).owners = ap (λ (y : SpentByUser). y.owners) numbers in
+      let shares : s.shares ≡ (spent_of list s.user).shares = ap (λ (y : SpentByUser). y.shares) numbers in
+      let recipes_spent : s.recipes ≡ (spent_of list s.user).recipes = ap (λ (y : SpentByUser). y.recipes) numbers in
       let a = fits.owners in
       let b = fits.shares in
       let c = fits.recipes in (

@@ -6,15 +6,15 @@ use Rattle.std.specs.FinMap.{get}
 use Rattle.std.proofs.lemmas.Bool.{cases_Bool, false_from_ne_true}
 use Rattle.std.proofs.lemmas.List.{map-append}
 use Rattle.std.proofs.lemmas.List.Folds.{list_any-append}
-use Rattle.cd_base.specs.declared.ids.Fp.{Fp}
-use Rattle.cd_base.specs.declared.ids.UserId.{UserId}
-use Rattle.cd_base.specs.declared.shape.Shape.{Shape}
-use Rattle.record_body.specs.declared.body.PutItem.{PutItem}
-use Rattle.record_bodies.specs.declared.body.KeptItem.{KeptItem}
-use Rattle.cd_base.specs.declared.place.Place.{Place}
-use Rattle.share_index.specs.Order.{owner_of}
-use Rattle.user_dedup.specs.Owning.{is_among}
-use Rattle.user_dedup.proofs.Owned.{fp_same, contains_here, contains_later, among_contains}
+use Rattle.cd_edges.specs.CdBase.ids.Fp.{Fp}
+use Rattle.cd_edges.specs.CdBase.ids.UserId.{UserId}
+use Rattle.cd_edges.specs.CdBase.shape.Shape.{Shape}
+use Rattle.record_checks.specs.RecordBody.body.PutItem.{PutItem}
+use Rattle.record_checks.specs.RecordBodies.body.KeptItem.{KeptItem}
+use Rattle.cd_edges.specs.CdBase.place.Place.{Place}
+use Rattle.record_checks.specs.ShareIndex.Order.{owner_of}
+use Rattle.record_checks.specs.UserDedup.Owning.{is_among}
+use Rattle.record_checks.proofs.UserDedup.Owned.{fp_same, contains_here, contains_later, among_contains}
 use Rattle.record_checks.specs.CloudAreas.Checkpoints.{PutRecord, put_body, fps_of, items_in, AreFlagged}
 use Rattle.record_checks.specs.CloudAreas.Placing.{places_given, places_kept, places_of, fps_placed}
 use Rattle.record_checks.proofs.CloudAreas.Apart.{Apart}

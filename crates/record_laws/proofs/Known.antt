@@ -3,26 +3,26 @@ use Rattle.std.proofs.Common.{◌≡◌, ◌≢◌, inl, inr, ℕ, ◌+◌, ◌*
 use Rattle.std.specs.List.{Contains}
 use Rattle.std.proofs.lemmas.Bool.{cases_lt}
 use Rattle.std.proofs.Math.Nat.{mul-le-mul_right}
-use Rattle.cd_base.specs.declared.ids.UserId.{UserId}
-use Rattle.cd_base.specs.declared.shape.Shape.{Shape}
-use Rattle.journal_start.specs.declared.rooms.Rooms.{Rooms}
-use Rattle.journal_start.specs.Ranges.{AreRooms}
-use Rattle.user_dedup.specs.declared.file_list.FileEntry.{FileEntry}
-use Rattle.user_dedup.specs.declared.view.View.{View}
-use Rattle.user_dedup.proofs.Owned.{contains_nothing}
-use Rattle.user_dedup.proofs.Sound.{found_entry}
-use Rattle.user_dedup.specs.declared.command.Command.{Command}
-use Rattle.user_dedup.specs.declared.command.Command.TheVariants as commands
-use Rattle.user_dedup.specs.Dedup.{IsSound}
-use Rattle.user_dedup.specs.Cloud.{user_of, user_view}
-use Rattle.user_dedup.specs.Spending.{Spent, nothing, spent_of, files_of, IsWithin}
-use Rattle.user_dedup.proofs.Spending.{front_within}
-use Rattle.user_dedup.proofs.Views.{own_adds}
+use Rattle.cd_edges.specs.CdBase.ids.UserId.{UserId}
+use Rattle.cd_edges.specs.CdBase.shape.Shape.{Shape}
+use Rattle.record_checks.specs.JournalStart.rooms.UserRooms.{UserRooms}
+use Rattle.record_checks.specs.JournalStart.Ranges.{AreRooms}
+use Rattle.record_checks.specs.UserDedup.file_list.FileEntry.{FileEntry}
+use Rattle.record_checks.specs.UserDedup.view.View.{View}
+use Rattle.record_checks.proofs.UserDedup.Owned.{contains_nothing}
+use Rattle.record_checks.proofs.UserDedup.Sound.{found_entry}
+use Rattle.record_checks.specs.UserDedup.command.Command.{Command}
+use Rattle.record_checks.specs.UserDedup.command.Command.TheVariants as commands
+use Rattle.record_checks.specs.UserDedup.Dedup.{IsSound}
+use Rattle.record_checks.specs.UserDedup.Cloud.{user_of, user_view}
+use Rattle.record_checks.specs.UserDedup.Spending.{SpentByUser, nothing, spent_of, files_of, IsWithin}
+use Rattle.record_checks.proofs.UserDedup.Spending.{front_within}
+use Rattle.record_checks.proofs.UserDedup.Views.{own_adds}
 use Rattle.record_checks.proofs.CloudAreas.Room.{files_above, files_below, spent_above}
 use Rattle.record_checks.proofs.MemoryProofs.Lists.{and_more, spent_next}
 use Rattle.record_laws.proofs.Asked.{lawful}
 
-module _ (shape : Shape) (rooms : Rooms) (list : List Command) (within : IsWithin shape rooms list) where
+module _ (shape : Shape) (rooms : UserRooms) (list : List Command) (within : IsWithin shape rooms list) where
   pub few_files : AreRooms rooms → (q : UserId) → files_of shape list q ≤ 16384
   few_files are q =
       let some : 1 * rooms.files ≤ rooms.users * rooms.files = mul-le-mul_right rooms.files are.some in
@@ -50,7 +50,7 @@ one_of [] e c = absurd (contains_nothing e c)
 one_of (x ∷ files) e c = omega arith
 
 -- each command's user is one of the users
-pub known_user : (shape : Shape) (rooms : Rooms) (cloud : ℕ) (list : List Command) (command : Command) → IsSound shape cloud (list ++ command ∷ [])
+pub known_user : (shape : Shape) (rooms : UserRooms) (cloud : ℕ) (list : List Command) (command : Command) → IsSound shape cloud (list ++ command ∷ [])
     → IsWithin shape rooms (list ++ command ∷ []) → (user_of command).0 < rooms.users
 known_user shape rooms cloud list (commands.Put user shares) sound within =
     let l = lawful shape cloud list (commands.Put user shares) sound in
@@ -59,7 +59,7 @@ known_user shape rooms cloud list (commands.Put user shares) sound within =
     let next : spent_of (list ++ commands.Put user shares ∷ []) user ≡ and_more (list ++ commands.Put user shares ∷ []) (commands.Put user shares ∷ []) (spent_of list user) =
     spent_next list (commands.Put user shares) user
     ∙ ap (λ (b : Bool). and_more (list ++ commands.Put user shares ∷ []) (cond b (commands.Put user shares ∷ []) []) (spent_of list user)) (eq-eqb user.0 user.0 refl) in
-    let owners : 0 ≡ (spent_of list user).owners + length (shares ++ []) = ap (λ (s : Spent). s.owners) (sym none ∙ next) in
+    let owners : 0 ≡ (spent_of list user).owners + length (shares ++ []) = ap (λ (s : SpentByUser). s.owners) (sym none ∙ next) in
     let same = length-append shares [] in
     omega (arith, some, owners, same))
 known_user shape rooms cloud list (commands.Commit user tag version recipe) sound within =

@@ -15,3 +15,5 @@ pub mod Sized
 pub mod Split
 pub mod Sums
 pub mod Taken
+pub mod RecordChecks
+pub mod ContainerLog

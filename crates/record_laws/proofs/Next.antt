@@ -9,37 +9,37 @@ use Rattle.std.proofs.lemmas.List.{map-append, length-map}
 use Rattle.std.proofs.lemmas.List.Elements.{All-contains, All-head}
 use Rattle.std.proofs.lemmas.List.Folds.{find-append}
 use Rattle.std.proofs.lemmas.Slice.Eq.{bytes_eq-Decides}
-use Rattle.cd_base.specs.declared.ids.Fp.{Fp}
-use Rattle.cd_base.specs.declared.ids.Tag.{Tag}
-use Rattle.cd_base.specs.declared.ids.UserId.{UserId}
-use Rattle.cd_base.specs.declared.ids.Version.{Version}
-use Rattle.cd_base.specs.declared.shape.Shape.{Shape}
-use Rattle.container_log.specs.Laying.{Placed, IsAt, lengths}
-use Rattle.file_index.specs.declared.key.Entry.{Entry}
-use Rattle.file_index.specs.Files as files
-use Rattle.record_body.specs.declared.body.PutItem.{PutItem}
-use Rattle.record_bodies.specs.declared.body.DeleteBody.{DeleteBody}
-use Rattle.record_bodies.specs.Spelling as bodies
-use Rattle.record_bodies.specs.Spelling.{Body}
-use Rattle.cd_base.specs.declared.place.Place.{Place}
-use Rattle.share_index.specs.Order.{owner_cmp, owner_of}
-use Rattle.cd_base.specs.Order.{fp_cmp}
-use Rattle.spent_table.specs.Spending.{spent_by, both}
-use Rattle.user_dedup.specs.declared.file_list.FileEntry.{FileEntry}
-use Rattle.user_dedup.specs.declared.view.View.{View}
-use Rattle.user_dedup.specs.Cloud.{fingerprint, has_fingerprint}
-use Rattle.user_dedup.specs.Owning.{is_among, new_strings}
-use Rattle.user_dedup.specs.Pages.{is_at, entry_at}
-use Rattle.user_dedup.specs.Requests.{fps_of as names_of}
-use Rattle.user_dedup.proofs.New.{are_new}
-use Rattle.user_dedup.proofs.Owned.{fp_same, among_contains, contains_among}
-use Rattle.user_dedup.specs.declared.command.Command.{Command}
-use Rattle.user_dedup.specs.declared.command.Command.TheVariants as commands
-use Rattle.user_dedup.specs.Dedup.{IsSound}
-use Rattle.user_dedup.specs.Cloud.{user_of, user_view, strings_in}
-use Rattle.user_dedup.specs.Spending.{files_of}
-use Rattle.user_dedup.proofs.Deleting.{at_its_key, entry_stays}
-use Rattle.user_dedup.proofs.Views.{own_adds, others_stay}
+use Rattle.cd_edges.specs.CdBase.ids.Fp.{Fp}
+use Rattle.cd_edges.specs.CdBase.ids.Tag.{Tag}
+use Rattle.cd_edges.specs.CdBase.ids.UserId.{UserId}
+use Rattle.cd_edges.specs.CdBase.ids.Version.{Version}
+use Rattle.cd_edges.specs.CdBase.shape.Shape.{Shape}
+use Rattle.record_checks.specs.ContainerLog.Laying.{Placed, IsAt, lengths}
+use Rattle.record_checks.specs.FileIndex.key.Entry.{Entry}
+use Rattle.record_checks.specs.FileIndex.Files as files
+use Rattle.record_checks.specs.RecordBody.body.PutItem.{PutItem}
+use Rattle.record_checks.specs.RecordBodies.body.DeleteBody.{DeleteBody}
+use Rattle.record_checks.specs.RecordBodies.Spelling as bodies
+use Rattle.record_checks.specs.RecordBodies.Spelling.{Body}
+use Rattle.cd_edges.specs.CdBase.place.Place.{Place}
+use Rattle.record_checks.specs.ShareIndex.Order.{owner_cmp, owner_of}
+use Rattle.cd_edges.specs.CdBase.Order.{fp_cmp}
+use Rattle.record_checks.specs.SpentTable.Spending.{spent_by, both}
+use Rattle.record_checks.specs.UserDedup.file_list.FileEntry.{FileEntry}
+use Rattle.record_checks.specs.UserDedup.view.View.{View}
+use Rattle.record_checks.specs.UserDedup.Cloud.{fingerprint, has_fingerprint}
+use Rattle.record_checks.specs.UserDedup.Owning.{is_among, new_strings}
+use Rattle.record_checks.specs.UserDedup.Pages.{is_at, entry_at}
+use Rattle.record_checks.specs.UserDedup.Requests.{fps_of as names_of}
+use Rattle.record_checks.proofs.UserDedup.New.{are_new}
+use Rattle.record_checks.proofs.UserDedup.Owned.{fp_same, among_contains, contains_among}
+use Rattle.record_checks.specs.UserDedup.command.Command.{Command}
+use Rattle.record_checks.specs.UserDedup.command.Command.TheVariants as commands
+use Rattle.record_checks.specs.UserDedup.Dedup.{IsSound}
+use Rattle.record_checks.specs.UserDedup.Cloud.{user_of, user_view, strings_in}
+use Rattle.record_checks.specs.UserDedup.Spending.{files_of}
+use Rattle.record_checks.proofs.UserDedup.Deleting.{at_its_key, entry_stays}
+use Rattle.record_checks.proofs.UserDedup.Views.{own_adds, others_stay}
 use Rattle.record_checks.specs.CloudAreas.Chains.{commit_of, PlacedNew, AreItems, IsRecord}
 use Rattle.record_checks.specs.CloudAreas.Checkpoints.{fps_of}
 use Rattle.record_checks.specs.CloudAreas.Placing.{places_given, shares_in}

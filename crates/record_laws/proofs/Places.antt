@@ -6,22 +6,22 @@ use Rattle.std.specs.FinMap.{FinMap, get, insert}
 use Rattle.std.proofs.lemmas.List.{map-append}
 use Rattle.std.proofs.lemmas.Grind.{flat_map-append}
 use Rattle.std.proofs.lemmas.List.Elements.{All-contains, Contains-append_left, Contains-append_right, Contains-append_cases}
-use Rattle.cd_base.specs.declared.ids.Fp.{Fp}
-use Rattle.cd_base.specs.declared.ids.Tag.{Tag}
-use Rattle.cd_base.specs.declared.ids.UserId.{UserId}
-use Rattle.cd_base.specs.declared.ids.Version.{Version}
-use Rattle.cd_base.specs.declared.shape.Shape.{Shape}
-use Rattle.file_index.specs.declared.key.Entry.{Entry}
-use Rattle.file_index.specs.Files.{key_of}
-use Rattle.record_body.specs.declared.body.PutItem.{PutItem}
-use Rattle.record_bodies.specs.declared.body.KeptItem.{KeptItem}
-use Rattle.record_bodies.specs.Spelling as bodies
-use Rattle.record_bodies.specs.Spelling.{Body}
-use Rattle.cd_base.specs.declared.place.Place.{Place}
-use Rattle.cd_base.specs.Order.{fp_cmp}
-use Rattle.user_dedup.proofs.Owned.{fp_same, contains_here, contains_nothing, contains_cases}
-use Rattle.user_dedup.specs.declared.command.Command.{Command}
-use Rattle.user_dedup.specs.Cloud.{held_bytes}
+use Rattle.cd_edges.specs.CdBase.ids.Fp.{Fp}
+use Rattle.cd_edges.specs.CdBase.ids.Tag.{Tag}
+use Rattle.cd_edges.specs.CdBase.ids.UserId.{UserId}
+use Rattle.cd_edges.specs.CdBase.ids.Version.{Version}
+use Rattle.cd_edges.specs.CdBase.shape.Shape.{Shape}
+use Rattle.record_checks.specs.FileIndex.key.Entry.{Entry}
+use Rattle.record_checks.specs.FileIndex.Files.{key_of}
+use Rattle.record_checks.specs.RecordBody.body.PutItem.{PutItem}
+use Rattle.record_checks.specs.RecordBodies.body.KeptItem.{KeptItem}
+use Rattle.record_checks.specs.RecordBodies.Spelling as bodies
+use Rattle.record_checks.specs.RecordBodies.Spelling.{Body}
+use Rattle.cd_edges.specs.CdBase.place.Place.{Place}
+use Rattle.cd_edges.specs.CdBase.Order.{fp_cmp}
+use Rattle.record_checks.proofs.UserDedup.Owned.{fp_same, contains_here, contains_nothing, contains_cases}
+use Rattle.record_checks.specs.UserDedup.command.Command.{Command}
+use Rattle.record_checks.specs.UserDedup.Cloud.{held_bytes}
 use Rattle.record_checks.specs.CloudAreas.Placing.{places_given, places_kept, shares_placed, recipes_placed, shares_in, recipes_in, fps_placed, places_of, end_of, greatest_end, region_start, shares_end, recipes_end, HasPlace}
 use Rattle.record_checks.specs.CloudAreas.Chains.{AreLong}
 use Rattle.record_checks.proofs.CloudAreas.Apart.{Apart}

@@ -3,27 +3,27 @@ use Rattle.std.proofs.Common.{◌≡◌, ℕ, ◌+◌, ◌≤◌, List, [], leng
 use Rattle.std.specs.Prelude.{take, drop, unwrap_or}
 use Rattle.std.specs.List.{Contains}
 use Rattle.std.proofs.lemmas.List.{length-take, length-drop}
-use Rattle.cd_base.specs.declared.ids.Fp.{Fp}
-use Rattle.cd_base.specs.declared.ids.UserId.{UserId}
-use Rattle.cd_base.specs.declared.shape.Shape.{Shape}
-use Rattle.container_log.specs.Laying.{Placed, IsAt}
-use Rattle.container_log.specs.Places.{LiesInOne}
-use Rattle.message_fields.specs.Shares.{IsShare}
-use Rattle.recipe.specs.declared.recipe.Recipe.{Recipe}
-use Rattle.recipe.specs.Spelling.{IsRecipe}
-use Rattle.recipe.proofs.Written.{longest}
-use Rattle.record_bodies.specs.Spelling.{Body}
-use Rattle.cd_base.specs.declared.place.Place.{Place}
-use Rattle.user_dedup.specs.declared.file_list.FileEntry.{FileEntry}
-use Rattle.user_dedup.specs.Cloud.{fingerprint}
-use Rattle.user_dedup.proofs.Owned.{contains_nothing}
-use Rattle.user_dedup.specs.declared.command.Command.{Command}
-use Rattle.user_dedup.specs.declared.command.Command.TheVariants as commands
-use Rattle.user_dedup.specs.Dedup.{IsSound}
-use Rattle.user_dedup.specs.Cloud.{strings_of, strings_in, held_bytes, user_view}
-use Rattle.user_dedup.proofs.CompactSound.{FitsCommand, all_fit, files_fit}
-use Rattle.user_dedup.proofs.Filtered.{from_flat}
-use Rattle.user_dedup.proofs.Views.{held_is, sent_is_held}
+use Rattle.cd_edges.specs.CdBase.ids.Fp.{Fp}
+use Rattle.cd_edges.specs.CdBase.ids.UserId.{UserId}
+use Rattle.cd_edges.specs.CdBase.shape.Shape.{Shape}
+use Rattle.record_checks.specs.ContainerLog.Laying.{Placed, IsAt}
+use Rattle.record_checks.specs.ContainerLog.Places.{LiesInOne}
+use Rattle.messages.specs.MessageFields.Shares.{IsShare}
+use Rattle.record_checks.specs.Recipe.recipe.Recipe.{Recipe}
+use Rattle.record_checks.specs.Recipe.Spelling.{IsRecipe}
+use Rattle.record_checks.proofs.Recipe.Written.{longest}
+use Rattle.record_checks.specs.RecordBodies.Spelling.{Body}
+use Rattle.cd_edges.specs.CdBase.place.Place.{Place}
+use Rattle.record_checks.specs.UserDedup.file_list.FileEntry.{FileEntry}
+use Rattle.record_checks.specs.UserDedup.Cloud.{fingerprint}
+use Rattle.record_checks.proofs.UserDedup.Owned.{contains_nothing}
+use Rattle.record_checks.specs.UserDedup.command.Command.{Command}
+use Rattle.record_checks.specs.UserDedup.command.Command.TheVariants as commands
+use Rattle.record_checks.specs.UserDedup.Dedup.{IsSound}
+use Rattle.record_checks.specs.UserDedup.Cloud.{strings_of, strings_in, held_bytes, user_view}
+use Rattle.record_checks.proofs.UserDedup.CompactSound.{FitsCommand, all_fit, files_fit}
+use Rattle.record_checks.proofs.UserDedup.Filtered.{from_flat}
+use Rattle.record_checks.proofs.UserDedup.Views.{held_is, sent_is_held}
 use Rattle.record_checks.specs.CloudAreas.Chains.{LiesIn}
 use Rattle.record_checks.specs.CloudAreas.Placing.{shares_placed, recipes_placed, places_of, region_start, end_of}
 use Rattle.record_checks.proofs.CloudAreas.Lists.{from_map}

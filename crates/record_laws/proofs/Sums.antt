@@ -5,15 +5,15 @@ use Rattle.std.specs.List.{sum_by}
 use Rattle.std.proofs.lemmas.Bool.{cases_eq}
 use Rattle.std.proofs.lemmas.List.Sums.{sum_by_push}
 use Rattle.std.proofs.lemmas.List.Filters.{sum_by-filter_both}
-use Rattle.cd_base.specs.declared.ids.UserId.{UserId}
-use Rattle.cd_base.specs.declared.shape.Shape.{Shape}
-use Rattle.journal_start.specs.declared.rooms.Rooms.{Rooms}
-use Rattle.spent_table.specs.declared.Spent.{Spent as Row}
-use Rattle.spent_table.specs.Spending.{nothing as no_row}
-use Rattle.user_dedup.specs.declared.command.Command.{Command}
-use Rattle.user_dedup.specs.Cloud.{user_of, commands_of}
-use Rattle.user_dedup.specs.Spending.{Spent, spent_of, spent_by_all, IsWithin}
-use Rattle.user_dedup.proofs.Filtered.{in_filter}
+use Rattle.cd_edges.specs.CdBase.ids.UserId.{UserId}
+use Rattle.cd_edges.specs.CdBase.shape.Shape.{Shape}
+use Rattle.record_checks.specs.JournalStart.rooms.UserRooms.{UserRooms}
+use Rattle.record_checks.specs.SpentTable.Spent.{Spent as Row}
+use Rattle.record_checks.specs.SpentTable.Spending.{nothing as no_row}
+use Rattle.record_checks.specs.UserDedup.command.Command.{Command}
+use Rattle.record_checks.specs.UserDedup.Cloud.{user_of, commands_of}
+use Rattle.record_checks.specs.UserDedup.Spending.{SpentByUser, spent_of, spent_by_all, IsWithin}
+use Rattle.record_checks.proofs.UserDedup.Filtered.{in_filter}
 use Rattle.record_checks.proofs.CloudAreas.Counting.{without_less, own_without, no_weight, all_nothing}
 use Rattle.record_checks.proofs.CloudAreas.Room.{spent_above, shares_by, shares_sum, recipes_by, recipes_total}
 use Rattle.record_checks.specs.CloudMemory.Memory.{Memory, Remembers}
@@ -66,17 +66,17 @@ all_rows g rows = rows_sum g rows (length rows) (omega arith) ∙ ap (sum_by g) 
 abbrev user_at : ℕ → UserId
 user_at u = record { 0 = u }
 
-module _ (shape : Shape) (rooms : Rooms) (list : List Command) (within : IsWithin shape rooms list) (m : Memory) (r : Remembers shape list m) (users_are : length m.spent ≡ rooms.users) where
+module _ (shape : Shape) (rooms : UserRooms) (list : List Command) (within : IsWithin shape rooms list) (m : Memory) (r : Remembers shape list m) (users_are : length m.spent ≡ rooms.users) where
   pub shares_in_rows : (spent_by_all list).shares ≤ sum_by (λ (row : Row). row.shares) m.spent
   shares_in_rows =
       let each : ℕ → ℕ = λ u. (slice_index_or m.spent u no_row).shares in
       let by = by_users (shares_by shape rooms list within) (λ (c : Command). (user_of c).0) each rooms.users list
       (λ u lt.
-      let row : (slice_index_or m.spent u no_row).shares ≡ (spent_of list (user_at u)).shares = ap (λ (s : Spent). s.shares) (r.spent (user_at u)) in
+      let row : (slice_index_or m.spent u no_row).shares ≡ (spent_of list (user_at u)).shares = ap (λ (s : SpentByUser). s.shares) (r.spent (user_at u)) in
       let sum = shares_sum shape rooms list within (commands_of (user_at u) list) in
       omega (arith, row, sum))
       (λ u ge.
-      let none = ap (λ (s : Spent). s.shares) (spent_above shape rooms list within u ge) in
+      let none = ap (λ (s : SpentByUser). s.shares) (spent_above shape rooms list within u ge) in
       let sum = shares_sum shape rooms list within (commands_of (user_at u) list) in
       omega (arith, none, sum)) in
       let all = shares_sum shape rooms list within list in
@@ -88,11 +88,11 @@ module _ (shape : Shape) (rooms : Rooms) (list : List Command) (within : IsWithi
       let each : ℕ → ℕ = λ u. (slice_index_or m.spent u no_row).recipes in
       let by = by_users (recipes_by shape rooms list within) (λ (c : Command). (user_of c).0) each rooms.users list
       (λ u lt.
-      let row : (slice_index_or m.spent u no_row).recipes ≡ (spent_of list (user_at u)).recipes = ap (λ (s : Spent). s.recipes) (r.spent (user_at u)) in
+      let row : (slice_index_or m.spent u no_row).recipes ≡ (spent_of list (user_at u)).recipes = ap (λ (s : SpentByUser). s.recipes) (r.spent (user_at u)) in
       let sum = recipes_total shape rooms list within (commands_of (user_at u) list) in
       omega (arith, row, sum))
       (λ u ge.
-      let none = ap (λ (s : Spent). s.recipes) (spent_above shape rooms list within u ge) in
+      let none = ap (λ (s : SpentByUser). s.recipes) (spent_above shape rooms list within u ge) in
       let sum = recipes_total shape rooms list within (commands_of (user_at u) list) in
       omega (arith, none, sum)) in
       let all = recipes_total shape rooms list within list in

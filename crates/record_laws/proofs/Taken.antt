@@ -6,24 +6,24 @@ use Rattle.std.proofs.lemmas.Bool.{cases_lt, ne_eqb, false_from_ne_true}
 use Rattle.std.proofs.lemmas.List.Elements.{All-contains, Contains-append_left, Contains-append_right}
 use Rattle.std.proofs.lemmas.List.Sums.{fold-append}
 use Rattle.std.proofs.Common.{ltb-true}
-use Rattle.cd_base.specs.declared.ids.Fp.{Fp}
+use Rattle.cd_edges.specs.CdBase.ids.Fp.{Fp}
 use Rattle.cd_edges.specs.declared.area.Area.TheVariants.{Shares, Recipes}
 use Rattle.cd_edges.specs.Disk.{Image}
-use Rattle.container_log.specs.Laying.{Placed, IsAt}
-use Rattle.journal_start.specs.declared.start.Header.{Header}
-use Rattle.journal_start.specs.Spelling.{commands_of, records_of}
-use Rattle.record_body.specs.declared.body.BodyErr.{BodyErr}
-use Rattle.record_bodies.specs.Spelling as bodies
-use Rattle.record_bodies.specs.Spelling.{Body, body_bytes, FitsBody}
-use Rattle.record_bodies.proofs.BodyLaws.{again}
-use Rattle.cd_base.specs.declared.place.Place.{Place}
-use Rattle.user_dedup.proofs.Owned.{contains_here}
-use Rattle.user_dedup.specs.declared.command.Command.{Command}
-use Rattle.user_dedup.specs.declared.command.Command.TheVariants as commands
-use Rattle.user_dedup.specs.Cloud.{held_bytes}
-use Rattle.user_dedup.proofs.Filtered.{in_flat}
-use Rattle.user_dedup.proofs.Sound.{sound_before}
-use Rattle.user_dedup.proofs.Spending.{front_within}
+use Rattle.record_checks.specs.ContainerLog.Laying.{Placed, IsAt}
+use Rattle.record_checks.specs.JournalStart.start.Header.{Header}
+use Rattle.record_checks.specs.JournalStart.Spelling.{commands_of, records_of}
+use Rattle.record_checks.specs.RecordBody.body.BodyErr.{BodyErr}
+use Rattle.record_checks.specs.RecordBodies.Spelling as bodies
+use Rattle.record_checks.specs.RecordBodies.Spelling.{Body, body_bytes, FitsBody}
+use Rattle.record_checks.proofs.RecordBodies.BodyLaws.{again}
+use Rattle.cd_edges.specs.CdBase.place.Place.{Place}
+use Rattle.record_checks.proofs.UserDedup.Owned.{contains_here}
+use Rattle.record_checks.specs.UserDedup.command.Command.{Command}
+use Rattle.record_checks.specs.UserDedup.command.Command.TheVariants as commands
+use Rattle.record_checks.specs.UserDedup.Cloud.{held_bytes}
+use Rattle.record_checks.proofs.UserDedup.Filtered.{in_flat}
+use Rattle.record_checks.proofs.UserDedup.Sound.{sound_before}
+use Rattle.record_checks.proofs.UserDedup.Spending.{front_within}
 use Rattle.record_checks.specs.CloudAreas.Chains.{IsRecord, laid_shares, LiesIn}
 use Rattle.record_checks.specs.CloudAreas.Placing.{shares_placed, shares_in, recipes_placed, recipes_in, places_of}
 use Rattle.record_checks.specs.CloudAreas.Standing.{Chain, region_in, Holds}
@@ -38,7 +38,7 @@ use Rattle.record_checks.specs.Noting.{noted, IsNoted}
 use Rattle.record_checks.specs.Judging.{JudgesBody, Judges, Taken}
 use Rattle.record_laws.specs.Leaving.{entry_bytes, recipe_for, record_left, left_by, checkpoint_records, front_left, MayHold, IsLeft}
 use Rattle.record_laws.proofs.Chain.{all_left, chain_more, checkpoint_within, long_before}
-use Rattle.record_laws.specs.Fronts.{ground_of, is_inside, marked, marks_of, IsNext, StandsBehind}
+use Rattle.record_laws.specs.Fronts.{ground_of, is_inside, marked, marks_of, IsNextRecord, StandsBehind}
 use Rattle.record_laws.proofs.Behind.{ReadsNone, behind_taken}
 use Rattle.record_laws.proofs.Front.{IsFine, IsInside, IsBehind, stands_in, inside_before, behind_before}
 use Rattle.record_laws.proofs.Inside.{inside_taken}
@@ -141,7 +141,7 @@ plain region before list (commands.Delete user tag version) body laid is of = by
     by_kind (inl e) = omega (arith, e)
     by_kind (inr e) = omega (arith, e)
 
-module _ (header : Header) (image : Image) (list : List Command) (c : Chain) (before : List Body) (body : Body) (next : IsNext header image list c before body) where
+module _ (header : Header) (image : Image) (list : List Command) (c : Chain) (before : List Body) (body : Body) (next : IsNextRecord header image list c before body) where
   abbrev h : Holds header image list c
   h = next.holds
 

@@ -2,12 +2,12 @@
 use Rattle.std.specs.Prelude.{◌≡◌, ℕ, Bool, true, false, List, [], ◌∷◌, ◌++◌, length, map, fold, nat_lt, replicate, slice_set, Ok}
 use Rattle.cd_edges.specs.declared.area.Area.TheVariants.{Shares, Recipes}
 use Rattle.cd_edges.specs.Disk.{Image}
-use Rattle.journal_start.specs.declared.start.Header.{Header}
-use Rattle.record_bodies.specs.Spelling as bodies
-use Rattle.record_bodies.specs.Spelling.{Body, body_bytes}
-use Rattle.user_dedup.specs.declared.command.Command.{Command}
+use Rattle.record_checks.specs.JournalStart.start.Header.{Header}
+use Rattle.record_checks.specs.RecordBodies.Spelling as bodies
+use Rattle.record_checks.specs.RecordBodies.Spelling.{Body, body_bytes}
+use Rattle.record_checks.specs.UserDedup.command.Command.{Command}
 use Rattle.record_checks.specs.CloudAreas.Standing.{Chain, region_in, Holds}
-use Rattle.cd_base.specs.declared.place.Place.{Place}
+use Rattle.cd_edges.specs.CdBase.place.Place.{Place}
 use Rattle.record_checks.specs.Checks.{AsksFor}
 use Rattle.record_checks.specs.Judging.{Judges}
 use Rattle.record_checks.specs.declared.ground.Ground.{Ground}
@@ -39,7 +39,7 @@ abbrev pub marks_of : List Body → List Bool
 marks_of records = fold marked (replicate 256 false) records
 
 -- The chain of the image holds a list that a server with the header may hold, and this is its record behind these.
-pub record IsNext (header : Header) (image : Image) (list : List Command) (c : Chain) (before : List Body) (body : Body) : Type 0 where
+pub record IsNextRecord (header : Header) (image : Image) (list : List Command) (c : Chain) (before : List Body) (body : Body) : Type 0 where
   pub may : MayHold header list
   pub holds : Holds header image list c
   pub after : List Body

@@ -2,29 +2,29 @@
 use Rattle.std.specs.Prelude.{◌≡◌, ◌≢◌, ℕ, ◌+◌, ◌*◌, ◌≤◌, Bool, true, false, List, [], length, take, drop, fold, Option, Some, None}
 use Rattle.std.specs.List.{sum_by}
 use Rattle.std.specs.FinMap.{get}
-use Rattle.cd_base.specs.declared.ids.Tag.{Tag}
-use Rattle.cd_base.specs.declared.ids.UserId.{UserId}
-use Rattle.cd_base.specs.declared.ids.Version.{Version}
-use Rattle.cd_base.specs.declared.shape.Shape.{Shape}
+use Rattle.cd_edges.specs.CdBase.ids.Tag.{Tag}
+use Rattle.cd_edges.specs.CdBase.ids.UserId.{UserId}
+use Rattle.cd_edges.specs.CdBase.ids.Version.{Version}
+use Rattle.cd_edges.specs.CdBase.shape.Shape.{Shape}
 use Rattle.cd_edges.specs.declared.area.Area.TheVariants.{Recipes}
 use Rattle.cd_edges.specs.Disk.{Image}
-use Rattle.container_log.specs.Laying.{IsAt}
-use Rattle.file_index.specs.declared.key.Entry.{Entry}
-use Rattle.file_index.specs.Files.{key_of}
-use Rattle.journal_start.specs.declared.start.Header.{Header}
-use Rattle.journal_start.specs.Ranges.{AreRooms}
-use Rattle.journal_start.specs.Spelling.{records_of}
-use Rattle.record_bodies.specs.declared.body.SpentBody.{SpentBody}
-use Rattle.record_bodies.specs.Spelling as bodies
-use Rattle.record_bodies.specs.Spelling.{Body}
-use Rattle.spent_table.specs.declared.Spent.{Spent}
-use Rattle.user_dedup.specs.declared.file_list.FileEntry.{FileEntry}
-use Rattle.user_dedup.specs.Pages.{entry_at}
-use Rattle.user_dedup.specs.Requests.{fps_of}
-use Rattle.user_dedup.specs.declared.command.Command.{Command}
-use Rattle.user_dedup.specs.Dedup.{IsSound}
-use Rattle.user_dedup.specs.Cloud.{user_view}
-use Rattle.user_dedup.specs.Spending.{IsWithin}
+use Rattle.record_checks.specs.ContainerLog.Laying.{IsAt}
+use Rattle.record_checks.specs.FileIndex.key.Entry.{Entry}
+use Rattle.record_checks.specs.FileIndex.Files.{key_of}
+use Rattle.record_checks.specs.JournalStart.start.Header.{Header}
+use Rattle.record_checks.specs.JournalStart.Ranges.{AreRooms}
+use Rattle.record_checks.specs.JournalStart.Spelling.{records_of}
+use Rattle.record_checks.specs.RecordBodies.body.SpentBody.{SpentBody}
+use Rattle.record_checks.specs.RecordBodies.Spelling as bodies
+use Rattle.record_checks.specs.RecordBodies.Spelling.{Body}
+use Rattle.record_checks.specs.SpentTable.Spent.{Spent}
+use Rattle.record_checks.specs.UserDedup.file_list.FileEntry.{FileEntry}
+use Rattle.record_checks.specs.UserDedup.Pages.{entry_at}
+use Rattle.record_checks.specs.UserDedup.Requests.{fps_of}
+use Rattle.record_checks.specs.UserDedup.command.Command.{Command}
+use Rattle.record_checks.specs.UserDedup.Dedup.{IsSound}
+use Rattle.record_checks.specs.UserDedup.Cloud.{user_view}
+use Rattle.record_checks.specs.UserDedup.Spending.{IsWithin}
 use Rattle.record_checks.specs.CloudAreas.Chains.{least_shares, least_recipes}
 use Rattle.record_checks.specs.CloudAreas.Placing.{region_start, shares_end, recipes_end}
 use Rattle.record_checks.specs.CloudAreas.Standing.{Chain, region_in}

@@ -1,2 +1,9 @@
+pub mod ContainerLog
+pub mod FileIndex
 pub mod Fronts
 pub mod Leaving
+pub mod MessageFields
+pub mod PoolMap
+pub mod RecordChecks
+pub mod ShareIndex
+pub mod SpentTable

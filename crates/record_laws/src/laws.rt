@@ -3,12 +3,12 @@
 ghost use Rattle.std.specs.Prelude.{true, false, ℕ, List, [], ◌∷◌, ◌++◌, All};
 ghost use Rattle.cd_edges.specs.declared.area.Area.TheVariants.{Shares, Recipes};
 ghost use Rattle.cd_edges.specs.Disk.{Image};
-ghost use Rattle.container_log.specs.Laying.{Placed, IsAt};
-ghost use Rattle.journal_start.specs.declared.start.Header.{Header};
-ghost use Rattle.record_bodies.specs.Spelling.{Body};
-ghost use Rattle.user_dedup.specs.declared.command.Command.{Command};
+ghost use Rattle.record_checks.specs.ContainerLog.Laying.{Placed, IsAt};
+ghost use Rattle.record_checks.specs.JournalStart.start.Header.{Header};
+ghost use Rattle.record_checks.specs.RecordBodies.Spelling.{Body};
+ghost use Rattle.record_checks.specs.UserDedup.command.Command.{Command};
 ghost use Rattle.record_checks.specs.CloudAreas.Chains.{IsRecord, AreLong, BothHaveRoom};
-ghost use Rattle.record_checks.specs.CloudAreas.Checkpoints.{IsCheckpoint};
+ghost use Rattle.record_checks.specs.CloudAreas.Checkpoints.{IsCheckpointOfList};
 ghost use Rattle.record_checks.specs.CloudAreas.Placing.{shares_in};
 ghost use Rattle.record_checks.specs.CloudAreas.Standing.{Chain, region_in, Holds};
 ghost use Rattle.record_checks.specs.CloudMemory.Memory.{Memory, HasEnds, Stand};
@@ -18,7 +18,8 @@ ghost use Rattle.record_laws.specs.Leaving.{record_left, left_by, MayHold, front
 /// The records of a checkpoint, read into an empty memory, leave that of each list that they say, whatever their order.
 pub fn law_of_checkpoint_records()
     ensures left { (header : Header) (image : Image) (region : ℕ) (list : List Command) (records : List Body)
-        (recipes : List Placed) → MayHold header list → IsCheckpoint header.format header.shape list records recipes
+        (recipes : List Placed) → MayHold header list
+        → IsCheckpointOfList header.format header.shape list records recipes
         → AreLong list (shares_in records) → All (IsAt (image Recipes)) recipes
         → IsLeftIn header image region list records
         (left_by header.shape (image Recipes) true (begun header.rooms.users region) records) }

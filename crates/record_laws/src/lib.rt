@@ -3,3 +3,5 @@
 
 pub mod laws;
 pub mod taking;
+
+pub use record_checks::{CloudMemory, Damage, Ground, Log, Spent, Taking, recipe_of, take};

@@ -3,28 +3,28 @@
 ghost use Rattle.std.specs.Prelude.{◌≡◌, ◌≤◌, ℕ, List, [], ◌∷◌, ◌++◌, length, map, take, drop};
 ghost use Rattle.cd_edges.specs.declared.area.Area.TheVariants.{Recipes};
 ghost use Rattle.cd_edges.specs.Disk.{Image};
-ghost use Rattle.journal_start.specs.declared.start.Header.{Header};
-ghost use Rattle.record_bodies.specs.Spelling.{Body, body_bytes, FitsBody};
-ghost use Rattle.cd_base.specs.declared.place.Place.{Place};
-ghost use Rattle.user_dedup.specs.declared.command.Command.{Command};
+ghost use Rattle.record_checks.specs.JournalStart.start.Header.{Header};
+ghost use Rattle.record_checks.specs.RecordBodies.Spelling.{Body, body_bytes, FitsBody};
+ghost use Rattle.cd_edges.specs.CdBase.place.Place.{Place};
+ghost use Rattle.record_checks.specs.UserDedup.command.Command.{Command};
 ghost use Rattle.record_checks.specs.CloudAreas.Standing.{Chain, region_in, Holds};
 ghost use Rattle.record_checks.specs.CloudMemory.Memory.{Memory};
 ghost use Rattle.record_checks.specs.CloudMemory.Steps.{begun};
 ghost use Rattle.record_checks.specs.declared.taking.Taking.{Taking};
 ghost use Rattle.record_checks.specs.Noting.{nothing_noted, IsNoted};
 ghost use Rattle.record_laws.specs.Leaving.{record_left, checkpoint_records, front_left};
-ghost use Rattle.record_laws.specs.Fronts.{is_inside, marks_of, IsNext, Wants, PassesWith, StandsBehind};
+ghost use Rattle.record_laws.specs.Fronts.{is_inside, marks_of, IsNextRecord, Wants, PassesWith, StandsBehind};
 
 /// Each record of a chain that says a list passes its checks, in the checkpoint and behind it.
 pub fn law_of_lawful_records()
     // with what lies in Recipes where its checks ask
     ensures there { (header : Header) (image : Image) (list : List Command) (c : Chain) (before : List Body)
-        (body : Body) (place : Place) → IsNext header image list c before body → FitsBody body
+        (body : Body) (place : Place) → IsNextRecord header image list c before body → FitsBody body
         → Wants header image c before body place
         → PassesWith header image c before body (take place.len (drop place.at (image Recipes))) }
     // or with nothing, where they ask for nothing
     ensures nowhere { (header : Header) (image : Image) (list : List Command) (c : Chain) (before : List Body)
-        (body : Body) → IsNext header image list c before body → FitsBody body
+        (body : Body) → IsNextRecord header image list c before body → FitsBody body
         → ((place : Place) → ¬ (Wants header image c before body place)) → PassesWith header image c before body [] }
 {}
 

@@ -11,7 +11,7 @@ ghost use Rattle.cd_base.specs.declared.shape.Shape.{Shape};
 ghost use Rattle.reed_solomon.specs.Interpolation.{ArePoints};
 ghost use Rattle.reed_solomon.specs.Dispersal.{value_at, row, share_byte, share_of, Dispersed, AreChoice, AreSharesAt};
 
-use cd_base::Shape;
+pub use cd_base::{Bytes, CloudNo, Ends, Fp, NoMemory, Shape, Tag, is_path, sha256, share_len};
 use evaluation::{evaluate_rows, place_of};
 
 mod evaluation;

@@ -3,13 +3,13 @@ use Rattle.std.proofs.Common.{◌≡◌, ℕ, ◌<◌, ◌≤◌, true, false, L
 use Rattle.std.specs.Prelude.{Option, Some, None, Result, Ok, Err, IfSome, IsTrue}
 use Rattle.std.specs.Io.KnownBytes.{Appends}
 use Rattle.std.proofs.lemmas.Bool.{cases_lt}
-use Rattle.journal_start.specs.declared.rooms.Rooms.{Rooms}
-use Rattle.cd_base.specs.declared.shape.Shape.{Shape}
-use Rattle.journal_start.specs.Ranges.{usual_rooms}
-use Rattle.journal_start.specs.declared.start.Header.{Header}
-use Rattle.cd_edges.specs.Causes.{Rose}
-use Rattle.cd_edges.specs.Disk.{Cloud, IsImage, reads}
-use Rattle.cd_edges.proofs.Moments.{weaker, at_end, each_since}
+use Rattle.cloud_server.specs.JournalStart.rooms.UserRooms.{UserRooms}
+use Rattle.cloud_server.specs.CdBase.shape.Shape.{Shape}
+use Rattle.cloud_server.specs.JournalStart.Ranges.{usual_rooms}
+use Rattle.cloud_server.specs.JournalStart.start.Header.{Header}
+use Rattle.cloud_server.specs.CdEdges.Causes.{Rose}
+use Rattle.cloud_server.specs.CdEdges.Disk.{Cloud, IsImage, reads}
+use Rattle.cloud_server.proofs.CdEdges.Moments.{weaker, at_end, each_since}
 use Rattle.cloud_server.specs.CloudAreas.Peers.{StandsForSome}
 use Rattle.script_lines.specs.LocalLink.link.LocalLink.{LocalLink}
 use Rattle.script_lines.specs.LocalLink.Calls.{no_commands}
@@ -20,13 +20,13 @@ use Rattle.script_lines.specs.LocalLink.Steps.{IsClosedIn}
 use Rattle.script_lines.specs.LocalLink.Tells as tells
 use Rattle.script_lines.specs.LocalLink.Tells.{server_at, rooms_of, StandsAt}
 use Rattle.script_lines.proofs.OfLocalLink.Standing.{some_server}
-use Rattle.session.specs.Fault.{Fault}
-use Rattle.session.specs.Lines.{Lines, next_line}
-use Rattle.session.specs.Reading.{header_at}
-use Rattle.transcript.specs.declared.line.Line.TheVariants as lines
-use Rattle.transcript.specs.Transcript.{line_text}
-use Rattle.session.specs.Scripts.{Place, Begins, Reaches, IsWrongFirst}
-use Rattle.session.specs.Texts.{text_of}
+use Rattle.two_worlds.specs.Session.Fault.{Fault}
+use Rattle.two_worlds.specs.Session.Lines.{ReaderState, next_line}
+use Rattle.two_worlds.specs.Session.Reading.{header_at}
+use Rattle.two_worlds.specs.Transcript.line.Line.TheVariants as lines
+use Rattle.two_worlds.specs.Transcript.Transcript.{line_text}
+use Rattle.two_worlds.specs.Session.Scripts.{ScriptPlace, Begins, Reaches, IsWrongFirst}
+use Rattle.two_worlds.specs.Session.Texts.{text_of}
 use Rattle.script_lines.specs.SessionModel.Vault.{Setting, opening}
 use Rattle.script_lines.specs.SessionModel.Run.{IsListIn}
 use Rattle.script_lines.specs.SessionModel.Headline.{Session, IsRun}
@@ -37,9 +37,9 @@ use Rattle.script_lines.proofs.Going.{header_is}
 use Rattle.replay_core.specs.declared.end.ReplayEnd.{ReplayEnd}
 use Rattle.replay_core.specs.declared.end.ReplayEnd.TheVariants as ends
 use Rattle.replay_core.specs.Endings.{AreSpared, HasReadSome, HasHeader, IsDue}
-use Rattle.replay_core.specs.Replayed.{Replayed, Replays, status_of, ending_of, IsPrinted}
+use Rattle.replay_core.specs.Replayed.{Replayed, HasReplayed, status_of, ending_of, IsPrinted}
 use Rattle.replay_core.specs.Opening.{AreSame, IsEmpty, IsThere, IsHead, Prepares, PreparesAll, EndsFirst, EndsUnopened, OpensTo}
-use Rattle.replay_core.specs.Going.{Start, call_of, IsReady, HasCome, EndsWriting}
+use Rattle.replay_core.specs.Going.{ReplayStart, call_of, IsReplayReady, HasCome, EndsWriting}
 use Rattle.replay_core.proofs.Clouds.{EmptyStands, all_same, spared_by, spared_same}
 use Rattle.replay_core.proofs.Firsts.{map_told}
 use Rattle.replay_core.proofs.Sessions.{appends_none, grown, appends_grown, holds_between}
@@ -50,7 +50,7 @@ abbrev pub unopened_of : Setting → (ℕ → Cloud) → Session
 unopened_of s old =
     record { setting = s; opened = false; history = []; between = opening old; begun = None; last = λ cloud. no_commands (old cloud) }
 
-pub replayed_unopened : Laws → (status : ℕ) (start : Start) (s : Setting) (new : ℕ → Cloud) → (status ≡ 0 → ⊥) → ((cloud : ℕ) → s.told cloud ≡ (start.old cloud).told)
+pub replayed_unopened : Laws → (status : ℕ) (start : ReplayStart) (s : Setting) (new : ℕ → Cloud) → (status ≡ 0 → ⊥) → ((cloud : ℕ) → s.told cloud ≡ (start.old cloud).told)
     → PreparesAll (header_in s) s.shape start.old new → Replayed status start.old new (unopened_of s start.old)
 replayed_unopened laws status start s new some told prepares = record {
   told_so = told;
@@ -77,13 +77,13 @@ replayed_unopened laws status start s new some told prepares = record {
     run = record { unopened = λ e. (refl, refl); lines = tt; answered = refl; begun = refl }
 
 -- the promise of such an end, which isn't Done
-unopened_so : (end : ReplayEnd) → Laws → (start : Start) (s : Setting) (left : Option (List ℕ)) (source sink total : ℕ) (new : ℕ → Cloud) (now : Option (List ℕ))
+unopened_so : (end : ReplayEnd) → Laws → (start : ReplayStart) (s : Setting) (left : Option (List ℕ)) (source sink total : ℕ) (new : ℕ → Cloud) (now : Option (List ℕ))
     → (status_of end ≡ 0 → ⊥) → ((cloud : ℕ) → s.told cloud ≡ (start.old cloud).told) → PreparesAll (header_in s) s.shape start.old new → AreSpared s.shape.n start.old new
     → HasHeader (call_of start left source sink total new) (unopened_of s start.old)
     → IsDue (call_of start left source sink total new) (unopened_of s start.old) (ending_of end)
     → CausedBy (call_of start left source sink total new) (unopened_of s start.old) end
     → IsPrinted end (call_of start left source sink total new) (unopened_of s start.old) start.written now
-    → Replays end (call_of start left source sink total new) start.written now
+    → HasReplayed end (call_of start left source sink total new) start.written now
 unopened_so end laws start s left source sink total new now some told prepares spared header is_due by printed = record {
   run = unopened_of s start.old;
   replayed = replayed_unopened laws (status_of end) start s new some told prepares;
@@ -97,38 +97,38 @@ unopened_so end laws start s left source sink total new now some told prepares s
 abbrev pub three : Shape
 three = record { n = 3; k = 2; several = omega arith; spare = omega arith; few = omega arith }
 
-abbrev pub by_header : Result (Shape × Rooms) Fault → Shape × Rooms
+abbrev pub by_header : Result (Shape × UserRooms) Fault → Shape × UserRooms
 by_header (Ok header) = header
 by_header (Err fault) = (three, usual_rooms)
 
-abbrev pub by_first : Result (Option (List ℕ)) Fault → Shape × Rooms
+abbrev pub by_first : Result (Option (List ℕ)) Fault → Shape × UserRooms
 by_first (Ok (Some line)) = by_header (header_at line)
 by_first (Ok None) = (three, usual_rooms)
 by_first (Err fault) = (three, usual_rooms)
 
 -- what the first line says, where there is one
-abbrev pub by_script : Option (List ℕ) → Shape × Rooms
+abbrev pub by_script : Option (List ℕ) → Shape × UserRooms
 by_script None = (three, usual_rooms)
 by_script (Some script) = by_first (next_line 0 script)
 
-abbrev pub setting_of : Start → Setting
+abbrev pub setting_of : ReplayStart → Setting
 setting_of start = record { shape = (by_script start.script).0; rooms = (by_script start.script).1; told = λ cloud. (start.old cloud).told }
 
-says_header : (script : Option (List ℕ)) → IfSome script (λ bytes. (shape : Shape) (rooms : Rooms) (place : Place)
+says_header : (script : Option (List ℕ)) → IfSome script (λ bytes. (shape : Shape) (rooms : UserRooms) (place : ScriptPlace)
     → Begins bytes shape rooms place → ((by_script script).0 ≡ shape) × ((by_script script).1 ≡ rooms))
 says_header None = tt
 says_header (Some bytes) = λ shape rooms place begins.
     let e : by_first (next_line 0 bytes) ≡ (shape, rooms) = ap by_first begins.here ∙ ap by_header begins.says in
-    (ap (λ (h : Shape × Rooms). h.0) e, ap (λ (h : Shape × Rooms). h.1) e)
+    (ap (λ (h : Shape × UserRooms). h.0) e, ap (λ (h : Shape × UserRooms). h.1) e)
 
 wrong_first : (script : Option (List ℕ)) (P : List ℕ → Type 0) (fault : Fault) → IfSome script (λ bytes. IsWrongFirst bytes fault)
     → IfSome script (λ bytes. ((false ≡ false) × IsWrongFirst bytes fault) ⊎ P bytes)
 wrong_first None P fault x = tt
 wrong_first (Some bytes) P fault x = inl (refl, x)
 
-pub ends_first : EmptyStands → (end : ReplayEnd) → Laws → (start : Start) (left : Option (List ℕ)) (source sink total : ℕ) (new : ℕ → Cloud) (now : Option (List ℕ))
+pub ends_first : EmptyStands → (end : ReplayEnd) → Laws → (start : ReplayStart) (left : Option (List ℕ)) (source sink total : ℕ) (new : ℕ → Cloud) (now : Option (List ℕ))
     → ((cloud : ℕ) → new cloud ≡ start.old cloud) → now ≡ start.written → sink ≡ start.sink → EndsFirst start.script start.source source end
-    → Replays end (call_of start left source sink total new) start.written now
+    → HasReplayed end (call_of start left source sink total new) start.written now
 ends_first law (ends.Script line at found) laws start left source sink total new now same still sank x =
     unopened_so (ends.Script line at found) laws start (setting_of start) left source sink total new now (λ e. apart 2 0 refl e) (λ cloud. refl)
     (all_same law (header_in (setting_of start)) (setting_of start).shape start.old new same) (spared_same (setting_of start).shape.n start.old new same) (says_header start.script)
@@ -148,25 +148,25 @@ ends_first law (ends.Damaged cloud at byte) laws start left source sink total ne
 
 -- ---- behind the first line
 
-module _ (laws : Laws) (start : Start) (s : Setting) (reader : Lines) (left : Option (List ℕ)) (source sink total : ℕ) (new : ℕ → Cloud) (now : Option (List ℕ))
+module _ (laws : Laws) (start : ReplayStart) (s : Setting) (reader : ReaderState) (left : Option (List ℕ)) (source sink total : ℕ) (new : ℕ → Cloud) (now : Option (List ℕ))
     (told : (cloud : ℕ) → s.told cloud ≡ (start.old cloud).told) (head : IsHead start.script s.shape s.rooms reader left)
     (prepares : PreparesAll (header_in s) s.shape start.old new) (still : now ≡ start.written) (sank : sink ≡ start.sink) where
-  reached : IfSome start.script (λ script. (place : Place) × Reaches script s.shape s.rooms [] place)
-  reached = map_told start.script (λ (script : List ℕ). (place : Place) × Begins script s.shape s.rooms place × IsThere reader left 0 place)
-      (λ (script : List ℕ). (place : Place) × Reaches script s.shape s.rooms [] place) (λ script x. (x.0, (x.0, x.1, refl))) head
+  reached : IfSome start.script (λ script. (place : ScriptPlace) × Reaches script s.shape s.rooms [] place)
+  reached = map_told start.script (λ (script : List ℕ). (place : ScriptPlace) × Begins script s.shape s.rooms place × IsThere reader left 0 place)
+      (λ (script : List ℕ). (place : ScriptPlace) × Reaches script s.shape s.rooms [] place) (λ script x. (x.0, (x.0, x.1, refl))) head
 
   read : HasReadSome (call_of start left source sink total new) (unopened_of s start.old)
-  read = read_some start.script (λ (script : List ℕ) (place : Place). Reaches script s.shape s.rooms [] place) reached
+  read = read_some start.script (λ (script : List ℕ) (place : ScriptPlace). Reaches script s.shape s.rooms [] place) reached
 
   header : HasHeader (call_of start left source sink total new) (unopened_of s start.old)
   header = header_read (call_of start left source sink total new) (unopened_of s start.old) [] reached
 
-  pub ends_unmade : AreSame start.old new → Replays ends.NoMemory (call_of start left source sink total new) start.written now
+  pub ends_unmade : AreSame start.old new → HasReplayed ends.NoMemory (call_of start left source sink total new) start.written now
   ends_unmade same = unopened_so ends.NoMemory laws start s left source sink total new now (λ e. apart 6 0 refl e) told prepares
       (spared_same s.shape.n start.old new same) header tt tt
       (cut_none (call_of start left source sink total new) (unopened_of s start.old) start.written now (appends_none start.written now still))
 
-  pub ends_closed : (end : ReplayEnd) → EndsUnopened s.shape start.old new end → Replays end (call_of start left source sink total new) start.written now
+  pub ends_closed : (end : ReplayEnd) → EndsUnopened s.shape start.old new end → HasReplayed end (call_of start left source sink total new) start.written now
   ends_closed (ends.NotEmpty cloud area len) x =
       unopened_so (ends.NotEmpty cloud area len) laws start s left source sink total new now (λ e. apart 7 0 refl e) told prepares
       (spared_by s.shape start.old new (ends.NotEmpty cloud area len) x) header
@@ -187,11 +187,11 @@ module _ (laws : Laws) (start : Start) (s : Setting) (reader : Lines) (left : Op
 
 -- ---- the link
 
-pub ready_by : {V : Type 0} (clouds : V → ℕ → Cloud) (start : Start) (s : Setting) (link : LocalLink V) (servers : Servers) (shelf : V) (reader : Lines) (left : Option (List ℕ))
+pub ready_by : {V : Type 0} (clouds : V → ℕ → Cloud) (start : ReplayStart) (s : Setting) (link : LocalLink V) (servers : Servers) (shelf : V) (reader : ReaderState) (left : Option (List ℕ))
     (source : ℕ) (written : Option (List ℕ)) (sink : ℕ) → ((cloud : ℕ) → s.told cloud ≡ (start.old cloud).told) → link.servers ≡ servers → servers.shape ≡ s.shape
     → ((cloud : ℕ) (server : Server) → server_at servers cloud ≡ Some server → IsClosedIn s.rooms server) → link.fate ≡ Deliver → link.shelf.now ≡ shelf
     → ((cloud : ℕ) → clouds shelf cloud ≡ start.old cloud) → ((cloud : ℕ) → cloud < s.shape.n → IsEmpty (start.old cloud)) → IsHead start.script s.shape s.rooms reader left
-    → source ≡ start.source → written ≡ start.written → sink ≡ start.sink → IsReady clouds start s link reader left source written sink
+    → source ≡ start.source → written ≡ start.written → sink ≡ start.sink → IsReplayReady clouds start s link reader left source written sink
 ready_by {V} clouds start s link servers shelf reader left source written sink told of shape closed fate shelf_is same empty head from wrote sank = record {
   told = told;
   shape = ap (λ (sv : Servers). sv.shape) of ∙ shape;
@@ -208,8 +208,8 @@ ready_by {V} clouds start s link servers shelf reader left source written sink t
   written_is = wrote;
 }
 
-module _ {V : Type 0} (clouds : V → ℕ → Cloud) (laws : Laws) (start : Start) (s : Setting) (old : LocalLink V) (reader : Lines) (left : Option (List ℕ)) (source : ℕ)
-    (written : Option (List ℕ)) (sink : ℕ) (ready : IsReady clouds start s old reader left source written sink) where
+module _ {V : Type 0} (clouds : V → ℕ → Cloud) (laws : Laws) (start : ReplayStart) (s : Setting) (old : LocalLink V) (reader : ReaderState) (left : Option (List ℕ)) (source : ℕ)
+    (written : Option (List ℕ)) (sink : ℕ) (ready : IsReplayReady clouds start s old reader left source written sink) where
   pub same_all : clouds old.shelf.now ≡ start.old
   same_all = λ i cloud. ready.same cloud i
 
@@ -236,14 +236,14 @@ module _ {V : Type 0} (clouds : V → ℕ → Cloud) (laws : Laws) (start : Star
 
   pub ends_ready : (end : ReplayEnd) (new : LocalLink V) (total : ℕ) → PreparesAll (tells.header_at old.servers) old.servers.shape (clouds old.shelf.now) (clouds new.shelf.now)
       → EndsUnopened old.servers.shape (clouds old.shelf.now) (clouds new.shelf.now) end
-      → Replays end (call_of start left source sink total (clouds new.shelf.now)) start.written written
+      → HasReplayed end (call_of start left source sink total (clouds new.shelf.now)) start.written written
   ends_ready end new total prepares x =
       ends_closed laws start s reader left source sink total (clouds new.shelf.now) written ready.told ready.read
       (all_ready (clouds new.shelf.now) prepares)
       ready.written_is ready.sink_is end
       (subst (λ (sh : Shape). EndsUnopened sh start.old (clouds new.shelf.now) end) ready.shape (subst (λ (f : ℕ → Cloud). EndsUnopened old.servers.shape f (clouds new.shelf.now) end) same_all x))
 
-  pub ends_unready : EmptyStands → (total : ℕ) → Replays ends.NoMemory (call_of start left source sink total (clouds old.shelf.now)) start.written written
+  pub ends_unready : EmptyStands → (total : ℕ) → HasReplayed ends.NoMemory (call_of start left source sink total (clouds old.shelf.now)) start.written written
   ends_unready law total =
       ends_unmade laws start s reader left source sink total (clouds old.shelf.now) written ready.told ready.read (all_same law (header_in s) s.shape start.old (clouds old.shelf.now) ready.same) ready.written_is ready.sink_is
       ready.same
@@ -287,8 +287,8 @@ module _ {V : Type 0} (clouds : V → ℕ → Cloud) (laws : Laws) (start : Star
           ((prepares_at cloud lt).images (sym (ready.told cloud) ∙ told) (λ image area is. empty cloud image area (sym (ready.told cloud) ∙ told) is))
           (λ image x. (x.0, inl (inl x.1), x.2));
       others = waits_at;
-      read = map_told start.script (λ (script : List ℕ). (place : Place) × Begins script s.shape s.rooms place × IsThere reader left 0 place)
-          (λ (script : List ℕ). (place : Place) × Reaches script s.shape s.rooms [] place × IsThere reader left 0 place)
+      read = map_told start.script (λ (script : List ℕ). (place : ScriptPlace) × Begins script s.shape s.rooms place × IsThere reader left 0 place)
+          (λ (script : List ℕ). (place : ScriptPlace) × Reaches script s.shape s.rooms [] place × IsThere reader left 0 place)
           (λ script x. (x.0, (x.0, x.1, refl), x.2)) ready.read;
       printed = subst (λ (o : Option (List ℕ)). Appends o written_now (text_of (lines.Opened s.shape ∷ []))) ready.written_is wrote;
       source_is = ready.source_is;
@@ -298,7 +298,7 @@ module _ {V : Type 0} (clouds : V → ℕ → Cloud) (laws : Laws) (start : Star
     -- as `open` is written
     pub ends_first_line : (total : ℕ) (image : (cloud : ℕ) → IsTrue (clouds new.shelf.now cloud).told → IsImage (clouds new.shelf.now cloud).now (reads (clouds new.shelf.now cloud).now))
         (end : ReplayEnd) (now : Option (List ℕ)) (sink_now : ℕ) → EndsWriting (line_text (lines.Opened s.shape)) written now sink sink_now end
-        → Replays end (call_of start left source sink_now total (clouds new.shelf.now)) start.written now
+        → HasReplayed end (call_of start left source sink_now total (clouds new.shelf.now)) start.written now
     ends_first_line total image ends.SinkFault now sink_now x =
         let come = come_first (grown written (text_of (lines.Opened s.shape ∷ []))) sink refl (appends_grown written (text_of (lines.Opened s.shape ∷ []))) in
         ends_so laws start s left source sink_now total (clouds new.shelf.now) image (λ cloud. told_at cloud (cases_lt cloud s.shape.n)) ends.SinkFault now [] (opening start.old) None (opening start.old).peers
@@ -330,6 +330,6 @@ module _ {V : Type 0} (clouds : V → ℕ → Cloud) (laws : Laws) (start : Star
 
     pub ends_open : (shape : Shape) (total : ℕ) (image : (cloud : ℕ) → IsTrue (clouds new.shelf.now cloud).told → IsImage (clouds new.shelf.now cloud).now (reads (clouds new.shelf.now cloud).now))
         (end : ReplayEnd) (now : Option (List ℕ)) (sink_now : ℕ) → shape ≡ new.servers.shape → EndsWriting (line_text (lines.Opened shape)) written now sink sink_now end
-        → Replays end (call_of start left source sink_now total (clouds new.shelf.now)) start.written now
+        → HasReplayed end (call_of start left source sink_now total (clouds new.shelf.now)) start.written now
     ends_open shape total image end now sink_now is x = ends_first_line total image end now sink_now
         (subst (λ (sh : Shape). EndsWriting (line_text (lines.Opened sh)) written now sink sink_now end) (is ∙ to.shape ∙ ready.shape) x)

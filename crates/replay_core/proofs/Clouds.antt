@@ -2,17 +2,17 @@
 use Rattle.std.proofs.Common.{◌≡◌, ℕ, ◌+◌, ◌<◌, ◌≤◌, Bool, true, false, [], refl, sym, ap, ◌∙◌, subst, inl, inr, arith}
 use Rattle.std.specs.Prelude.{◌≢◌, IsTrue, Result, Err, OnErr, IfErr}
 use Rattle.std.proofs.lemmas.Bool.{cases_eq}
-use Rattle.cd_base.specs.declared.ids.CloudNo.{CloudNo}
-use Rattle.cd_base.specs.declared.shape.Shape.{Shape}
-use Rattle.cd_edges.specs.Causes.{Rose}
-use Rattle.cd_edges.specs.declared.area.Area.{Area}
-use Rattle.cd_edges.specs.Disk.{Cloud, Image, IsImage}
-use Rattle.cd_edges.specs.Shelf.{IsCall, Stays, HasFailed, KeepsCounts}
-use Rattle.cd_edges.proofs.Moments.{stayed, left_alone}
-use Rattle.half_journal.specs.declared.errors.OpenErr.{OpenErr}
-use Rattle.half_journal.specs.declared.errors.OpenErr.TheVariants as errors
-use Rattle.journal_start.specs.declared.start.Header.{Header}
-use Rattle.half_journal.specs.Openings.{OnFault}
+use Rattle.cloud_server.specs.CdBase.ids.CloudNo.{CloudNo}
+use Rattle.cloud_server.specs.CdBase.shape.Shape.{Shape}
+use Rattle.cloud_server.specs.CdEdges.Causes.{Rose}
+use Rattle.cloud_server.specs.CdEdges.area.Area.{Area}
+use Rattle.cloud_server.specs.CdEdges.Disk.{Cloud, Image, IsImage}
+use Rattle.cloud_server.specs.CdEdges.Shelf.{IsCall, Stays, HasFailed, KeepsCounts}
+use Rattle.cloud_server.proofs.CdEdges.Moments.{stayed, left_alone}
+use Rattle.cloud_server.specs.HalfJournal.errors.OpenErr.{OpenErr}
+use Rattle.cloud_server.specs.HalfJournal.errors.OpenErr.TheVariants as errors
+use Rattle.cloud_server.specs.JournalStart.start.Header.{Header}
+use Rattle.cloud_server.specs.HalfJournal.Openings.{OnFault}
 use Rattle.cloud_server.specs.StoreOpening.Spared.{IsOkOrFault}
 use Rattle.cloud_server.specs.CloudAreas.Peers.{StandsForSome}
 use Rattle.cloud_server.specs.CloudAreas.Standing.{StandsFor}

@@ -1,15 +1,15 @@
 -- The first line.
 use Rattle.std.proofs.Common.{◌≡◌, ℕ, ◌+◌, ◌≤◌, Bool, true, false, List, [], length, refl, sym, ap, ◌∙◌, subst, inl, inr, arith}
 use Rattle.std.specs.Prelude.{Option, Some, None, Result, Ok, Err, IfSome, IfOk, IfErr, nat_lt, ◌==◌, if◌then◌else◌, take}
-use Rattle.journal_start.specs.declared.rooms.Rooms.{Rooms}
-use Rattle.cd_base.specs.declared.shape.Shape.{Shape}
-use Rattle.cd_edges.specs.Causes.{Rose}
-use Rattle.session.specs.Fault.{Fault}
-use Rattle.session.specs.Lines.{Lines, NextLine, TakesLine, next_line, after_line, line_length, room_after, script_limit, fault_at}
-use Rattle.session.specs.Reading.{header_at}
-use Rattle.session.specs.declared.lines.LineErr.{LineErr}
-use Rattle.session.specs.declared.lines.LineErr.TheVariants as line_errors
-use Rattle.session.specs.Scripts.{Place, Begins, FailsFirst, IsWrongFirst}
+use Rattle.cloud_server.specs.JournalStart.rooms.UserRooms.{UserRooms}
+use Rattle.cloud_server.specs.CdBase.shape.Shape.{Shape}
+use Rattle.cloud_server.specs.CdEdges.Causes.{Rose}
+use Rattle.two_worlds.specs.Session.Fault.{Fault}
+use Rattle.two_worlds.specs.Session.Lines.{ReaderState, NextLine, TakesLine, next_line, after_line, line_length, room_after, script_limit, fault_at}
+use Rattle.two_worlds.specs.Session.Reading.{header_at}
+use Rattle.two_worlds.specs.Session.lines.LineErr.{LineErr}
+use Rattle.two_worlds.specs.Session.lines.LineErr.TheVariants as line_errors
+use Rattle.two_worlds.specs.Session.Scripts.{ScriptPlace, Begins, FailsFirst, IsWrongFirst}
 use Rattle.replay_core.specs.declared.end.ReplayEnd.{ReplayEnd}
 use Rattle.replay_core.specs.declared.end.ReplayEnd.TheVariants as ends
 use Rattle.replay_core.specs.Opening.{before_first, IsThere, IsHead, EndsFirst, SaysHeader, end_without}
@@ -23,21 +23,21 @@ map_told None P Q f p = tt
 map_told (Some bytes) P Q f p = f bytes p
 
 -- what was read of the first line
-pub head_here : (script : Option (List ℕ)) (old new : Lines) (left : Option (List ℕ)) (more : Bool) (line : List ℕ) (result : Result (Shape × Rooms) ReplayEnd)
+pub head_here : (script : Option (List ℕ)) (old new : ReaderState) (left : Option (List ℕ)) (more : Bool) (line : List ℕ) (result : Result (Shape × UserRooms) ReplayEnd)
     → more ≡ true → old ≡ before_first → ((bytes : List ℕ) → script ≡ Some bytes → NextLine old bytes (Ok more) new left) → line ≡ new.line
-    → SaysHeader (header_at line) result → IfOk result (λ (h : Shape × Rooms). IsHead script h.0 h.1 new left)
+    → SaysHeader (header_at line) result → IfOk result (λ (h : Shape × UserRooms). IsHead script h.0 h.1 new left)
 head_here script old new left more line (Err end) so first told is says = tt
 head_here script old new left more line (Ok header) so first told is says = if_told script
-    (λ (bytes : List ℕ). (place : Place) × Begins bytes header.0 header.1 place × IsThere new left 0 place)
+    (λ (bytes : List ℕ). (place : ScriptPlace) × Begins bytes header.0 header.1 place × IsThere new left 0 place)
     (λ bytes e.
-    let n : TakesLine before_first bytes new left = subst (λ (b : Bool). NextLine before_first bytes (Ok b) new left) so (subst (λ (o : Lines). NextLine o bytes (Ok more) new left) first (told bytes e)) in
-    let at : Place = record { jobs = 0; taken = length new.line + 1; rest = after_line bytes } in (
+    let n : TakesLine before_first bytes new left = subst (λ (b : Bool). NextLine before_first bytes (Ok b) new left) so (subst (λ (o : ReaderState). NextLine o bytes (Ok more) new left) first (told bytes e)) in
+    let at : ScriptPlace = record { jobs = 0; taken = length new.line + 1; rest = after_line bytes } in (
       at,
       record { line = new.line; here = n.line; says = ap header_at (sym is) ∙ says; next_is = refl },
       record { jobs_are = refl; taken = (let e = n.taken in omega arith); unread = n.unread; left_is = n.left_is; rest = n.follows },
     ))
 
-pub end_here : (script : Option (List ℕ)) (old new : Lines) (left : Option (List ℕ)) (more : Bool) (line : List ℕ) (result : Result (Shape × Rooms) ReplayEnd) (before now : ℕ)
+pub end_here : (script : Option (List ℕ)) (old new : ReaderState) (left : Option (List ℕ)) (more : Bool) (line : List ℕ) (result : Result (Shape × UserRooms) ReplayEnd) (before now : ℕ)
     → more ≡ true → old ≡ before_first → ((bytes : List ℕ) → script ≡ Some bytes → NextLine old bytes (Ok more) new left) → line ≡ new.line
     → SaysHeader (header_at line) result → IfErr result (EndsFirst script before now)
 end_here script old new left more line (Ok header) before now so first told is says = tt
@@ -46,7 +46,7 @@ end_here script old new left more line (Err (ends.Script number at found)) befor
   if_told script
       (λ (bytes : List ℕ). IsWrongFirst bytes (record { at = at; found = found }))
       (λ bytes e.
-      let n : TakesLine before_first bytes new left = subst (λ (b : Bool). NextLine before_first bytes (Ok b) new left) so (subst (λ (o : Lines). NextLine o bytes (Ok more) new left) first (told bytes e)) in
+      let n : TakesLine before_first bytes new left = subst (λ (b : Bool). NextLine before_first bytes (Ok b) new left) so (subst (λ (o : ReaderState). NextLine o bytes (Ok more) new left) first (told bytes e)) in
       subst (λ (r : Result (Option (List ℕ)) Fault). FailsFirst r (record { at = at; found = found })) (sym n.line)
       (ap header_at (sym is) ∙ says.1)),
 )
@@ -71,21 +71,21 @@ never_over rest e =
     by_tests false false true f g h line e = cc
     by_tests false false false f g h line e = cc
 
-pub no_end_first : (script : Option (List ℕ)) (old new : Lines) (left : Option (List ℕ)) (more : Bool) (before now : ℕ) → more ≡ false → old ≡ before_first
+pub no_end_first : (script : Option (List ℕ)) (old new : ReaderState) (left : Option (List ℕ)) (more : Bool) (before now : ℕ) → more ≡ false → old ≡ before_first
     → ((bytes : List ℕ) → script ≡ Some bytes → NextLine old bytes (Ok more) new left) → EndsFirst script before now (ends.Script 1 0 None)
 no_end_first script old new left true before now over first told = absurd (let f : true ≡ false = over in cc)
 no_end_first script old new left false before now over first told = (
   refl,
   if_told script
       (λ (bytes : List ℕ). IsWrongFirst bytes (record { at = 0; found = None }))
-      (λ bytes e. absurd (never_over bytes (subst (λ (o : Lines). NextLine o bytes (Ok false) new left) first (told bytes e)).none)),
+      (λ bytes e. absurd (never_over bytes (subst (λ (o : ReaderState). NextLine o bytes (Ok false) new left) first (told bytes e)).none)),
 )
 
 -- the reader's error
 abbrev pub failed_line : LineErr → Result Bool LineErr
 failed_line error = Err error
 
-pub end_told : (script : Option (List ℕ)) (old new : Lines) (left : Option (List ℕ)) (error : LineErr) (end : ReplayEnd) (before now : ℕ) → old ≡ before_first
+pub end_told : (script : Option (List ℕ)) (old new : ReaderState) (left : Option (List ℕ)) (error : LineErr) (end : ReplayEnd) (before now : ℕ) → old ≡ before_first
     → ((bytes : List ℕ) → script ≡ Some bytes → NextLine old bytes (failed_line error) new left)
     → (failed_line error ≡ Err line_errors.Fault → Rose before now) → end ≡ end_without 1 error → EndsFirst script before now end
 end_told script old new left line_errors.Fault end before now first told cause e = subst (EndsFirst script before now) (sym e) (cause refl)
@@ -96,5 +96,5 @@ end_told script old new left (line_errors.At at found) end before now first told
       (λ (bytes : List ℕ). IsWrongFirst bytes (record { at = at; found = found }))
       (λ bytes s.
       subst (λ (r : Result (Option (List ℕ)) Fault). FailsFirst r (record { at = at; found = found }))
-      (sym (subst (λ (o : Lines). NextLine o bytes (failed_line (line_errors.At at found)) new left) first (told bytes s))) refl),
+      (sym (subst (λ (o : ReaderState). NextLine o bytes (failed_line (line_errors.At at found)) new left) first (told bytes s))) refl),
 )

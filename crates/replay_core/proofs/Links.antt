@@ -3,23 +3,23 @@ use Rattle.std.proofs.Common.{◌≡◌, ℕ, ◌+◌, ◌<◌, ◌≤◌, true,
 use Rattle.std.specs.Prelude.{◌≢◌, IsTrue, Option, None, Result}
 use Rattle.std.specs.List.{Contains}
 use Rattle.std.proofs.lemmas.Bool.{cases_eq, cases_lt}
-use Rattle.cd_base.specs.declared.shape.Shape.{Shape}
-use Rattle.cd_edges.specs.declared.area.Area.TheVariants.{Journal}
-use Rattle.cd_edges.specs.Disk.{Cloud, reads}
-use Rattle.cd_edges.specs.Shelf.{IsCall}
-use Rattle.cd_edges.proofs.Moments.{weaker}
-use Rattle.half_journal.specs.declared.errors.OpenErr.{OpenErr}
-use Rattle.journal_start.specs.declared.start.Header.{Header}
+use Rattle.cloud_server.specs.CdBase.shape.Shape.{Shape}
+use Rattle.cloud_server.specs.CdEdges.area.Area.TheVariants.{Journal}
+use Rattle.cloud_server.specs.CdEdges.Disk.{Cloud, reads}
+use Rattle.cloud_server.specs.CdEdges.Shelf.{IsCall}
+use Rattle.cloud_server.proofs.CdEdges.Moments.{weaker}
+use Rattle.cloud_server.specs.HalfJournal.errors.OpenErr.{OpenErr}
+use Rattle.cloud_server.specs.JournalStart.start.Header.{Header}
 use Rattle.cloud_server.specs.StoreOpening.Spared.{IsOkOrFault, MayBegin}
-use Rattle.journal_start.specs.declared.rooms.Rooms.{Rooms}
-use Rattle.user_dedup.specs.Spending.{IsWithin}
+use Rattle.cloud_server.specs.JournalStart.rooms.UserRooms.{UserRooms}
+use Rattle.cloud_server.specs.UserDedup.Spending.{IsWithin}
 use Rattle.cloud_server.specs.CloudAreas.Peers.{StandsForSome, ImagesNow, ImagesSince}
 use Rattle.cloud_server.specs.CloudAreas.Standing.{StandsFor}
 use Rattle.cloud_server.specs.declared.server.Server.{Server}
 use Rattle.cloud_server.specs.Names.{header_of}
 use Rattle.cloud_server.specs.Serving.{settled_with}
-use Rattle.user_dedup.specs.declared.command.Command.{Command}
-use Rattle.user_dedup.proofs.Owned.{contains_here, contains_cases, contains_nothing}
+use Rattle.cloud_server.specs.UserDedup.command.Command.{Command}
+use Rattle.cloud_server.proofs.UserDedup.Owned.{contains_here, contains_cases, contains_nothing}
 use Rattle.script_lines.specs.LocalLink.link.LocalLink.{LocalLink}
 use Rattle.script_lines.specs.LocalLink.Calls.{no_commands}
 use Rattle.script_lines.specs.LocalLink.Tells.{server_at, rooms_at, header_at, IsPeer, StandsAt, LeavesRest}
@@ -61,7 +61,7 @@ opened_peer shape number old new server told faults armings loaded = record {
     at_old t = subst (IsPeer shape number new server) same_peer (loaded (sym told ∙ t))
 
 -- a told cloud that reads as nothing is opened, unless its device failed
-pub may_fail_only : EmptyStands → ((shape : Shape) (rooms : Rooms) → IsWithin shape rooms []) → (header : Header) (shape : Shape) (rooms : Rooms) (old : Cloud) (result : Result ℕ OpenErr)
+pub may_fail_only : EmptyStands → ((shape : Shape) (rooms : UserRooms) → IsWithin shape rooms []) → (header : Header) (shape : Shape) (rooms : UserRooms) (old : Cloud) (result : Result ℕ OpenErr)
     → IsEmpty old → (IsTrue old.told → (list : List Command) → StandsFor (reads old.now) header list → IsWithin shape rooms list
     → MayBegin (old.now Journal).read true → IsOkOrFault result)
     → IsTrue old.told → IsOkOrFault result

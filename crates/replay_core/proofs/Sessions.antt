@@ -3,33 +3,33 @@ use Rattle.std.proofs.Common.{◌≡◌, ℕ, ◌+◌, ◌<◌, ◌≤◌, List,
 use Rattle.std.specs.Prelude.{Option, Some, None, IfSome, IsTrue, MatchOption}
 use Rattle.std.specs.Io.KnownBytes.{Appends}
 use Rattle.std.proofs.lemmas.List.Concat.{flat_map-append}
-use Rattle.cd_base.specs.declared.shape.Shape.{Shape}
-use Rattle.cd_edges.specs.Disk.{Cloud}
-use Rattle.cd_edges.proofs.Moments.{joined, weaker}
+use Rattle.cloud_server.specs.CdBase.shape.Shape.{Shape}
+use Rattle.cloud_server.specs.CdEdges.Disk.{Cloud}
+use Rattle.cloud_server.proofs.CdEdges.Moments.{joined, weaker}
 use Rattle.cloud_server.specs.CloudAreas.Peers.{StandsForSome, ImagesNow, ImagesSince}
-use Rattle.user_dedup.specs.declared.command.Command.{Command}
-use Rattle.user_dedup.specs.Exec.{Peer, MaySettleAs}
-use Rattle.upload_job.specs.Lanes.{LaneView}
+use Rattle.cloud_server.specs.UserDedup.command.Command.{Command}
+use Rattle.cloud_server.specs.UserDedup.Exec.{Peer, MaySettleAs}
+use Rattle.two_worlds.specs.UploadJob.Lanes.{LaneView}
 use Rattle.script_lines.specs.LocalLink.link.LocalLink.{LocalLink}
-use Rattle.session.specs.Lines.{Lines}
-use Rattle.session.specs.Spelling.{Fits, IsTyped}
-use Rattle.session.specs.declared.event.Event.{Event}
-use Rattle.transcript.specs.declared.line.Line.{Line}
-use Rattle.transcript.specs.declared.line.Line.TheVariants as lines
-use Rattle.transcript.specs.Transcript.{line_text}
-use Rattle.session.specs.Scripts.{jobs_after, jobs_of, AreLines, Place, Says, Leads, Reaches}
-use Rattle.session.specs.Texts.{text_of}
+use Rattle.two_worlds.specs.Session.Lines.{ReaderState}
+use Rattle.two_worlds.specs.Session.Spelling.{Fits, IsTyped}
+use Rattle.two_worlds.specs.Session.event.Event.{Event}
+use Rattle.two_worlds.specs.Transcript.line.Line.{Line}
+use Rattle.two_worlds.specs.Transcript.line.Line.TheVariants as lines
+use Rattle.two_worlds.specs.Transcript.Transcript.{line_text}
+use Rattle.two_worlds.specs.Session.Scripts.{jobs_after, jobs_of, AreLines, ScriptPlace, Says, Leads, Reaches}
+use Rattle.two_worlds.specs.Session.Texts.{text_of}
 use Rattle.script_lines.specs.SessionModel.Vault.{Setting, Vault, opening}
 use Rattle.script_lines.specs.SessionModel.Steps.{Moment, VStep}
 use Rattle.script_lines.specs.SessionModel.Run.{Answered, Turns, script_of, moments_of, answers_of, IsListIn}
 use Rattle.script_lines.specs.SessionModel.Headline.{Begun, IsPartOf, event_of, moments_begun}
-use Rattle.script_lines.specs.At.{header_in, Leaves}
-use Rattle.script_lines.specs.Does.{Goes, Cut}
+use Rattle.script_lines.specs.At.{header_in, KeepsOtherClouds}
+use Rattle.script_lines.specs.Does.{Goes, IsLineCut}
 use Rattle.script_lines.proofs.Going.{left_at}
 use Rattle.replay_core.specs.Endings.{AreEmptyBelow}
 use Rattle.replay_core.specs.Replayed.{BeginsEmpty}
 use Rattle.replay_core.specs.Opening.{IsThere}
-use Rattle.replay_core.specs.Going.{Start, HasCome, SaysNext, CanBe}
+use Rattle.replay_core.specs.Going.{ReplayStart, HasCome, SaysNext, CanBe}
 use Rattle.replay_core.proofs.Firsts.{map_told}
 
 -- ---- one more at the end of a list
@@ -51,9 +51,9 @@ pub jobs_more : (jobs : ℕ) (script : List Event) (event : Event) → jobs_of j
 jobs_more jobs [] event = refl
 jobs_more jobs (e ∷ script) event = jobs_more (jobs_after jobs e) script event
 
-leads_more : (shape : Shape) (place : Place) (script : List Event) (mid next : Place) (event : Event) → Leads shape place script mid → Says shape mid event next
+leads_more : (shape : Shape) (place : ScriptPlace) (script : List Event) (mid next : ScriptPlace) (event : Event) → Leads shape place script mid → Says shape mid event next
     → Leads shape place (script ++ event ∷ []) next
-leads_more shape place [] mid next event same says = (next, subst (λ (p : Place). Says shape p event next) same says, refl)
+leads_more shape place [] mid next event same says = (next, subst (λ (p : ScriptPlace). Says shape p event next) same says, refl)
 leads_more shape place (e ∷ script) mid next event leads says = (leads.0, leads.1, leads_more shape leads.0 script mid next event leads.2 says)
 
 pub count_more : (history : List Answered) (a : Answered) → length (history ++ a ∷ []) ≡ length history + 1
@@ -99,7 +99,7 @@ appends_grown (Some a) bytes = refl
 
 -- ---- what holds of a session behind its openings
 
-pub record Holds (start : Start) (s : Setting) (new : ℕ → Cloud) (history : List Answered) (at : Vault) (begun : Option Begun) (last : ℕ → Peer) : Type 0 where
+pub record Holds (start : ReplayStart) (s : Setting) (new : ℕ → Cloud) (history : List Answered) (at : Vault) (begun : Option Begun) (last : ℕ → Peer) : Type 0 where
   pub told : (cloud : ℕ) → s.told cloud ≡ (start.old cloud).told
   pub began : AreEmptyBelow start.old s.shape.n
   pub turns : Turns s (opening start.old) history at
@@ -111,7 +111,7 @@ pub record Holds (start : Start) (s : Setting) (new : ℕ → Cloud) (history : 
   pub images : BeginsEmpty start.old → (cloud : ℕ) → cloud < s.shape.n → IsTrue (s.told cloud)
       → ImagesSince (start.old cloud) (new cloud) (header_in s cloud) (IsListIn s cloud (moments_of history ++ moments_begun begun) last)
   pub others : (cloud : ℕ) → s.shape.n ≤ cloud → new cloud ≡ start.old cloud
-  pub read : IfSome start.script (λ script. (place : Place) × Reaches script s.shape s.rooms (script_of history ++ event_of begun) place)
+  pub read : IfSome start.script (λ script. (place : ScriptPlace) × Reaches script s.shape s.rooms (script_of history ++ event_of begun) place)
 
 -- the laws of moments
 abbrev pub Later : Type 0
@@ -128,7 +128,7 @@ Part = (s : Setting) (cloud : ℕ) (before : List Moment) (old : Vault) (begun :
     → IsPartOf s old begun last → (list : List Command) → IsListIn s cloud before old.peers list
     → IsListIn s cloud (before ++ begun.moments) last list
 
-module _ {V : Type 0} (clouds : V → ℕ → Cloud) (start : Start) (s : Setting) (link : LocalLink V) (jobs : List (List LaneView)) (reader : Lines) (left : Option (List ℕ))
+module _ {V : Type 0} (clouds : V → ℕ → Cloud) (start : ReplayStart) (s : Setting) (link : LocalLink V) (jobs : List (List LaneView)) (reader : ReaderState) (left : Option (List ℕ))
     (source : ℕ) (written : Option (List ℕ)) (sink : ℕ) (events : ℕ) (come : HasCome clouds start s link jobs reader left source written sink events) where
   -- between two lines
   pub holds_between : Holds start s (clouds link.shelf.now) come.history come.at None come.at.peers
@@ -147,19 +147,19 @@ module _ {V : Type 0} (clouds : V → ℕ → Cloud) (start : Start) (s : Settin
             subst (λ (m : List Moment). ImagesSince (start.old cloud) (clouds link.shelf.now cloud) (header_in s cloud) (IsListIn s cloud m come.at.peers))
             (sym (append-nil (moments_of come.history))) (come.images empty cloud lt told);
         others = come.others;
-        read = subst (λ (l : List Event). IfSome start.script (λ script. (place : Place) × Reaches script s.shape s.rooms l place)) (sym (append-nil (script_of come.history)))
-            (map_told start.script (λ (script : List ℕ). (place : Place) × Reaches script s.shape s.rooms (script_of come.history) place × IsThere reader left (length jobs) place)
-            (λ (script : List ℕ). (place : Place) × Reaches script s.shape s.rooms (script_of come.history) place) (λ script x. (x.0, x.1)) come.read);
+        read = subst (λ (l : List Event). IfSome start.script (λ script. (place : ScriptPlace) × Reaches script s.shape s.rooms l place)) (sym (append-nil (script_of come.history)))
+            (map_told start.script (λ (script : List ℕ). (place : ScriptPlace) × Reaches script s.shape s.rooms (script_of come.history) place × IsThere reader left (length jobs) place)
+            (λ (script : List ℕ). (place : ScriptPlace) × Reaches script s.shape s.rooms (script_of come.history) place) (λ script x. (x.0, x.1)) come.read);
       }
 
-  module _ (new : LocalLink V) (event : Event) (reader_now : Lines) (left_now : Option (List ℕ)) (can : CanBe s.shape (length jobs) event)
-      (says : SaysNext s.shape (length jobs) reader left (Some event) reader_now left_now) (leaves : Leaves clouds link new) where
+  module _ (new : LocalLink V) (event : Event) (reader_now : ReaderState) (left_now : Option (List ℕ)) (can : CanBe s.shape (length jobs) event)
+      (says : SaysNext s.shape (length jobs) reader left (Some event) reader_now left_now) (leaves : KeepsOtherClouds clouds link new) where
     pub lines_on : AreLines s.shape 0 (script_of come.history ++ event ∷ [])
     lines_on = lines_more s.shape 0 (script_of come.history) event come.are_lines (subst (λ (n : ℕ). Fits s.shape n event) (sym come.uploads) can.fits) can.typed
 
-    pub read_on : IfSome start.script (λ script. (place : Place) × Reaches script s.shape s.rooms (script_of come.history ++ event ∷ []) place × IsThere reader_now left_now (jobs_after (length jobs) event) place)
-    read_on = map_told start.script (λ (script : List ℕ). (place : Place) × Reaches script s.shape s.rooms (script_of come.history) place × IsThere reader left (length jobs) place)
-        (λ (script : List ℕ). (place : Place) × Reaches script s.shape s.rooms (script_of come.history ++ event ∷ []) place × IsThere reader_now left_now (jobs_after (length jobs) event) place)
+    pub read_on : IfSome start.script (λ script. (place : ScriptPlace) × Reaches script s.shape s.rooms (script_of come.history ++ event ∷ []) place × IsThere reader_now left_now (jobs_after (length jobs) event) place)
+    read_on = map_told start.script (λ (script : List ℕ). (place : ScriptPlace) × Reaches script s.shape s.rooms (script_of come.history) place × IsThere reader left (length jobs) place)
+        (λ (script : List ℕ). (place : ScriptPlace) × Reaches script s.shape s.rooms (script_of come.history ++ event ∷ []) place × IsThere reader_now left_now (jobs_after (length jobs) event) place)
         (λ script x. let n = says x.0 x.2 in
         (n.0, (x.1.0, x.1.1, leads_more s.shape x.1.0 (script_of come.history) x.0 n.0 event x.1.2 n.1), n.2)) come.read
 
@@ -167,7 +167,7 @@ module _ {V : Type 0} (clouds : V → ℕ → Cloud) (start : Start) (s : Settin
     others_on cloud le = leaves.others cloud (subst (λ (sh : Shape). sh.n ≤ cloud) (sym come.is_at.link_at.shape) le) ∙ come.others cloud le
 
     -- a line that was cut
-    pub holds_cut : Part → Here → (cut : Cut clouds s event link new come.at)
+    pub holds_cut : Part → Here → (cut : IsLineCut clouds s event link new come.at)
         → Holds start s (clouds new.shelf.now) come.history come.at (Some (record { event = event; moments = cut.moments })) cut.last
     holds_cut part here cut = record {
       told = come.told;
@@ -188,8 +188,8 @@ module _ {V : Type 0} (clouds : V → ℕ → Cloud) (start : Start) (s : Settin
           (λ image x. (x.0, here s cloud (moments_of come.history) cut.moments cut.last x.0 x.1, x.2)));
       others = others_on;
       read = map_told start.script
-          (λ (script : List ℕ). (place : Place) × Reaches script s.shape s.rooms (script_of come.history ++ event ∷ []) place × IsThere reader_now left_now (jobs_after (length jobs) event) place)
-          (λ (script : List ℕ). (place : Place) × Reaches script s.shape s.rooms (script_of come.history ++ event ∷ []) place) (λ script x. (x.0, x.1)) read_on;
+          (λ (script : List ℕ). (place : ScriptPlace) × Reaches script s.shape s.rooms (script_of come.history ++ event ∷ []) place × IsThere reader_now left_now (jobs_after (length jobs) event) place)
+          (λ (script : List ℕ). (place : ScriptPlace) × Reaches script s.shape s.rooms (script_of come.history ++ event ∷ []) place) (λ script x. (x.0, x.1)) read_on;
     }
 
     module _ (later : Later) (here : Here) (jobs_now : List (List LaneView)) (answers : List Line) (goes : Goes clouds s event link new jobs_now come.at answers) where
@@ -224,8 +224,8 @@ module _ {V : Type 0} (clouds : V → ℕ → Cloud) (start : Start) (s : Settin
         uploads = ap (jobs_of 0) (script_more come.history one) ∙ jobs_more 0 (script_of come.history) event ∙ ap (λ (n : ℕ). jobs_after n event) come.uploads ∙ sym count;
         images = images_on;
         others = others_on;
-        read = subst (λ (n : ℕ). IfSome start.script (λ script. (place : Place) × Reaches script s.shape s.rooms (script_of (come.history ++ one ∷ [])) place × IsThere reader_now left_now n place)) (sym count)
-            (subst (λ (l : List Event). IfSome start.script (λ script. (place : Place) × Reaches script s.shape s.rooms l place × IsThere reader_now left_now (jobs_after (length jobs) event) place)) (sym (script_more come.history one)) read_on);
+        read = subst (λ (n : ℕ). IfSome start.script (λ script. (place : ScriptPlace) × Reaches script s.shape s.rooms (script_of (come.history ++ one ∷ [])) place × IsThere reader_now left_now n place)) (sym count)
+            (subst (λ (l : List Event). IfSome start.script (λ script. (place : ScriptPlace) × Reaches script s.shape s.rooms l place × IsThere reader_now left_now (jobs_after (length jobs) event) place)) (sym (script_more come.history one)) read_on);
         printed = subst (Appends start.written written_now) (sym (text_more (lines.Opened s.shape) come.history one))
             (appends_on start.written written written_now (text_of (lines.Opened s.shape ∷ answers_of come.history)) (text_of answers) come.printed wrote);
         source_is = same_source ∙ come.source_is;
@@ -248,8 +248,8 @@ module _ {V : Type 0} (clouds : V → ℕ → Cloud) (start : Start) (s : Settin
                 subst (λ (m : List Moment). ImagesSince (start.old cloud) (clouds new.shelf.now cloud) (header_in s cloud) (IsListIn s cloud m goes.after.peers))
                 (sym (append-nil (moments_of (come.history ++ one ∷ [])))) (images_on empty cloud lt told);
             others = others_on;
-            read = subst (λ (l : List Event). IfSome start.script (λ script. (place : Place) × Reaches script s.shape s.rooms l place)) (sym (append-nil (script_of (come.history ++ one ∷ [])) ∙ script_more come.history one))
+            read = subst (λ (l : List Event). IfSome start.script (λ script. (place : ScriptPlace) × Reaches script s.shape s.rooms l place)) (sym (append-nil (script_of (come.history ++ one ∷ [])) ∙ script_more come.history one))
                 (map_told start.script
-                (λ (script : List ℕ). (place : Place) × Reaches script s.shape s.rooms (script_of come.history ++ event ∷ []) place × IsThere reader_now left_now (jobs_after (length jobs) event) place)
-                (λ (script : List ℕ). (place : Place) × Reaches script s.shape s.rooms (script_of come.history ++ event ∷ []) place) (λ script x. (x.0, x.1)) read_on);
+                (λ (script : List ℕ). (place : ScriptPlace) × Reaches script s.shape s.rooms (script_of come.history ++ event ∷ []) place × IsThere reader_now left_now (jobs_after (length jobs) event) place)
+                (λ (script : List ℕ). (place : ScriptPlace) × Reaches script s.shape s.rooms (script_of come.history ++ event ∷ []) place) (λ script x. (x.0, x.1)) read_on);
           }

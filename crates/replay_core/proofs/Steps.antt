@@ -2,21 +2,21 @@
 use Rattle.std.proofs.Common.{◌≡◌, ℕ, ◌+◌, Bool, true, false, List, [], ◌++◌, length, refl, sym, ap, ◌∙◌, subst}
 use Rattle.std.specs.Prelude.{Option, Some, None, Result, Ok, Err, IfErr, OnOk}
 use Rattle.std.specs.Io.KnownBytes.{Appends}
-use Rattle.cd_base.specs.declared.shape.Shape.{Shape}
-use Rattle.cd_edges.specs.Causes.{Rose}
-use Rattle.cd_edges.specs.Disk.{Cloud}
-use Rattle.upload_job.specs.Lanes.{LaneView}
+use Rattle.cloud_server.specs.CdBase.shape.Shape.{Shape}
+use Rattle.cloud_server.specs.CdEdges.Causes.{Rose}
+use Rattle.cloud_server.specs.CdEdges.Disk.{Cloud}
+use Rattle.two_worlds.specs.UploadJob.Lanes.{LaneView}
 use Rattle.script_lines.specs.LocalLink.link.LocalLink.{LocalLink}
-use Rattle.session.specs.Fault.{Fault}
-use Rattle.session.specs.Lines.{Lines, NextLine, TakesLine, IsAtEnd, next_line, after_line}
-use Rattle.session.specs.declared.event.Event.{Event}
-use Rattle.session.specs.declared.lines.LineErr.{LineErr}
-use Rattle.session.specs.declared.lines.LineErr.TheVariants as line_errors
-use Rattle.session.specs.declared.reading.ScriptErr.{ScriptErr}
-use Rattle.session.specs.declared.reading.ScriptErr.TheVariants as script_errors
-use Rattle.session.specs.Reading.{event_at}
-use Rattle.session.specs.Scripts.{jobs_after, Place, Says, behind, FailsIn, IsEnd, IsWrong}
-use Rattle.session.specs.Texts.{text_of}
+use Rattle.two_worlds.specs.Session.Fault.{Fault}
+use Rattle.two_worlds.specs.Session.Lines.{ReaderState, NextLine, TakesLine, IsAtEnd, next_line, after_line}
+use Rattle.two_worlds.specs.Session.event.Event.{Event}
+use Rattle.two_worlds.specs.Session.lines.LineErr.{LineErr}
+use Rattle.two_worlds.specs.Session.lines.LineErr.TheVariants as line_errors
+use Rattle.two_worlds.specs.Session.reading.ScriptErr.{ScriptErr}
+use Rattle.two_worlds.specs.Session.reading.ScriptErr.TheVariants as script_errors
+use Rattle.two_worlds.specs.Session.Reading.{event_at}
+use Rattle.two_worlds.specs.Session.Scripts.{jobs_after, ScriptPlace, Says, behind, FailsIn, IsEnd, IsWrong}
+use Rattle.two_worlds.specs.Session.Texts.{text_of}
 use Rattle.script_lines.specs.declared.error.CarryErr.{CarryErr}
 use Rattle.script_lines.specs.declared.error.CarryErr.TheVariants as carry_errors
 use Rattle.script_lines.specs.Does.{CarriesOut, IsCutOff}
@@ -29,16 +29,16 @@ use Rattle.replay_core.specs.Going.{SaysEvent, EndsReading, WritesFront, EndsSin
 -- ---- what is read
 
 -- the next line, as it is found in a script
-pub line_here : (jobs : ℕ) (old : Lines) (left : Option (List ℕ)) (place : Place) (there : IsThere old left jobs place) (reading : Result (Option (List ℕ)) Fault)
+pub line_here : (jobs : ℕ) (old : ReaderState) (left : Option (List ℕ)) (place : ScriptPlace) (there : IsThere old left jobs place) (reading : Result (Option (List ℕ)) Fault)
     → next_line old.taken (old.ahead ++ there.unread) ≡ reading → next_line place.taken place.rest ≡ reading
 line_here jobs old left place there reading e =
     ap (λ (n : ℕ). next_line n place.rest) (sym there.taken) ∙ ap (next_line old.taken) (sym there.rest) ∙ e
 
-pub says_line : (shape : Shape) (jobs : ℕ) (old new behind_it : Lines) (left left_now : Option (List ℕ)) (more : Bool) (event : Event)
+pub says_line : (shape : Shape) (jobs : ℕ) (old new behind_it : ReaderState) (left left_now : Option (List ℕ)) (more : Bool) (event : Event)
     → more ≡ true → ((bytes : List ℕ) → left ≡ Some bytes → NextLine old bytes (Ok more) new left_now) → event_at shape jobs new.line ≡ Ok event
     → behind_it.ahead ≡ new.ahead → behind_it.taken ≡ new.taken
-    → (place : Place) → IsThere old left jobs place
-    → (next : Place) × Says shape place event next × IsThere behind_it left_now (jobs_after jobs event) next
+    → (place : ScriptPlace) → IsThere old left jobs place
+    → (next : ScriptPlace) × Says shape place event next × IsThere behind_it left_now (jobs_after jobs event) next
 says_line shape jobs old new behind_it left left_now more event so told said ahead taken place there =
     let n : TakesLine old (old.ahead ++ there.unread) new left_now =
     subst (λ (b : Bool). NextLine old there.unread (Ok b) new left_now) so (told there.unread there.left_is) in (
@@ -58,9 +58,9 @@ says_line shape jobs old new behind_it left left_now more event so told said ahe
       },
     )
 
-pub wrong_line : (shape : Shape) (jobs : ℕ) (old new : Lines) (left left_now : Option (List ℕ)) (more : Bool) (line : List ℕ) (fault : Fault)
+pub wrong_line : (shape : Shape) (jobs : ℕ) (old new : ReaderState) (left left_now : Option (List ℕ)) (more : Bool) (line : List ℕ) (fault : Fault)
     → more ≡ true → ((bytes : List ℕ) → left ≡ Some bytes → NextLine old bytes (Ok more) new left_now) → line ≡ new.line → event_at shape jobs line ≡ Err fault
-    → (place : Place) → IsThere old left jobs place → IsWrong shape place fault
+    → (place : ScriptPlace) → IsThere old left jobs place → IsWrong shape place fault
 wrong_line shape jobs old new left left_now more line fault so told is said place there =
     let n : TakesLine old (old.ahead ++ there.unread) new left_now =
     subst (λ (b : Bool). NextLine old there.unread (Ok b) new left_now) so (told there.unread there.left_is) in
@@ -74,7 +74,7 @@ no_event error = Err error
 abbrev pub no_line : LineErr → Result Bool LineErr
 no_line error = Err error
 
-pub ends_script : (shape : Shape) (jobs events number : ℕ) (old new : Lines) (left left_now : Option (List ℕ)) (more : Bool) (line : List ℕ) (error : ScriptErr) (end : ReplayEnd) (before now : ℕ)
+pub ends_script : (shape : Shape) (jobs events number : ℕ) (old new : ReaderState) (left left_now : Option (List ℕ)) (more : Bool) (line : List ℕ) (error : ScriptErr) (end : ReplayEnd) (before now : ℕ)
     → number ≡ events + 2 → end ≡ end_of_script number error
     → more ≡ true → ((bytes : List ℕ) → left ≡ Some bytes → NextLine old bytes (Ok more) new left_now)
     → line ≡ new.line → SaysEvent (event_at shape jobs line) (no_event error) → EndsReading shape jobs events old left before now end
@@ -84,7 +84,7 @@ ends_script shape jobs events number old new left left_now more line (script_err
 ends_script shape jobs events number old new left left_now more line script_errors.NoMemory end before now is e so told same says =
     subst (EndsReading shape jobs events old left before now) (sym e) tt
 
-pub ends_reader : (shape : Shape) (jobs events number : ℕ) (old new : Lines) (left left_now : Option (List ℕ)) (error : LineErr) (end : ReplayEnd) (before now : ℕ)
+pub ends_reader : (shape : Shape) (jobs events number : ℕ) (old new : ReaderState) (left left_now : Option (List ℕ)) (error : LineErr) (end : ReplayEnd) (before now : ℕ)
     → number ≡ events + 2 → end ≡ end_without number error
     → ((bytes : List ℕ) → left ≡ Some bytes → NextLine old bytes (no_line error) new left_now)
     → (no_line error ≡ Err line_errors.Fault → Rose before now) → EndsReading shape jobs events old left before now end
@@ -99,9 +99,9 @@ ends_reader shape jobs events number old new left left_now (line_errors.At at fo
           (sym (line_here jobs old left place there (Err (record { at = at; found = found })) (told there.unread there.left_is))) refl,
     )
 
-pub ends_there : (jobs : ℕ) (old new : Lines) (left left_now : Option (List ℕ)) (more : Bool)
+pub ends_there : (jobs : ℕ) (old new : ReaderState) (left left_now : Option (List ℕ)) (more : Bool)
     → more ≡ false → ((bytes : List ℕ) → left ≡ Some bytes → NextLine old bytes (Ok more) new left_now)
-    → (place : Place) → IsThere old left jobs place → IsEnd place × (left_now ≡ Some [])
+    → (place : ScriptPlace) → IsThere old left jobs place → IsEnd place × (left_now ≡ Some [])
 ends_there jobs old new left left_now more over told place there =
     let n : IsAtEnd old (old.ahead ++ there.unread) left_now =
     subst (λ (b : Bool). NextLine old there.unread (Ok b) new left_now) over (told there.unread there.left_is) in (line_here jobs old left place there (Ok None) n.none, n.left_is)

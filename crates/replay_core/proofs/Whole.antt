@@ -3,37 +3,37 @@ use Rattle.std.proofs.Common.{◌≡◌, ℕ, ◌+◌, ◌<◌, ◌≤◌, true,
 use Rattle.std.specs.Prelude.{Option, Some, None, Ok, IfSome, IsTrue}
 use Rattle.std.specs.Io.KnownBytes.{Appends}
 use Rattle.std.proofs.lemmas.Bool.{cases_lt}
-use Rattle.journal_start.specs.declared.rooms.Rooms.{Rooms}
-use Rattle.cd_base.specs.declared.shape.Shape.{Shape}
-use Rattle.cd_edges.specs.Causes.{Rose}
-use Rattle.cd_edges.specs.Disk.{Cloud, IsImage, reads}
-use Rattle.cd_edges.proofs.Moments.{each_since}
-use Rattle.user_dedup.specs.Exec.{Peer}
-use Rattle.upload_job.specs.Lanes.{LaneView}
+use Rattle.cloud_server.specs.JournalStart.rooms.UserRooms.{UserRooms}
+use Rattle.cloud_server.specs.CdBase.shape.Shape.{Shape}
+use Rattle.cloud_server.specs.CdEdges.Causes.{Rose}
+use Rattle.cloud_server.specs.CdEdges.Disk.{Cloud, IsImage, reads}
+use Rattle.cloud_server.proofs.CdEdges.Moments.{each_since}
+use Rattle.cloud_server.specs.UserDedup.Exec.{Peer}
+use Rattle.two_worlds.specs.UploadJob.Lanes.{LaneView}
 use Rattle.script_lines.specs.LocalLink.link.LocalLink.{LocalLink}
-use Rattle.session.specs.Fault.{Fault}
-use Rattle.session.specs.Lines.{Lines}
-use Rattle.session.specs.Reading.{header_at}
-use Rattle.session.specs.declared.event.Event.{Event}
-use Rattle.session.specs.declared.event.Event.TheVariants as kinds
-use Rattle.session.specs.Spelling.{Fits}
-use Rattle.transcript.specs.declared.line.Line.TheVariants as lines
-use Rattle.transcript.specs.Transcript.{line_text}
-use Rattle.session.specs.Scripts.{jobs_after, Place, Begins, Reaches, IsEnd, IsWrong, IsWrongFirst}
-use Rattle.session.specs.Texts.{text_of}
+use Rattle.two_worlds.specs.Session.Fault.{Fault}
+use Rattle.two_worlds.specs.Session.Lines.{ReaderState}
+use Rattle.two_worlds.specs.Session.Reading.{header_at}
+use Rattle.two_worlds.specs.Session.event.Event.{Event}
+use Rattle.two_worlds.specs.Session.event.Event.TheVariants as kinds
+use Rattle.two_worlds.specs.Session.Spelling.{Fits}
+use Rattle.two_worlds.specs.Transcript.line.Line.TheVariants as lines
+use Rattle.two_worlds.specs.Transcript.Transcript.{line_text}
+use Rattle.two_worlds.specs.Session.Scripts.{jobs_after, ScriptPlace, Begins, Reaches, IsEnd, IsWrong, IsWrongFirst}
+use Rattle.two_worlds.specs.Session.Texts.{text_of}
 use Rattle.script_lines.specs.SessionModel.Vault.{Setting, Vault}
 use Rattle.script_lines.specs.SessionModel.Run.{Answered, script_of, answers_of}
 use Rattle.script_lines.specs.SessionModel.Headline.{Session, Begun, IsRun, due, event_of, GivesAcknowledged, GivesFromMore, DisksKeep, AnswersPrivately}
 use Rattle.script_lines.proofs.SessionModel.Armings.{only_arms}
 use Rattle.script_lines.proofs.SessionModel.Faults.{faults_rose}
 use Rattle.two_worlds.proofs.Two.{two_worlds}
-use Rattle.script_lines.specs.At.{Leaves}
+use Rattle.script_lines.specs.At.{KeepsOtherClouds}
 use Rattle.replay_core.specs.declared.end.ReplayEnd.{ReplayEnd}
 use Rattle.replay_core.specs.declared.end.ReplayEnd.TheVariants as ends
-use Rattle.replay_core.specs.Endings.{Call, HasReadSome, HasHeader, AreEmptyBelow, AreSpared, IsDue, HasCause}
-use Rattle.replay_core.specs.Replayed.{ArmsByLines, Replayed, Replays, status_of, ending_of, IsCut, IsPrinted}
+use Rattle.replay_core.specs.Endings.{ReplayCall, HasReadSome, HasHeader, AreEmptyBelow, AreSpared, IsDue, HasStatusCause}
+use Rattle.replay_core.specs.Replayed.{ArmsByLines, Replayed, HasReplayed, status_of, ending_of, IsTextCut, IsPrinted}
 use Rattle.replay_core.specs.Opening.{IsThere}
-use Rattle.replay_core.specs.Going.{Start, call_of, HasCome, SaysNext, CanBe, EndsReading, WritesFront, EndsWriting, Answers, EndsAnswering}
+use Rattle.replay_core.specs.Going.{ReplayStart, call_of, HasCome, SaysNext, CanBe, EndsReading, WritesFront, EndsWriting, Answers, EndsAnswering}
 use Rattle.replay_core.proofs.Firsts.{map_told}
 use Rattle.replay_core.proofs.Sessions.{Holds, Later, Here, Part, answered, holds_between, holds_cut, holds_answered, come_on, text_more, appends_on}
 
@@ -74,7 +74,7 @@ arms_by old new run is here others cloud none = elim (cases_lt cloud run.setting
   | inr le ↦ ap (λ (c : Cloud). c.armings) (others cloud le)
 ]
 
-pub replayed : Laws → (status : ℕ) (start : Start) (s : Setting) (new : ℕ → Cloud) (history : List Answered) (at : Vault) (begun : Option Begun) (last : ℕ → Peer)
+pub replayed : Laws → (status : ℕ) (start : ReplayStart) (s : Setting) (new : ℕ → Cloud) (history : List Answered) (at : Vault) (begun : Option Begun) (last : ℕ → Peer)
     → Holds start s new history at begun last
     → (status ≡ 0 → (cloud : ℕ) → cloud < s.shape.n → (last cloud).faults ≡ (new cloud).faults)
     → ((cloud : ℕ) → IsTrue (new cloud).told → IsImage (new cloud).now (reads (new cloud).now))
@@ -108,16 +108,16 @@ pub apart : {A : Type 0} (a b : ℕ) → eqb a b ≡ false → a ≡ b → A
 apart a b differ same = never (sym (eq-eqb a b same) ∙ differ)
 
 -- what an end owes beside its line
-abbrev pub CausedBy : Call → Session → ReplayEnd → Type 0
+abbrev pub CausedBy : ReplayCall → Session → ReplayEnd → Type 0
 CausedBy call run ends.SourceFault =
     (run.begun ≡ None) × Rose call.source_before call.source_after × (call.sink_after ≡ call.sink_before)
 CausedBy call run ends.SinkFault = Rose call.sink_before call.sink_after
 CausedBy call run ends.NoMemory = Unit {0}
 CausedBy call run end = call.sink_after ≡ call.sink_before
 
-pub cause_of : (end : ReplayEnd) (call : Call) (run : Session) → HasHeader call run → (IsTrue run.opened → HasReadSome call run)
+pub cause_of : (end : ReplayEnd) (call : ReplayCall) (run : Session) → HasHeader call run → (IsTrue run.opened → HasReadSome call run)
     → (IsTrue run.opened → AreEmptyBelow call.old run.setting.shape.n) → AreSpared run.setting.shape.n call.old call.new
-    → IsDue call run (ending_of end) → CausedBy call run end → HasCause (status_of end) call run (ending_of end)
+    → IsDue call run (ending_of end) → CausedBy call run end → HasStatusCause (status_of end) call run (ending_of end)
 cause_of (ends.Done events) call run header read began spared due by = record {
   known = (omega arith, λ e. apart 0 1 refl e);
   header = header;
@@ -240,29 +240,29 @@ cause_of (ends.Damaged cloud at byte) call run header read began spared due by =
 }
 
 -- a script has one first line at most
-pub one_header : (script : List ℕ) (shape other : Shape) (rooms others : Rooms) (place there : Place) → Begins script shape rooms place → Begins script other others there
+pub one_header : (script : List ℕ) (shape other : Shape) (rooms others : UserRooms) (place there : ScriptPlace) → Begins script shape rooms place → Begins script other others there
     → (shape ≡ other) × (rooms ≡ others)
 one_header script shape other rooms others place there one two =
     let same_line : Ok (Some one.line) ≡ Ok (Some two.line) = sym one.here ∙ two.here in
     let line : one.line ≡ two.line = cc in
     let header : Ok (shape, rooms) ≡ Ok (other, others) = sym one.says ∙ ap header_at line ∙ two.says in
     let both : (shape, rooms) ≡ (other, others) = cc in
-    (ap (λ (h : Shape × Rooms). h.0) both, ap (λ (h : Shape × Rooms). h.1) both)
+    (ap (λ (h : Shape × UserRooms). h.0) both, ap (λ (h : Shape × UserRooms). h.1) both)
 
-any_place : Place
+any_place : ScriptPlace
 any_place = record { jobs = 0; taken = 0; rest = [] }
 
-pub read_some : (script : Option (List ℕ)) (P : List ℕ → Place → Type 0) → IfSome script (λ bytes. (place : Place) × P bytes place)
-    → (place : Place) × IfSome script (λ bytes. P bytes place)
+pub read_some : (script : Option (List ℕ)) (P : List ℕ → ScriptPlace → Type 0) → IfSome script (λ bytes. (place : ScriptPlace) × P bytes place)
+    → (place : ScriptPlace) × IfSome script (λ bytes. P bytes place)
 read_some None P x = (any_place, tt)
 read_some (Some bytes) P x = x
 
 -- the session's header, where its script was read
-pub header_read : (call : Call) (run : Session) (events : List Event)
-    → IfSome call.script (λ script. (place : Place) × Reaches script run.setting.shape run.setting.rooms events place) → HasHeader call run
+pub header_read : (call : ReplayCall) (run : Session) (events : List Event)
+    → IfSome call.script (λ script. (place : ScriptPlace) × Reaches script run.setting.shape run.setting.rooms events place) → HasHeader call run
 header_read call run events read =
-    map_told call.script (λ (script : List ℕ). (place : Place) × Reaches script run.setting.shape run.setting.rooms events place)
-    (λ (script : List ℕ). (shape : Shape) (rooms : Rooms) (place : Place) → Begins script shape rooms place → (run.setting.shape ≡ shape) × (run.setting.rooms ≡ rooms))
+    map_told call.script (λ (script : List ℕ). (place : ScriptPlace) × Reaches script run.setting.shape run.setting.rooms events place)
+    (λ (script : List ℕ). (shape : Shape) (rooms : UserRooms) (place : ScriptPlace) → Begins script shape rooms place → (run.setting.shape ≡ shape) × (run.setting.rooms ≡ rooms))
     (λ script x shape rooms place begins. one_header script run.setting.shape shape run.setting.rooms rooms x.1.0 place x.1.1 begins) read
 
 -- ---- what is written
@@ -285,8 +285,8 @@ front_on before mid now text bytes wrote w = (
 )
 
 -- a front of the lines that were answered
-pub cut_lines : (call : Call) (run : Session) (before after : Option (List ℕ)) (text more : List ℕ) → text ++ more ≡ text_of (due run)
-    → Appends before after text → IsCut call run before after
+pub cut_lines : (call : ReplayCall) (run : Session) (before after : Option (List ℕ)) (text more : List ℕ) → text ++ more ≡ text_of (due run)
+    → Appends before after text → IsTextCut call run before after
 cut_lines call run before after text more front written = record {
   last = [];
   last_is = inl refl;
@@ -297,12 +297,12 @@ cut_lines call run before after text more front written = record {
 }
 
 -- just those lines
-pub cut_none : (call : Call) (run : Session) (before after : Option (List ℕ)) → Appends before after (text_of (due run)) → IsCut call run before after
+pub cut_none : (call : ReplayCall) (run : Session) (before after : Option (List ℕ)) → Appends before after (text_of (due run)) → IsTextCut call run before after
 cut_none call run before after written = cut_lines call run before after (text_of (due run)) [] (append-nil (text_of (due run))) written
 
 -- ---- the ends behind the openings
 
-module _ (laws : Laws) (start : Start) (s : Setting) (left : Option (List ℕ)) (source sink total : ℕ) (new : ℕ → Cloud)
+module _ (laws : Laws) (start : ReplayStart) (s : Setting) (left : Option (List ℕ)) (source sink total : ℕ) (new : ℕ → Cloud)
     (image : (cloud : ℕ) → IsTrue (new cloud).told → IsImage (new cloud).now (reads (new cloud).now))
     (told : (cloud : ℕ) → (new cloud).told ≡ (start.old cloud).told) where
   -- the promise of an end, from what holds of its session, the line that is due, its cause, and what is written
@@ -311,18 +311,18 @@ module _ (laws : Laws) (start : Start) (s : Setting) (left : Option (List ℕ)) 
       → IsDue (call_of start left source sink total new) (session_of s history at begun last) (ending_of end)
       → CausedBy (call_of start left source sink total new) (session_of s history at begun last) end
       → IsPrinted end (call_of start left source sink total new) (session_of s history at begun last) start.written now
-      → Replays end (call_of start left source sink total new) start.written now
+      → HasReplayed end (call_of start left source sink total new) start.written now
   ends_so end now history at begun last h same is_due by printed = record {
     run = session_of s history at begun last;
     replayed = replayed laws (status_of end) start s new history at begun last h same image told;
     cause = cause_of end (call_of start left source sink total new) (session_of s history at begun last)
         (header_read (call_of start left source sink total new) (session_of s history at begun last) (script_of history ++ event_of begun) h.read)
-        (λ o. read_some start.script (λ (script : List ℕ) (place : Place). Reaches script s.shape s.rooms (script_of history ++ event_of begun) place) h.read)
+        (λ o. read_some start.script (λ (script : List ℕ) (place : ScriptPlace). Reaches script s.shape s.rooms (script_of history ++ event_of begun) place) h.read)
         (λ o. h.began) (inl h.began) is_due by;
     printed = printed;
   }
 
-module _ {V : Type 0} (clouds : V → ℕ → Cloud) (laws : Laws) (start : Start) (s : Setting) (link : LocalLink V) (jobs : List (List LaneView)) (reader : Lines) (left : Option (List ℕ))
+module _ {V : Type 0} (clouds : V → ℕ → Cloud) (laws : Laws) (start : ReplayStart) (s : Setting) (link : LocalLink V) (jobs : List (List LaneView)) (reader : ReaderState) (left : Option (List ℕ))
     (source : ℕ) (written : Option (List ℕ)) (sink : ℕ) (events : ℕ) (come : HasCome clouds start s link jobs reader left source written sink events) where
   -- the shelf tells of the same clouds
   told_still : (cloud : ℕ) → cloud < s.shape.n → (clouds link.shelf.now cloud).told ≡ (start.old cloud).told
@@ -334,10 +334,10 @@ module _ {V : Type 0} (clouds : V → ℕ → Cloud) (laws : Laws) (start : Star
 
     -- the line behind is wrong
     wrong_here : (script : Option (List ℕ)) (fault : Fault)
-        → IfSome script (λ bytes. (place : Place) × Reaches bytes s.shape s.rooms (script_of come.history) place × IsThere reader left (length jobs) place)
-        → ((place : Place) → IsThere reader left (length jobs) place → IsWrong s.shape place fault)
+        → IfSome script (λ bytes. (place : ScriptPlace) × Reaches bytes s.shape s.rooms (script_of come.history) place × IsThere reader left (length jobs) place)
+        → ((place : ScriptPlace) → IsThere reader left (length jobs) place → IsWrong s.shape place fault)
         → IfSome script (λ bytes. ((true ≡ false) × IsWrongFirst bytes fault)
-        ⊎ (IsTrue true × ((place : Place) × IfSome script (λ all. Reaches all s.shape s.rooms (script_of come.history ++ []) place) × IsWrong s.shape place fault)))
+        ⊎ (IsTrue true × ((place : ScriptPlace) × IfSome script (λ all. Reaches all s.shape s.rooms (script_of come.history ++ []) place) × IsWrong s.shape place fault)))
     wrong_here None fault read wrong = tt
     wrong_here (Some bytes) fault read wrong = inr (
       refl,
@@ -350,7 +350,7 @@ module _ {V : Type 0} (clouds : V → ℕ → Cloud) (laws : Laws) (start : Star
 
     -- as a further line is read
     pub ends_reading : (end : ReplayEnd) (left_now : Option (List ℕ)) (source_now : ℕ) → EndsReading s.shape (length jobs) events reader left source source_now end
-        → Replays end (call_of start left_now source_now sink total (clouds link.shelf.now)) start.written written
+        → HasReplayed end (call_of start left_now source_now sink total (clouds link.shelf.now)) start.written written
     ends_reading (ends.Script line at found) left_now source_now x =
         ends_so laws start s left_now source_now sink total (clouds link.shelf.now) image told_all (ends.Script line at found) written come.history come.at None come.at.peers
         (holds_between clouds start s link jobs reader left source written sink events come) (λ e. apart 2 0 refl e)
@@ -371,9 +371,9 @@ module _ {V : Type 0} (clouds : V → ℕ → Cloud) (laws : Laws) (start : Star
 
     -- the script ends here
     end_here : (script : Option (List ℕ)) (left_now : Option (List ℕ))
-        → IfSome script (λ bytes. (place : Place) × Reaches bytes s.shape s.rooms (script_of come.history) place × IsThere reader left (length jobs) place)
-        → ((place : Place) → IsThere reader left (length jobs) place → IsEnd place × (left_now ≡ Some []))
-        → (place : Place) × IfSome script (λ all. Reaches all s.shape s.rooms (script_of come.history ++ []) place) × IfSome script (λ bytes. IsEnd place × (left_now ≡ Some []))
+        → IfSome script (λ bytes. (place : ScriptPlace) × Reaches bytes s.shape s.rooms (script_of come.history) place × IsThere reader left (length jobs) place)
+        → ((place : ScriptPlace) → IsThere reader left (length jobs) place → IsEnd place × (left_now ≡ Some []))
+        → (place : ScriptPlace) × IfSome script (λ all. Reaches all s.shape s.rooms (script_of come.history ++ []) place) × IfSome script (λ bytes. IsEnd place × (left_now ≡ Some []))
     end_here None left_now read over = (record { jobs = 0; taken = 0; rest = [] }, tt, tt)
     end_here (Some bytes) left_now read over = (
       read.0,
@@ -383,9 +383,9 @@ module _ {V : Type 0} (clouds : V → ℕ → Cloud) (laws : Laws) (start : Star
 
     -- as `done` is written
     pub ends_writing : (end : ReplayEnd) (left_now : Option (List ℕ)) (source_now : ℕ) (now : Option (List ℕ)) (sink_now : ℕ)
-        → ((place : Place) → IsThere reader left (length jobs) place → IsEnd place × (left_now ≡ Some []))
+        → ((place : ScriptPlace) → IsThere reader left (length jobs) place → IsEnd place × (left_now ≡ Some []))
         → EndsWriting (line_text (lines.Done events)) written now sink sink_now end
-        → Replays end (call_of start left_now source_now sink_now total (clouds link.shelf.now)) start.written now
+        → HasReplayed end (call_of start left_now source_now sink_now total (clouds link.shelf.now)) start.written now
     ends_writing ends.SinkFault left_now source_now now sink_now over x =
         ends_so laws start s left_now source_now sink_now total (clouds link.shelf.now) image told_all ends.SinkFault now come.history come.at None come.at.peers
         (holds_between clouds start s link jobs reader left source written sink events come) (λ e. apart 4 0 refl e)
@@ -414,9 +414,9 @@ module _ {V : Type 0} (clouds : V → ℕ → Cloud) (laws : Laws) (start : Star
     ends_writing (ends.Damaged cloud at byte) left_now source_now now sink_now over x = absurd x
 
     pub ends_done : (left_now : Option (List ℕ)) (source_now : ℕ) (now : Option (List ℕ)) (sink_now : ℕ)
-        → ((place : Place) → IsThere reader left (length jobs) place → IsEnd place × (left_now ≡ Some []))
+        → ((place : ScriptPlace) → IsThere reader left (length jobs) place → IsEnd place × (left_now ≡ Some []))
         → sink_now ≡ sink → Appends written now (line_text (lines.Done events))
-        → Replays (ends.Done events) (call_of start left_now source_now sink_now total (clouds link.shelf.now)) start.written now
+        → HasReplayed (ends.Done events) (call_of start left_now source_now sink_now total (clouds link.shelf.now)) start.written now
     ends_done left_now source_now now sink_now over same wrote =
         ends_so laws start s left_now source_now sink_now total (clouds link.shelf.now) image told_all (ends.Done events) now come.history come.at None come.at.peers
         (holds_between clouds start s link jobs reader left source written sink events come) (λ e cloud lt. (come.is_at.link_at.stands cloud lt).faults)
@@ -424,15 +424,15 @@ module _ {V : Type 0} (clouds : V → ℕ → Cloud) (laws : Laws) (start : Star
         (appends_on start.written written now (text_so_far s come.history) (line_text (lines.Done events)) come.printed wrote)
 
   -- as a line is answered
-  module _ (new : LocalLink V) (event : Event) (reader_now : Lines) (left_now : Option (List ℕ)) (source_now : ℕ) (can : CanBe s.shape (length jobs) event)
-      (says : SaysNext s.shape (length jobs) reader left (Some event) reader_now left_now) (leaves : Leaves clouds link new) (jobs_now : List (List LaneView))
+  module _ (new : LocalLink V) (event : Event) (reader_now : ReaderState) (left_now : Option (List ℕ)) (source_now : ℕ) (can : CanBe s.shape (length jobs) event)
+      (says : SaysNext s.shape (length jobs) reader left (Some event) reader_now left_now) (leaves : KeepsOtherClouds clouds link new) (jobs_now : List (List LaneView))
       (later : Later) (here : Here) (part : Part) (total : ℕ)
       (image : (cloud : ℕ) → IsTrue (clouds new.shelf.now cloud).told → IsImage (clouds new.shelf.now cloud).now (reads (clouds new.shelf.now cloud).now)) where
     told_new : (cloud : ℕ) → (clouds new.shelf.now cloud).told ≡ (start.old cloud).told
     told_new cloud = leaves.told cloud ∙ come.is_at.link_at.told cloud ∙ come.told cloud
 
     pub ends_answered : (end : ReplayEnd) (now : Option (List ℕ)) (sink_now : ℕ) → EndsAnswering clouds event link jobs new jobs_now written now sink sink_now end
-        → Replays end (call_of start left_now source_now sink_now total (clouds new.shelf.now)) start.written now
+        → HasReplayed end (call_of start left_now source_now sink_now total (clouds new.shelf.now)) start.written now
     ends_answered ends.SinkFault now sink_now x =
         let a = x.0 s come.at come.is_at in
         let one : Answered = answered come.at event a.0 a.1.moments a.1.after in
@@ -461,7 +461,7 @@ module _ {V : Type 0} (clouds : V → ℕ → Cloud) (laws : Laws) (start : Star
         let h = holds_cut clouds start s link jobs reader left source written sink events come new event reader_now left_now can says leaves part here cut in
         ends_so laws start s left_now source_now sink_now total (clouds new.shelf.now) image told_new (ends.ShelfFault cloud) now come.history come.at begun cut.last h (λ e. apart 5 0 refl e) (
           subst (λ (e : Event). Fits s.shape (length jobs) e) x.0.0 can.fits,
-          read_some start.script (λ (script : List ℕ) (place : Place). Reaches script s.shape s.rooms (script_of come.history ++ event_of begun) place) h.read,
+          read_some start.script (λ (script : List ℕ) (place : ScriptPlace). Reaches script s.shape s.rooms (script_of come.history ++ event_of begun) place) h.read,
           fault.rose,
           inr (x.0.0, fault.last_is),
         ) (x.2 ∙ come.sink_is) (subst (λ (o : Option (List ℕ)). Appends start.written o (text_so_far s come.history)) (sym x.1) come.printed)
@@ -474,11 +474,11 @@ module _ {V : Type 0} (clouds : V → ℕ → Cloud) (laws : Laws) (start : Star
 pub over : (P : Shape → ℕ → Type 0) (shape other : Shape) (count more : ℕ) → shape ≡ other → count ≡ more → P shape count → P other more
 over P shape other count more e f p = subst (λ (n : ℕ). P other n) f (subst (λ (sh : Shape). P sh count) e p)
 
-pub goes_on : {V : Type 0} (clouds : V → ℕ → Cloud) (start : Start) (s : Setting) (link new : LocalLink V) (jobs jobs_now : List (List LaneView)) (reader reader_now : Lines)
+pub goes_on : {V : Type 0} (clouds : V → ℕ → Cloud) (start : ReplayStart) (s : Setting) (link new : LocalLink V) (jobs jobs_now : List (List LaneView)) (reader reader_now : ReaderState)
     (left left_now : Option (List ℕ)) (source source_now : ℕ) (written written_now : Option (List ℕ)) (sink sink_now : ℕ) (events : ℕ) (event : Event) → Later → Here
     → HasCome clouds start s link jobs reader left source written sink events → CanBe s.shape (length jobs) event
     → SaysNext s.shape (length jobs) reader left (Some event) reader_now left_now → source_now ≡ source → sink_now ≡ sink
-    → Answers clouds event link jobs new jobs_now (Appends written written_now) → Leaves clouds link new → length jobs_now ≡ jobs_after (length jobs) event
+    → Answers clouds event link jobs new jobs_now (Appends written written_now) → KeepsOtherClouds clouds link new → length jobs_now ≡ jobs_after (length jobs) event
     → HasCome clouds start s new jobs_now reader_now left_now source_now written_now sink_now (events + 1)
 goes_on clouds start s link new jobs jobs_now reader reader_now left left_now source source_now written written_now sink sink_now events event later here come can says same_source same_sink answers leaves count =
     let a = answers s come.at come.is_at in
@@ -504,7 +504,7 @@ pub can_at : (shape other : Shape) (count more : ℕ) (o : Option Event) (event 
 can_at shape other count more o event e f is can =
     over (λ (sh : Shape) (n : ℕ). CanBe sh n event) shape other count more e f (subst (λ (x : Option Event). IfSome x (CanBe shape count)) is can)
 
-pub says_at : (shape other : Shape) (count more : ℕ) (o next : Option Event) (reader reader_now : Lines) (left left_now : Option (List ℕ)) → shape ≡ other → count ≡ more → o ≡ next
+pub says_at : (shape other : Shape) (count more : ℕ) (o next : Option Event) (reader reader_now : ReaderState) (left left_now : Option (List ℕ)) → shape ≡ other → count ≡ more → o ≡ next
     → SaysNext shape count reader left o reader_now left_now → SaysNext other more reader left next reader_now left_now
 says_at shape other count more o next reader reader_now left left_now e f is says =
     over (λ (sh : Shape) (n : ℕ). SaysNext sh n reader left next reader_now left_now) shape other count more e f

@@ -1,21 +1,21 @@
 -- Why a replay ends, by the status that is answered, and which last line is due then.
 use Rattle.std.specs.Prelude.{◌≡◌, ◌≢◌, ℕ, ◌+◌, ◌<◌, ◌≤◌, ◌⊎◌, false, IsTrue, List, [], length, Option, Some, None, IfSome, if◌then◌else◌}
-use Rattle.cd_edges.specs.declared.area.Area.{Area}
-use Rattle.cd_edges.specs.declared.area.Area.TheVariants as areas
-use Rattle.cd_edges.specs.Causes.{Rose}
-use Rattle.cd_edges.specs.Disk.{Cloud, reads}
-use Rattle.cd_edges.specs.Shelf.{Stays}
-use Rattle.session.specs.Fault.{Fault}
-use Rattle.cd_base.specs.declared.shape.Shape.{Shape}
-use Rattle.journal_start.specs.declared.rooms.Rooms.{Rooms}
-use Rattle.session.specs.declared.event.Event.TheVariants as events
-use Rattle.session.specs.Scripts.{Place, Begins, Reaches, IsEnd, IsWrong, IsWrongFirst}
+use Rattle.cloud_server.specs.CdEdges.area.Area.{Area}
+use Rattle.cloud_server.specs.CdEdges.area.Area.TheVariants as areas
+use Rattle.cloud_server.specs.CdEdges.Causes.{Rose}
+use Rattle.cloud_server.specs.CdEdges.Disk.{Cloud, reads}
+use Rattle.cloud_server.specs.CdEdges.Shelf.{Stays}
+use Rattle.two_worlds.specs.Session.Fault.{Fault}
+use Rattle.cloud_server.specs.CdBase.shape.Shape.{Shape}
+use Rattle.cloud_server.specs.JournalStart.rooms.UserRooms.{UserRooms}
+use Rattle.two_worlds.specs.Session.event.Event.TheVariants as events
+use Rattle.two_worlds.specs.Session.Scripts.{ScriptPlace, Begins, Reaches, IsEnd, IsWrong, IsWrongFirst}
 use Rattle.script_lines.specs.SessionModel.Steps.{cloud_no}
 use Rattle.script_lines.specs.SessionModel.Headline.{Session, Begun, script_in}
 
 -- what the outside tells of a call: the source's bytes before and after; the counts of the source, the sink and the
 -- whole shelf before and after; and the clouds before and after
-pub record Call : Type 0 where
+pub record ReplayCall : Type 0 where
   pub script : Option (List ℕ)
   pub left : Option (List ℕ)
   pub source_before : ℕ
@@ -36,23 +36,23 @@ pub data EndingLine : Type 0 where
   DamagedEnding : (cloud at byte : ℕ) → EndingLine
 
 -- the lines that were carried out are those that the script begins with, and it goes on at this place
-abbrev pub HasRead : Call → Session → Place → Type 0
+abbrev pub HasRead : ReplayCall → Session → ScriptPlace → Type 0
 HasRead call run place =
     IfSome call.script (λ script. Reaches script run.setting.shape run.setting.rooms (script_in run) place)
 
-abbrev pub HasReadSome : Call → Session → Type 0
-HasReadSome call run = (place : Place) × HasRead call run place
+abbrev pub HasReadSome : ReplayCall → Session → Type 0
+HasReadSome call run = (place : ScriptPlace) × HasRead call run place
 
 -- the line behind those that were carried out is wrong at this place; before the clouds are opened that is the first
 -- line
-abbrev pub IsWrongAt : Call → Session → Fault → Type 0
+abbrev pub IsWrongAt : ReplayCall → Session → Fault → Type 0
 IsWrongAt call run fault = IfSome call.script (λ script.
     ((run.opened ≡ false) × IsWrongFirst script fault)
-    ⊎ (IsTrue run.opened × ((place : Place) × HasRead call run place × IsWrong run.setting.shape place fault)))
+    ⊎ (IsTrue run.opened × ((place : ScriptPlace) × HasRead call run place × IsWrong run.setting.shape place fault)))
 
 -- where the script begins with a first line, that line says the session's shape and rooms
-abbrev pub HasHeader : Call → Session → Type 0
-HasHeader call run = IfSome call.script (λ script. (shape : Shape) (rooms : Rooms) (place : Place)
+abbrev pub HasHeader : ReplayCall → Session → Type 0
+HasHeader call run = IfSome call.script (λ script. (shape : Shape) (rooms : UserRooms) (place : ScriptPlace)
     → Begins script shape rooms place → (run.setting.shape ≡ shape) × (run.setting.rooms ≡ rooms))
 
 -- A line was begun in which the shelf may fail outside an execution and outside an opening: the replacement of this cloud,
@@ -89,11 +89,12 @@ pub record IsFirstFilled (clouds : ℕ → Cloud) (cloud : ℕ) (area : Area) (l
   pub len_is : IsTrue (clouds cloud).told → len ≡ length (reads (clouds cloud).now area)
 
 -- what has happened where the ending line is due
-abbrev pub IsDue : Call → Session → EndingLine → Type 0
+abbrev pub IsDue : ReplayCall → Session → EndingLine → Type 0
 IsDue call run NoEnding = Unit {0}
 IsDue call run (DoneEnding events) =
     IsTrue run.opened × (run.begun ≡ None) × (events ≡ length run.history)
-    × ((place : Place) × HasRead call run place × IfSome call.script (λ script. IsEnd place × (call.left ≡ Some [])))
+    × ((place : ScriptPlace) × HasRead call run place
+    × IfSome call.script (λ script. IsEnd place × (call.left ≡ Some [])))
 IsDue call run (ScriptEnding line fault) =
     (run.begun ≡ None) × (line ≡ (if run.opened then length run.history + 2 else 1)) × IsWrongAt call run fault
 IsDue call run (ShelfEnding cloud) =
@@ -125,13 +126,13 @@ IsOfStore (DamagedEnding cloud at byte) = Unit {0}
 IsOfStore line = ⊥
 
 -- the place that the shelf was to name couldn't be made or found, and each cloud is as it was
-abbrev pub IsRootless : Call → Session → EndingLine → Type 0
+abbrev pub IsRootless : ReplayCall → Session → EndingLine → Type 0
 IsRootless call run line =
     (line ≡ NoEnding) × (run.opened ≡ false) × Rose call.total_before call.total_after
     × ((cloud : ℕ) → call.new cloud ≡ call.old cloud)
 
 -- The status has its cause. Want of memory, 6, has none.
-pub record HasCause (status : ℕ) (call : Call) (run : Session) (line : EndingLine) : Type 0 where
+pub record HasStatusCause (status : ℕ) (call : ReplayCall) (run : Session) (line : EndingLine) : Type 0 where
   pub known : (status ≤ 7) × (status ≢ 1)
   pub header : HasHeader call run
   pub read : IsTrue run.opened → HasReadSome call run

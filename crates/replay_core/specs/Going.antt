@@ -1,24 +1,24 @@
 -- How far a replay has come behind its openings, and how each part of a line ends.
 use Rattle.std.specs.Prelude.{◌≡◌, ℕ, ◌+◌, ◌<◌, ◌≤◌, ◌++◌, IsTrue, List, [], ◌∷◌, length, Option, Some, None, Result, Ok, Err, IfSome}
 use Rattle.std.specs.Io.KnownBytes.{Appends}
-use Rattle.cd_base.specs.declared.shape.Shape.{Shape}
-use Rattle.cd_edges.specs.Causes.{Rose}
-use Rattle.cd_edges.specs.Disk.{Cloud}
+use Rattle.cloud_server.specs.CdBase.shape.Shape.{Shape}
+use Rattle.cloud_server.specs.CdEdges.Causes.{Rose}
+use Rattle.cloud_server.specs.CdEdges.Disk.{Cloud}
 use Rattle.cloud_server.specs.CloudAreas.Peers.{ImagesSince}
-use Rattle.upload_job.specs.Lanes.{LaneView}
+use Rattle.two_worlds.specs.UploadJob.Lanes.{LaneView}
 use Rattle.script_lines.specs.LocalLink.fate.Fate.TheVariants.{Deliver}
 use Rattle.script_lines.specs.LocalLink.link.LocalLink.{LocalLink}
 use Rattle.script_lines.specs.LocalLink.Tells.{rooms_at}
-use Rattle.session.specs.Fault.{Fault}
-use Rattle.session.specs.Lines.{Lines}
-use Rattle.session.specs.declared.reading.ScriptErr.{ScriptErr}
-use Rattle.session.specs.declared.reading.ScriptErr.TheVariants as script_errors
-use Rattle.session.specs.Spelling.{Fits, IsTyped}
-use Rattle.session.specs.declared.event.Event.{Event}
-use Rattle.transcript.specs.declared.line.Line.{Line}
-use Rattle.transcript.specs.declared.line.Line.TheVariants as lines
-use Rattle.session.specs.Scripts.{jobs_after, jobs_of, AreLines, Place, Says, Reaches, IsEnd, IsWrong}
-use Rattle.session.specs.Texts.{text_of}
+use Rattle.two_worlds.specs.Session.Fault.{Fault}
+use Rattle.two_worlds.specs.Session.Lines.{ReaderState}
+use Rattle.two_worlds.specs.Session.reading.ScriptErr.{ScriptErr}
+use Rattle.two_worlds.specs.Session.reading.ScriptErr.TheVariants as script_errors
+use Rattle.two_worlds.specs.Session.Spelling.{Fits, IsTyped}
+use Rattle.two_worlds.specs.Session.event.Event.{Event}
+use Rattle.two_worlds.specs.Transcript.line.Line.{Line}
+use Rattle.two_worlds.specs.Transcript.line.Line.TheVariants as lines
+use Rattle.two_worlds.specs.Session.Scripts.{jobs_after, jobs_of, AreLines, ScriptPlace, Says, Reaches, IsEnd, IsWrong}
+use Rattle.two_worlds.specs.Session.Texts.{text_of}
 use Rattle.script_lines.specs.SessionModel.Vault.{Setting, Vault, opening}
 use Rattle.script_lines.specs.SessionModel.Run.{Answered, Turns, script_of, moments_of, answers_of, IsListIn}
 use Rattle.script_lines.specs.declared.error.CarryErr.{CarryErr}
@@ -28,14 +28,14 @@ use Rattle.script_lines.specs.Does.{Goes, IsCutOff}
 use Rattle.script_lines.specs.Replacing.{IsShelfFault}
 use Rattle.replay_core.specs.declared.end.ReplayEnd.{ReplayEnd}
 use Rattle.replay_core.specs.declared.end.ReplayEnd.TheVariants as ends
-use Rattle.replay_core.specs.Endings.{Call, AreEmptyBelow}
+use Rattle.replay_core.specs.Endings.{ReplayCall, AreEmptyBelow}
 use Rattle.replay_core.specs.Opening.{IsHead, IsThere}
 use Rattle.replay_core.specs.Replayed.{BeginsEmpty}
 
 -- ---- where a replay begins, and how far it has come
 
 -- what is known as a replay begins
-pub record Start : Type 0 where
+pub record ReplayStart : Type 0 where
   pub script : Option (List ℕ)
   pub old : ℕ → Cloud
   pub source : ℕ
@@ -44,7 +44,7 @@ pub record Start : Type 0 where
   pub written : Option (List ℕ)
 
 -- from there to here
-abbrev pub call_of : Start → Option (List ℕ) → ℕ → ℕ → ℕ → (ℕ → Cloud) → Call
+abbrev pub call_of : ReplayStart → Option (List ℕ) → ℕ → ℕ → ℕ → (ℕ → Cloud) → ReplayCall
 call_of start left source sink total new = record {
   script = start.script;
   left = left;
@@ -59,8 +59,8 @@ call_of start left source sink total new = record {
 }
 
 -- The first line is read, the clouds read as nothing, and none is opened yet.
-pub record IsReady {V : Type 0} (clouds : V → ℕ → Cloud) (start : Start) (s : Setting) (link : LocalLink V)
-    (reader : Lines) (left : Option (List ℕ)) (source : ℕ) (written : Option (List ℕ)) (sink : ℕ) : Type 0 where
+pub record IsReplayReady {V : Type 0} (clouds : V → ℕ → Cloud) (start : ReplayStart) (s : Setting) (link : LocalLink V)
+    (reader : ReaderState) (left : Option (List ℕ)) (source : ℕ) (written : Option (List ℕ)) (sink : ℕ) : Type 0 where
   pub told : (cloud : ℕ) → s.told cloud ≡ (start.old cloud).told
   pub shape : link.servers.shape ≡ s.shape
   pub rooms : (cloud : ℕ) → cloud < s.shape.n → rooms_at link.servers cloud ≡ s.rooms
@@ -73,8 +73,8 @@ pub record IsReady {V : Type 0} (clouds : V → ℕ → Cloud) (start : Start) (
   pub written_is : written ≡ start.written
 
 -- The clouds are opened, and these lines are answered.
-pub record HasCome {V : Type 0} (clouds : V → ℕ → Cloud) (start : Start) (s : Setting) (link : LocalLink V)
-    (jobs : List (List LaneView)) (reader : Lines) (left : Option (List ℕ)) (source : ℕ)
+pub record HasCome {V : Type 0} (clouds : V → ℕ → Cloud) (start : ReplayStart) (s : Setting) (link : LocalLink V)
+    (jobs : List (List LaneView)) (reader : ReaderState) (left : Option (List ℕ)) (source : ℕ)
     (written : Option (List ℕ)) (sink : ℕ) (events : ℕ) : Type 0 where
   pub history : List Answered
   pub at : Vault
@@ -89,7 +89,7 @@ pub record HasCome {V : Type 0} (clouds : V → ℕ → Cloud) (start : Start) (
       → ImagesSince (start.old cloud) (clouds link.shelf.now cloud) (header_in s cloud)
       (IsListIn s cloud (moments_of history) at.peers)
   pub others : (cloud : ℕ) → s.shape.n ≤ cloud → clouds link.shelf.now cloud ≡ start.old cloud
-  pub read : IfSome start.script (λ script. (place : Place)
+  pub read : IfSome start.script (λ script. (place : ScriptPlace)
       × Reaches script s.shape s.rooms (script_of history) place × IsThere reader left (length jobs) place)
   pub printed : Appends start.written written (text_of (lines.Opened s.shape ∷ answers_of history))
   pub source_is : source ≡ start.source
@@ -98,12 +98,12 @@ pub record HasCome {V : Type 0} (clouds : V → ℕ → Cloud) (start : Start) (
 -- ---- reading a line
 
 -- from each place of a script the next line says this, or the script ends there
-abbrev pub SaysNext : Shape → ℕ → Lines → Option (List ℕ) → Option Event → Lines → Option (List ℕ) → Type 0
+abbrev pub SaysNext : Shape → ℕ → ReaderState → Option (List ℕ) → Option Event → ReaderState → Option (List ℕ) → Type 0
 SaysNext shape jobs reader left (Some event) reader_now left_now =
-    (place : Place) → IsThere reader left jobs place
-    → (next : Place) × Says shape place event next × IsThere reader_now left_now (jobs_after jobs event) next
+    (place : ScriptPlace) → IsThere reader left jobs place
+    → (next : ScriptPlace) × Says shape place event next × IsThere reader_now left_now (jobs_after jobs event) next
 SaysNext shape jobs reader left None reader_now left_now =
-    (place : Place) → IsThere reader left jobs place → IsEnd place × (left_now ≡ Some [])
+    (place : ScriptPlace) → IsThere reader left jobs place → IsEnd place × (left_now ≡ Some [])
 
 -- what a line says, or where it is wrong
 abbrev pub SaysEvent : Result Event Fault → Result Event ScriptErr → Type 0
@@ -117,10 +117,10 @@ pub record CanBe (shape : Shape) (jobs : ℕ) (event : Event) : Type 0 where
   pub typed : IsTyped event
 
 -- how a replay ends as it reads a line behind so many
-abbrev pub EndsReading : Shape → ℕ → ℕ → Lines → Option (List ℕ) → ℕ → ℕ → ReplayEnd → Type 0
+abbrev pub EndsReading : Shape → ℕ → ℕ → ReaderState → Option (List ℕ) → ℕ → ℕ → ReplayEnd → Type 0
 EndsReading shape jobs events reader left before now (ends.Script line at found) =
     (line ≡ events + 2)
-    × ((place : Place) → IsThere reader left jobs place → IsWrong shape place (record { at = at; found = found }))
+    × ((place : ScriptPlace) → IsThere reader left jobs place → IsWrong shape place (record { at = at; found = found }))
 EndsReading shape jobs events reader left before now ends.SourceFault = Rose before now
 EndsReading shape jobs events reader left before now ends.NoMemory = Unit {0}
 EndsReading shape jobs events reader left before now end = ⊥

@@ -1,7 +1,10 @@
+pub mod CloudServer
 pub mod Endings
 pub mod Going
+pub mod JournalStart
 pub mod LocalLink
 pub mod Opening
 pub mod Replayed
 pub mod ScriptLines
+pub mod Session
 pub mod SessionModel

@@ -1,26 +1,26 @@
 -- What the first steps of a replay come to: its first line, the areas that are to be empty, and the first openings.
 use Rattle.std.specs.Prelude.{◌≡◌, ◌≢◌, ℕ, ◌<◌, ◌≤◌, ◌++◌, false, IsTrue, List, [], length, Option, Some, Result, Ok, Err, IfSome}
-use Rattle.cd_base.specs.declared.ids.CloudNo.{CloudNo}
-use Rattle.journal_start.specs.declared.rooms.Rooms.{Rooms}
-use Rattle.cd_base.specs.declared.shape.Shape.{Shape}
-use Rattle.cd_edges.specs.declared.area.Area.{Area}
-use Rattle.cd_edges.specs.Causes.{Rose}
-use Rattle.cd_edges.specs.Disk.{Cloud, Image, IsImage, reads}
-use Rattle.cd_edges.specs.Shelf.{Stays}
-use Rattle.journal_start.specs.declared.start.Header.{Header}
-use Rattle.half_journal.specs.declared.errors.OpenErr.{OpenErr}
-use Rattle.half_journal.specs.declared.errors.OpenErr.TheVariants as open_errors
+use Rattle.cloud_server.specs.CdBase.ids.CloudNo.{CloudNo}
+use Rattle.cloud_server.specs.JournalStart.rooms.UserRooms.{UserRooms}
+use Rattle.cloud_server.specs.CdBase.shape.Shape.{Shape}
+use Rattle.cloud_server.specs.CdEdges.area.Area.{Area}
+use Rattle.cloud_server.specs.CdEdges.Causes.{Rose}
+use Rattle.cloud_server.specs.CdEdges.Disk.{Cloud, Image, IsImage, reads}
+use Rattle.cloud_server.specs.CdEdges.Shelf.{Stays}
+use Rattle.cloud_server.specs.JournalStart.start.Header.{Header}
+use Rattle.cloud_server.specs.HalfJournal.errors.OpenErr.{OpenErr}
+use Rattle.cloud_server.specs.HalfJournal.errors.OpenErr.TheVariants as open_errors
 use Rattle.cloud_server.specs.CloudAreas.Peers.{ImagesSince}
 use Rattle.script_lines.specs.LocalLink.link.LocalLink.{LocalLink}
 use Rattle.script_lines.specs.LocalLink.Calls.{no_commands}
 use Rattle.script_lines.specs.LocalLink.Tells.{server_at, rooms_at, header_at, StandsAt}
-use Rattle.session.specs.Fault.{Fault}
-use Rattle.session.specs.Lines.{Lines}
-use Rattle.session.specs.declared.lines.LineErr.{LineErr}
-use Rattle.session.specs.declared.lines.LineErr.TheVariants as line_errors
-use Rattle.session.specs.declared.reading.ScriptErr.{ScriptErr}
-use Rattle.session.specs.declared.reading.ScriptErr.TheVariants as script_errors
-use Rattle.session.specs.Scripts.{Place, Begins, IsWrongFirst}
+use Rattle.two_worlds.specs.Session.Fault.{Fault}
+use Rattle.two_worlds.specs.Session.Lines.{ReaderState}
+use Rattle.two_worlds.specs.Session.lines.LineErr.{LineErr}
+use Rattle.two_worlds.specs.Session.lines.LineErr.TheVariants as line_errors
+use Rattle.two_worlds.specs.Session.reading.ScriptErr.{ScriptErr}
+use Rattle.two_worlds.specs.Session.reading.ScriptErr.TheVariants as script_errors
+use Rattle.two_worlds.specs.Session.Scripts.{ScriptPlace, Begins, IsWrongFirst}
 use Rattle.cloud_server.specs.Refusals.{IsDamage}
 use Rattle.replay_core.specs.declared.end.ReplayEnd.{ReplayEnd}
 use Rattle.replay_core.specs.declared.end.ReplayEnd.TheVariants as ends
@@ -29,11 +29,11 @@ use Rattle.replay_core.specs.Endings.{IsEmptyAt, AreEmptyBefore, AreEmptyBelow, 
 -- ---- the first line
 
 -- the reader before its first line
-abbrev pub before_first : Lines
+abbrev pub before_first : ReaderState
 before_first = record { line = []; ahead = []; taken = 0 }
 
 -- The reader and what is still to come of its source are at this place of a script, behind so many uploads.
-pub record IsThere (reader : Lines) (left : Option (List ℕ)) (jobs : ℕ) (place : Place) : Type 0 where
+pub record IsThere (reader : ReaderState) (left : Option (List ℕ)) (jobs : ℕ) (place : ScriptPlace) : Type 0 where
   pub jobs_are : place.jobs ≡ jobs
   pub taken : reader.taken ≡ place.taken
   pub unread : List ℕ
@@ -41,12 +41,12 @@ pub record IsThere (reader : Lines) (left : Option (List ℕ)) (jobs : ℕ) (pla
   pub rest : reader.ahead ++ unread ≡ place.rest
 
 -- the source's bytes begin with this first line, behind which the reader is now
-abbrev pub IsHead : Option (List ℕ) → Shape → Rooms → Lines → Option (List ℕ) → Type 0
+abbrev pub IsHead : Option (List ℕ) → Shape → UserRooms → ReaderState → Option (List ℕ) → Type 0
 IsHead script shape rooms reader left =
-    IfSome script (λ bytes. (place : Place) × Begins bytes shape rooms place × IsThere reader left 0 place)
+    IfSome script (λ bytes. (place : ScriptPlace) × Begins bytes shape rooms place × IsThere reader left 0 place)
 
 -- the first line says this, or is wrong there
-abbrev pub SaysHeader : Result (Shape × Rooms) Fault → Result (Shape × Rooms) ReplayEnd → Type 0
+abbrev pub SaysHeader : Result (Shape × UserRooms) Fault → Result (Shape × UserRooms) ReplayEnd → Type 0
 SaysHeader reading (Ok header) = reading ≡ Ok header
 SaysHeader reading (Err (ends.Script line at found)) =
     (line ≡ 1) × (reading ≡ Err (record { at = at; found = found }))

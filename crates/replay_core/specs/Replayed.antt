@@ -2,15 +2,15 @@
 use Rattle.std.specs.Prelude.{◌≡◌, ℕ, ◌<◌, ◌≤◌, ◌⊎◌, List, [], ◌++◌, length, Option, IsTrue}
 use Rattle.std.specs.List.{Contains}
 use Rattle.std.specs.Io.KnownBytes.{Appends}
-use Rattle.cd_edges.specs.declared.area.Area.{Area}
-use Rattle.cd_edges.specs.Disk.{Cloud, Image, IsImage, reads}
-use Rattle.user_dedup.specs.declared.command.Command.{Command}
-use Rattle.user_dedup.specs.Exec.{MaySettleAs}
+use Rattle.cloud_server.specs.CdEdges.area.Area.{Area}
+use Rattle.cloud_server.specs.CdEdges.Disk.{Cloud, Image, IsImage, reads}
+use Rattle.cloud_server.specs.UserDedup.command.Command.{Command}
+use Rattle.cloud_server.specs.UserDedup.Exec.{MaySettleAs}
 use Rattle.cloud_server.specs.CloudAreas.Standing.{StandsFor}
-use Rattle.transcript.specs.declared.line.Line.TheVariants as lines
-use Rattle.session.specs.Texts.{text_of}
-use Rattle.session.specs.declared.event.Event.TheVariants as events
-use Rattle.transcript.specs.Transcript.{line_text}
+use Rattle.two_worlds.specs.Transcript.line.Line.TheVariants as lines
+use Rattle.two_worlds.specs.Session.Texts.{text_of}
+use Rattle.two_worlds.specs.Session.event.Event.TheVariants as events
+use Rattle.two_worlds.specs.Transcript.Transcript.{line_text}
 use Rattle.replay_core.specs.declared.end.ReplayEnd.{ReplayEnd}
 use Rattle.replay_core.specs.declared.end.ReplayEnd.TheVariants as ends
 use Rattle.script_lines.specs.SessionModel.Headline.{Session, IsRun, due, script_in, GivesAcknowledged, GivesFromMore, DisksKeep, DisksStand, AnswersPrivately}
@@ -18,7 +18,7 @@ use Rattle.script_lines.specs.SessionModel.Faults.{FaultsRose}
 use Rattle.script_lines.specs.SessionModel.Steps.{cloud_no}
 use Rattle.script_lines.specs.At.{header_in}
 use Rattle.two_worlds.specs.Worlds.{TwoWorlds}
-use Rattle.replay_core.specs.Endings.{Call, EndingLine, NoEnding, DoneEnding, ScriptEnding, ShelfEnding, StoreEnding, DamagedEnding, IsDue, HasCause}
+use Rattle.replay_core.specs.Endings.{ReplayCall, EndingLine, NoEnding, DoneEnding, ScriptEnding, ShelfEnding, StoreEnding, DamagedEnding, IsDue, HasStatusCause}
 
 -- No count of a cloud is above the shelf's, its armings are the shelf's, and with status 0 its faults too.
 pub record HasCounts (status : ℕ) (new : ℕ → Cloud) (run : Session) (cloud : ℕ) : Type 0 where
@@ -88,13 +88,13 @@ ending_of (ends.NotEmpty cloud area len) = StoreEnding cloud.0 area len
 ending_of (ends.Damaged cloud at byte) = DamagedEnding cloud.0 at byte
 
 -- nothing, or the line `done` where it is due
-abbrev pub IsLast : Call → Session → List ℕ → Type 0
+abbrev pub IsLast : ReplayCall → Session → List ℕ → Type 0
 IsLast call run last =
     (last ≡ [])
     ⊎ ((last ≡ line_text (lines.Done (length run.history))) × IsDue call run (DoneEnding (length run.history)))
 
 -- a front of the text that was due was written
-pub record IsCut (call : Call) (run : Session) (before after : Option (List ℕ)) : Type 0 where
+pub record IsTextCut (call : ReplayCall) (run : Session) (before after : Option (List ℕ)) : Type 0 where
   pub last : List ℕ
   pub last_is : IsLast call run last
   pub text : List ℕ
@@ -104,16 +104,16 @@ pub record IsCut (call : Call) (run : Session) (before after : Option (List ℕ)
 
 -- What was written: with Done the lines that were answered and `done`; where the sink failed or memory ran out a front
 -- of what was due; and else all lines that were answered. The other ending lines aren't written here.
-abbrev pub IsPrinted : ReplayEnd → Call → Session → Option (List ℕ) → Option (List ℕ) → Type 0
+abbrev pub IsPrinted : ReplayEnd → ReplayCall → Session → Option (List ℕ) → Option (List ℕ) → Type 0
 IsPrinted (ends.Done events) call run before after =
     Appends before after (text_of (due run) ++ line_text (lines.Done events))
-IsPrinted ends.SinkFault call run before after = IsTrue run.opened × IsCut call run before after
-IsPrinted ends.NoMemory call run before after = IsCut call run before after
+IsPrinted ends.SinkFault call run before after = IsTrue run.opened × IsTextCut call run before after
+IsPrinted ends.NoMemory call run before after = IsTextCut call run before after
 IsPrinted end call run before after = Appends before after (text_of (due run))
 
 -- The whole promise of a replay.
-pub record Replays (end : ReplayEnd) (call : Call) (before after : Option (List ℕ)) : Type 0 where
+pub record HasReplayed (end : ReplayEnd) (call : ReplayCall) (before after : Option (List ℕ)) : Type 0 where
   pub run : Session
   pub replayed : Replayed (status_of end) call.old call.new run
-  pub cause : HasCause (status_of end) call run (ending_of end)
+  pub cause : HasStatusCause (status_of end) call run (ending_of end)
   pub printed : IsPrinted end call run before after

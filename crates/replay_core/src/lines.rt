@@ -2,23 +2,21 @@
 
 ghost use Rattle.std.specs.Prelude.{◌≡◌, ◌<◌, ◌≤◌, ◌+◌, ℕ, length, IfOk, IfErr, OnOk, OnErr, IfSome};
 ghost use Rattle.std.specs.Io.KnownBytes.{Appends};
-ghost use Rattle.session.specs.Lines.{script_limit};
-ghost use Rattle.session.specs.Spelling.{Fits};
-ghost use Rattle.session.specs.Reading.{event_at};
-ghost use Rattle.session.specs.Scripts.{jobs_after};
-ghost use Rattle.script_lines.specs.At.{Leaves};
+ghost use Rattle.two_worlds.specs.Session.Lines.{script_limit};
+ghost use Rattle.two_worlds.specs.Session.Spelling.{Fits};
+ghost use Rattle.two_worlds.specs.Session.Reading.{event_at};
+ghost use Rattle.two_worlds.specs.Session.Scripts.{jobs_after};
+ghost use Rattle.script_lines.specs.At.{KeepsOtherClouds};
 ghost use Rattle.script_lines.specs.Jobs.{AreReached};
 ghost use Rattle.replay_core.specs.Opening.{end_of_script, end_without};
 ghost use Rattle.replay_core.specs.Going.{CanBe, SaysNext, SaysEvent, EndsReading, Answers, EndsAnswering, end_of_carry};
 
 use crate::ReplayEnd;
 use crate::writing::write_text;
-use cd_base::Shape;
-use cd_edges::{Shelf, Sink, Source};
+use cloud_server::{Shape, Shelf, Sink, Source};
 use script_lines::{Buffers, CarryErr, Jobs, LocalLink, carry_out};
-use session::{Event, LineErr, LineReader, ScriptErr};
 use std::alloc::Global;
-use transcript::Answer;
+use two_worlds::{Answer, Event, LineErr, LineReader, ScriptErr};
 
 /// The end of a replay whose line of this number says nothing.
 pub fn end_of_line(line: u64, error: ScriptErr) -> ReplayEnd
@@ -114,7 +112,7 @@ pub fn answer_line<K: Sink, V: Shelf>(
     ensures still { OnOk result (K.faults sink.new ≡ K.faults sink.old) }
     ensures end { IfErr result (EndsAnswering V.cloud_at event.now link.old jobs.old link.new jobs.new
         (K.written sink.old) (K.written sink.new) (K.faults sink.old) (K.faults sink.new)) }
-    ensures leaves { Leaves V.cloud_at link.old link.new }
+    ensures leaves { KeepsOtherClouds V.cloud_at link.old link.new }
     ensures same_reference { link.new.shelf.ghost_name ≡ link.old.shelf.ghost_name }
     ensures reached { AreReached link.old.servers.shape jobs.new }
     ensures count { OnOk result (length jobs.new ≡ jobs_after (length jobs.old) event.now) }

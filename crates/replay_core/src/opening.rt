@@ -1,11 +1,11 @@
 //! The first steps of a replay: its first line, the clouds' areas, which are to be empty, and the first openings.
 
 ghost use Rattle.std.specs.Prelude.{◌≡◌, ◌≢◌, ◌<◌, ◌≤◌, ℕ, Ok, IsTrue, IfOk, IfErr, OnOk, OnErr};
-ghost use Rattle.cd_edges.specs.declared.area.Area.{Area};
-ghost use Rattle.journal_start.specs.declared.start.Header.{Header};
-ghost use Rattle.journal_start.specs.Ranges.{AreRooms};
-ghost use Rattle.session.specs.Reading as reading;
-ghost use Rattle.session.specs.Lines.{script_limit};
+ghost use Rattle.cloud_server.specs.CdEdges.area.Area.{Area};
+ghost use Rattle.cloud_server.specs.JournalStart.start.Header.{Header};
+ghost use Rattle.cloud_server.specs.JournalStart.Ranges.{AreRooms};
+ghost use Rattle.two_worlds.specs.Session.Reading as reading;
+ghost use Rattle.two_worlds.specs.Session.Lines.{script_limit};
 ghost use Rattle.script_lines.specs.LocalLink.Calls.{no_commands};
 ghost use Rattle.script_lines.specs.LocalLink.Tells.{rooms_at, header_at, StandsAt, LeavesRest};
 ghost use Rattle.replay_core.specs.Endings.{IsEmptyAt, AreEmptyBefore};
@@ -13,16 +13,13 @@ ghost use Rattle.replay_core.specs.Opening.{before_first, IsHead, EndsFirst, Pre
 
 use crate::ReplayEnd;
 use crate::lines::{end_of_line, end_of_reader};
-use cd_base::{CloudNo, Shape};
-use cd_edges::{Area, Failed, Shelf, Source};
 use cloud_server::laws::law_of_no_commands;
-use cloud_server::{OpenErr, damage_of};
-use journal_start::Rooms;
+use cloud_server::{Area, CloudNo, Failed, OpenErr, Shape, Shelf, Source, UserRooms, damage_of};
 use script_lines::LocalLink;
-use session::LineReader;
+use two_worlds::LineReader;
 
 // What the first line says, or how the replay ends there.
-fn header_of_line(reader: &LineReader) -> Result<(Shape, Rooms), ReplayEnd>
+fn header_of_line(reader: &LineReader) -> Result<(Shape, UserRooms), ReplayEnd>
     ensures says { SaysHeader (reading.header_at reader.now.line) result }
     ensures rooms { IfOk result (λ header. AreRooms header.1) }
 {
@@ -36,7 +33,7 @@ fn header_of_line(reader: &LineReader) -> Result<(Shape, Rooms), ReplayEnd>
 pub fn first_line<S: Source>(
     reader: &mut LineReader,
     source: &mut S,
-) -> Result<(Shape, Rooms), ReplayEnd>
+) -> Result<(Shape, UserRooms), ReplayEnd>
     requires { reader.old ≡ before_first }
     ensures header { IfOk result (λ header. IsHead (S.left source.old) header.0 header.1
         reader.new (S.left source.new)) }

@@ -1,27 +1,26 @@
 //! A session from its script's first byte to its end.
 
 ghost use Rattle.std.specs.Prelude.{◌≡◌, ◌<◌, ◌≤◌, ℕ, [], IsTrue, length};
-ghost use Rattle.cd_base.specs.declared.shape.Shape.{Shape};
-ghost use Rattle.session.specs.Lines.{script_limit};
+ghost use Rattle.cloud_server.specs.CdBase.shape.Shape.{Shape};
+ghost use Rattle.two_worlds.specs.Session.Lines.{script_limit};
 ghost use Rattle.script_lines.specs.SessionModel.Vault.{Setting};
 ghost use Rattle.script_lines.specs.Jobs.{AreReached};
-ghost use Rattle.replay_core.specs.Endings.{Call};
-ghost use Rattle.replay_core.specs.Replayed.{Replays};
+ghost use Rattle.replay_core.specs.Endings.{ReplayCall};
+ghost use Rattle.replay_core.specs.Replayed.{HasReplayed};
 ghost use Rattle.replay_core.specs.Opening.{IsEmpty};
-ghost use Rattle.replay_core.specs.Going.{Start, call_of, IsReady, HasCome};
+ghost use Rattle.replay_core.specs.Going.{ReplayStart, call_of, IsReplayReady, HasCome};
 
 use crate::ReplayEnd;
 use crate::lines::{answer_line, next_event};
 use crate::opening::{empty_clouds, first_line, open_clouds};
 use crate::writing::write_one;
-use cd_edges::{Shelf, Sink, Source};
 use cloud_server::laws::law_of_no_commands;
+use cloud_server::{Shelf, Sink, Source};
 use script_lines::{
     Buffers, Jobs, LocalLink, Servers, law_of_acknowledged, law_of_moments, law_of_own_replies,
 };
-use session::LineReader;
 use std::alloc::Global;
-use transcript::{Answer, Line};
+use two_worlds::{Answer, Line, LineReader};
 
 // Carries the lines out, one after another, to the end of the script, and writes what is answered to each and at last
 // `done`. The clouds are opened, and `open` is written.
@@ -34,10 +33,10 @@ fn carry_lines<S: Source, K: Sink, V: Shelf>(
     buffers: &mut Buffers,
 ) -> ReplayEnd
     requires limited { reader.old.taken ≤ script_limit }
-    ensures replays { (start : Start) (s : Setting)
+    ensures replays { (start : ReplayStart) (s : Setting)
         → HasCome V.cloud_at start s link.old [] reader.old (S.left source.old) (S.faults source.old)
         (K.written sink.old) (K.faults sink.old) 0
-        → Replays result (call_of start (S.left source.new) (S.faults source.new) (K.faults sink.new)
+        → HasReplayed result (call_of start (S.left source.new) (S.faults source.new) (K.faults sink.new)
         (V.faults link.new.shelf.now) (V.cloud_at link.new.shelf.now))
         start.written (K.written sink.new) }
     ensures same_reference { link.new.shelf.ghost_name ≡ link.old.shelf.ghost_name }
@@ -81,10 +80,10 @@ fn carry_script<S: Source, K: Sink, V: Shelf>(
 ) -> ReplayEnd
     requires limited { reader.old.taken ≤ script_limit }
     requires empty { (cloud : ℕ) → cloud < link.old.servers.shape.n → IsEmpty (V.cloud_at link.old.shelf.now cloud) }
-    ensures replays { (start : Start) (s : Setting)
-        → IsReady V.cloud_at start s link.old reader.old (S.left source.old) (S.faults source.old)
+    ensures replays { (start : ReplayStart) (s : Setting)
+        → IsReplayReady V.cloud_at start s link.old reader.old (S.left source.old) (S.faults source.old)
         (K.written sink.old) (K.faults sink.old)
-        → Replays result (call_of start (S.left source.new) (S.faults source.new) (K.faults sink.new)
+        → HasReplayed result (call_of start (S.left source.new) (S.faults source.new) (K.faults sink.new)
         (V.faults link.new.shelf.now) (V.cloud_at link.new.shelf.now))
         start.written (K.written sink.new) }
     ensures same_reference { link.new.shelf.ghost_name ≡ link.old.shelf.ghost_name }
@@ -125,7 +124,7 @@ pub fn replay<S: Source, K: Sink, V: Shelf>(
     sink: &mut K,
     shelf: &mut V,
 ) -> ReplayEnd
-    ensures { Replays result (record {
+    ensures { HasReplayed result (record {
       script = S.left source.old;
       left = S.left source.new;
       source_before = S.faults source.old;

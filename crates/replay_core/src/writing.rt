@@ -2,13 +2,13 @@
 
 ghost use Rattle.std.specs.Prelude.{◌≡◌, IfErr, OnOk};
 ghost use Rattle.std.specs.Io.KnownBytes.{Appends};
-ghost use Rattle.transcript.specs.Transcript.{line_text};
+ghost use Rattle.two_worlds.specs.Transcript.Transcript.{line_text};
 ghost use Rattle.replay_core.specs.Going.{EndsSink, EndsWriting};
 
 use crate::ReplayEnd;
-use cd_edges::{Failed, Sink};
+use cloud_server::{Failed, Sink};
 use std::alloc::Global;
-use transcript::{Answer, Line};
+use two_worlds::{Answer, Line};
 
 /// Writes this text, and drops it. Where the sink fails a front of it was written.
 pub fn write_text<K: Sink>(alloc: Global, sink: &mut K, text: &mut Answer) -> Result<(), ReplayEnd>

@@ -1,19 +1,19 @@
 -- What the clouds were asked in one batch, and what they gave.
 use Rattle.std.proofs.Common.{◌≡◌, ◌≢◌, ℕ, ◌<◌, ◌⊎◌, inl, inr, List, [], ◌∷◌, ◌++◌, length, refl, sym, ap, ◌∙◌, subst, arith, append_assoc, append-nil, Result, Ok, Err}
 use Rattle.std.specs.List.{AllByRecursion}
-use Rattle.cd_base.specs.declared.ids.CloudNo.{CloudNo}
-use Rattle.cd_base.specs.declared.ids.UserId.{UserId}
-use Rattle.cd_base.specs.declared.shape.Shape.{Shape}
-use Rattle.messages.specs.ReplyReading.{reply_at}
-use Rattle.messages.specs.Requests.{IsRequest}
-use Rattle.messages.specs.declared.reply.Reply.TheVariants as replies
-use Rattle.messages.specs.declared.request.Request.TheVariants as requests
-use Rattle.recipe.specs.declared.items.Item.{Item}
-use Rattle.recipe.specs.declared.recipe.Recipe.{Recipe}
-use Rattle.user_dedup.specs.Owning.{fps_in}
-use Rattle.restore_job.specs.Exchanges.{Exchange, TakenAs, BatchSaid, AllTaken, OneTaken, OneRefused, items_at}
-use Rattle.restore_job.specs.Steps.{SharesFrom, NamesKind, NoShares, Refuses, Takes, IsShareOf, room_of}
-use Rattle.restore_job.specs.declared.error.RestoreErr.{RestoreErr}
+use Rattle.ports_link.specs.CdBase.ids.CloudNo.{CloudNo}
+use Rattle.ports_link.specs.CdBase.ids.UserId.{UserId}
+use Rattle.ports_link.specs.CdBase.shape.Shape.{Shape}
+use Rattle.ports_link.specs.Messages.ReplyReading.{reply_at}
+use Rattle.ports_link.specs.Messages.Requests.{IsRequest}
+use Rattle.ports_link.specs.Messages.reply.Reply.TheVariants as replies
+use Rattle.ports_link.specs.Messages.request.Request.TheVariants as requests
+use Rattle.subset_restore.specs.Recipe.items.Item.{Item}
+use Rattle.subset_restore.specs.Recipe.recipe.Recipe.{Recipe}
+use Rattle.ports_link.specs.UserDedup.Owning.{fps_in}
+use Rattle.subset_restore.specs.RestoreJob.Exchanges.{CloudExchange, TakenAs, BatchSaid, AllTaken, OneTaken, OneRefused, items_at}
+use Rattle.subset_restore.specs.RestoreJob.Steps.{SharesFrom, NamesKind, NoShares, Refuses, Takes, IsShareOf, room_of}
+use Rattle.subset_restore.specs.RestoreJob.error.RestoreErr.{RestoreErr}
 use Rattle.restore_command.specs.Talks.{with_cloud}
 use Rattle.restore_command.specs.Fetched.{Each, NoMore, OneMore, row, string_of}
 use Rattle.restore_command.specs.Stopped.{EachUntil, There, Further}
@@ -47,8 +47,8 @@ until_as Is _ _ _ f g h is (Further cloud recipe strings clouds recipes all befo
 
 module _ (shape : Shape) (user : UserId) (firsts : List Item) (place n : ℕ) where
   -- a cloud was asked once, and gave a share of each item
-  pub record BatchOf (log : List Exchange) (cloud : CloudNo) (recipe : Recipe) (strings : List (List ℕ)) : Type 0 where
-    pub x : Exchange
+  pub record BatchOf (log : List CloudExchange) (cloud : CloudNo) (recipe : Recipe) (strings : List (List ℕ)) : Type 0 where
+    pub x : CloudExchange
     pub mine : with_cloud log cloud.0 ≡ x ∷ []
     pub asked : IsRequest x.request (requests.GetShares user (fps_in (items_at place n recipe.items)))
     pub came : reply_at x.reply ≡ Ok (replies.Shares strings)
@@ -56,9 +56,9 @@ module _ (shape : Shape) (user : UserId) (firsts : List Item) (place n : ℕ) wh
     pub shares : (j : ℕ) → j < n → IsShareOf shape firsts recipe.items place strings j
 
   -- a cloud was asked once, and refused
-  pub record RefusedOf (log : List Exchange) (e : RestoreErr) (cloud : CloudNo) (recipe : Recipe)
+  pub record RefusedOf (log : List CloudExchange) (e : RestoreErr) (cloud : CloudNo) (recipe : Recipe)
       (strings : List (List ℕ)) : Type 0 where
-    pub x : Exchange
+    pub x : CloudExchange
     pub mine : with_cloud log cloud.0 ≡ x ∷ []
     pub asked : IsRequest x.request (requests.GetShares user (fps_in (items_at place n recipe.items)))
     pub none : strings ≡ []
@@ -66,9 +66,9 @@ module _ (shape : Shape) (user : UserId) (firsts : List Item) (place n : ℕ) wh
     pub kind : NamesKind {A = List (List ℕ)} x.reply (Err e)
 
   -- a cloud was asked once, and a string that it gave is no share
-  pub record WrongOf (log : List Exchange) (e : RestoreErr) (cloud : CloudNo) (recipe : Recipe)
+  pub record WrongOf (log : List CloudExchange) (e : RestoreErr) (cloud : CloudNo) (recipe : Recipe)
       (strings : List (List ℕ)) : Type 0 where
-    pub x : Exchange
+    pub x : CloudExchange
     pub mine : with_cloud log cloud.0 ≡ x ∷ []
     pub asked : IsRequest x.request (requests.GetShares user (fps_in (items_at place n recipe.items)))
     pub came : reply_at x.reply ≡ Ok (replies.Shares strings)
@@ -77,13 +77,13 @@ module _ (shape : Shape) (user : UserId) (firsts : List Item) (place n : ℕ) wh
     pub new : List (List ℕ)
     pub wrong : Takes shape cloud firsts recipe.items place n strings old new (Err e)
 
-  abbrev pub StopsOf : List Exchange → RestoreErr → CloudNo → Recipe → List (List ℕ) → Type 0
+  abbrev pub StopsOf : List CloudExchange → RestoreErr → CloudNo → Recipe → List (List ℕ) → Type 0
   StopsOf log e cloud recipe strings = RefusedOf log e cloud recipe strings ⊎ WrongOf log e cloud recipe strings
 
-  abbrev pub UnaskedOf : List Exchange → CloudNo → Recipe → List (List ℕ) → Type 0
+  abbrev pub UnaskedOf : List CloudExchange → CloudNo → Recipe → List (List ℕ) → Type 0
   UnaskedOf log cloud recipe strings = (with_cloud log cloud.0 ≡ []) × (strings ≡ [])
 
-  abbrev pub BatchCame : List CloudNo → List Recipe → List Exchange → List (List ℕ) → List (List ℕ)
+  abbrev pub BatchCame : List CloudNo → List Recipe → List CloudExchange → List (List ℕ) → List (List ℕ)
       → Result (Unit {0}) RestoreErr → Type 0
   BatchCame clouds recipes log rooms filled (Ok u) =
       (all : List (List (List ℕ))) × Each (BatchOf log) clouds recipes all
@@ -92,7 +92,7 @@ module _ (shape : Shape) (user : UserId) (firsts : List Item) (place n : ℕ) wh
       (all : List (List (List ℕ))) × EachUntil (BatchOf log) (StopsOf log e) (UnaskedOf log) clouds recipes all
 
   -- who isn't one of these wasn't asked
-  pub batch_others : (clouds : List CloudNo) (recipes : List Recipe) (log : List Exchange)
+  pub batch_others : (clouds : List CloudNo) (recipes : List Recipe) (log : List CloudExchange)
       (rooms filled : List (List ℕ)) (result : Result (Unit {0}) RestoreErr)
       → BatchSaid shape user firsts place n clouds recipes log rooms filled result → (c : ℕ) → NoneIs c clouds
       → with_cloud log c ≡ []
@@ -104,7 +104,7 @@ module _ (shape : Shape) (user : UserId) (firsts : List Item) (place n : ℕ) wh
       with_other x [] c (λ same. none.0 (sym same ∙ one.cloud_is))
 
   -- the exchange of another cloud in front changes nothing
-  batch_behind : (cloud : CloudNo) (x : Exchange) (log : List Exchange) → x.cloud ≡ cloud.0
+  batch_behind : (cloud : CloudNo) (x : CloudExchange) (log : List CloudExchange) → x.cloud ≡ cloud.0
       → (c : CloudNo) (r : Recipe) (s : List (List ℕ)) → cloud.0 ≢ c.0 → BatchOf log c r s → BatchOf (x ∷ log) c r s
   batch_behind cloud x log same c r s differ b = record {
     x = b.x;
@@ -115,7 +115,7 @@ module _ (shape : Shape) (user : UserId) (firsts : List Item) (place n : ℕ) wh
     shares = b.shares;
   }
 
-  stops_behind : (cloud : CloudNo) (x : Exchange) (log : List Exchange) (e : RestoreErr) → x.cloud ≡ cloud.0
+  stops_behind : (cloud : CloudNo) (x : CloudExchange) (log : List CloudExchange) (e : RestoreErr) → x.cloud ≡ cloud.0
       → (c : CloudNo) (r : Recipe) (s : List (List ℕ)) → cloud.0 ≢ c.0 → StopsOf log e c r s
       → StopsOf (x ∷ log) e c r s
   stops_behind cloud x log e same c r s differ (inl b) = inl (record {
@@ -137,14 +137,14 @@ module _ (shape : Shape) (user : UserId) (firsts : List Item) (place n : ℕ) wh
     wrong = b.wrong;
   })
 
-  unasked_behind : (cloud : CloudNo) (x : Exchange) (log : List Exchange) → x.cloud ≡ cloud.0
+  unasked_behind : (cloud : CloudNo) (x : CloudExchange) (log : List CloudExchange) → x.cloud ≡ cloud.0
       → (c : CloudNo) (r : Recipe) (s : List (List ℕ)) → cloud.0 ≢ c.0 → UnaskedOf log c r s
       → UnaskedOf (x ∷ log) c r s
   unasked_behind cloud x log same c r s differ b = (with_other x log c.0 (λ e. differ (sym same ∙ e)) ∙ b.0, b.1)
 
   -- what one cloud gave
-  gave_of : (brought : Result (List (List ℕ)) RestoreErr) (cloud : CloudNo) (recipe : Recipe) (x : Exchange)
-      (log : List Exchange) (old new : List (List ℕ))
+  gave_of : (brought : Result (List (List ℕ)) RestoreErr) (cloud : CloudNo) (recipe : Recipe) (x : CloudExchange)
+      (log : List CloudExchange) (old new : List (List ℕ))
       → with_cloud log cloud.0 ≡ x ∷ [] → IsRequest x.request
       (requests.GetShares user (fps_in (items_at place n recipe.items)))
       → SharesFrom cloud n (reply_at x.reply) brought → TakenAs shape cloud firsts recipe.items place n brought old
@@ -159,8 +159,8 @@ module _ (shape : Shape) (user : UserId) (firsts : List Item) (place n : ℕ) wh
       refused f = Err f
 
   -- what one cloud answered in place of it
-  stops_of : (brought : Result (List (List ℕ)) RestoreErr) (cloud : CloudNo) (recipe : Recipe) (x : Exchange)
-      (log : List Exchange) (old new : List (List ℕ)) (e : RestoreErr)
+  stops_of : (brought : Result (List (List ℕ)) RestoreErr) (cloud : CloudNo) (recipe : Recipe) (x : CloudExchange)
+      (log : List CloudExchange) (old new : List (List ℕ)) (e : RestoreErr)
       → with_cloud log cloud.0 ≡ x ∷ [] → IsRequest x.request
       (requests.GetShares user (fps_in (items_at place n recipe.items)))
       → SharesFrom cloud n (reply_at x.reply) brought → NamesKind x.reply brought
@@ -196,7 +196,7 @@ module _ (shape : Shape) (user : UserId) (firsts : List Item) (place n : ℕ) wh
       refused f = Err f
 
   -- of clouds that weren't asked
-  pub unasked_all : (clouds : List CloudNo) (recipes : List Recipe) (log : List Exchange)
+  pub unasked_all : (clouds : List CloudNo) (recipes : List Recipe) (log : List CloudExchange)
       → length clouds ≡ length recipes → AllByRecursion (λ (c : CloudNo). with_cloud log c.0 ≡ []) clouds
       → (all : List (List (List ℕ))) × Each (UnaskedOf log) clouds recipes all
   unasked_all [] [] log long are = ([], NoMore)
@@ -206,7 +206,7 @@ module _ (shape : Shape) (user : UserId) (firsts : List Item) (place n : ℕ) wh
       let more = unasked_all clouds recipes log (omega arith) are.1 in
       ([] ∷ more.0, OneMore c r [] clouds recipes more.0 (are.0, refl) more.1)
 
-  none_asked : (clouds : List CloudNo) (cloud : CloudNo) (x : Exchange) → x.cloud ≡ cloud.0 → NoneIs cloud.0 clouds
+  none_asked : (clouds : List CloudNo) (cloud : CloudNo) (x : CloudExchange) → x.cloud ≡ cloud.0 → NoneIs cloud.0 clouds
       → AllByRecursion (λ (c : CloudNo). with_cloud (x ∷ []) c.0 ≡ []) clouds
   none_asked [] cloud x same none = tt
   none_asked (c ∷ clouds) cloud x same none = (
@@ -216,8 +216,8 @@ module _ (shape : Shape) (user : UserId) (firsts : List Item) (place n : ℕ) wh
   )
 
   -- one cloud gave, and then what came of the others
-  batch_on : (cloud : CloudNo) (clouds : List CloudNo) (recipe : Recipe) (recipes : List Recipe) (x : Exchange)
-      (log : List Exchange) (old mid new : List (List ℕ)) (result : Result (Unit {0}) RestoreErr)
+  batch_on : (cloud : CloudNo) (clouds : List CloudNo) (recipe : Recipe) (recipes : List Recipe) (x : CloudExchange)
+      (log : List CloudExchange) (old mid new : List (List ℕ)) (result : Result (Unit {0}) RestoreErr)
       → NoneIs cloud.0 clouds → x.cloud ≡ cloud.0
       → (strings : List (List ℕ)) × BatchOf (x ∷ log) cloud recipe strings
       × ((j : ℕ) → j < n → room_of mid j ≡ room_of old j ++ string_of strings j)
@@ -237,14 +237,14 @@ module _ (shape : Shape) (user : UserId) (firsts : List Item) (place n : ℕ) wh
         (stops_behind cloud x log e same) (unasked_behind cloud x log same) none more.1),
   )
 
-  pub batch_came : (clouds : List CloudNo) (recipes : List Recipe) (log : List Exchange)
+  pub batch_came : (clouds : List CloudNo) (recipes : List Recipe) (log : List CloudExchange)
       (rooms filled : List (List ℕ)) (result : Result (Unit {0}) RestoreErr) → Apart clouds
       → length clouds ≡ length recipes
       → BatchSaid shape user firsts place n clouds recipes log rooms filled result
       → BatchCame clouds recipes log rooms filled result
   batch_came _ _ _ _ _ _ apart long (AllTaken rooms) = ([], NoMore, λ j l. sym (append-nil (room_of rooms j)))
   batch_came _ _ _ _ _ _ apart long (OneTaken cloud clouds recipe recipes x log old mid new result one more) =
-      let mine = with_here x log cloud.0 one.cloud_is ∙ ap (λ (l : List Exchange). x ∷ l)
+      let mine = with_here x log cloud.0 one.cloud_is ∙ ap (λ (l : List CloudExchange). x ∷ l)
       (batch_others clouds recipes log mid new result more cloud.0 apart.0) in
       batch_on cloud clouds recipe recipes x log old mid new result apart.0 one.cloud_is
       (gave_of one.brought cloud recipe x (x ∷ log) old mid mine one.asked one.came one.taken)

@@ -4,27 +4,27 @@ use Rattle.std.specs.Prelude.{IsTrue}
 use Rattle.std.specs.List.{Contains}
 use Rattle.std.specs.List.Sorted.{IsStrictlyIncreasing}
 use Rattle.std.proofs.lemmas.List.{length-map}
-use Rattle.cd_base.specs.declared.ids.CloudNo.{CloudNo}
-use Rattle.cd_edges.specs.Ports.{Telling}
-use Rattle.user_dedup.proofs.Owned.{contains_here, contains_nothing}
-use Rattle.user_dedup.specs.Link.{LinkTelling, Talk}
+use Rattle.ports_link.specs.CdBase.ids.CloudNo.{CloudNo}
+use Rattle.ports_link.specs.CdEdges.Ports.{Telling}
+use Rattle.ports_link.proofs.UserDedup.Owned.{contains_here, contains_nothing}
+use Rattle.ports_link.specs.UserDedup.Link.{LinkTelling, Talk}
 use Rattle.ports_link.specs.declared.link.PortsLink.{PortsLink}
 use Rattle.ports_link.specs.Lines.{lines_for}
 use Rattle.ports_link.specs.Tells.{HasTalk, telling}
-use Rattle.restore_job.proofs.Speaking.{unlost_as}
-use Rattle.restore_job.specs.Brought.{Brought}
-use Rattle.restore_job.specs.declared.error.RestoreErr.{RestoreErr}
-use Rattle.restore_job.specs.declared.error.RestoreErr.TheVariants as errors
+use Rattle.subset_restore.proofs.RestoreJob.Speaking.{unlost_as}
+use Rattle.subset_restore.specs.RestoreJob.Brought.{Brought}
+use Rattle.subset_restore.specs.RestoreJob.error.RestoreErr.{RestoreErr}
+use Rattle.subset_restore.specs.RestoreJob.error.RestoreErr.TheVariants as errors
 use Rattle.ports_link.specs.Hellos.{HaveTalks, clouds_of}
 use Rattle.ports_link.specs.declared.greeting.Greeted.{Greeted}
 use Rattle.subset_restore.specs.Subsets.{subsets}
 use Rattle.subset_restore.specs.Tries.{Try, GoneThrough, NoneYet, Passed, Refused, HoldsRefuser}
-use Rattle.subset_restore.specs.Ends.{AllRefused, AnyEnds, Came, NoneCame, OneRestore}
+use Rattle.subset_restore.specs.Ends.{AllRefused, AnyEnds, HasFileCome, NoneCame, OneRestore}
 use Rattle.subset_restore.proofs.Calling.{none_by}
 use Rattle.subset_restore.proofs.Choices.{only_choice, subset_among}
 use Rattle.subset_restore.proofs.Elements.{all_of, contains_back, contains_front, of_all}
 use Rattle.restore_command.proofs.Lists.{Apart, apart}
-use Rattle.restore_command.specs.Calls.{Call, named_in}
+use Rattle.restore_command.specs.Calls.{RestoreCall, named_in}
 use Rattle.restore_command.specs.Spoken.{none_ended}
 use Rattle.restore_command.specs.Tried.{AreRefused, CameBy, FileFrom, IsFetch, IsStop, NotFrom}
 use Rattle.restore_command.proofs.Choosing.{Chosen, choose, same_lines}
@@ -73,7 +73,7 @@ no_more (x ∷ more) few = absurd (omega arith)
 -- ---- by the result
 
 -- an error of which no choice gave the file
-came_not : (call : Call) (greeted : Greeted) (behind : Telling) (file : List ℕ) (e : RestoreErr)
+came_not : (call : RestoreCall) (greeted : Greeted) (behind : Telling) (file : List ℕ) (e : RestoreErr)
     → NotFrom call greeted behind e
     → (let r : Result (Unit {0}) RestoreErr = Err e in CameBy call greeted behind r file)
 came_not call greeted behind file (errors.Missing c) is = is
@@ -90,7 +90,7 @@ came_not call greeted behind file (errors.BadSecret secret named found) is = is
 came_not call greeted behind file (errors.BadPad secret at byte) is = is
 came_not call greeted behind file errors.NoMemory is = tt
 
-module _ {P : Type 0} (tells : P → Telling) (faults : P → ℕ) (start : PortsLink P) (greeted : Greeted) (call : Call)
+module _ {P : Type 0} (tells : P → Telling) (faults : P → ℕ) (start : PortsLink P) (greeted : Greeted) (call : RestoreCall)
     (bytes : List ℕ) (none : bytes ≡ [])
     (first : start.lines.items.items ≡ lines_for greeted.lines.items)
     (reach : AreReachedBy (lines_for greeted.lines.items) greeted.lines.items)
@@ -125,7 +125,7 @@ module _ {P : Type 0} (tells : P → Telling) (faults : P → ℕ) (start : Port
   all_lines chosen = same_lines items chosen.lines items differ chosen.among (all_of (Contains items) items (λ x has. has))
       chosen.clouds
 
-  file_from : (file : List ℕ) → Came t talk (wanted tells faults start greeted call bytes first reach rises) start end bytes file
+  file_from : (file : List ℕ) → HasFileCome t talk (wanted tells faults start greeted call bytes first reach rises) start end bytes file
       → FileFrom call greeted behind file
   file_from file came =
       let within : (x : List ℕ) → Contains came.front x → Contains choices x = λ x has.

@@ -5,23 +5,23 @@ use Rattle.std.specs.List.{AllByRecursion}
 use Rattle.std.proofs.lemmas.Bool.{cases_lt}
 use Rattle.std.proofs.lemmas.List.{take_all, drop_all, drop-drop, length-map, get_or_append_left, get_or-append-add}
 use Rattle.sha2.specs.Sha256.{sha256 as sha256_of}
-use Rattle.cd_base.specs.Lengths.{share_len_of}
-use Rattle.cd_base.specs.declared.ids.CloudNo.{CloudNo}
-use Rattle.cd_base.specs.declared.ids.Fp.{Fp}
-use Rattle.cd_base.specs.declared.ids.UserId.{UserId}
-use Rattle.cd_base.specs.declared.shape.Shape.{Shape}
-use Rattle.messages.specs.ReplyReading.{reply_at}
-use Rattle.messages.specs.Requests.{IsRequest}
-use Rattle.messages.specs.declared.reply.Reply.TheVariants as replies
-use Rattle.messages.specs.declared.request.Request.TheVariants as requests
-use Rattle.recipe.specs.declared.items.Item.{Item}
-use Rattle.recipe.specs.declared.recipe.Recipe.{Recipe}
-use Rattle.user_dedup.specs.Owning.{fps_in}
-use Rattle.restore_job.specs.Exchanges.{Exchange, items_at}
-use Rattle.restore_job.specs.Restored.{item_of}
-use Rattle.restore_job.specs.Steps.{NamesKind, NoShares, Refuses, Takes, IsShareOf}
-use Rattle.restore_job.specs.declared.error.RestoreErr.{RestoreErr}
-use Rattle.restore_job.specs.declared.error.RestoreErr.TheVariants as errors
+use Rattle.ports_link.specs.CdBase.Lengths.{share_len_of}
+use Rattle.ports_link.specs.CdBase.ids.CloudNo.{CloudNo}
+use Rattle.ports_link.specs.CdBase.ids.Fp.{Fp}
+use Rattle.ports_link.specs.CdBase.ids.UserId.{UserId}
+use Rattle.ports_link.specs.CdBase.shape.Shape.{Shape}
+use Rattle.ports_link.specs.Messages.ReplyReading.{reply_at}
+use Rattle.ports_link.specs.Messages.Requests.{IsRequest}
+use Rattle.ports_link.specs.Messages.reply.Reply.TheVariants as replies
+use Rattle.ports_link.specs.Messages.request.Request.TheVariants as requests
+use Rattle.subset_restore.specs.Recipe.items.Item.{Item}
+use Rattle.subset_restore.specs.Recipe.recipe.Recipe.{Recipe}
+use Rattle.ports_link.specs.UserDedup.Owning.{fps_in}
+use Rattle.subset_restore.specs.RestoreJob.Exchanges.{CloudExchange, items_at}
+use Rattle.subset_restore.specs.RestoreJob.Restored.{item_of}
+use Rattle.subset_restore.specs.RestoreJob.Steps.{NamesKind, NoShares, Refuses, Takes, IsShareOf}
+use Rattle.subset_restore.specs.RestoreJob.error.RestoreErr.{RestoreErr}
+use Rattle.subset_restore.specs.RestoreJob.error.RestoreErr.TheVariants as errors
 use Rattle.restore_command.specs.Talks.{with_cloud, sent_in, received_in}
 use Rattle.restore_command.specs.Fetched.{AskShares, BringShares, Each, NoMore, OneMore, row, string_of}
 use Rattle.restore_command.specs.Stopped.{EachUntil, There, Further}
@@ -111,7 +111,7 @@ until_joined Is b _ _ _ _ f g h long are (OneMore c r s clouds recipes ss p ps) 
 
 module _ (shape : Shape) (user : UserId) (firsts : List Item) where
   -- it was asked for the shares of n items, and gave them
-  pub record GaveFrom (place n : ℕ) (log : List Exchange) (cloud : CloudNo) (recipe : Recipe)
+  pub record GaveFrom (place n : ℕ) (log : List CloudExchange) (cloud : CloudNo) (recipe : Recipe)
       (strings : List (List ℕ)) : Type 0 where
     pub asked : AskShares user (take n (drop place (fps_in recipe.items))) (sent_in log cloud.0)
     pub brought : BringShares strings (received_in log cloud.0)
@@ -119,7 +119,7 @@ module _ (shape : Shape) (user : UserId) (firsts : List Item) where
     pub shares : (i : ℕ) → i < n → IsShareOf shape firsts recipe.items place strings i
 
   -- it gave the shares of m items, and refused the next n
-  pub record RefusedFrom (place m n : ℕ) (log : List Exchange) (e : RestoreErr) (cloud : CloudNo) (recipe : Recipe)
+  pub record RefusedFrom (place m n : ℕ) (log : List CloudExchange) (e : RestoreErr) (cloud : CloudNo) (recipe : Recipe)
       (strings : List (List ℕ)) : Type 0 where
     pub asked : AskShares user (take (m + n) (drop place (fps_in recipe.items))) (sent_in log cloud.0)
     pub heard : List (List ℕ)
@@ -163,24 +163,24 @@ module _ (shape : Shape) (user : UserId) (firsts : List Item) where
   NamesAt place m n e cloud recipe strings = ⊥
 
   -- it brought strings for m + n items, of which one of the last n is no share
-  pub record WrongFrom (place m n : ℕ) (log : List Exchange) (e : RestoreErr) (cloud : CloudNo) (recipe : Recipe)
+  pub record WrongFrom (place m n : ℕ) (log : List CloudExchange) (e : RestoreErr) (cloud : CloudNo) (recipe : Recipe)
       (strings : List (List ℕ)) : Type 0 where
     pub asked : AskShares user (take (m + n) (drop place (fps_in recipe.items))) (sent_in log cloud.0)
     pub brought : BringShares strings (received_in log cloud.0)
     pub long : length strings ≡ m + n
     pub names : NamesAt place m n e cloud recipe strings
 
-  abbrev pub StopsFrom : ℕ → ℕ → ℕ → List Exchange → RestoreErr → CloudNo → Recipe → List (List ℕ) → Type 0
+  abbrev pub StopsFrom : ℕ → ℕ → ℕ → List CloudExchange → RestoreErr → CloudNo → Recipe → List (List ℕ) → Type 0
   StopsFrom place m n log e cloud recipe strings = RefusedFrom place m n log e cloud recipe strings
       ⊎ WrongFrom place m n log e cloud recipe strings
 
   -- ---- none yet
 
-  pub gave_none : (place : ℕ) (log : List Exchange) (c : CloudNo) (r : Recipe) (s : List (List ℕ))
+  pub gave_none : (place : ℕ) (log : List CloudExchange) (c : CloudNo) (r : Recipe) (s : List (List ℕ))
       → with_cloud log c.0 ≡ [] → s ≡ [] → GaveFrom place 0 log c r s
   gave_none place log c r s none empty = record {
-    asked = subst (λ (l : List Exchange). AskShares user [] (map (λ (x : Exchange). x.request) l)) (sym none) refl;
-    brought = subst (λ (l : List Exchange). BringShares s (map (λ (x : Exchange). x.reply) l)) (sym none) empty;
+    asked = subst (λ (l : List CloudExchange). AskShares user [] (map (λ (x : CloudExchange). x.request) l)) (sym none) refl;
+    brought = subst (λ (l : List CloudExchange). BringShares s (map (λ (x : CloudExchange). x.reply) l)) (sym none) empty;
     long = ap length empty;
     shares = λ i l. absurd (omega arith);
   }
@@ -221,11 +221,11 @@ module _ (shape : Shape) (user : UserId) (firsts : List Item) where
   abbrev pub SameCount : Recipe → Type 0
   SameCount recipe = length recipe.items ≡ length firsts
 
-  module _ (place b : ℕ) (one two : List Exchange) (within : place < length firsts)
+  module _ (place b : ℕ) (one two : List CloudExchange) (within : place < length firsts)
       (size : b ≡ min 256 (length firsts - place)) where
     mine : (c : CloudNo) (r : Recipe) (s : List (List ℕ)) (g : BatchOf shape user firsts place b one c r s)
         → with_cloud (one ++ two) c.0 ≡ g.x ∷ with_cloud two c.0
-    mine c r s g = with_append one two c.0 ∙ ap (λ (l : List Exchange). l ++ with_cloud two c.0) g.mine
+    mine c r s g = with_append one two c.0 ∙ ap (λ (l : List CloudExchange). l ++ with_cloud two c.0) g.mine
 
     asked_more : (n : ℕ) (c : CloudNo) (r : Recipe) (s : List (List ℕ)) → SameCount r → place + b + n ≤ length firsts
         → BatchOf shape user firsts place b one c r s
@@ -237,8 +237,8 @@ module _ (shape : Shape) (user : UserId) (firsts : List Item) where
         let left : length (drop place fps) ≡ length firsts - place = length-drop place fps ∙ ap (λ (m : ℕ). m - place)
         long in
         let cut = cut_at (drop place fps) b n (size ∙ ap (min 256) (sym left)) (omega arith) (omega arith) in
-        subst (λ (l : List Exchange). AskShares user (take (b + n) (drop place fps))
-        (map (λ (x : Exchange). x.request) l)) (sym (mine c r s g)) (
+        subst (λ (l : List CloudExchange). AskShares user (take (b + n) (drop place fps))
+        (map (λ (x : CloudExchange). x.request) l)) (sym (mine c r s g)) (
           cut.some,
           subst (λ (f : List Fp). IsRequest g.x.request (requests.GetShares user f)) (fps_part place b r.items
               ∙ sym cut.first) g.asked,
@@ -267,7 +267,7 @@ module _ (shape : Shape) (user : UserId) (firsts : List Item) where
         → GaveFrom (place + b) n two c r t → GaveFrom place (b + n) (one ++ two) c r (s ++ t)
     gave_more n fits c r s t same g h = record {
       asked = asked_more n c r s same fits g h.asked;
-      brought = subst (λ (l : List Exchange). BringShares (s ++ t) (map (λ (x : Exchange). x.reply) l))
+      brought = subst (λ (l : List CloudExchange). BringShares (s ++ t) (map (λ (x : CloudExchange). x.reply) l))
           (sym (mine c r s g)) (brought_more n c r s t g (received_in two c.0) h.long fits h.brought);
       long = let one = g.long in let two = h.long in omega (arith, length-append s t);
       shares = shares_joined r.items place b n s t g.long g.shares h.shares;
@@ -283,7 +283,7 @@ module _ (shape : Shape) (user : UserId) (firsts : List Item) where
               sum (asked_more (m + n) c r s same fits g h.asked);
           heard = g.x.reply ∷ h.heard;
           reply = h.reply;
-          in_order = ap (map (λ (x : Exchange). x.reply)) (mine c r s g) ∙ ap (λ (l : List (List ℕ)). g.x.reply ∷ l)
+          in_order = ap (map (λ (x : CloudExchange). x.reply)) (mine c r s g) ∙ ap (λ (l : List (List ℕ)). g.x.reply ∷ l)
               h.in_order;
           brought = brought_more m c r s t g h.heard h.long (omega arith) h.brought;
           long = let one = g.long in let two = h.long in omega (arith, length-append s t);
@@ -359,7 +359,7 @@ module _ (shape : Shape) (user : UserId) (firsts : List Item) where
         record {
           asked = subst (λ (k : ℕ). AskShares user (take k (drop place (fps_in r.items))) (sent_in (one ++ two) c.0))
               sum (asked_more (m + n) c r s same fits g h.asked);
-          brought = subst (λ (l : List Exchange). BringShares (s ++ t) (map (λ (x : Exchange). x.reply) l))
+          brought = subst (λ (l : List CloudExchange). BringShares (s ++ t) (map (λ (x : CloudExchange). x.reply) l))
               (sym (mine c r s g)) (brought_more (m + n) c r s t g (received_in two c.0) h.long fits h.brought);
           long = let one = g.long in let two = h.long in omega (arith, length-append s t);
           names = names_more m n e c r s t g h.names;
@@ -373,9 +373,9 @@ module _ (shape : Shape) (user : UserId) (firsts : List Item) where
 
   -- ---- the batch at which it stops
 
-  module _ (place n : ℕ) (log : List Exchange) (within : place < length firsts)
+  module _ (place n : ℕ) (log : List CloudExchange) (within : place < length firsts)
       (size : n ≡ min 256 (length firsts - place)) where
-    asked_one : (x : Exchange) (c : CloudNo) (r : Recipe) → SameCount r → with_cloud log c.0 ≡ x ∷ []
+    asked_one : (x : CloudExchange) (c : CloudNo) (r : Recipe) → SameCount r → with_cloud log c.0 ≡ x ∷ []
         → IsRequest x.request (requests.GetShares user (fps_in (items_at place n r.items)))
         → AskShares user (take n (drop place (fps_in r.items))) (sent_in log c.0)
     asked_one x c r same is asked =
@@ -385,7 +385,7 @@ module _ (shape : Shape) (user : UserId) (firsts : List Item) where
         long in
         let cut = cut_at (drop place fps) n 0 (size ∙ ap (min 256) (sym left)) (omega arith) (omega arith) in
         let none : n + 0 ≡ n = omega arith in
-        subst (λ (l : List Exchange). AskShares user (take n (drop place fps)) (map (λ (x : Exchange). x.request) l))
+        subst (λ (l : List CloudExchange). AskShares user (take n (drop place fps)) (map (λ (x : CloudExchange). x.request) l))
         (sym is)
         (subst (λ (k : ℕ). AskShares user (take k (drop place fps)) (x.request ∷ [])) none (
           cut.some,
@@ -394,10 +394,10 @@ module _ (shape : Shape) (user : UserId) (firsts : List Item) where
           cut.others,
         ))
 
-    brought_one : (x : Exchange) (c : CloudNo) (s : List (List ℕ)) → with_cloud log c.0 ≡ x ∷ [] → length s ≡ n
+    brought_one : (x : CloudExchange) (c : CloudNo) (s : List (List ℕ)) → with_cloud log c.0 ≡ x ∷ [] → length s ≡ n
         → reply_at x.reply ≡ Ok (replies.Shares s) → BringShares s (received_in log c.0)
     brought_one x c s is long came =
-        subst (λ (l : List Exchange). BringShares s (map (λ (x : Exchange). x.reply) l)) (sym is) (
+        subst (λ (l : List CloudExchange). BringShares s (map (λ (x : CloudExchange). x.reply) l)) (sym is) (
           not_empty s (omega arith),
           came ∙ ap (λ (l : List (List ℕ)). Ok (replies.Shares l)) (sym (take_all 256 s (omega arith))),
           drop_all 256 s (omega arith),
@@ -421,7 +421,7 @@ module _ (shape : Shape) (user : UserId) (firsts : List Item) where
               (asked_one g.x c r same g.mine g.asked);
           heard = [];
           reply = g.x.reply;
-          in_order = ap (map (λ (x : Exchange). x.reply)) g.mine;
+          in_order = ap (map (λ (x : CloudExchange). x.reply)) g.mine;
           brought = g.none;
           long = ap length g.none;
           shares = λ i l. absurd (omega arith);

@@ -5,22 +5,22 @@ use Rattle.std.specs.Prelude.{All}
 use Rattle.std.specs.List.Sorted.{IsStrictlyIncreasing}
 use Rattle.std.proofs.lemmas.List.{get_or-set_same, get_or-set_other, length-replicate}
 use Rattle.std.proofs.lemmas.List.Elements.{All-nil, All-cons, All-head, All-tail, All-weaker}
-use Rattle.cd_base.specs.Numbers.{numbers_of}
-use Rattle.cd_base.specs.declared.ids.CloudNo.{CloudNo}
-use Rattle.cd_base.specs.declared.shape.Shape.{Shape}
-use Rattle.user_dedup.proofs.Owned.{contains_here, contains_later, contains_cases, contains_nothing}
-use Rattle.ports_link.specs.declared.lines.Line.{Line}
+use Rattle.ports_link.specs.CdBase.Numbers.{numbers_of}
+use Rattle.ports_link.specs.CdBase.ids.CloudNo.{CloudNo}
+use Rattle.ports_link.specs.CdBase.shape.Shape.{Shape}
+use Rattle.ports_link.proofs.UserDedup.Owned.{contains_here, contains_later, contains_cases, contains_nothing}
+use Rattle.ports_link.specs.declared.lines.CloudLine.{CloudLine}
 use Rattle.ports_link.specs.Lines.{line_of, lines_for, no_line, with_ports}
 use Rattle.ports_link.specs.Hellos.{clouds_of}
 use Rattle.restore_command.proofs.Lists.{Apart, NoneIs, apart}
 use Rattle.restore_command.specs.Calls.{named_in, ports_of}
 use Rattle.restore_command.proofs.Passing.{AreOn}
 
-abbrev pub line_on : ℕ → Line
+abbrev pub line_on : ℕ → CloudLine
 line_on port = record { port = Some port; ended = false }
 
 -- each of these clouds is reached on its port
-abbrev pub AreReachedBy : List Line → List (CloudNo × ℕ) → Type 0
+abbrev pub AreReachedBy : List CloudLine → List (CloudNo × ℕ) → Type 0
 AreReachedBy lines named = All (λ (line : CloudNo × ℕ). line_of lines line.0.0 ≡ line_on line.1) named
 
 -- ---- clouds
@@ -42,14 +42,14 @@ same_clouds (x ∷ a) (y ∷ b) e =
 
 -- ---- lines
 
-kept_line : (base : List Line) (lines : List (CloudNo × ℕ)) (cloud : ℕ) → NoneIs cloud (named_in lines)
+kept_line : (base : List CloudLine) (lines : List (CloudNo × ℕ)) (cloud : ℕ) → NoneIs cloud (named_in lines)
     → line_of (with_ports base lines) cloud ≡ line_of base cloud
 kept_line base [] cloud none = refl
 kept_line base (line ∷ lines) cloud none =
     kept_line (set base line.0.0 (line_on line.1)) lines cloud none.1
     ∙ get_or-set_other base line.0.0 cloud (line_on line.1) no_line none.0
 
-reached_by : (base : List Line) (lines : List (CloudNo × ℕ)) → length base ≡ 256
+reached_by : (base : List CloudLine) (lines : List (CloudNo × ℕ)) → length base ≡ 256
     → All (λ cloud. cloud < 256) (clouds_of lines) → Apart (named_in lines) → AreReachedBy (with_ports base lines) lines
 reached_by base [] long few differ = All-nil _
 reached_by base (line ∷ lines) long few differ =
@@ -64,7 +64,7 @@ reached_by base (line ∷ lines) long few differ =
     (reached_by next lines (length-set base line.0.0 (line_on line.1) ∙ long) (All-tail (λ cloud. cloud < 256) line.0.0
     (clouds_of lines) few) differ.1)
   where
-    next : List Line
+    next : List CloudLine
     next = set base line.0.0 (line_on line.1)
 
 pub lines_reach : (lines : List (CloudNo × ℕ)) → All (λ cloud. cloud < 256) (clouds_of lines)
@@ -73,14 +73,14 @@ lines_reach lines few rises = reached_by (replicate 256 no_line) lines (length-r
     (apart (named_in lines) (subst IsStrictlyIncreasing (sym (numbers_in lines)) rises))
 
 -- each cloud is reached on one of the ports
-pub on_ports : (all : List Line) (lines : List (CloudNo × ℕ)) → AreReachedBy all lines
+pub on_ports : (all : List CloudLine) (lines : List (CloudNo × ℕ)) → AreReachedBy all lines
     → AreOn all (clouds_of lines) (ports_of lines)
 on_ports all [] reach cloud has = absurd (contains_nothing cloud has)
 on_ports all (line ∷ lines) reach cloud has = elim (contains_cases line.0.0 (clouds_of lines) cloud has) [
   | inl here ↦ (
     line.1,
     ap (λ (n : ℕ). (line_of all n).port) (sym here)
-        ∙ ap (λ (l : Line). l.port) (All-head (λ (l : CloudNo × ℕ). line_of all l.0.0 ≡ line_on l.1) line lines reach),
+        ∙ ap (λ (l : CloudLine). l.port) (All-head (λ (l : CloudNo × ℕ). line_of all l.0.0 ≡ line_on l.1) line lines reach),
     contains_here line.1 (ports_of lines),
   )
   | inr later ↦

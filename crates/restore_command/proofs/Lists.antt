@@ -7,30 +7,30 @@ use Rattle.std.proofs.lemmas.Bool.{ne_eqb, cases_lt}
 use Rattle.std.proofs.Math.Seq.{take-add}
 use Rattle.std.proofs.lemmas.List.{take_all, take_at, drop_at, drop_all, take-map, drop-map}
 use Rattle.std.proofs.lemmas.List.Elements.{filter-append}
-use Rattle.cd_base.specs.Numbers.{numbers_of}
-use Rattle.cd_base.specs.declared.ids.CloudNo.{CloudNo}
-use Rattle.cd_base.specs.declared.ids.Fp.{Fp}
-use Rattle.recipe.specs.declared.items.Item.{Item}
-use Rattle.user_dedup.specs.Owning.{fps_in}
-use Rattle.restore_job.specs.Brought.{in_a_row}
-use Rattle.restore_job.specs.Exchanges.{Exchange, items_at}
+use Rattle.ports_link.specs.CdBase.Numbers.{numbers_of}
+use Rattle.ports_link.specs.CdBase.ids.CloudNo.{CloudNo}
+use Rattle.ports_link.specs.CdBase.ids.Fp.{Fp}
+use Rattle.subset_restore.specs.Recipe.items.Item.{Item}
+use Rattle.ports_link.specs.UserDedup.Owning.{fps_in}
+use Rattle.subset_restore.specs.RestoreJob.Brought.{in_a_row}
+use Rattle.subset_restore.specs.RestoreJob.Exchanges.{CloudExchange, items_at}
 use Rattle.restore_command.specs.Talks.{with_cloud}
 
 -- ---- logs
 
-pub with_here : (x : Exchange) (log : List Exchange) (cloud : ℕ) → x.cloud ≡ cloud → with_cloud (x ∷ log) cloud
+pub with_here : (x : CloudExchange) (log : List CloudExchange) (cloud : ℕ) → x.cloud ≡ cloud → with_cloud (x ∷ log) cloud
     ≡ x ∷ with_cloud log cloud
 with_here x log cloud e = ap (λ (b : Bool). cond b (x ∷ with_cloud log cloud) (with_cloud log cloud))
     (eq-eqb x.cloud cloud e)
 
-pub with_other : (x : Exchange) (log : List Exchange) (cloud : ℕ) → x.cloud ≢ cloud → with_cloud (x ∷ log) cloud
+pub with_other : (x : CloudExchange) (log : List CloudExchange) (cloud : ℕ) → x.cloud ≢ cloud → with_cloud (x ∷ log) cloud
     ≡ with_cloud log cloud
 with_other x log cloud e = ap (λ (b : Bool). cond b (x ∷ with_cloud log cloud) (with_cloud log cloud))
     (ne_eqb x.cloud cloud e)
 
-pub with_append : (one two : List Exchange) (cloud : ℕ) → with_cloud (one ++ two) cloud ≡ with_cloud one cloud ++
+pub with_append : (one two : List CloudExchange) (cloud : ℕ) → with_cloud (one ++ two) cloud ≡ with_cloud one cloud ++
     with_cloud two cloud
-with_append one two cloud = filter-append (λ (x : Exchange). x.cloud == cloud) one two
+with_append one two cloud = filter-append (λ (x : CloudExchange). x.cloud == cloud) one two
 
 -- ---- clouds that differ
 

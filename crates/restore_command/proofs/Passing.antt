@@ -3,18 +3,18 @@ use Rattle.std.proofs.Common.{◌≡◌, ◌≢◌, ◌⊎◌, ℕ, true, false,
 use Rattle.std.specs.Prelude.{IsTrue}
 use Rattle.std.specs.List.{Contains}
 use Rattle.std.proofs.lemmas.Bool.{cases_eq}
-use Rattle.cd_edges.specs.Ports.{Telling}
-use Rattle.messages.specs.ReplyReading.{reply_at, reply_left}
-use Rattle.messages.specs.declared.reply.Reply.{Reply}
-use Rattle.user_dedup.specs.Link.{Exchange, Passes, ReadsFrom}
+use Rattle.ports_link.specs.CdEdges.Ports.{Telling}
+use Rattle.ports_link.specs.Messages.ReplyReading.{reply_at, reply_left}
+use Rattle.ports_link.specs.Messages.reply.Reply.{Reply}
+use Rattle.ports_link.specs.UserDedup.Link.{Exchange, Passes, ReadsFrom}
 use Rattle.ports_link.specs.declared.link.PortsLink.{PortsLink}
-use Rattle.ports_link.specs.declared.lines.Line.{Line}
+use Rattle.ports_link.specs.declared.lines.CloudLine.{CloudLine}
 use Rattle.ports_link.specs.Lines.{AsksOn, Hears, Ends, Deaf, line_of}
 use Rattle.ports_link.specs.Tells.{IsHeard, telling}
-use Rattle.restore_job.specs.Asking.{IsReadable}
+use Rattle.subset_restore.specs.RestoreJob.Asking.{IsReadable}
 
 -- each of these clouds is reached on one of these ports
-abbrev pub AreOn : List Line → List ℕ → List ℕ → Type 0
+abbrev pub AreOn : List CloudLine → List ℕ → List ℕ → Type 0
 AreOn lines named ports = (cloud : ℕ) → Contains named cloud
     → (port : ℕ) × ((line_of lines cloud).port ≡ Some port) × Contains ports port
 
@@ -24,11 +24,11 @@ unfolding reply_at reply_left
 not_empty r e = cc
 
 -- a line on which a reply came that can be read goes on as it was
-still_open : (old new : Telling) (port : ℕ) (before after : Line) (request reply : List ℕ) (answer : Reply)
+still_open : (old new : Telling) (port : ℕ) (before after : CloudLine) (request reply : List ℕ) (answer : Reply)
     → AsksOn old new port before after request reply → reply_at reply ≡ Ok answer → before.ended ≡ false
     → after.ended ≡ false
 still_open old new port before after request reply answer (Hears live same replied) is open_so =
-    ap (λ (l : Line). l.ended) same ∙ open_so
+    ap (λ (l : CloudLine). l.ended) same ∙ open_so
 still_open old new port before after request reply answer (Ends live now none broke) is open_so =
     absurd (not_empty answer (subst (λ (l : List ℕ). reply_at l ≡ Ok answer) none is))
 still_open old new port before after request reply answer (Deaf dead same none sent) is open_so =
@@ -108,4 +108,4 @@ module _ {P : Type 0} (tells : P → Telling) (faults : P → ℕ) where
 
       by_cloud : (cloud ≡ e.cloud) ⊎ (cloud ≡ e.cloud → ⊥) → (line_of chain.1.0.lines.items.items cloud).ended ≡ false
       by_cloud (inl same) = here cloud (sym same) on open_so not
-      by_cloud (inr ne) = ap (λ (l : Line). l.ended) (chain.1.1.apart cloud ne) ∙ open_so
+      by_cloud (inr ne) = ap (λ (l : CloudLine). l.ended) (chain.1.1.apart cloud ne) ∙ open_so

@@ -4,22 +4,22 @@ use Rattle.std.specs.Prelude.{min}
 use Rattle.std.specs.List.{AllByRecursion}
 use Rattle.std.proofs.lemmas.Bool.{cases_lt}
 use Rattle.std.proofs.lemmas.List.{get_or_push, length_push}
-use Rattle.cd_base.specs.declared.ids.CloudNo.{CloudNo}
-use Rattle.cd_base.specs.declared.ids.UserId.{UserId}
-use Rattle.cd_base.specs.declared.shape.Shape.{Shape}
-use Rattle.caont_rs.specs.Opening.{opened}
-use Rattle.caont_rs.specs.declared.opening.RecoverErr.{RecoverErr}
-use Rattle.caont_rs.specs.declared.opening.RecoverErr.TheVariants as opening
-use Rattle.recipe.specs.declared.items.Item.{Item}
-use Rattle.recipe.specs.declared.recipe.Recipe.{Recipe}
-use Rattle.restore_job.specs.Brought.{in_a_row}
-use Rattle.restore_job.specs.Exchanges.{Exchange, OpenedTo, NoneOpened, OneOpened, OpensBatch, BatchRun, BatchOpened, BatchUnread, ItemsRun, ItemsDone, ItemsNext, ItemsStop}
-use Rattle.restore_job.specs.Restored
-use Rattle.restore_job.specs.Restored.{Unrestored, item_of, of_secret}
-use Rattle.restore_job.specs.Steps.{OpensTo, room_of}
-use Rattle.restore_job.specs.declared.error.RestoreErr.{RestoreErr}
-use Rattle.restore_job.specs.declared.error.RestoreErr.TheVariants as errors
-use Rattle.restore_job.proofs.Bringing.{opened_is}
+use Rattle.ports_link.specs.CdBase.ids.CloudNo.{CloudNo}
+use Rattle.ports_link.specs.CdBase.ids.UserId.{UserId}
+use Rattle.ports_link.specs.CdBase.shape.Shape.{Shape}
+use Rattle.subset_restore.specs.CaontRs.Opening.{opened}
+use Rattle.subset_restore.specs.CaontRs.opening.RecoverErr.{RecoverErr}
+use Rattle.subset_restore.specs.CaontRs.opening.RecoverErr.TheVariants as opening
+use Rattle.subset_restore.specs.Recipe.items.Item.{Item}
+use Rattle.subset_restore.specs.Recipe.recipe.Recipe.{Recipe}
+use Rattle.subset_restore.specs.RestoreJob.Brought.{in_a_row}
+use Rattle.subset_restore.specs.RestoreJob.Exchanges.{CloudExchange, OpenedTo, NoneOpened, OneOpened, OpensBatch, BatchRun, BatchOpened, BatchUnread, ItemsRun, ItemsDone, ItemsNext, ItemsStop}
+use Rattle.subset_restore.specs.RestoreJob.Restored
+use Rattle.subset_restore.specs.RestoreJob.Restored.{Unrestored, item_of, of_secret}
+use Rattle.subset_restore.specs.RestoreJob.Steps.{OpensTo, room_of}
+use Rattle.subset_restore.specs.RestoreJob.error.RestoreErr.{RestoreErr}
+use Rattle.subset_restore.specs.RestoreJob.error.RestoreErr.TheVariants as errors
+use Rattle.subset_restore.proofs.RestoreJob.Bringing.{opened_is}
 use Rattle.restore_command.specs.Talks.{with_cloud}
 use Rattle.restore_command.specs.Fetched.{Each, NoMore, OneMore, row, string_of}
 use Rattle.restore_command.specs.Stopped.{EachUntil, There, Further}
@@ -139,7 +139,7 @@ module _ (shape : Shape) (user : UserId) (firsts : List Item) (points : List ℕ
 
   -- ---- a batch
 
-  pub data BatchStopped (place n : ℕ) (log : List Exchange) (e : RestoreErr) : Type 0 where
+  pub data BatchStopped (place n : ℕ) (log : List CloudExchange) (e : RestoreErr) : Type 0 where
     SharesOf : (all : List (List (List ℕ))) → EachUntil (BatchOf shape user firsts place n log)
         (StopsOf shape user firsts place n log e) (UnaskedOf shape user firsts place n log) clouds recipes all
         → BatchStopped place n log e
@@ -147,12 +147,12 @@ module _ (shape : Shape) (user : UserId) (firsts : List Item) (points : List ℕ
         → j < n → OpensTill place j all → FailsAt e (place + j) (row all j)
         → BatchStopped place n log e
 
-  abbrev pub BatchDone : ℕ → ℕ → List Exchange → List ℕ → List ℕ → Result (Unit {0}) RestoreErr → Type 0
+  abbrev pub BatchDone : ℕ → ℕ → List CloudExchange → List ℕ → List ℕ → Result (Unit {0}) RestoreErr → Type 0
   BatchDone place n log old new (Ok u) = (all : List (List (List ℕ))) × Each (BatchOf shape user firsts place n log)
       clouds recipes all × OpenedFrom place n all old new
   BatchDone place n log old new (Err e) = BatchStopped place n log e
 
-  opened_batch : (place n : ℕ) (log : List Exchange) (filled : List (List ℕ)) (all : List (List (List ℕ)))
+  opened_batch : (place n : ℕ) (log : List CloudExchange) (filled : List (List ℕ)) (all : List (List (List ℕ)))
       (old new : List ℕ) (result : Result (Unit {0}) RestoreErr)
       → Each (BatchOf shape user firsts place n log) clouds recipes all
       → ((j : ℕ) → j < n → room_of filled j ≡ row all j) → OpensBatch shape points firsts filled place n old new
@@ -182,7 +182,7 @@ module _ (shape : Shape) (user : UserId) (firsts : List Item) (points : List ℕ
       (subst (FailsAt e (place + stops.j)) (rows stops.j l) (fails_of e (place + stops.j) (room_of filled stops.j)
       stops.mid new stops.stops))
 
-  batch_run : (place n : ℕ) (log : List Exchange) (old new : List ℕ) (result : Result (Unit {0}) RestoreErr)
+  batch_run : (place n : ℕ) (log : List CloudExchange) (old new : List ℕ) (result : Result (Unit {0}) RestoreErr)
       → Apart clouds → length clouds ≡ length recipes
       → BatchRun shape user clouds points firsts recipes place n log old new result
       → BatchDone place n log old new result
@@ -202,7 +202,7 @@ module _ (shape : Shape) (user : UserId) (firsts : List Item) (points : List ℕ
     pub some : place + m < length firsts
     pub size : n ≡ min 256 (length firsts - (place + m))
 
-  pub data ItemsStopped (place : ℕ) (log : List Exchange) (e : RestoreErr) : Type 0 where
+  pub data ItemsStopped (place : ℕ) (log : List CloudExchange) (e : RestoreErr) : Type 0 where
     SharesStop : (all : List (List (List ℕ))) (m n : ℕ) → BatchAt place m n
         → EachUntil (GaveFrom shape user firsts place (m + n) log) (StopsFrom shape user firsts place m n log e)
         (GaveFrom shape user firsts place m log) clouds recipes all
@@ -211,13 +211,13 @@ module _ (shape : Shape) (user : UserId) (firsts : List Item) (points : List ℕ
         → Each (GaveFrom shape user firsts place (m + n) log) clouds recipes all → m ≤ j → j < m + n
         → OpensTill place j all → FailsAt e (place + j) (row all j) → ItemsStopped place log e
 
-  abbrev pub ItemsCame : ℕ → List Exchange → List ℕ → List ℕ → Result (Unit {0}) RestoreErr → Type 0
+  abbrev pub ItemsCame : ℕ → List CloudExchange → List ℕ → List ℕ → Result (Unit {0}) RestoreErr → Type 0
   ItemsCame place log old new (Ok u) =
       (all : List (List (List ℕ))) × Each (GaveFrom shape user firsts place (length firsts - place) log) clouds
       recipes all × OpenedFrom place (length firsts - place) all old new
   ItemsCame place log old new (Err e) = ItemsStopped place log e
 
-  long_of : (place n : ℕ) (log : List Exchange) (c : CloudNo) (r : Recipe) (s : List (List ℕ))
+  long_of : (place n : ℕ) (log : List CloudExchange) (c : CloudNo) (r : Recipe) (s : List (List ℕ))
       → BatchOf shape user firsts place n log c r s → length s ≡ n
   long_of place n log c r s g = g.long
 
@@ -278,7 +278,7 @@ module _ (shape : Shape) (user : UserId) (firsts : List Item) (points : List ℕ
           let e : b + (i - b) ≡ i = omega arith in
           subst (λ (k : ℕ). (secret : List ℕ) × Opens (place + k) (row all k) secret) e (later (i - b) (omega arith))
 
-  module _ (place b : ℕ) (log more : List Exchange) (within : place < length firsts)
+  module _ (place b : ℕ) (log more : List CloudExchange) (within : place < length firsts)
       (size : b ≡ min 256 (length firsts - place)) (same : AllByRecursion (SameCount shape user firsts) recipes) where
     later_batch : (m n : ℕ) → BatchAt (place + b) m n → BatchAt place (b + m) n
     later_batch m n at =
@@ -361,7 +361,7 @@ module _ (shape : Shape) (user : UserId) (firsts : List Item) (points : List ℕ
   until_on Is _ _ _ f g h is (Further c r s cs rs all before more) = Further c r s cs rs all (f c r s is.0 before)
       (until_on Is cs rs all f g h is.1 more)
 
-  module _ (place n : ℕ) (log : List Exchange) (within : place < length firsts)
+  module _ (place n : ℕ) (log : List CloudExchange) (within : place < length firsts)
       (size : n ≡ min 256 (length firsts - place)) (same : AllByRecursion (SameCount shape user firsts) recipes) where
     first_batch : BatchAt place 0 n
     first_batch =
@@ -408,7 +408,7 @@ module _ (shape : Shape) (user : UserId) (firsts : List Item) (points : List ℕ
         record { secrets = []; count = zero_left; left = sym (append-nil out); opens = λ i l. absurd (omega arith) },
       )
 
-  pub items_came : (place : ℕ) (log : List Exchange) (old new : List ℕ) (result : Result (Unit {0}) RestoreErr)
+  pub items_came : (place : ℕ) (log : List CloudExchange) (old new : List ℕ) (result : Result (Unit {0}) RestoreErr)
       → Apart clouds → length clouds ≡ length recipes → AllByRecursion (SameCount shape user firsts) recipes
       → ItemsRun shape user clouds points firsts recipes place log old new result → ItemsCame place log old new result
   items_came _ _ _ _ _ apart long same (ItemsDone place out past) = items_done place out past long

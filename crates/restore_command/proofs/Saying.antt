@@ -3,23 +3,23 @@ use Rattle.std.proofs.Common.{◌≡◌, ℕ, Bool, true, false, List, [], ◌�
 use Rattle.std.specs.List.{Contains}
 use Rattle.std.specs.List.Sorted.{IsStrictlyIncreasing}
 use Rattle.std.proofs.lemmas.List.Concat.{flat_map-append}
-use Rattle.cd_base.specs.Numbers.{numbers_of}
-use Rattle.cd_base.specs.declared.ids.CloudNo.{CloudNo}
-use Rattle.cd_base.specs.declared.ids.UserId.{UserId}
-use Rattle.cd_base.specs.declared.ids.Version.{Version}
-use Rattle.cd_base.specs.declared.shape.Shape.{Shape}
-use Rattle.frames.specs.Frames.{AreContents, frame, stream}
-use Rattle.cd_edges.specs.Ports.{Telling}
-use Rattle.messages.specs.ReplyReading.{reply_at}
-use Rattle.messages.specs.declared.reply.Reply.{Reply}
-use Rattle.recipe.specs.declared.recipe.Recipe.{Recipe}
-use Rattle.user_dedup.proofs.Owned.{contains_cases, contains_nothing}
-use Rattle.user_dedup.specs.Link.{Talk}
-use Rattle.ports_link.specs.declared.lines.Line.{Line}
+use Rattle.ports_link.specs.CdBase.Numbers.{numbers_of}
+use Rattle.ports_link.specs.CdBase.ids.CloudNo.{CloudNo}
+use Rattle.ports_link.specs.CdBase.ids.UserId.{UserId}
+use Rattle.ports_link.specs.CdBase.ids.Version.{Version}
+use Rattle.ports_link.specs.CdBase.shape.Shape.{Shape}
+use Rattle.ports_link.specs.Frames.Frames.{AreContents, frame, stream}
+use Rattle.ports_link.specs.CdEdges.Ports.{Telling}
+use Rattle.ports_link.specs.Messages.ReplyReading.{reply_at}
+use Rattle.ports_link.specs.Messages.reply.Reply.{Reply}
+use Rattle.subset_restore.specs.Recipe.recipe.Recipe.{Recipe}
+use Rattle.ports_link.proofs.UserDedup.Owned.{contains_cases, contains_nothing}
+use Rattle.ports_link.specs.UserDedup.Link.{Talk}
+use Rattle.ports_link.specs.declared.lines.CloudLine.{CloudLine}
 use Rattle.ports_link.specs.Lines.{line_of}
 use Rattle.ports_link.specs.Tells.{HasComing, HasTalk}
-use Rattle.restore_job.specs.Exchanges.{Exchange, HasSpoken, RestoreSaid, behind_all}
-use Rattle.restore_job.specs.declared.error.RestoreErr.{RestoreErr}
+use Rattle.subset_restore.specs.RestoreJob.Exchanges.{CloudExchange, HasSpoken, RestoreSaid, behind_all}
+use Rattle.subset_restore.specs.RestoreJob.error.RestoreErr.{RestoreErr}
 use Rattle.ports_link.specs.Hellos.{clouds_of}
 use Rattle.restore_command.specs.Fetched.{Each, Fetched, NoMore, OneMore}
 use Rattle.restore_command.specs.Stopped.{Stopped}
@@ -27,7 +27,7 @@ use Rattle.restore_command.specs.Talks.{HasHeard, first_replies, received_in, se
 use Rattle.restore_command.proofs.Talks.{has_heard}
 use Rattle.restore_command.proofs.Whole.{fetched_file, stopped_fetch}
 use Rattle.subset_restore.proofs.Elements.{all_of, of_all}
-use Rattle.restore_command.specs.Calls.{Call, named_in, ports_of, tag_in}
+use Rattle.restore_command.specs.Calls.{RestoreCall, named_in, ports_of, tag_in}
 use Rattle.restore_command.specs.Spoken.{HasTalked, HaveTalked, none_ended}
 use Rattle.restore_command.specs.Tried.{IsFetch, IsStop}
 use Rattle.restore_command.proofs.Choosing.{cloud_of, name_of}
@@ -43,7 +43,7 @@ contents_behind (a ∷ one) two are = contents_behind one two are.1
 some_same : (a b : ℕ) → Some a ≡ Some b → a ≡ b
 some_same a b e = cc
 
-talked : (t u : Telling) (first last : List Line) (line : CloudNo × ℕ) (before after : Talk)
+talked : (t u : Telling) (first last : List CloudLine) (line : CloudNo × ℕ) (before after : Talk)
     (sent received : List (List ℕ))
     → (line_of first line.0.0).port ≡ Some line.1 → (line_of last line.0.0).port ≡ (line_of first line.0.0).port
     → HasTalk t first line.0.0 before → HasTalk u last line.0.0 after → HasHeard before after sent received
@@ -69,7 +69,7 @@ talked t u first last line before after sent received is kept had has h =
 
 -- ---- all clouds
 
-module _ {L : Type 0} (tells : L → Telling) (lines_in : L → List Line) (old new : L) (named : List (CloudNo × ℕ))
+module _ {L : Type 0} (tells : L → Telling) (lines_in : L → List CloudLine) (old new : L) (named : List (CloudNo × ℕ))
     (reach : (line : CloudNo × ℕ) → Contains named line → (line_of (lines_in old) line.0.0).port ≡ Some line.1)
     (kept : (cloud : ℕ) → (line_of (lines_in new) cloud).port ≡ (line_of (lines_in old) cloud).port)
     (talks : (cloud : ℕ) → Contains (clouds_of named) cloud
@@ -81,7 +81,7 @@ module _ {L : Type 0} (tells : L → Telling) (lines_in : L → List Line) (old 
   abbrev talk_in : L → ℕ → Talk → Type 0
   talk_in l cloud before = HasTalk (tells l) (lines_in l) cloud before
 
-  have_talked : (log : List Exchange) → HasSpoken talk_in old new log
+  have_talked : (log : List CloudExchange) → HasSpoken talk_in old new log
       → HaveTalked (tells old) (tells new) named had_ended (sent_in log) (received_in log)
   have_talked log spoken = record {
     each = all_of (λ (line : CloudNo × ℕ). HasTalked (tells old) (tells new) line.1 (had_ended line.0.0)
@@ -96,7 +96,7 @@ module _ {L : Type 0} (tells : L → Telling) (lines_in : L → List Line) (old 
 
   -- ---- by the result
 
-  module _ (call : Call) (shape : Shape) (rises : IsStrictlyIncreasing (clouds_of named)) (bytes file : List ℕ) where
+  module _ (call : RestoreCall) (shape : Shape) (rises : IsStrictlyIncreasing (clouds_of named)) (bytes file : List ℕ) where
     -- the clouds that were chosen are those of the lines
     chosen_in : (chosen : List CloudNo) → numbers_of chosen ≡ clouds_of named → chosen ≡ named_in named
     chosen_in chosen e = same_clouds chosen (named_in named) (e ∙ sym (numbers_in named))
@@ -179,7 +179,7 @@ fresh t u lines had sent received none have = record {
   others = have.others;
 }
 
-pub fetched_fresh : (call : Call) (shape : Shape) (t u : Telling) (lines : List (CloudNo × ℕ)) (had : ℕ → Bool)
+pub fetched_fresh : (call : RestoreCall) (shape : Shape) (t u : Telling) (lines : List (CloudNo × ℕ)) (had : ℕ → Bool)
     (sent received : ℕ → List (List ℕ)) (file : List ℕ) → HaveTalked t u lines had sent received
     → Fetched shape call.user (tag_in shape call.path) call.version (named_in lines) sent received file
     → IsFetch call shape lines t u file
@@ -198,7 +198,7 @@ fetched_fresh call shape t u lines had sent received file have fetched = record 
   fetched = fetched;
 }
 
-pub stop_fresh : (call : Call) (shape : Shape) (t u : Telling) (lines : List (CloudNo × ℕ)) (had : ℕ → Bool)
+pub stop_fresh : (call : RestoreCall) (shape : Shape) (t u : Telling) (lines : List (CloudNo × ℕ)) (had : ℕ → Bool)
     (e : RestoreErr) → ((line : CloudNo × ℕ) → Contains lines line → had line.0.0 ≡ false)
     → IsStop call shape lines had t u e → IsStop call shape lines none_ended t u e
 stop_fresh call shape t u lines had e none stop = record {
@@ -209,7 +209,7 @@ stop_fresh call shape t u lines had e none stop = record {
 }
 
 -- what holds of what was asked for holds of the call
-pub at_call : (Q : UserId → List ℕ → Version → Type 0) (call : Call) (user : UserId) (path : List ℕ) (version : Version)
+pub at_call : (Q : UserId → List ℕ → Version → Type 0) (call : RestoreCall) (user : UserId) (path : List ℕ) (version : Version)
     → call.user ≡ user → call.path ≡ path → call.version ≡ version → Q user path version
     → Q call.user call.path call.version
 at_call Q call user path version e f h q =

@@ -1,24 +1,24 @@
 -- What a fetch came to where the restore itself ended with an error.
 use Rattle.std.proofs.Common.{◌≡◌, ◌≢◌, ℕ, true, false, List, Some, None, Result, Err, inr, refl, subst}
 use Rattle.std.specs.List.{Contains}
-use Rattle.cd_edges.specs.Causes.{Rose}
-use Rattle.cd_edges.specs.Ports.{Telling}
+use Rattle.ports_link.specs.CdEdges.Causes.{Rose}
+use Rattle.ports_link.specs.CdEdges.Ports.{Telling}
 use Rattle.ports_link.specs.Hellos.{clouds_of}
 use Rattle.ports_link.specs.declared.greeting.Greeted.{Greeted}
-use Rattle.restore_job.specs.Asking.{is_loss}
-use Rattle.restore_job.specs.Refusals.{Names}
-use Rattle.restore_job.specs.declared.error.RestoreErr.{RestoreErr}
-use Rattle.restore_job.specs.declared.error.RestoreErr.TheVariants as refused
+use Rattle.subset_restore.specs.RestoreJob.Asking.{is_loss}
+use Rattle.subset_restore.specs.RestoreJob.Refusals.{Names}
+use Rattle.subset_restore.specs.RestoreJob.error.RestoreErr.{RestoreErr}
+use Rattle.subset_restore.specs.RestoreJob.error.RestoreErr.TheVariants as refused
 use Rattle.subset_restore.specs.Refusals.{refusal_of}
-use Rattle.transcript.specs.declared.refusal.Refusal.{Refusal}
+use Rattle.subset_restore.specs.Transcript.refusal.Refusal.{Refusal}
 use Rattle.restore_command.specs.declared.fetching.FetchErr.{FetchErr}
 use Rattle.restore_command.specs.declared.fetching.FetchErr.TheVariants as errors
-use Rattle.restore_command.specs.Calls.{Call, Met}
+use Rattle.restore_command.specs.Calls.{RestoreCall, Met}
 use Rattle.restore_command.specs.Tried.{CameBy, NotFrom}
 use Rattle.restore_command.specs.Ends.{Fetches, IsErrOf}
 
 -- unless memory ran out no choice gave the file
-not_from : (call : Call) (greeted : Greeted) (behind : Telling) (file : List ℕ) (e : RestoreErr)
+not_from : (call : RestoreCall) (greeted : Greeted) (behind : Telling) (file : List ℕ) (e : RestoreErr)
     → e ≢ refused.NoMemory
     → (let came : Result (Unit {0}) RestoreErr = Err e in CameBy call greeted behind came file)
     → NotFrom call greeted behind e
@@ -44,7 +44,7 @@ has_line e why is same =
 is_lost_ask : (e : RestoreErr) → is_loss e ≡ true → e ≢ refused.NoMemory
 is_lost_ask e is same = let never : false ≡ true = subst (λ (x : RestoreErr). is_loss x ≡ true) same is in cc
 
-pub not_fetched : (call : Call) (greeted : Greeted) (behind : Telling) (e : RestoreErr) (file : List ℕ) (f : FetchErr)
+pub not_fetched : (call : RestoreCall) (greeted : Greeted) (behind : Telling) (e : RestoreErr) (file : List ℕ) (f : FetchErr)
     → IsErrOf e f → Met call greeted behind → Names (Contains (clouds_of greeted.lines.items)) e
     → (is_loss e ≡ true → Rose call.faults_before call.faults_after)
     → (let came : Result (Unit {0}) RestoreErr = Err e in CameBy call greeted behind came file)

@@ -3,18 +3,18 @@ use Rattle.std.proofs.Common.{◌≡◌, ◌≢◌, ℕ, false, List, [], ◌∷
 use Rattle.std.specs.Prelude.{IsTrue}
 use Rattle.std.specs.List.{Contains}
 use Rattle.std.specs.List.Sorted.{IsStrictlyIncreasing}
-use Rattle.cd_base.specs.declared.ids.CloudNo.{CloudNo}
-use Rattle.cd_edges.specs.Ports.{Telling}
-use Rattle.user_dedup.specs.Link.{LinkTelling, Talk}
-use Rattle.ports_link.specs.declared.lines.Line.{Line}
+use Rattle.ports_link.specs.CdBase.ids.CloudNo.{CloudNo}
+use Rattle.ports_link.specs.CdEdges.Ports.{Telling}
+use Rattle.ports_link.specs.UserDedup.Link.{LinkTelling, Talk}
+use Rattle.ports_link.specs.declared.lines.CloudLine.{CloudLine}
 use Rattle.ports_link.specs.declared.link.PortsLink.{PortsLink}
 use Rattle.ports_link.specs.Lines.{line_of, lines_for}
 use Rattle.ports_link.specs.Tells.{HasTalk, telling}
-use Rattle.restore_job.proofs.Speaking.{unlost_as}
-use Rattle.restore_job.specs.Asking.{IsUnread}
-use Rattle.restore_job.specs.Exchanges.{LostSaid, RestoreSaid, behind_all}
-use Rattle.restore_job.specs.declared.error.RestoreErr.{RestoreErr}
-use Rattle.restore_job.specs.declared.error.RestoreErr.TheVariants as errors
+use Rattle.subset_restore.proofs.RestoreJob.Speaking.{unlost_as}
+use Rattle.subset_restore.specs.RestoreJob.Asking.{IsUnread}
+use Rattle.subset_restore.specs.RestoreJob.Exchanges.{LostSaid, RestoreSaid, behind_all}
+use Rattle.subset_restore.specs.RestoreJob.error.RestoreErr.{RestoreErr}
+use Rattle.subset_restore.specs.RestoreJob.error.RestoreErr.TheVariants as errors
 use Rattle.ports_link.specs.Hellos.{HaveTalks, clouds_of, hello}
 use Rattle.ports_link.specs.declared.greeting.Greeted.{Greeted}
 use Rattle.subset_restore.specs.Subsets.{IsSubset, subsets}
@@ -22,8 +22,8 @@ use Rattle.subset_restore.specs.Tries.{Try, GoneThrough, NoneYet, Passed, Refuse
 use Rattle.subset_restore.specs.Ends.{Sought, AllRefused, OneRestore, WasLost}
 use Rattle.subset_restore.proofs.Choices.{each_is_subset, subset_among}
 use Rattle.subset_restore.proofs.Elements.{contains_end, contains_front, of_all}
-use Rattle.restore_command.specs.Calls.{Call, ports_of, tag_in}
-use Rattle.restore_command.specs.Tried.{AreRefused, IsFetch, IsRefused, IsStop, Heard}
+use Rattle.restore_command.specs.Calls.{RestoreCall, ports_of, tag_in}
+use Rattle.restore_command.specs.Tried.{AreRefused, IsFetch, IsRestoreRefused, IsStop, Heard}
 use Rattle.restore_command.proofs.Choosing.{Chosen, choose, cloud_of, line_at, port_of}
 use Rattle.restore_command.proofs.Lines.{AreReachedBy, line_on}
 use Rattle.restore_command.proofs.Passing.{AreOn, Kept, kept, open_on, others}
@@ -32,14 +32,14 @@ use Rattle.restore_command.proofs.Lists.{apart}
 
 -- ---- refusals, one after another
 
-refused_on : (call : Call) (greeted : Greeted) (a b c : Telling) (m n o : ℕ) (tries : List Try) (x : Try)
-    → AreRefused call greeted a m tries b n → IsRefused call greeted b n x c o
+refused_on : (call : RestoreCall) (greeted : Greeted) (a b c : Telling) (m n o : ℕ) (tries : List Try) (x : Try)
+    → AreRefused call greeted a m tries b n → IsRestoreRefused call greeted b n x c o
     → AreRefused call greeted a m (tries ++ x ∷ []) c o
 refused_on call greeted a b c m n o [] x all one = (
   c,
   o,
-  subst (λ (t : Telling). IsRefused call greeted t m x c o) all.0
-      (subst (λ (k : ℕ). IsRefused call greeted b k x c o) all.1 one),
+  subst (λ (t : Telling). IsRestoreRefused call greeted t m x c o) all.0
+      (subst (λ (k : ℕ). IsRestoreRefused call greeted b k x c o) all.1 one),
   (refl, refl),
 )
 refused_on call greeted a b c m n o (y ∷ tries) x all one =
@@ -128,7 +128,7 @@ module _ {L : Type 0} (talk : L → ℕ → Talk → Type 0) (old new : L) (P : 
 
 -- ---- over a link to ports
 
-module _ {P : Type 0} (tells : P → Telling) (faults : P → ℕ) (start : PortsLink P) (greeted : Greeted) (call : Call)
+module _ {P : Type 0} (tells : P → Telling) (faults : P → ℕ) (start : PortsLink P) (greeted : Greeted) (call : RestoreCall)
     (bytes : List ℕ)
     (first : start.lines.items.items ≡ lines_for greeted.lines.items)
     (reach : AreReachedBy (lines_for greeted.lines.items) greeted.lines.items)
@@ -165,14 +165,14 @@ module _ {P : Type 0} (tells : P → Telling) (faults : P → ℕ) (start : Port
   on_port : (l : PortsLink P) → Kept tells faults start l → (line : CloudNo × ℕ) → Contains items line
       → (line_of l.lines.items.items line.0.0).port ≡ Some line.1
   on_port l k line has =
-      k.lines line.0.0 ∙ ap (λ (all : List Line). (line_of all line.0.0).port) first
-      ∙ ap (λ (x : Line). x.port)
+      k.lines line.0.0 ∙ ap (λ (all : List CloudLine). (line_of all line.0.0).port) first
+      ∙ ap (λ (x : CloudLine). x.port)
       (of_all (λ (x : CloudNo × ℕ). line_of (lines_for items) x.0.0 ≡ line_on x.1) items line reach has)
 
   pub open_line : (line : CloudNo × ℕ) → Contains items line → (line_of start.lines.items.items line.0.0).ended ≡ false
   open_line line has =
-      ap (λ (all : List Line). (line_of all line.0.0).ended) first
-      ∙ ap (λ (x : Line). x.ended)
+      ap (λ (all : List CloudLine). (line_of all line.0.0).ended) first
+      ∙ ap (λ (x : CloudLine). x.ended)
       (of_all (λ (x : CloudNo × ℕ). line_of (lines_for items) x.0.0 ≡ line_on x.1) items line reach has)
 
   are_on : (l : PortsLink P) → Kept tells faults start l → (subset : List ℕ) (chosen : Chosen items subset)
@@ -203,7 +203,7 @@ module _ {P : Type 0} (tells : P → Telling) (faults : P → ℕ) (start : Port
       speaks = λ cloud has not.
           let there = talks cloud has in (
             record { asked = hello ∷ []; coming = there.0 },
-            subst (λ (all : List Line). HasTalk (tells start.ports.now) all cloud
+            subst (λ (all : List CloudLine). HasTalk (tells start.ports.now) all cloud
                 (record { asked = hello ∷ []; coming = there.0 })) (sym first) there.1,
           );
       unended = λ cloud has not.

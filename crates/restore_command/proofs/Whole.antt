@@ -5,33 +5,33 @@ use Rattle.std.specs.List.{AllByRecursion}
 use Rattle.std.specs.List.Sorted.{IsStrictlyIncreasing}
 use Rattle.std.proofs.lemmas.Bool.{eqb-true}
 use Rattle.std.proofs.lemmas.List.{length-map}
-use Rattle.cd_base.specs.Lengths.{share_len_of}
-use Rattle.cd_base.specs.Numbers.{numbers_of}
-use Rattle.cd_base.specs.declared.ids.CloudNo.{CloudNo}
-use Rattle.cd_base.specs.declared.ids.Fp.{Fp}
-use Rattle.cd_base.specs.declared.ids.Tag.{Tag}
-use Rattle.cd_base.specs.declared.ids.UserId.{UserId}
-use Rattle.cd_base.specs.declared.ids.Version.{Version}
-use Rattle.cd_base.specs.declared.shape.Shape.{Shape}
-use Rattle.caont_rs.specs.Opening.{opened}
-use Rattle.caont_rs.specs.declared.opening.RecoverErr.{RecoverErr}
-use Rattle.caont_rs.specs.declared.opening.RecoverErr.TheVariants as opening
-use Rattle.messages.specs.ReplyReading.{reply_at}
-use Rattle.messages.specs.Requests.{IsRequest}
-use Rattle.messages.specs.declared.request.Request.TheVariants as requests
-use Rattle.recipe.specs.declared.items.Item.{Item}
-use Rattle.recipe.specs.declared.recipe.Recipe.{Recipe}
-use Rattle.user_dedup.specs.Owning.{fps_in}
-use Rattle.restore_job.specs.Brought.{in_a_row}
-use Rattle.restore_job.specs.Exchanges.{Exchange, RecipesSaid, AllSaid, OneSaid, Refused, with_first, AgreedRun, NothingAsked, Differ, Compared, RestoreRun, NoRecipes, HasRecipes}
-use Rattle.restore_job.specs.Restored
-use Rattle.restore_job.specs.Restored.{Unrestored, item_of, or_else, difference, differing, items_difference}
-use Rattle.restore_job.specs.Steps.{Compares, NamesKind, RecipeRefused, IsShareOf}
-use Rattle.restore_job.specs.declared.error.RestoreErr.{RestoreErr}
-use Rattle.restore_job.specs.declared.error.RestoreErr.TheVariants as errors
+use Rattle.ports_link.specs.CdBase.Lengths.{share_len_of}
+use Rattle.ports_link.specs.CdBase.Numbers.{numbers_of}
+use Rattle.ports_link.specs.CdBase.ids.CloudNo.{CloudNo}
+use Rattle.ports_link.specs.CdBase.ids.Fp.{Fp}
+use Rattle.ports_link.specs.CdBase.ids.Tag.{Tag}
+use Rattle.ports_link.specs.CdBase.ids.UserId.{UserId}
+use Rattle.ports_link.specs.CdBase.ids.Version.{Version}
+use Rattle.ports_link.specs.CdBase.shape.Shape.{Shape}
+use Rattle.subset_restore.specs.CaontRs.Opening.{opened}
+use Rattle.subset_restore.specs.CaontRs.opening.RecoverErr.{RecoverErr}
+use Rattle.subset_restore.specs.CaontRs.opening.RecoverErr.TheVariants as opening
+use Rattle.ports_link.specs.Messages.ReplyReading.{reply_at}
+use Rattle.ports_link.specs.Messages.Requests.{IsRequest}
+use Rattle.ports_link.specs.Messages.request.Request.TheVariants as requests
+use Rattle.subset_restore.specs.Recipe.items.Item.{Item}
+use Rattle.subset_restore.specs.Recipe.recipe.Recipe.{Recipe}
+use Rattle.ports_link.specs.UserDedup.Owning.{fps_in}
+use Rattle.subset_restore.specs.RestoreJob.Brought.{in_a_row}
+use Rattle.subset_restore.specs.RestoreJob.Exchanges.{CloudExchange, RecipesSaid, AllSaid, OneSaid, Refused, with_first, AgreedRun, NothingAsked, Differ, Compared, RestoreRun, NoRecipes, HasRecipes}
+use Rattle.subset_restore.specs.RestoreJob.Restored
+use Rattle.subset_restore.specs.RestoreJob.Restored.{Unrestored, item_of, or_else, difference, differing, items_difference}
+use Rattle.subset_restore.specs.RestoreJob.Steps.{Compares, NamesKind, RecipeRefused, IsShareOf}
+use Rattle.subset_restore.specs.RestoreJob.error.RestoreErr.{RestoreErr}
+use Rattle.subset_restore.specs.RestoreJob.error.RestoreErr.TheVariants as errors
 use Rattle.restore_command.specs.Talks.{with_cloud, sent_in, received_in}
-use Rattle.restore_command.specs.Fetched.{Outline, outline_of, len_at, AskShares, HasAsked, BringsRecipe, IsShare, Gave, Each, NoMore, OneMore, row, string_of, Fetched}
-use Rattle.restore_command.specs.Stopped.{GaveRecipe, RefusedRecipe, EachRecipe, NoRecipe, OneRecipe, RecipesUntil, RecipeThere, RecipeFurther, IsUnasked, IsBatch, RefusedShares, LengthDiffers, HashDiffers, NamesString, WrongShares, EachUntil, There, Further, AllOpen, Unopened, NamesSecret, Stopped, AtRecipe, AtComparison, AtShares, AtSecret}
+use Rattle.restore_command.specs.Fetched.{Outline, outline_of, len_at, AskShares, HasAskedForShares, BringsRecipe, IsShare, Gave, Each, NoMore, OneMore, row, string_of, Fetched}
+use Rattle.restore_command.specs.Stopped.{GaveRecipe, RefusedRecipe, EachRecipe, NoRecipe, OneRecipe, RecipesUntil, RecipeThere, RecipeFurther, IsUnasked, IsBatch, RefusedShares, LengthDiffers, HashDiffers, NamesString, WrongShares, EachUntil, There, Further, AllOpen, IsSecretUnopened, NamesSecret, Stopped, AtRecipe, AtComparison, AtShares, AtSecret}
 use Rattle.restore_command.proofs.Lists.{NoneIs, Apart, apart, with_here, with_other, with_append}
 use Rattle.restore_command.proofs.Items.{GaveFrom, RefusedFrom, LengthAt, HashAt, NamesAt, StopsFrom, SameCount}
 use Rattle.restore_command.proofs.Runs.{OpensTill, FailsAt, BatchAt, ItemsStopped, SharesStop, SecretStop, ItemsCame, items_came}
@@ -70,25 +70,25 @@ as_many _ _ NoRecipe = refl
 as_many _ _ (OneRecipe c r clouds recipes p more) = ap suc (as_many clouds recipes more)
 
 module _ (shape : Shape) (request : List ℕ) where
-  pub record RecipeOf (log : List Exchange) (cloud : CloudNo) (recipe : Recipe) : Type 0 where
-    pub x : Exchange
+  pub record RecipeOf (log : List CloudExchange) (cloud : CloudNo) (recipe : Recipe) : Type 0 where
+    pub x : CloudExchange
     pub mine : with_cloud log cloud.0 ≡ x ∷ []
     pub asked : x.request ≡ request
     pub brought : BringsRecipe shape recipe x.reply
 
-  pub record RefusedBy (log : List Exchange) (e : RestoreErr) (cloud : CloudNo) : Type 0 where
-    pub x : Exchange
+  pub record RefusedBy (log : List CloudExchange) (e : RestoreErr) (cloud : CloudNo) : Type 0 where
+    pub x : CloudExchange
     pub mine : with_cloud log cloud.0 ≡ x ∷ []
     pub asked : x.request ≡ request
     pub refuses : RecipeRefused shape cloud (reply_at x.reply) e
     pub kind : NamesKind {A = Recipe} x.reply (Err e)
 
-  abbrev pub RecipesCame : List CloudNo → List Exchange → Result (List Recipe) RestoreErr → Type 0
+  abbrev pub RecipesCame : List CloudNo → List CloudExchange → Result (List Recipe) RestoreErr → Type 0
   RecipesCame clouds log (Ok recipes) = EachRecipe (RecipeOf log) clouds recipes
   RecipesCame clouds log (Err e) = (recipes : List Recipe) × RecipesUntil (RecipeOf log) (RefusedBy log e)
       (λ (c : CloudNo). with_cloud log c.0 ≡ []) clouds recipes
 
-  recipes_others : (clouds : List CloudNo) (log : List Exchange) (result : Result (List Recipe) RestoreErr)
+  recipes_others : (clouds : List CloudNo) (log : List CloudExchange) (result : Result (List Recipe) RestoreErr)
       → RecipesSaid shape request clouds log result → (c : ℕ) → NoneIs c clouds → with_cloud log c ≡ []
   recipes_others _ _ _ AllSaid c none = refl
   recipes_others _ _ _ (OneSaid cloud clouds x log recipe result one more) c none =
@@ -96,7 +96,7 @@ module _ (shape : Shape) (request : List ℕ) where
   recipes_others _ _ _ (Refused cloud clouds x e one) c none = with_other x [] c
       (λ same. none.0 (sym same ∙ one.cloud_is))
 
-  none_asked : (clouds : List CloudNo) (cloud : CloudNo) (x : Exchange) → x.cloud ≡ cloud.0 → NoneIs cloud.0 clouds
+  none_asked : (clouds : List CloudNo) (cloud : CloudNo) (x : CloudExchange) → x.cloud ≡ cloud.0 → NoneIs cloud.0 clouds
       → AllByRecursion (λ (c : CloudNo). with_cloud (x ∷ []) c.0 ≡ []) clouds
   none_asked [] cloud x same none = tt
   none_asked (c ∷ clouds) cloud x same none = (
@@ -105,7 +105,7 @@ module _ (shape : Shape) (request : List ℕ) where
         cloud x same none.1,
   )
 
-  module _ (cloud : CloudNo) (x : Exchange) (log : List Exchange) (same : x.cloud ≡ cloud.0) where
+  module _ (cloud : CloudNo) (x : CloudExchange) (log : List CloudExchange) (same : x.cloud ≡ cloud.0) where
     recipe_behind : (c : CloudNo) (r : Recipe) → cloud.0 ≢ c.0 → RecipeOf log c r → RecipeOf (x ∷ log) c r
     recipe_behind c r differ g = record {
       x = g.x;
@@ -137,11 +137,11 @@ module _ (shape : Shape) (request : List ℕ) where
           (λ c differ g. with_other x log c.0 (λ e. differ (sym same ∙ e)) ∙ g) none more.1),
     )
 
-  recipes_came : (clouds : List CloudNo) (log : List Exchange) (result : Result (List Recipe) RestoreErr)
+  recipes_came : (clouds : List CloudNo) (log : List CloudExchange) (result : Result (List Recipe) RestoreErr)
       → Apart clouds → RecipesSaid shape request clouds log result → RecipesCame clouds log result
   recipes_came _ _ _ apart AllSaid = NoRecipe
   recipes_came _ _ _ apart (OneSaid cloud clouds x log recipe result one more) =
-      let mine = with_here x log cloud.0 one.cloud_is ∙ ap (λ (l : List Exchange). x ∷ l)
+      let mine = with_here x log cloud.0 one.cloud_is ∙ ap (λ (l : List CloudExchange). x ∷ l)
       (recipes_others clouds log result more cloud.0 apart.0) in
       recipes_on cloud x log one.cloud_is clouds recipe result apart.0
       (record { x = x; mine = mine; asked = one.request_is; brought = one.came })
@@ -229,18 +229,18 @@ same_counts shape user recipe (r ∷ recipes) are = (
 -- ---- one cloud, its recipe and its shares
 
 module _ (shape : Shape) (user : UserId) (tag : Tag) (version : Version) (request : List ℕ)
-    (asks : IsRequest request (requests.GetRecipe user tag version)) (recipe : Recipe) (log more : List Exchange)
+    (asks : IsRequest request (requests.GetRecipe user tag version)) (recipe : Recipe) (log more : List CloudExchange)
   where
     mine : (c : CloudNo) (r : Recipe) (g : RecipeOf shape request log c r) → with_cloud (log ++ more) c.0
         ≡ g.x ∷ with_cloud more c.0
-    mine c r g = with_append log more c.0 ∙ ap (λ (l : List Exchange). l ++ with_cloud more c.0) g.mine
+    mine c r g = with_append log more c.0 ∙ ap (λ (l : List CloudExchange). l ++ with_cloud more c.0) g.mine
 
     has_asked : (c : CloudNo) (r : Recipe) (g : RecipeOf shape request log c r) (fps : List Fp) → AskShares user fps
-        (sent_in more c.0) → HasAsked user tag version fps (sent_in (log ++ more) c.0)
+        (sent_in more c.0) → HasAskedForShares user tag version fps (sent_in (log ++ more) c.0)
     has_asked c r g fps shares = record {
       first = g.x.request;
       more = sent_in more c.0;
-      in_order = ap (map (λ (x : Exchange). x.request)) (mine c r g);
+      in_order = ap (map (λ (x : CloudExchange). x.request)) (mine c r g);
       recipe = subst (λ (q : List ℕ). IsRequest q (requests.GetRecipe user tag version)) (sym g.asked) asks;
       shares = shares;
     }
@@ -265,7 +265,7 @@ module _ (shape : Shape) (user : UserId) (tag : Tag) (version : Version) (reques
         brought = record {
           first = g.x.reply;
           more = received_in more c.0;
-          in_order = ap (map (λ (x : Exchange). x.reply)) (mine c r g);
+          in_order = ap (map (λ (x : CloudExchange). x.reply)) (mine c r g);
           recipe = g.brought;
           shares = h.brought;
         };
@@ -284,7 +284,7 @@ module _ (shape : Shape) (user : UserId) (tag : Tag) (version : Version) (reques
       asked = has_asked c r g (take (m + n) (fps_in r.items)) h.asked;
       heard = g.x.reply ∷ h.heard;
       reply = h.reply;
-      in_order = ap (map (λ (x : Exchange). x.reply)) (mine c r g) ∙ ap (λ (l : List (List ℕ)). g.x.reply ∷ l) h.in_order;
+      in_order = ap (map (λ (x : CloudExchange). x.reply)) (mine c r g) ∙ ap (λ (l : List (List ℕ)). g.x.reply ∷ l) h.in_order;
       brought = record { first = g.x.reply; more = h.heard; in_order = refl; recipe = g.brought; shares = h.brought };
       agrees = agrees;
       count = h.long;
@@ -357,7 +357,7 @@ module _ (shape : Shape) (user : UserId) (tag : Tag) (version : Version) (reques
         brought = record {
           first = g.x.reply;
           more = received_in more c.0;
-          in_order = ap (map (λ (x : Exchange). x.reply)) (mine c r g);
+          in_order = ap (map (λ (x : CloudExchange). x.reply)) (mine c r g);
           recipe = g.brought;
           shares = h.brought;
         };
@@ -461,10 +461,10 @@ module _ (shape : Shape) (user : UserId) (tag : Tag) (version : Version) (reques
       unopened : (m n j secret : ℕ) (all : List (List (List ℕ))) (why : RecoverErr) → m ≤ j → j < m + n
           → OpensTill shape user recipe.items (numbers_of clouds) clouds recipes 0 j all → secret ≡ 0 + j
           → opened shape (item_of recipe.items (0 + j)).secret_len (numbers_of clouds) (row all j) ≡ Err why
-          → Unopened shape (outline_of recipe) clouds all m n secret why
+          → IsSecretUnopened shape (outline_of recipe) clouds all m n secret why
       unopened m n j secret all why from within till is fails =
           let same : j ≡ secret = omega arith in
-          subst (λ (k : ℕ). Unopened shape (outline_of recipe) clouds all m n k why) same
+          subst (λ (k : ℕ). IsSecretUnopened shape (outline_of recipe) clouds all m n k why) same
           (record {
             from = from;
             within = within;
@@ -514,19 +514,19 @@ module _ (shape : Shape) (user : UserId) (tag : Tag) (version : Version) (reques
 -- ---- the whole restore
 
 module _ (shape : Shape) (user : UserId) (tag : Tag) (version : Version) where
-  abbrev pub WholeCame : List CloudNo → List Exchange → List ℕ → List ℕ → Result (Unit {0}) RestoreErr → Type 0
+  abbrev pub WholeCame : List CloudNo → List CloudExchange → List ℕ → List ℕ → Result (Unit {0}) RestoreErr → Type 0
   WholeCame clouds log old new (Ok u) = (bytes : List ℕ) × (new ≡ old ++ bytes) × Fetched shape user tag version
       clouds (sent_in log) (received_in log) bytes
   WholeCame clouds log old new (Err e) = Stopped shape user tag version clouds (sent_in log) (received_in log) e
 
-  module _ (request : List ℕ) (asks : IsRequest request (requests.GetRecipe user tag version)) (log : List Exchange)
+  module _ (request : List ℕ) (asks : IsRequest request (requests.GetRecipe user tag version)) (log : List CloudExchange)
     where
-      asked_alone : (c : CloudNo) (x : Exchange) → with_cloud log c.0 ≡ x ∷ [] → x.request ≡ request
-          → HasAsked user tag version [] (sent_in log c.0)
+      asked_alone : (c : CloudNo) (x : CloudExchange) → with_cloud log c.0 ≡ x ∷ [] → x.request ≡ request
+          → HasAskedForShares user tag version [] (sent_in log c.0)
       asked_alone c x is asked = record {
         first = x.request;
         more = [];
-        in_order = ap (map (λ (x : Exchange). x.request)) is;
+        in_order = ap (map (λ (x : CloudExchange). x.request)) is;
         recipe = subst (λ (q : List ℕ). IsRequest q (requests.GetRecipe user tag version)) (sym asked) asks;
         shares = refl;
       }
@@ -538,7 +538,7 @@ module _ (shape : Shape) (user : UserId) (tag : Tag) (version : Version) where
         brought = record {
           first = g.x.reply;
           more = [];
-          in_order = ap (map (λ (x : Exchange). x.reply)) g.mine;
+          in_order = ap (map (λ (x : CloudExchange). x.reply)) g.mine;
           recipe = g.brought;
           shares = refl;
         };
@@ -549,14 +549,14 @@ module _ (shape : Shape) (user : UserId) (tag : Tag) (version : Version) where
       refused_alone e c u g = record {
         asked = asked_alone c g.x g.mine g.asked;
         reply = g.x.reply;
-        received_it = ap (map (λ (x : Exchange). x.reply)) g.mine;
+        received_it = ap (map (λ (x : CloudExchange). x.reply)) g.mine;
         refuses = g.refuses;
         kind = g.kind;
       }
 
       unasked_alone : (c : CloudNo) → Unit {0} → with_cloud log c.0 ≡ [] → IsUnasked (sent_in log c.0)
           (received_in log c.0)
-      unasked_alone c u none = (ap (map (λ (x : Exchange). x.request)) none, ap (map (λ (x : Exchange). x.reply)) none)
+      unasked_alone c u none = (ap (map (λ (x : CloudExchange). x.request)) none, ap (map (λ (x : CloudExchange). x.reply)) none)
 
       no_recipes : (clouds : List CloudNo) (e : RestoreErr) → Apart clouds → RecipesSaid shape request clouds log
           (Err e) → Stopped shape user tag version clouds (sent_in log) (received_in log) e
@@ -591,13 +591,13 @@ module _ (shape : Shape) (user : UserId) (tag : Tag) (version : Version) where
           → Compares cloud.0 recipe (numbers_of others) recipes (Err e) → EachRecipe (RecipeOf shape request log) clouds
           (recipe ∷ recipes) → WholeCame clouds (log ++ []) out out (Err e)
       differ_whole clouds cloud others recipe recipes out e same compares brought =
-          subst (λ (l : List Exchange). Stopped shape user tag version clouds (sent_in l) (received_in l) e)
+          subst (λ (l : List CloudExchange). Stopped shape user tag version clouds (sent_in l) (received_in l) e)
           (sym (append-nil log))
           (AtComparison e cloud others recipe recipes same
           (recipes_as {Q = λ (c : CloudNo). GaveRecipe shape user tag version (sent_in log c.0) (received_in log c.0)}
           (λ (c : CloudNo). Unit {0}) clouds (recipe ∷ recipes) gave_alone (anyone clouds) brought) compares)
 
-      items_whole : (clouds : List CloudNo) (recipe : Recipe) (recipes : List Recipe) (more : List Exchange)
+      items_whole : (clouds : List CloudNo) (recipe : Recipe) (recipes : List Recipe) (more : List CloudExchange)
           (old new : List ℕ) (result : Result (Unit {0}) RestoreErr)
           → AllByRecursion (λ (r : Recipe). outline_of r ≡ outline_of recipe) (recipe ∷ recipes)
           → EachRecipe (RecipeOf shape request log) clouds (recipe ∷ recipes)
@@ -608,7 +608,7 @@ module _ (shape : Shape) (user : UserId) (tag : Tag) (version : Version) where
       items_whole clouds recipe recipes more old new (Err e) are brought came = stopped_whole shape user tag version
           request asks recipe log more clouds (recipe ∷ recipes) are brought e came
 
-      agreed_came : (clouds : List CloudNo) (recipes : List Recipe) (more : List Exchange) (old new : List ℕ)
+      agreed_came : (clouds : List CloudNo) (recipes : List Recipe) (more : List CloudExchange) (old new : List ℕ)
           (result : Result (Unit {0}) RestoreErr) → Apart clouds → EachRecipe (RecipeOf shape request log) clouds
           recipes
           → AgreedRun shape user clouds recipes more old new result → WholeCame clouds (log ++ more) old new result
@@ -626,7 +626,7 @@ module _ (shape : Shape) (user : UserId) (tag : Tag) (version : Version) where
           (items_came shape user recipe.items (numbers_of clouds) clouds (recipe ∷ recipes) 0 more old new result apart
           many (same_counts shape user recipe (recipe ∷ recipes) both) items)
 
-  restore_came : (clouds : List CloudNo) (log : List Exchange) (old new : List ℕ)
+  restore_came : (clouds : List CloudNo) (log : List CloudExchange) (old new : List ℕ)
       (result : Result (Unit {0}) RestoreErr) → Apart clouds → RestoreRun shape user tag version clouds log old new
       result → WholeCame clouds log old new result
   restore_came clouds _ _ _ _ apart (NoRecipes request log out e asks said) = no_recipes request asks log clouds e
@@ -636,14 +636,14 @@ module _ (shape : Shape) (user : UserId) (tag : Tag) (version : Version) where
       (Ok recipes) apart said) agreed
 
 pub fetched_file : (shape : Shape) (user : UserId) (tag : Tag) (version : Version) (clouds : List CloudNo)
-    (log : List Exchange) (old new : List ℕ) → IsStrictlyIncreasing (numbers_of clouds)
+    (log : List CloudExchange) (old new : List ℕ) → IsStrictlyIncreasing (numbers_of clouds)
     → RestoreRun shape user tag version clouds log old new (Ok tt) → (bytes : List ℕ) × (new ≡ old ++ bytes)
     × Fetched shape user tag version clouds (sent_in log) (received_in log) bytes
 fetched_file shape user tag version clouds log old new rises run = restore_came shape user tag version clouds log old
     new (Ok tt) (apart clouds rises) run
 
 pub stopped_fetch : (shape : Shape) (user : UserId) (tag : Tag) (version : Version) (clouds : List CloudNo)
-    (log : List Exchange) (old new : List ℕ) (e : RestoreErr) → IsStrictlyIncreasing (numbers_of clouds)
+    (log : List CloudExchange) (old new : List ℕ) (e : RestoreErr) → IsStrictlyIncreasing (numbers_of clouds)
     → RestoreRun shape user tag version clouds log old new (Err e) → Stopped shape user tag version clouds
     (sent_in log) (received_in log) e
 stopped_fetch shape user tag version clouds log old new e rises run = restore_came shape user tag version clouds log

@@ -1,19 +1,19 @@
 -- A restore over ports: what it is asked for, and the ports around it.
 use Rattle.std.specs.Prelude.{ℕ, List, map, Ok}
-use Rattle.cd_base.specs.declared.ids.CloudNo.{CloudNo}
-use Rattle.cd_base.specs.declared.ids.Tag.{Tag}
-use Rattle.cd_base.specs.declared.ids.UserId.{UserId}
-use Rattle.cd_base.specs.declared.ids.Version.{Version}
-use Rattle.cd_base.specs.declared.shape.Shape.{Shape}
-use Rattle.caont_rs.specs.Package.{tag as tag_at}
-use Rattle.cd_edges.specs.Ports.{Telling}
+use Rattle.ports_link.specs.CdBase.ids.CloudNo.{CloudNo}
+use Rattle.ports_link.specs.CdBase.ids.Tag.{Tag}
+use Rattle.ports_link.specs.CdBase.ids.UserId.{UserId}
+use Rattle.ports_link.specs.CdBase.ids.Version.{Version}
+use Rattle.ports_link.specs.CdBase.shape.Shape.{Shape}
+use Rattle.subset_restore.specs.CaontRs.Package.{tag as tag_at}
+use Rattle.ports_link.specs.CdEdges.Ports.{Telling}
 use Rattle.ports_link.specs.declared.greeting.Greeted.{Greeted}
-use Rattle.ports_link.specs.declared.judging.Asked.TheVariants as asked
+use Rattle.ports_link.specs.declared.judging.AskedClouds.TheVariants as asked
 use Rattle.ports_link.specs.Dialled.{AreDialled}
 use Rattle.ports_link.specs.Meeting.{MeetsAll}
 
 -- What is asked for, of how many addresses, what the ports tell before and after it, and how often they have failed.
-pub record Call : Type 0 where
+pub record RestoreCall : Type 0 where
   pub user : UserId
   pub path : List ℕ
   pub version : Version
@@ -37,7 +37,7 @@ ports_of lines = map (λ (line : CloudNo × ℕ). line.1) lines
 
 -- Each address was dialled, in order, and asked Hello before the next was dialled, and each reply was as asked: they are
 -- as many clouds of a shape as give a file back, or more, and they rise.
-abbrev pub Met : Call → Greeted → Telling → Type 0
+abbrev pub Met : RestoreCall → Greeted → Telling → Type 0
 Met call greeted behind = MeetsAll asked.Restore call.addresses call.before behind (Ok greeted)
 
 -- Some ports were dialled, and every other port is as it was.

@@ -2,25 +2,25 @@
 use Rattle.std.specs.Prelude.{◌≡◌, ◌≢◌, ℕ, ◌<◌, List, [], ◌∷◌, length, map, take, drop, slice_index_or, Ok}
 use Rattle.std.specs.List.{flat_map}
 use Rattle.sha2.specs.Sha256.{sha256 as sha256_of}
-use Rattle.cd_base.specs.Lengths.{share_len_of}
-use Rattle.cd_base.specs.Numbers.{numbers_of}
-use Rattle.cd_base.specs.declared.ids.CloudNo.{CloudNo}
-use Rattle.cd_base.specs.declared.ids.Fp.{Fp}
-use Rattle.cd_base.specs.declared.ids.Tag.{Tag}
-use Rattle.cd_base.specs.declared.ids.UserId.{UserId}
-use Rattle.cd_base.specs.declared.ids.Version.{Version}
-use Rattle.cd_base.specs.declared.shape.Shape.{Shape}
-use Rattle.caont_rs.specs.Opening.{opened}
-use Rattle.recipe.specs.Reading.{recipe_at}
-use Rattle.recipe.specs.declared.items.Item.{Item}
-use Rattle.recipe.specs.declared.recipe.Recipe.{Recipe}
-use Rattle.messages.specs.ReplyReading.{reply_at}
-use Rattle.messages.specs.Requests.{IsRequest}
-use Rattle.messages.specs.declared.reply.Reply.TheVariants as replies
-use Rattle.messages.specs.declared.request.Request.TheVariants as requests
-use Rattle.user_dedup.specs.Owning.{fps_in}
-use Rattle.restore_job.specs.Brought.{in_a_row}
-use Rattle.restore_job.specs.Restored.{item_of}
+use Rattle.ports_link.specs.CdBase.Lengths.{share_len_of}
+use Rattle.ports_link.specs.CdBase.Numbers.{numbers_of}
+use Rattle.ports_link.specs.CdBase.ids.CloudNo.{CloudNo}
+use Rattle.ports_link.specs.CdBase.ids.Fp.{Fp}
+use Rattle.ports_link.specs.CdBase.ids.Tag.{Tag}
+use Rattle.ports_link.specs.CdBase.ids.UserId.{UserId}
+use Rattle.ports_link.specs.CdBase.ids.Version.{Version}
+use Rattle.ports_link.specs.CdBase.shape.Shape.{Shape}
+use Rattle.subset_restore.specs.CaontRs.Opening.{opened}
+use Rattle.subset_restore.specs.Recipe.Reading.{recipe_at}
+use Rattle.subset_restore.specs.Recipe.items.Item.{Item}
+use Rattle.subset_restore.specs.Recipe.recipe.Recipe.{Recipe}
+use Rattle.ports_link.specs.Messages.ReplyReading.{reply_at}
+use Rattle.ports_link.specs.Messages.Requests.{IsRequest}
+use Rattle.ports_link.specs.Messages.reply.Reply.TheVariants as replies
+use Rattle.ports_link.specs.Messages.request.Request.TheVariants as requests
+use Rattle.ports_link.specs.UserDedup.Owning.{fps_in}
+use Rattle.subset_restore.specs.RestoreJob.Brought.{in_a_row}
+use Rattle.subset_restore.specs.RestoreJob.Restored.{item_of}
 
 -- In what the recipes of a file agree: the lengths of its path, of itself, and of each of its secrets.
 pub record Outline : Type 0 where
@@ -48,7 +48,8 @@ AskShares user fps (request ∷ sent) =
     (fps ≢ []) × IsRequest request (requests.GetShares user (take 256 fps)) × AskShares user (drop 256 fps) sent
 
 -- First the recipe is asked for, and then the shares with these fingerprints.
-pub record HasAsked (user : UserId) (tag : Tag) (version : Version) (fps : List Fp) (sent : List (List ℕ)) : Type 0
+pub record HasAskedForShares (user : UserId) (tag : Tag) (version : Version) (fps : List Fp)
+    (sent : List (List ℕ)) : Type 0
   where
     pub first : List ℕ
     pub more : List (List ℕ)
@@ -90,9 +91,9 @@ AreShares shape outline recipe strings n =
 
 -- A cloud was asked for its recipe and for the shares of the recipe's first n items, in batches, and for nothing else.
 -- It gave a recipe with this outline, and n strings.
-pub record Came (shape : Shape) (user : UserId) (tag : Tag) (version : Version) (outline : Outline) (n : ℕ)
+pub record HasCloudGiven (shape : Shape) (user : UserId) (tag : Tag) (version : Version) (outline : Outline) (n : ℕ)
     (sent received : List (List ℕ)) (recipe : Recipe) (strings : List (List ℕ)) : Type 0 where
-  pub asked : HasAsked user tag version (take n (fps_in recipe.items)) sent
+  pub asked : HasAskedForShares user tag version (take n (fps_in recipe.items)) sent
   pub brought : HasBrought shape recipe strings received
   pub agrees : outline_of recipe ≡ outline
   pub count : length strings ≡ n
@@ -100,7 +101,7 @@ pub record Came (shape : Shape) (user : UserId) (tag : Tag) (version : Version) 
 -- and the strings are shares of these items
 pub record Gave (shape : Shape) (user : UserId) (tag : Tag) (version : Version) (outline : Outline) (n : ℕ)
     (sent received : List (List ℕ)) (recipe : Recipe) (strings : List (List ℕ)) : Type 0 where
-  pub came : Came shape user tag version outline n sent received recipe strings
+  pub came : HasCloudGiven shape user tag version outline n sent received recipe strings
   pub shares : AreShares shape outline recipe strings n
 
 -- ---- all clouds

@@ -1,9 +1,9 @@
 -- What was said on ports, behind what had been said there.
 use Rattle.std.specs.Prelude.{◌≡◌, ℕ, Bool, false, All, List, ◌++◌, length, drop}
 use Rattle.std.specs.List.{Contains}
-use Rattle.cd_base.specs.declared.ids.CloudNo.{CloudNo}
-use Rattle.frames.specs.Frames.{AreContents, stream}
-use Rattle.cd_edges.specs.Ports.{Telling}
+use Rattle.ports_link.specs.CdBase.ids.CloudNo.{CloudNo}
+use Rattle.ports_link.specs.Frames.Frames.{AreContents, stream}
+use Rattle.ports_link.specs.CdEdges.Ports.{Telling}
 use Rattle.ports_link.specs.Tells.{HasComing}
 use Rattle.restore_command.specs.Talks.{first_replies}
 use Rattle.restore_command.specs.Calls.{ports_of}

@@ -2,38 +2,38 @@
 use Rattle.std.specs.Prelude.{◌≡◌, ◌≢◌, ℕ, ◌+◌, ◌*◌, ◌-◌, ◌<◌, ◌≤◌, ◌⊎◌, min, List, [], ◌∷◌, ◌++◌, length, take, Ok, Err, Result}
 use Rattle.std.specs.List.{AllByRecursion}
 use Rattle.sha2.specs.Sha256.{sha256 as sha256_of}
-use Rattle.cd_base.specs.Lengths.{share_len_of}
-use Rattle.cd_base.specs.Numbers.{numbers_of}
-use Rattle.cd_base.specs.declared.ids.CloudNo.{CloudNo}
-use Rattle.cd_base.specs.declared.ids.Fp.{Fp}
-use Rattle.cd_base.specs.declared.ids.Tag.{Tag}
-use Rattle.cd_base.specs.declared.ids.UserId.{UserId}
-use Rattle.cd_base.specs.declared.ids.Version.{Version}
-use Rattle.cd_base.specs.declared.shape.Shape.{Shape}
-use Rattle.caont_rs.specs.Opening.{opened}
-use Rattle.caont_rs.specs.declared.opening.RecoverErr.{RecoverErr}
-use Rattle.caont_rs.specs.declared.opening.RecoverErr.TheVariants as opening
-use Rattle.recipe.specs.declared.recipe.Recipe.{Recipe}
-use Rattle.messages.specs.ReplyReading.{reply_at}
-use Rattle.user_dedup.specs.Owning.{fps_in}
-use Rattle.restore_job.specs.Restored.{item_of}
-use Rattle.restore_job.specs.Steps.{Compares, NamesKind, NoShares, RecipeRefused, Refuses}
-use Rattle.restore_job.specs.declared.error.RestoreErr.{RestoreErr}
-use Rattle.restore_job.specs.declared.error.RestoreErr.TheVariants as errors
-use Rattle.restore_command.specs.Fetched.{Outline, outline_of, len_at, HasAsked, HasBrought, string_of, AreShares, Came, Gave, Each, row}
+use Rattle.ports_link.specs.CdBase.Lengths.{share_len_of}
+use Rattle.ports_link.specs.CdBase.Numbers.{numbers_of}
+use Rattle.ports_link.specs.CdBase.ids.CloudNo.{CloudNo}
+use Rattle.ports_link.specs.CdBase.ids.Fp.{Fp}
+use Rattle.ports_link.specs.CdBase.ids.Tag.{Tag}
+use Rattle.ports_link.specs.CdBase.ids.UserId.{UserId}
+use Rattle.ports_link.specs.CdBase.ids.Version.{Version}
+use Rattle.ports_link.specs.CdBase.shape.Shape.{Shape}
+use Rattle.subset_restore.specs.CaontRs.Opening.{opened}
+use Rattle.subset_restore.specs.CaontRs.opening.RecoverErr.{RecoverErr}
+use Rattle.subset_restore.specs.CaontRs.opening.RecoverErr.TheVariants as opening
+use Rattle.subset_restore.specs.Recipe.recipe.Recipe.{Recipe}
+use Rattle.ports_link.specs.Messages.ReplyReading.{reply_at}
+use Rattle.ports_link.specs.UserDedup.Owning.{fps_in}
+use Rattle.subset_restore.specs.RestoreJob.Restored.{item_of}
+use Rattle.subset_restore.specs.RestoreJob.Steps.{Compares, NamesKind, NoShares, RecipeRefused, Refuses}
+use Rattle.subset_restore.specs.RestoreJob.error.RestoreErr.{RestoreErr}
+use Rattle.subset_restore.specs.RestoreJob.error.RestoreErr.TheVariants as errors
+use Rattle.restore_command.specs.Fetched.{Outline, outline_of, len_at, HasAskedForShares, HasBrought, string_of, AreShares, HasCloudGiven, Gave, Each, row}
 
 -- ---- recipes
 
 -- A cloud was asked for its recipe alone, which came.
 pub record GaveRecipe (shape : Shape) (user : UserId) (tag : Tag) (version : Version) (sent received : List (List ℕ))
     (recipe : Recipe) : Type 0 where
-  pub asked : HasAsked user tag version [] sent
+  pub asked : HasAskedForShares user tag version [] sent
   pub brought : HasBrought shape recipe [] received
 
 -- A cloud was asked for its recipe alone, and its reply is this refusal; a strange one's kind is its first byte.
 pub record RefusedRecipe (shape : Shape) (user : UserId) (tag : Tag) (version : Version) (e : RestoreErr)
     (sent received : List (List ℕ)) (cloud : CloudNo) : Type 0 where
-  pub asked : HasAsked user tag version [] sent
+  pub asked : HasAskedForShares user tag version [] sent
   pub reply : List ℕ
   pub received_it : received ≡ reply ∷ []
   pub refuses : RecipeRefused shape cloud (reply_at reply) e
@@ -72,7 +72,7 @@ pub record IsBatch (outline : Outline) (place n : ℕ) : Type 0 where
 pub record RefusedShares (shape : Shape) (user : UserId) (tag : Tag) (version : Version) (outline : Outline)
     (place n : ℕ) (e : RestoreErr) (sent received : List (List ℕ)) (cloud : CloudNo) (recipe : Recipe)
     (strings : List (List ℕ)) : Type 0 where
-  pub asked : HasAsked user tag version (take (place + n) (fps_in recipe.items)) sent
+  pub asked : HasAskedForShares user tag version (take (place + n) (fps_in recipe.items)) sent
   pub heard : List (List ℕ)
   pub reply : List ℕ
   pub in_order : received ≡ heard ++ reply ∷ []
@@ -118,7 +118,7 @@ NamesString shape outline place n e cloud recipe strings = ⊥
 pub record WrongString (shape : Shape) (user : UserId) (tag : Tag) (version : Version) (outline : Outline)
     (place n : ℕ) (e : RestoreErr) (sent received : List (List ℕ)) (cloud : CloudNo) (recipe : Recipe)
     (strings : List (List ℕ)) : Type 0 where
-  pub came : Came shape user tag version outline (place + n) sent received recipe strings
+  pub came : HasCloudGiven shape user tag version outline (place + n) sent received recipe strings
   pub names : NamesString shape outline place n e cloud recipe strings
 
 -- the reply of a cloud, or a string that it brought, is what the refusal names
@@ -148,7 +148,7 @@ AllOpen shape outline clouds strings n = (i : ℕ) → i < n
     → (secret : List ℕ) × (opened shape (len_at outline i) (numbers_of clouds) (row strings i) ≡ Ok secret)
 
 -- the shares of this item of the batch don't open, for this reason; those in front of it do
-pub record Unopened (shape : Shape) (outline : Outline) (clouds : List CloudNo) (strings : List (List (List ℕ)))
+pub record IsSecretUnopened (shape : Shape) (outline : Outline) (clouds : List CloudNo) (strings : List (List (List ℕ)))
     (place n secret : ℕ) (why : RecoverErr) : Type 0 where
   pub from : place ≤ secret
   pub within : secret < place + n
@@ -158,9 +158,9 @@ pub record Unopened (shape : Shape) (outline : Outline) (clouds : List CloudNo) 
 -- the refusal names the first secret that doesn't open
 abbrev pub NamesSecret : Shape → Outline → List CloudNo → List (List (List ℕ)) → ℕ → ℕ → RestoreErr → Type 0
 NamesSecret shape outline clouds strings place n (errors.BadSecret secret named found) =
-    Unopened shape outline clouds strings place n secret (opening.BadSecret named found)
+    IsSecretUnopened shape outline clouds strings place n secret (opening.BadSecret named found)
 NamesSecret shape outline clouds strings place n (errors.BadPad secret at byte) =
-    Unopened shape outline clouds strings place n secret (opening.BadPad at byte)
+    IsSecretUnopened shape outline clouds strings place n secret (opening.BadPad at byte)
 NamesSecret shape outline clouds strings place n errors.NoMemory = Unit {0}
 NamesSecret shape outline clouds strings place n e = ⊥
 

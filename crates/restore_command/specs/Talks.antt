@@ -1,20 +1,20 @@
 -- What was said with one cloud, of what was said with all.
 use Rattle.std.specs.Prelude.{◌≡◌, ℕ, zero, suc, ◌==◌, length, List, [], ◌∷◌, ◌++◌, map, drop}
 use Rattle.std.specs.List.{filter}
-use Rattle.user_dedup.specs.Link.{Talk, first_reply, later_replies}
-use Rattle.restore_job.specs.Exchanges.{Exchange}
+use Rattle.ports_link.specs.UserDedup.Link.{Talk, first_reply, later_replies}
+use Rattle.subset_restore.specs.RestoreJob.Exchanges.{CloudExchange}
 
 -- the exchanges with this cloud, in order
-abbrev pub with_cloud : List Exchange → ℕ → List Exchange
-with_cloud log cloud = filter (λ (x : Exchange). x.cloud == cloud) log
+abbrev pub with_cloud : List CloudExchange → ℕ → List CloudExchange
+with_cloud log cloud = filter (λ (x : CloudExchange). x.cloud == cloud) log
 
 -- the requests that were sent to this cloud, in order
-abbrev pub sent_in : List Exchange → ℕ → List (List ℕ)
-sent_in log cloud = map (λ (x : Exchange). x.request) (with_cloud log cloud)
+abbrev pub sent_in : List CloudExchange → ℕ → List (List ℕ)
+sent_in log cloud = map (λ (x : CloudExchange). x.request) (with_cloud log cloud)
 
 -- the replies that were received from this cloud, in order
-abbrev pub received_in : List Exchange → ℕ → List (List ℕ)
-received_in log cloud = map (λ (x : Exchange). x.reply) (with_cloud log cloud)
+abbrev pub received_in : List CloudExchange → ℕ → List (List ℕ)
+received_in log cloud = map (λ (x : CloudExchange). x.reply) (with_cloud log cloud)
 
 -- the first so many replies that are to come, empty ones where none is
 abbrev pub first_replies : ℕ → List (List ℕ) → List (List ℕ)

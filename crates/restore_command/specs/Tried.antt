@@ -1,28 +1,28 @@
 -- Restores over ports from one choice of the clouds after another.
 use Rattle.std.specs.Prelude.{◌≡◌, ◌≤◌, ◌⊎◌, ℕ, Bool, true, IsTrue, List, [], ◌∷◌, ◌++◌, length, Result, Ok, Err, All}
 use Rattle.std.specs.List.{Contains}
-use Rattle.cd_base.specs.declared.ids.CloudNo.{CloudNo}
-use Rattle.cd_base.specs.declared.shape.Shape.{Shape}
-use Rattle.cd_edges.specs.Causes.{Rose}
-use Rattle.cd_edges.specs.Ports.{Telling}
-use Rattle.restore_job.specs.Asking.{is_loss}
-use Rattle.restore_job.specs.Brought.{Brought}
-use Rattle.restore_job.specs.Exchanges.{Unlost}
-use Rattle.restore_job.specs.declared.error.RestoreErr.{RestoreErr}
-use Rattle.restore_job.specs.declared.error.RestoreErr.TheVariants as errors
+use Rattle.ports_link.specs.CdBase.ids.CloudNo.{CloudNo}
+use Rattle.ports_link.specs.CdBase.shape.Shape.{Shape}
+use Rattle.ports_link.specs.CdEdges.Causes.{Rose}
+use Rattle.ports_link.specs.CdEdges.Ports.{Telling}
+use Rattle.subset_restore.specs.RestoreJob.Asking.{is_loss}
+use Rattle.subset_restore.specs.RestoreJob.Brought.{Brought}
+use Rattle.subset_restore.specs.RestoreJob.Exchanges.{Unlost}
+use Rattle.subset_restore.specs.RestoreJob.error.RestoreErr.{RestoreErr}
+use Rattle.subset_restore.specs.RestoreJob.error.RestoreErr.TheVariants as errors
 use Rattle.subset_restore.specs.Subsets.{subsets}
 use Rattle.subset_restore.specs.Tries.{Try, GoneThrough, HoldsRefuser, WasTried}
 use Rattle.restore_command.specs.Fetched.{Fetched}
 use Rattle.restore_command.specs.Stopped.{Stopped}
 use Rattle.ports_link.specs.declared.greeting.Greeted.{Greeted}
 use Rattle.ports_link.specs.Hellos.{clouds_of}
-use Rattle.restore_command.specs.Calls.{Call, named_in, ports_of, tag_in}
+use Rattle.restore_command.specs.Calls.{RestoreCall, named_in, ports_of, tag_in}
 use Rattle.restore_command.specs.Spoken.{HaveTalked, none_ended}
 
 -- ---- one restore
 
 -- What was said with these clouds is how a file is fetched, and these are its bytes.
-pub record IsFetch (call : Call) (shape : Shape) (lines : List (CloudNo × ℕ)) (before after : Telling)
+pub record IsFetch (call : RestoreCall) (shape : Shape) (lines : List (CloudNo × ℕ)) (before after : Telling)
     (bytes : List ℕ) : Type 0 where
   pub sent : ℕ → List (List ℕ)
   pub received : ℕ → List (List ℕ)
@@ -30,7 +30,7 @@ pub record IsFetch (call : Call) (shape : Shape) (lines : List (CloudNo × ℕ))
   pub fetched : Fetched shape call.user (tag_in shape call.path) call.version (named_in lines) sent received bytes
 
 -- What was said with these clouds is how a file is fetched, up to one reply or comparison, which the error names.
-pub record IsStop (call : Call) (shape : Shape) (lines : List (CloudNo × ℕ)) (had_ended : ℕ → Bool)
+pub record IsStop (call : RestoreCall) (shape : Shape) (lines : List (CloudNo × ℕ)) (had_ended : ℕ → Bool)
     (before after : Telling) (e : RestoreErr) : Type 0 where
   pub sent : ℕ → List (List ℕ)
   pub received : ℕ → List (List ℕ)
@@ -43,7 +43,8 @@ Heard e P = let came : Result (Unit {0}) RestoreErr = Err e in Unlost came P
 
 -- A restore from a choice of the clouds was refused: by what was said with these, none of whose lines had ended before;
 -- or since an ask was lost, and then the ports' count of faults rose. Every port but theirs is as it was.
-pub record IsRefused (call : Call) (greeted : Greeted) (before : Telling) (count : ℕ) (x : Try) (after : Telling)
+pub record IsRestoreRefused (call : RestoreCall) (greeted : Greeted) (before : Telling) (count : ℕ) (x : Try)
+    (after : Telling)
     (count_after : ℕ) : Type 0 where
   pub lines : List (CloudNo × ℕ)
   pub clouds : clouds_of lines ≡ x.subset
@@ -54,10 +55,10 @@ pub record IsRefused (call : Call) (greeted : Greeted) (before : Telling) (count
   pub others : (port : ℕ) → ¬ Contains (ports_of lines) port → after.port port ≡ before.port port
 
 -- one such restore after another
-abbrev pub AreRefused : Call → Greeted → Telling → ℕ → List Try → Telling → ℕ → Type 0
+abbrev pub AreRefused : RestoreCall → Greeted → Telling → ℕ → List Try → Telling → ℕ → Type 0
 AreRefused call greeted before count [] after count_after = (after ≡ before) × (count_after ≡ count)
 AreRefused call greeted before count (x ∷ tries) after count_after =
-    (mid : Telling) × (between : ℕ) × IsRefused call greeted before count x mid between
+    (mid : Telling) × (between : ℕ) × IsRestoreRefused call greeted before count x mid between
     × AreRefused call greeted mid between tries after count_after
 
 -- ---- all of them
@@ -65,7 +66,7 @@ AreRefused call greeted before count (x ∷ tries) after count_after =
 -- The file came from k of the clouds, these ones: the first choice in order from which it wasn't refused and of which
 -- none had refused. Where the ports tell their bytes: what was said in the restores before, and then from some time on
 -- with these clouds alone, which is how the file is fetched. With no more than k clouds it is all that was said.
-pub record FileFrom (call : Call) (greeted : Greeted) (behind : Telling) (bytes : List ℕ) : Type 0 where
+pub record FileFrom (call : RestoreCall) (greeted : Greeted) (behind : Telling) (bytes : List ℕ) : Type 0 where
   pub tries : List Try
   pub front : List (List ℕ)
   pub chosen : List (CloudNo × ℕ)
@@ -85,7 +86,7 @@ pub record FileFrom (call : Call) (greeted : Greeted) (behind : Telling) (bytes 
 
 -- The file came from no k of the clouds: each choice was refused or holds a cloud that had refused, and the error is
 -- that of the first one. Where the ports tell their bytes: what was said in each of these restores.
-pub record NotFrom (call : Call) (greeted : Greeted) (behind : Telling) (e : RestoreErr) : Type 0 where
+pub record NotFrom (call : RestoreCall) (greeted : Greeted) (behind : Telling) (e : RestoreErr) : Type 0 where
   pub tries : List Try
   pub first : List ℕ
   pub more : List Try
@@ -101,7 +102,7 @@ pub record NotFrom (call : Call) (greeted : Greeted) (behind : Telling) (e : Res
       → Heard e (IsStop call greeted.shape greeted.lines.items none_ended behind call.after e)
 
 -- What a restore from any k of the clouds came to. Nothing is said where memory ran out.
-abbrev pub CameBy : Call → Greeted → Telling → Result (Unit {0}) RestoreErr → List ℕ → Type 0
+abbrev pub CameBy : RestoreCall → Greeted → Telling → Result (Unit {0}) RestoreErr → List ℕ → Type 0
 CameBy call greeted behind (Ok u) file = FileFrom call greeted behind file
 CameBy call greeted behind (Err errors.NoMemory) file = Unit {0}
 CameBy call greeted behind (Err e) file = NotFrom call greeted behind e

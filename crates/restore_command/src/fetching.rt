@@ -1,19 +1,16 @@
 //! Fetching a file from addresses.
 
 ghost use Rattle.std.specs.Prelude.{◌≡◌, ◌≤◌, [], length, IsTrue};
-ghost use Rattle.cd_base.specs.Limits.{IsPath};
+ghost use Rattle.ports_link.specs.CdBase.Limits.{IsPath};
 ghost use Rattle.restore_command.specs.Calls.{OnlyDialled};
 ghost use Rattle.restore_command.specs.Ends.{Fetches, IsErrOf};
 
 use crate::greeted::restore_greeted;
-use cd_base::{Bytes, NoMemory, UserId, Version};
-use cd_edges::Ports;
-use frames::ReplyBuf;
-use ports_link::{Asked, MeetErr, Refused, meet_all};
-use restore_job::RestoreErr;
+use ports_link::{
+    AskedClouds, Bytes, MeetErr, NoMemory, Ports, Refused, ReplyBuf, UserId, Version, meet_all,
+};
 use std::alloc::Global;
-use subset_restore::as_refusal;
-use transcript::Refusal;
+use subset_restore::{Refusal, RestoreErr, as_refusal};
 
 /// Why no file was fetched.
 #[derive(Clone, Copy, Debug, PartialEq, Eq)]
@@ -74,7 +71,7 @@ pub fn fetch<P: Ports>(
         Ok(reply) => reply,
         Err(NoMemory) => return Err(FetchErr::NoMemory),
     };
-    let greeted = match meet_all(alloc, ports, Asked::Restore, addresses, &mut reply) {
+    let greeted = match meet_all(alloc, ports, AskedClouds::Restore, addresses, &mut reply) {
         Ok(greeted) => greeted,
         Err(MeetErr::Undialled) => return Err(FetchErr::Lost),
         Err(MeetErr::Refused(why)) => return Err(FetchErr::Hello(why)),

@@ -2,15 +2,15 @@
 
 ghost use Rattle.std.specs.Prelude.{◌≡◌, ℕ, List, ◌++◌, Result, Ok, Err};
 ghost use Rattle.std.specs.List.Sorted.{IsStrictlyIncreasing};
-ghost use Rattle.cd_base.specs.Numbers.{numbers_of};
-ghost use Rattle.cd_base.specs.declared.ids.CloudNo.{CloudNo};
-ghost use Rattle.cd_base.specs.declared.ids.Tag.{Tag};
-ghost use Rattle.cd_base.specs.declared.ids.UserId.{UserId};
-ghost use Rattle.cd_base.specs.declared.ids.Version.{Version};
-ghost use Rattle.cd_base.specs.declared.shape.Shape.{Shape};
-ghost use Rattle.user_dedup.specs.Link.{Talk};
-ghost use Rattle.restore_job.specs.Exchanges.{AreReplies, Exchange, RestoreRun, behind_all};
-ghost use Rattle.restore_job.specs.declared.error.RestoreErr.{RestoreErr};
+ghost use Rattle.ports_link.specs.CdBase.Numbers.{numbers_of};
+ghost use Rattle.ports_link.specs.CdBase.ids.CloudNo.{CloudNo};
+ghost use Rattle.ports_link.specs.CdBase.ids.Tag.{Tag};
+ghost use Rattle.ports_link.specs.CdBase.ids.UserId.{UserId};
+ghost use Rattle.ports_link.specs.CdBase.ids.Version.{Version};
+ghost use Rattle.ports_link.specs.CdBase.shape.Shape.{Shape};
+ghost use Rattle.ports_link.specs.UserDedup.Link.{Talk};
+ghost use Rattle.subset_restore.specs.RestoreJob.Exchanges.{AreReplies, CloudExchange, RestoreRun, behind_all};
+ghost use Rattle.subset_restore.specs.RestoreJob.error.RestoreErr.{RestoreErr};
 ghost use Rattle.restore_command.specs.Fetched.{Fetched};
 ghost use Rattle.restore_command.specs.Stopped.{Stopped};
 ghost use Rattle.restore_command.specs.Talks.{HasHeard, received_in, sent_in};
@@ -19,12 +19,12 @@ ghost use Rattle.restore_command.specs.Talks.{HasHeard, received_in, sent_in};
 /// were appended. With an error the fetch stopped at the reply or comparison that the error names.
 pub fn law_of_fetched_files()
     ensures fetched { (shape : Shape) (user : UserId) (tag : Tag) (version : Version) (clouds : List CloudNo)
-        (log : List Exchange) (old new : List ℕ)
+        (log : List CloudExchange) (old new : List ℕ)
         → IsStrictlyIncreasing (numbers_of clouds) → RestoreRun shape user tag version clouds log old new (Ok tt)
         → (bytes : List ℕ) × (new ≡ old ++ bytes)
         × Fetched shape user tag version clouds (sent_in log) (received_in log) bytes }
     ensures stopped { (shape : Shape) (user : UserId) (tag : Tag) (version : Version) (clouds : List CloudNo)
-        (log : List Exchange) (old new : List ℕ) (e : RestoreErr)
+        (log : List CloudExchange) (old new : List ℕ) (e : RestoreErr)
         → IsStrictlyIncreasing (numbers_of clouds) → RestoreRun shape user tag version clouds log old new (Err e)
         → Stopped shape user tag version clouds (sent_in log) (received_in log) e }
 {}
@@ -32,6 +32,6 @@ pub fn law_of_fetched_files()
 /// What the exchanges say of the talk with one cloud: its requests were sent, and its replies are the next that were to
 /// come.
 pub fn law_of_talks()
-    ensures { (cloud : ℕ) (log : List Exchange) (before : Talk) → AreReplies cloud log before
+    ensures { (cloud : ℕ) (log : List CloudExchange) (before : Talk) → AreReplies cloud log before
         → HasHeard before (behind_all cloud log before) (sent_in log cloud) (received_in log cloud) }
 {}

@@ -3,21 +3,20 @@
 ghost use Rattle.std.specs.Prelude.{◌≡◌, ◌≤◌, ℕ, [], ◌∷◌, true, IsTrue, IfOk, IfErr, MatchOption};
 ghost use Rattle.std.specs.List.{Contains};
 ghost use Rattle.std.specs.List.Sorted.{IsStrictlyIncreasing};
-ghost use Rattle.cd_base.specs.Limits.{IsPath};
-ghost use Rattle.cd_edges.specs.Causes.{Rose};
-ghost use Rattle.ports_link.specs.declared.judging.Asked.TheVariants as asked;
+ghost use Rattle.ports_link.specs.CdBase.Limits.{IsPath};
+ghost use Rattle.ports_link.specs.CdEdges.Causes.{Rose};
+ghost use Rattle.ports_link.specs.declared.judging.AskedClouds.TheVariants as asked;
 ghost use Rattle.ports_link.specs.Hellos.{AreReached, HasClouds, HaveTalks, clouds_of};
-ghost use Rattle.restore_job.specs.Asking.{is_lost};
-ghost use Rattle.restore_job.specs.Refusals.{Names};
-ghost use Rattle.restore_command.specs.Calls.{Call, ports_of};
+ghost use Rattle.subset_restore.specs.RestoreJob.Asking.{is_lost};
+ghost use Rattle.subset_restore.specs.RestoreJob.Refusals.{Names};
+ghost use Rattle.restore_command.specs.Calls.{RestoreCall, ports_of};
 ghost use Rattle.restore_command.specs.Tried.{CameBy};
 
-use cd_base::{Bytes, CloudNo, Clouds, NoMemory, UserId, Version};
-use cd_edges::Ports;
-use ports_link::{Greeted, PortsLink, lines_of};
-use restore_job::RestoreErr;
+use ports_link::{
+    Bytes, CloudNo, Clouds, Greeted, NoMemory, Ports, PortsLink, UserId, Version, lines_of,
+};
 use std::alloc::Global;
-use subset_restore::restore_any;
+use subset_restore::{RestoreErr, restore_any};
 
 // The first line and the others.
 fn next_line(lines: &[(CloudNo, u32)]) -> Option<(CloudNo, u32, &[(CloudNo, u32)])>
@@ -68,7 +67,7 @@ pub fn restore_greeted<P: Ports>(
     ensures told { (P.tells ports.new).told ≡ (P.tells ports.old).told }
     ensures others { IsTrue (P.tells ports.old).told → (port : ℕ) → ¬ Contains (ports_of greeted.now.lines.items) port
         → (P.tells ports.new).port port ≡ (P.tells ports.old).port port }
-    ensures came { (call : Call) → call.user ≡ user → call.path ≡ path.now → call.version ≡ version
+    ensures came { (call : RestoreCall) → call.user ≡ user → call.path ≡ path.now → call.version ≡ version
         → call.after ≡ P.tells ports.new → call.faults_before ≡ P.faults ports.old
         → call.faults_after ≡ P.faults ports.new
         → (IsTrue call.before.told → IsTrue (P.tells ports.old).told

@@ -1,14 +1,13 @@
 //! The command.
 
 ghost use Rattle.std.specs.Prelude.{◌≡◌, ◌≤◌, ◌⊎◌, length, IsTrue};
-ghost use Rattle.cd_base.specs.Limits.{IsPath};
+ghost use Rattle.ports_link.specs.CdBase.Limits.{IsPath};
 ghost use Rattle.restore_command.specs.Calls.{OnlyDialled};
 ghost use Rattle.restore_command.specs.Ends.{IsFetched};
 
 use crate::fetching::{FetchErr, fetch};
 use crate::writing::{write_hello, write_refusal, write_text};
-use cd_base::{Bytes, UserId, Version};
-use cd_edges::{Ports, Sink};
+use ports_link::{Bytes, Ports, Sink, UserId, Version};
 use std::alloc::Global;
 
 /// Restores a version of a user's file from the clouds at these addresses, as many as give a file back or more and in

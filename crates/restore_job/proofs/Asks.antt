@@ -4,21 +4,21 @@ use Rattle.std.specs.Prelude.{All, find, is_none, option_map, IsTrue}
 use Rattle.std.specs.List.{Contains}
 use Rattle.std.proofs.lemmas.List.{map-append}
 use Rattle.std.proofs.lemmas.List.Elements.{All-nil, All-push, Contains-append_left, Contains-append_right, Contains-push_cases}
-use Rattle.cd_base.specs.Numbers.{numbers_of}
-use Rattle.cd_base.specs.declared.ids.CloudNo.{CloudNo}
-use Rattle.cd_base.specs.declared.ids.Tag.{Tag}
-use Rattle.cd_base.specs.declared.ids.UserId.{UserId}
-use Rattle.cd_base.specs.declared.ids.Version.{Version}
-use Rattle.cd_base.specs.declared.shape.Shape.{Shape}
-use Rattle.recipe.specs.declared.recipe.Recipe.{Recipe}
-use Rattle.recipe.specs.Spelling.{Fits}
-use Rattle.messages.specs.declared.request.Request.TheVariants as requests
-use Rattle.messages.specs.Requests.{IsRequest}
+use Rattle.user_dedup.specs.CdBase.Numbers.{numbers_of}
+use Rattle.user_dedup.specs.CdBase.ids.CloudNo.{CloudNo}
+use Rattle.user_dedup.specs.CdBase.ids.Tag.{Tag}
+use Rattle.user_dedup.specs.CdBase.ids.UserId.{UserId}
+use Rattle.user_dedup.specs.CdBase.ids.Version.{Version}
+use Rattle.user_dedup.specs.CdBase.shape.Shape.{Shape}
+use Rattle.user_dedup.specs.Recipe.recipe.Recipe.{Recipe}
+use Rattle.user_dedup.specs.Recipe.Spelling.{Fits}
+use Rattle.user_dedup.specs.Messages.request.Request.TheVariants as requests
+use Rattle.user_dedup.specs.Messages.Requests.{IsRequest}
 use Rattle.user_dedup.specs.declared.command.Command.{Command}
 use Rattle.user_dedup.specs.Exec.{Peer, MaySettleAs}
 use Rattle.user_dedup.specs.Link.{LinkTelling}
 use Rattle.user_dedup.proofs.Owned.{contains_here, contains_later, contains_cases, contains_nothing}
-use Rattle.restore_job.specs.Asking.{Reads, MayRead, ReadFails, OnlyRead, Leads, LeadsAny, Asked, AreRead, StoppedAt, among}
+use Rattle.restore_job.specs.Asking.{Reads, MayRead, ReadFails, AreOnlyAsked, Leads, LeadsAny, HasAskedClouds, AreRead, StoppedAt, among}
 use Rattle.restore_job.specs.Restored
 use Rattle.restore_job.specs.Restored.{Unrestored, recipe_in, missing}
 use Rattle.restore_job.specs.Steps.{RecipeTold, RecipesTold, RecipeShown, RecipesShown, ReadyWhere, recipes_in}
@@ -72,7 +72,7 @@ pub record Fetched {L : Type 0} (t : LinkTelling L) (shape : Shape) (old now : L
   pub fits : All (Fits shape) recipes
   pub told : (user : UserId) (tag : Tag) (version : Version) → IsRequest content (requests.GetRecipe user tag version)
       → LeadsAny t done old now (λ these a b. ReadyWhere (among these t) old shape user (tag, version) done recipes b) (λ a b. AreRead done a b × (recipes_in shape user (tag, version) b done ≡ map Some recipes))
-  pub asked : Asked t clouds old now false
+  pub asked : HasAskedClouds t clouds old now false
 
 pub fetched_none : {L : Type 0} (t : LinkTelling L) (shape : Shape) (link : L) (content clouds : List ℕ) → Fetched t shape link link content clouds clouds []
 fetched_none t shape link content clouds = record {
@@ -95,7 +95,7 @@ right_here done rest cloud x has =
     ]
 
 pub fetched_more : {L : Type 0} (t : LinkTelling L) (shape : Shape) (old mid new : L) (content clouds : List ℕ) (cloud : CloudNo) (rest : List ℕ) (recipes : List Recipe) (recipe : Recipe)
-    → Fetched t shape old mid content clouds (cloud.0 ∷ rest) recipes → Asked t (cloud.0 ∷ []) mid new false → Fits shape recipe
+    → Fetched t shape old mid content clouds (cloud.0 ∷ rest) recipes → HasAskedClouds t (cloud.0 ∷ []) mid new false → Fits shape recipe
     → ((user : UserId) (tag : Tag) (version : Version) → IsRequest content (requests.GetRecipe user tag version)
     → LeadsAny t (cloud.0 ∷ []) mid new (λ these. RecipeShown (among these t) mid shape user (tag, version) cloud.0 (Ok recipe)) (λ a b. RecipeTold shape user (tag, version) cloud (Ok recipe) (a cloud.0) (b cloud.0)))
     → Fetched t shape old new content clouds rest (recipes ++ recipe ∷ [])
@@ -122,7 +122,7 @@ fetched_more t shape old mid new content clouds cloud rest recipes recipe f aske
   asked = asked_on t clouds old mid new false f.asked (asked_at t cloud.0 clouds mid new false (subst (λ (l : List ℕ). Contains l cloud.0) (sym f.split) (right_here f.done rest cloud.0 cloud.0 (contains_here cloud.0 []))) asked);
 }
   where
-    both : (user : UserId) (key : Tag × Version) (a b c : ℕ → Peer) → OnlyRead f.done a b → OnlyRead (cloud.0 ∷ []) b c
+    both : (user : UserId) (key : Tag × Version) (a b c : ℕ → Peer) → AreOnlyAsked f.done a b → AreOnlyAsked (cloud.0 ∷ []) b c
         → AreRead f.done a b × (recipes_in shape user key b f.done ≡ map Some recipes) → RecipeTold shape user key cloud (Ok recipe) (b cloud.0) (c cloud.0)
         → AreRead (f.done ++ cloud.0 ∷ []) a c × (recipes_in shape user key c (f.done ++ cloud.0 ∷ []) ≡ map Some (recipes ++ recipe ∷ []))
     both user key a b c one two r s = (
@@ -143,7 +143,7 @@ fetched_all t shape old now content clouds recipes f user tag version is these =
 
 -- a cloud refused
 pub stopped : (shape : Shape) (user : UserId) (key : Tag × Version) (cloud : CloudNo) (done rest : List ℕ) (recipes : List Recipe) (e : RestoreErr) (a b c : ℕ → Peer)
-    → OnlyRead done a b → OnlyRead (cloud.0 ∷ []) b c → AreRead done a b → recipes_in shape user key b done ≡ map Some recipes
+    → AreOnlyAsked done a b → AreOnlyAsked (cloud.0 ∷ []) b c → AreRead done a b → recipes_in shape user key b done ≡ map Some recipes
     → RecipeTold shape user key cloud (Err e) (b cloud.0) (c cloud.0) → RecipesTold shape user key (done ++ cloud.0 ∷ rest) (Err e) a c
 stopped shape user key cloud done rest recipes e a b c one two read are s = go e s
   where

@@ -4,13 +4,13 @@ use Rattle.std.specs.Prelude.{unwrap_or}
 use Rattle.std.specs.List.{Contains, flat_map}
 use Rattle.std.proofs.lemmas.List.Concat.{flat_map-cons}
 use Rattle.std.proofs.lemmas.List.Elements.{All-head, All-tail}
-use Rattle.cd_base.specs.declared.ids.CloudNo.{CloudNo}
-use Rattle.cd_base.specs.declared.ids.Tag.{Tag}
-use Rattle.cd_base.specs.declared.ids.UserId.{UserId}
-use Rattle.cd_base.specs.declared.ids.Version.{Version}
-use Rattle.cd_base.specs.declared.shape.Shape.{Shape}
-use Rattle.recipe.specs.declared.items.Item.{Item}
-use Rattle.recipe.specs.declared.recipe.Recipe.{Recipe}
+use Rattle.user_dedup.specs.CdBase.ids.CloudNo.{CloudNo}
+use Rattle.user_dedup.specs.CdBase.ids.Tag.{Tag}
+use Rattle.user_dedup.specs.CdBase.ids.UserId.{UserId}
+use Rattle.user_dedup.specs.CdBase.ids.Version.{Version}
+use Rattle.user_dedup.specs.CdBase.shape.Shape.{Shape}
+use Rattle.user_dedup.specs.Recipe.items.Item.{Item}
+use Rattle.user_dedup.specs.Recipe.recipe.Recipe.{Recipe}
 use Rattle.user_dedup.specs.Cloud.{held_string}
 use Rattle.user_dedup.specs.Exec.{Peer}
 use Rattle.user_dedup.specs.Link.{LinkTelling}

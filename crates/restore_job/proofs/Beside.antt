@@ -1,10 +1,10 @@
 -- What was said with the other clouds where an ask was lost.
 use Rattle.std.proofs.Common.{ℕ, List, [], ◌++◌, Result, Ok, Err, sym, subst}
 use Rattle.user_dedup.specs.Link.{Talk, SaysNothingElse}
-use Rattle.cd_base.specs.declared.ids.CloudNo.{CloudNo}
+use Rattle.user_dedup.specs.CdBase.ids.CloudNo.{CloudNo}
 use Rattle.restore_job.specs.declared.error.RestoreErr.{RestoreErr}
 use Rattle.restore_job.specs.declared.error.RestoreErr.TheVariants as errors
-use Rattle.restore_job.specs.Exchanges.{Exchange, behind_all, HasSpoken, LostSaid, SpeaksBeside}
+use Rattle.restore_job.specs.Exchanges.{CloudExchange, behind_all, HasSpoken, LostSaid, SpeaksBeside}
 use Rattle.restore_job.proofs.Speaking.{behind-append, replies-append, spoken_none}
 
 module _ {L : Type 0} (talk : L → ℕ → Talk → Type 0) where
@@ -13,7 +13,7 @@ module _ {L : Type 0} (talk : L → ℕ → Talk → Type 0) where
   beside_ask old new lost else cloud apart before is = ([], else cloud before apart is, tt)
 
   -- exchanges in front
-  pub beside_on : (old mid new : L) (log : List Exchange) (lost : ℕ) → HasSpoken talk old mid log
+  pub beside_on : (old mid new : L) (log : List CloudExchange) (lost : ℕ) → HasSpoken talk old mid log
       → SpeaksBeside talk lost mid new → SpeaksBeside talk lost old new
   beside_on old mid new log lost spoken beside cloud apart before is =
       let x = spoken cloud before is in
@@ -24,7 +24,7 @@ module _ {L : Type 0} (talk : L → ℕ → Talk → Type 0) where
       )
 
   -- exchanges alone
-  pub beside_all : (old new : L) (log : List Exchange) (lost : ℕ) → HasSpoken talk old new log
+  pub beside_all : (old new : L) (log : List CloudExchange) (lost : ℕ) → HasSpoken talk old new log
       → SpeaksBeside talk lost old new
   beside_all old new log lost spoken cloud apart before is =
       let x = spoken cloud before is in (log, x.0, x.1)
@@ -47,12 +47,12 @@ module _ {L : Type 0} (talk : L → ℕ → Talk → Type 0) where
   lost_by old new (Err (errors.BadPad secret at byte)) f = tt
   lost_by old new (Err errors.NoMemory) f = tt
 
-  pub lost_spoken : {A : Type 0} (old new : L) (log : List Exchange) (result : Result A RestoreErr)
+  pub lost_spoken : {A : Type 0} (old new : L) (log : List CloudExchange) (result : Result A RestoreErr)
       → HasSpoken talk old new log → LostSaid talk old new result
   lost_spoken old new log result spoken = lost_by old new result (λ c. beside_all old new log c.0 spoken)
 
   -- a loss behind exchanges
-  pub lost_on : (A B : Type 0) (old mid new : L) (log : List Exchange) (e : RestoreErr) → HasSpoken talk old mid log
+  pub lost_on : (A B : Type 0) (old mid new : L) (log : List CloudExchange) (e : RestoreErr) → HasSpoken talk old mid log
       → LostSaid {A = A} talk mid new (Err e) → LostSaid {A = B} talk old new (Err e)
   lost_on A B old mid new log (errors.Missing c) spoken lost = tt
   lost_on A B old mid new log (errors.Lost c) spoken lost = beside_on old mid new log c.0 spoken lost

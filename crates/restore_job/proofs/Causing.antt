@@ -2,16 +2,16 @@
 use Rattle.std.proofs.Common.{◌≡◌, ℕ, ◌+◌, ◌≤◌, Bool, true, false, List, [], ◌∷◌, ◌++◌, length, Option, None, Some, Result, Ok, Err, refl, sym, ap, ◌∙◌, subst, arith, inl, inr}
 use Rattle.std.specs.Prelude.{IsTrue, IfErr, option_map}
 use Rattle.std.specs.List.{Contains}
-use Rattle.cd_base.specs.declared.ids.CloudNo.{CloudNo}
-use Rattle.cd_base.specs.declared.ids.Tag.{Tag}
-use Rattle.cd_base.specs.declared.ids.UserId.{UserId}
-use Rattle.cd_base.specs.declared.ids.Version.{Version}
-use Rattle.cd_base.specs.declared.shape.Shape.{Shape}
-use Rattle.cd_edges.specs.Causes.{Rose}
-use Rattle.messages.specs.declared.reply.Reply.{Reply}
-use Rattle.messages.specs.declared.reply.Reply.TheVariants as replies
-use Rattle.recipe.specs.declared.items.Item.{Item}
-use Rattle.recipe.specs.declared.recipe.Recipe.{Recipe}
+use Rattle.user_dedup.specs.CdBase.ids.CloudNo.{CloudNo}
+use Rattle.user_dedup.specs.CdBase.ids.Tag.{Tag}
+use Rattle.user_dedup.specs.CdBase.ids.UserId.{UserId}
+use Rattle.user_dedup.specs.CdBase.ids.Version.{Version}
+use Rattle.user_dedup.specs.CdBase.shape.Shape.{Shape}
+use Rattle.user_dedup.specs.CdEdges.Causes.{Rose}
+use Rattle.user_dedup.specs.Messages.reply.Reply.{Reply}
+use Rattle.user_dedup.specs.Messages.reply.Reply.TheVariants as replies
+use Rattle.user_dedup.specs.Recipe.items.Item.{Item}
+use Rattle.user_dedup.specs.Recipe.recipe.Recipe.{Recipe}
 use Rattle.user_dedup.specs.declared.command.Command.{Command}
 use Rattle.user_dedup.specs.Exec.{Peer}
 use Rattle.user_dedup.specs.Link.{LinkTelling}

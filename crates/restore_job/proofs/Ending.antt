@@ -5,21 +5,21 @@ use Rattle.std.proofs.lemmas.Bool.{and_parts, leb-true}
 use Rattle.std.proofs.lemmas.List.Elements.{All-cons, All-weaker}
 use Rattle.std.specs.Prelude.{◌==◌, All, IsTrue, min, unwrap_or, option_map, find, is_none, IfErr}
 use Rattle.std.specs.List.{Contains, flat_map}
-use Rattle.cd_base.specs.declared.ids.Tag.{Tag}
-use Rattle.cd_base.specs.declared.ids.UserId.{UserId}
-use Rattle.cd_base.specs.declared.ids.Version.{Version}
-use Rattle.cd_base.specs.declared.shape.Shape.{Shape}
-use Rattle.cd_base.specs.Lengths.{share_len_of}
+use Rattle.user_dedup.specs.CdBase.ids.Tag.{Tag}
+use Rattle.user_dedup.specs.CdBase.ids.UserId.{UserId}
+use Rattle.user_dedup.specs.CdBase.ids.Version.{Version}
+use Rattle.user_dedup.specs.CdBase.shape.Shape.{Shape}
+use Rattle.user_dedup.specs.CdBase.Lengths.{share_len_of}
 use Rattle.caont_rs.specs.declared.opening.RecoverErr.{RecoverErr}
 use Rattle.caont_rs.specs.declared.opening.RecoverErr.TheVariants as opening
-use Rattle.recipe.specs.Spelling.{Fits, AreItems, is_len}
-use Rattle.recipe.specs.declared.items.Item.{Item}
-use Rattle.recipe.specs.declared.recipe.Recipe.{Recipe}
+use Rattle.user_dedup.specs.Recipe.Spelling.{Fits, AreItems, is_len}
+use Rattle.user_dedup.specs.Recipe.items.Item.{Item}
+use Rattle.user_dedup.specs.Recipe.recipe.Recipe.{Recipe}
 use Rattle.user_dedup.specs.Cloud.{held_string}
 use Rattle.user_dedup.specs.Exec.{Peer}
 use Rattle.user_dedup.specs.Link.{LinkTelling}
 use Rattle.user_dedup.proofs.Owned.{contains_here, contains_later}
-use Rattle.restore_job.specs.Asking.{MayRead, Leads, LeadsAny, Asked, AreRead, among}
+use Rattle.restore_job.specs.Asking.{MayRead, Leads, LeadsAny, HasAskedClouds, AreRead, among}
 use Rattle.restore_job.specs.Reading.{Ends, Restores}
 use Rattle.restore_job.specs.Refusals.{Names, Shows}
 use Rattle.restore_job.specs.Restored
@@ -139,7 +139,7 @@ left_from shape firsts all place = batches_opened shape firsts all (batch_count 
 pub record Restoring {L : Type 0} (t : LinkTelling L) (shape : Shape) (user : UserId) (clouds : List ℕ) (firsts : List Item) (recipes : List Recipe) (old now : L) (place : ℕ) (out out' : List ℕ) : Type 0 where
   pub told : (tag : Tag) (version : Version) → LeadsAny t clouds old now (λ these a b. Unit {0}) (λ a b. Ready shape user (tag, version) clouds recipes a
       → Opening (items_opened shape firsts (givens a clouds recipes)) (left_from shape firsts (givens a clouds recipes) place) out out')
-  pub asked : Asked t clouds old now false
+  pub asked : HasAskedClouds t clouds old now false
 
 pub restoring_none : {L : Type 0} (t : LinkTelling L) (shape : Shape) (user : UserId) (clouds : List ℕ) (firsts : List Item) (recipes : List Recipe) (link : L) (out : List ℕ) → Restoring t shape user clouds firsts recipes link link 0 out out
 restoring_none t shape user clouds firsts recipes link out = record {
@@ -167,7 +167,7 @@ BatchEnds t shape user clouds firsts recipes mid new place count res out out' =
     (tag : Tag) (version : Version) → LeadsAny t clouds mid new (λ these. BatchShown (among these t) mid shape user (tag, version) clouds firsts recipes res) (λ a b. Ready shape user (tag, version) clouds recipes a → Ends (batch_opened shape firsts (givens a clouds recipes) place count) clouds res out out' a b)
 
 pub restoring_more : {L : Type 0} (t : LinkTelling L) (shape : Shape) (user : UserId) (clouds : List ℕ) (firsts : List Item) (recipes : List Recipe) (old mid new : L) (place count : ℕ) (out between out' : List ℕ)
-    → Restoring t shape user clouds firsts recipes old mid place out between → place < length firsts → count ≡ min 256 (length firsts - place) → Asked t clouds mid new false
+    → Restoring t shape user clouds firsts recipes old mid place out between → place < length firsts → count ≡ min 256 (length firsts - place) → HasAskedClouds t clouds mid new false
     → BatchEnds t shape user clouds firsts recipes mid new place count (Ok tt) between out' → Restoring t shape user clouds firsts recipes old new (place + count) out out'
 restoring_more t shape user clouds firsts recipes old mid new place count out between out' f lt is asked ends = record {
   told = λ tag version these. leads_on (among these t) clouds clouds clouds old mid new _ _ _ _ _ _ (f.told tag version these) (told_among t these old mid f.asked.told) (ends tag version these) (λ x has. has) (λ x has. has)

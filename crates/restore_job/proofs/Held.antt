@@ -7,24 +7,24 @@ use Rattle.std.proofs.lemmas.List.Elements.{All-get_or, All-weaker, Contains-pus
 use Rattle.std.proofs.lemmas.Option.{get_or_from_slice_get, slice_get_within}
 use Rattle.std.proofs.lemmas.Bool.{cases_eq}
 use Rattle.sha2.specs.Sha256.{sha256 as sha256_of}
-use Rattle.cd_base.specs.Reading.{AreBytes}
-use Rattle.cd_base.specs.declared.ids.CloudNo.{CloudNo}
-use Rattle.cd_base.specs.declared.ids.Fp.{Fp}
-use Rattle.cd_base.specs.declared.ids.Tag.{Tag}
-use Rattle.cd_base.specs.declared.ids.UserId.{UserId}
-use Rattle.cd_base.specs.declared.ids.Version.{Version}
-use Rattle.cd_base.specs.declared.shape.Shape.{Shape}
-use Rattle.recipe.specs.declared.recipe.Recipe.{Recipe}
-use Rattle.recipe.specs.Spelling.{IsRecipe}
-use Rattle.recipe.specs.Reading.{recipe_at}
-use Rattle.recipe.proofs.Written.{again as recipe_again}
-use Rattle.cd_edges.specs.Causes.{Rose}
-use Rattle.messages.specs.declared.request.Request.{Request}
-use Rattle.messages.specs.declared.request.Request.TheVariants as requests
-use Rattle.messages.specs.declared.reply.Reply.{Reply}
-use Rattle.messages.specs.declared.reply.Reply.TheVariants as replies
-use Rattle.messages.specs.ReplyReading.{reply_at}
-use Rattle.messages.proofs.ReplyLaws.{reply_law}
+use Rattle.user_dedup.specs.CdBase.Reading.{AreBytes}
+use Rattle.user_dedup.specs.CdBase.ids.CloudNo.{CloudNo}
+use Rattle.user_dedup.specs.CdBase.ids.Fp.{Fp}
+use Rattle.user_dedup.specs.CdBase.ids.Tag.{Tag}
+use Rattle.user_dedup.specs.CdBase.ids.UserId.{UserId}
+use Rattle.user_dedup.specs.CdBase.ids.Version.{Version}
+use Rattle.user_dedup.specs.CdBase.shape.Shape.{Shape}
+use Rattle.user_dedup.specs.Recipe.recipe.Recipe.{Recipe}
+use Rattle.user_dedup.specs.Recipe.Spelling.{IsRecipe}
+use Rattle.user_dedup.specs.Recipe.Reading.{recipe_at}
+use Rattle.user_dedup.proofs.RecipeLaws.Written.{again as recipe_again}
+use Rattle.user_dedup.specs.CdEdges.Causes.{Rose}
+use Rattle.user_dedup.specs.Messages.request.Request.{Request}
+use Rattle.user_dedup.specs.Messages.request.Request.TheVariants as requests
+use Rattle.user_dedup.specs.Messages.reply.Reply.{Reply}
+use Rattle.user_dedup.specs.Messages.reply.Reply.TheVariants as replies
+use Rattle.user_dedup.specs.Messages.ReplyReading.{reply_at}
+use Rattle.user_dedup.proofs.Messages.ReplyLaws.{reply_law}
 use Rattle.user_dedup.specs.declared.command.Command.{Command}
 use Rattle.user_dedup.specs.declared.command.Command.TheVariants as commands
 use Rattle.user_dedup.specs.declared.file_list.FileEntry.{FileEntry}
@@ -34,7 +34,7 @@ use Rattle.user_dedup.specs.Owning.{first_lacking, fps_in, FindsLacking}
 use Rattle.user_dedup.specs.Pages.{entry_at}
 use Rattle.user_dedup.specs.Requests.{fps_read, HasRecipe}
 use Rattle.user_dedup.specs.Dedup.{answer_over, IsSound, Begun, Added, FullRoom, recipe_reply, shares_reply}
-use Rattle.user_dedup.specs.Exec.{Peer, MaySettleAs, Settles, Stays, Answers, FailsTold, ExecTold, ExecUntold, Exec, StandsSound, served}
+use Rattle.user_dedup.specs.Exec.{Peer, MaySettleAs, Settles, KeepsPeer, Answers, FailsTold, ExecTold, ExecUntold, Exec, StandsSound, served}
 use Rattle.user_dedup.specs.Link.{LinkTelling, Asks, LosesAsk, TellsSound}
 use Rattle.user_dedup.proofs.Owned.{finds, contains_nothing}
 use Rattle.user_dedup.proofs.Deleting.{entries_left}
@@ -114,7 +114,7 @@ settles_read shape cloud full p q request reply none a =
     (record { list = subst (MaySettleAs p) (sym list_is) a.settled; pending = a.pending }, a.served ∙ ap (λ (l : List Command). (served shape cloud full l request).reply) (sym list_is))
 
 fails_may : (shape : Shape) (cloud : ℕ) (full : List Command → Command → Option FullRoom) (p q : Peer) (request : Request) (reply : Reply) → AddsNone shape cloud full request
-    → FailsTold (served shape cloud full) p request reply q → Stays p q ⊎ Settles p q
+    → FailsTold (served shape cloud full) p request reply q → KeepsPeer p q ⊎ Settles p q
 fails_may shape cloud full p q request reply none f =
     elim f.left [
       | inl stays ↦ inl stays
@@ -125,7 +125,7 @@ exec_may : (shape : Shape) (cloud : ℕ) (full : List Command → Command → Op
     → Exec shape told (served shape cloud full) p request reply q → MayRead p q
 exec_may shape cloud full told p q request reply none exec = (go told exec.does, exec.counts)
   where
-    go : (b : Bool) → MatchBool b (ExecTold (served shape cloud full) p request reply q) (ExecUntold shape p request reply q) → Stays p q ⊎ Settles p q
+    go : (b : Bool) → MatchBool b (ExecTold (served shape cloud full) p request reply q) (ExecUntold shape p request reply q) → KeepsPeer p q ⊎ Settles p q
     go true (inl a) = inr (settles_read shape cloud full p q request reply none a).0
     go true (inr f) = fails_may shape cloud full p q request reply none f
     go false u = inl u.stays

@@ -3,12 +3,12 @@ use Rattle.std.proofs.Common.{◌≡◌, ◌⊎◌, ℕ, ◌≤◌, Bool, true, 
 use Rattle.std.specs.Prelude.{IsTrue, IsSomeAnd, ◌==◌}
 use Rattle.std.specs.List.{Contains}
 use Rattle.std.proofs.lemmas.Bool.{cases_eq, ne_eqb}
-use Rattle.cd_edges.specs.Causes.{Rose}
+use Rattle.user_dedup.specs.CdEdges.Causes.{Rose}
 use Rattle.user_dedup.specs.declared.command.Command.{Command}
-use Rattle.user_dedup.specs.Exec.{Peer, MaySettleAs, Settles, Stays, CountsOn}
+use Rattle.user_dedup.specs.Exec.{Peer, MaySettleAs, Settles, KeepsPeer, CountsOn}
 use Rattle.user_dedup.specs.Link.{LinkTelling, LeavesOthers, Exchange, Passes, IsReading, ReadsFrom}
 use Rattle.user_dedup.proofs.Owned.{contains_here, contains_cases, contains_nothing}
-use Rattle.restore_job.specs.Asking.{PeersOf, TellsAll, Reads, MayRead, ReadFails, OnlyRead, Leads, Asked, among}
+use Rattle.restore_job.specs.Asking.{PeersOf, TellsAll, Reads, MayRead, ReadFails, AreOnlyAsked, Leads, HasAskedClouds, among}
 
 -- ---- one cloud
 
@@ -21,7 +21,7 @@ rose_off a b c rose le = omega (arith, rose)
 pub counts_on : (a b c : Peer) → CountsOn a b → CountsOn b c → CountsOn a c
 counts_on a b c one two = record { faults = let x = one.faults in let y = two.faults in omega arith; armings = two.armings ∙ one.armings }
 
-pub settle_along : (a b : Peer) (list : List Command) → Stays a b → MaySettleAs b list → MaySettleAs a list
+pub settle_along : (a b : Peer) (list : List Command) → KeepsPeer a b → MaySettleAs b list → MaySettleAs a list
 settle_along a b list stays (inl same) = inl (same ∙ stays.list)
 settle_along a b list stays (inr some) =
     inr (subst (λ (l : List Command). IsSomeAnd a.pending (λ command. list ≡ l ++ command ∷ [])) stays.list
@@ -32,7 +32,7 @@ pub no_pending : (p : Peer) (list : List Command) → p.pending ≡ None → May
 no_pending p list none (inl same) = same
 no_pending p list none (inr some) = absurd (subst (λ (o : Option Command). IsSomeAnd o (λ command. list ≡ p.list ++ command ∷ [])) none some)
 
-either : (a b c : Peer) → Stays a b ⊎ Settles a b → Stays b c ⊎ Settles b c → Stays a c ⊎ Settles a c
+either : (a b c : Peer) → KeepsPeer a b ⊎ Settles a b → KeepsPeer b c ⊎ Settles b c → KeepsPeer a c ⊎ Settles a c
 either a b c (inl s) (inl t) = inl (record { list = t.list ∙ s.list; pending = t.pending ∙ s.pending })
 either a b c (inl s) (inr t) = inr (record { list = settle_along a b c.list s t.list; pending = t.pending })
 either a b c (inr s) (inl t) = inr (record { list = subst (MaySettleAs a) (sym t.list) s.list; pending = t.pending ∙ s.pending })
@@ -55,7 +55,7 @@ pub record SameList (a b : Peer) : Type 0 where
 pub settled_same : (a b : Peer) → a.pending ≡ None → MayRead a b → SameList a b
 settled_same a b none may = go may.0
   where
-    go : Stays a b ⊎ Settles a b → SameList a b
+    go : KeepsPeer a b ⊎ Settles a b → SameList a b
     go (inl s) = record { list = s.list; pending = s.pending ∙ none }
     go (inr s) = record { list = no_pending a b.list none s.list; pending = s.pending }
 
@@ -70,11 +70,11 @@ fails_on a b c one two = (rose_on a.faults b.faults c.faults one.1.faults two.0,
 
 -- ---- all clouds
 
-pub none_read : (clouds : List ℕ) (peers : ℕ → Peer) → OnlyRead clouds peers peers
+pub none_read : (clouds : List ℕ) (peers : ℕ → Peer) → AreOnlyAsked clouds peers peers
 none_read clouds peers = record { read = λ x. may_stay (peers x); others = λ x no. refl }
 
-pub only_on : (xs ys zs : List ℕ) (a b c : ℕ → Peer) → OnlyRead xs a b → OnlyRead ys b c → ((x : ℕ) → Contains xs x → Contains zs x)
-    → ((x : ℕ) → Contains ys x → Contains zs x) → OnlyRead zs a c
+pub only_on : (xs ys zs : List ℕ) (a b c : ℕ → Peer) → AreOnlyAsked xs a b → AreOnlyAsked ys b c → ((x : ℕ) → Contains xs x → Contains zs x)
+    → ((x : ℕ) → Contains ys x → Contains zs x) → AreOnlyAsked zs a c
 only_on xs ys zs a b c one two xs_in ys_in = record {
   read = λ x. may_on (a x) (b x) (c x) (one.read x) (two.read x);
   others = λ x no. two.others x (λ y. no (ys_in x y)) ∙ one.others x (λ y. no (xs_in x y));
@@ -86,8 +86,8 @@ Relation = (ℕ → Peer) → (ℕ → Peer) → Type 0
 pub leads_on : {L : Type 0} (t : LinkTelling L) (xs ys zs : List ℕ) (old mid new : L) (A B C R S T : (ℕ → Peer) → (ℕ → Peer) → Type 0)
     → Leads t xs old mid A R → t.told mid ≡ t.told old → Leads t ys mid new B S
     → ((x : ℕ) → Contains xs x → Contains zs x) → ((x : ℕ) → Contains ys x → Contains zs x)
-    → ((a b c : ℕ → Peer) → OnlyRead xs a b → OnlyRead ys b c → A a b → B b c → C a c)
-    → ((a b c : ℕ → Peer) → OnlyRead xs a b → OnlyRead ys b c → R a b → S b c → T a c)
+    → ((a b c : ℕ → Peer) → AreOnlyAsked xs a b → AreOnlyAsked ys b c → A a b → B b c → C a c)
+    → ((a b c : ℕ → Peer) → AreOnlyAsked xs a b → AreOnlyAsked ys b c → R a b → S b c → T a c)
     → Leads t zs old new C T
 leads_on {L} t xs ys zs old mid new A B C R S T first same second xs_in ys_in always both these all before peers =
     let x = first these (λ c has. all c (xs_in c has)) before peers in
@@ -101,8 +101,8 @@ leads_on {L} t xs ys zs old mid new A B C R S T first same second xs_in ys_in al
     )
 
 pub leads_to : {L : Type 0} (t : LinkTelling L) (xs zs : List ℕ) (old new : L) (A C R T : (ℕ → Peer) → (ℕ → Peer) → Type 0)
-    → Leads t xs old new A R → ((x : ℕ) → Contains xs x → Contains zs x) → ((a b : ℕ → Peer) → OnlyRead xs a b → A a b → (TellsAll t old xs → R a b) → C a b)
-    → ((a b : ℕ → Peer) → OnlyRead xs a b → R a b → T a b) → Leads t zs old new C T
+    → Leads t xs old new A R → ((x : ℕ) → Contains xs x → Contains zs x) → ((a b : ℕ → Peer) → AreOnlyAsked xs a b → A a b → (TellsAll t old xs → R a b) → C a b)
+    → ((a b : ℕ → Peer) → AreOnlyAsked xs a b → R a b → T a b) → Leads t zs old new C T
 leads_to t xs zs old new A C R T first xs_in always then these all before peers =
     let x = first these (λ c has. all c (xs_in c has)) before peers in (
       x.0,
@@ -207,7 +207,7 @@ passes_in : {L : Type 0} (t : LinkTelling L) (few clouds : List ℕ) (old new : 
 passes_in t few clouds old new [] all one = one
 passes_in t few clouds old new (e ∷ es) all one = ((all e.cloud one.0.0, one.0.1), (one.1.0, one.1.1, passes_in t few clouds one.1.0 new es all one.1.2))
 
-pub asked_none : {L : Type 0} (t : LinkTelling L) (clouds : List ℕ) (link : L) → Asked t clouds link link false
+pub asked_none : {L : Type 0} (t : LinkTelling L) (clouds : List ℕ) (link : L) → HasAskedClouds t clouds link link false
 asked_none t clouds link = record {
   asks = [];
   passed = refl;
@@ -221,7 +221,7 @@ asked_none t clouds link = record {
   lossless = λ h. (refl, h);
 }
 
-pub asked_on : {L : Type 0} (t : LinkTelling L) (clouds : List ℕ) (old mid new : L) (loss : Bool) → Asked t clouds old mid false → Asked t clouds mid new loss → Asked t clouds old new loss
+pub asked_on : {L : Type 0} (t : LinkTelling L) (clouds : List ℕ) (old mid new : L) (loss : Bool) → HasAskedClouds t clouds old mid false → HasAskedClouds t clouds mid new loss → HasAskedClouds t clouds old new loss
 asked_on t clouds old mid new loss one two = record {
   asks = one.asks ++ two.asks;
   passed = passes_on t clouds old mid new one.asks two.asks one.passed two.passed;
@@ -236,7 +236,7 @@ asked_on t clouds old mid new loss one two = record {
 }
 
 -- asks of some of the clouds
-pub asked_in : {L : Type 0} (t : LinkTelling L) (few clouds : List ℕ) (old new : L) (loss : Bool) → ((x : ℕ) → Contains few x → Contains clouds x) → Asked t few old new loss → Asked t clouds old new loss
+pub asked_in : {L : Type 0} (t : LinkTelling L) (few clouds : List ℕ) (old new : L) (loss : Bool) → ((x : ℕ) → Contains few x → Contains clouds x) → HasAskedClouds t few old new loss → HasAskedClouds t clouds old new loss
 asked_in t few clouds old new loss all one = record {
   asks = one.asks;
   passed = passes_in t few clouds old new one.asks all one.passed;
@@ -250,7 +250,7 @@ asked_in t few clouds old new loss all one = record {
   lossless = one.lossless;
 }
 
-pub asked_at : {L : Type 0} (t : LinkTelling L) (cloud : ℕ) (clouds : List ℕ) (old new : L) (loss : Bool) → Contains clouds cloud → Asked t (cloud ∷ []) old new loss → Asked t clouds old new loss
+pub asked_at : {L : Type 0} (t : LinkTelling L) (cloud : ℕ) (clouds : List ℕ) (old new : L) (loss : Bool) → Contains clouds cloud → HasAskedClouds t (cloud ∷ []) old new loss → HasAskedClouds t clouds old new loss
 asked_at t cloud clouds old new loss here one =
     asked_in t (cloud ∷ []) clouds old new loss (λ x has. elim (contains_cases cloud [] x has) [
       | inl same ↦ subst (Contains clouds) same here
@@ -258,13 +258,13 @@ asked_at t cloud clouds old new loss here one =
     ]) one
 
 -- where an ask wasn't lost, it counts as one that wasn't
-pub asked_as : {L : Type 0} (t : LinkTelling L) (clouds : List ℕ) (old new : L) (a b : Bool) → a ≡ b → Asked t clouds old new a → Asked t clouds old new b
-asked_as t clouds old new a b e asked = subst (λ (x : Bool). Asked t clouds old new x) e asked
+pub asked_as : {L : Type 0} (t : LinkTelling L) (clouds : List ℕ) (old new : L) (a b : Bool) → a ≡ b → HasAskedClouds t clouds old new a → HasAskedClouds t clouds old new b
+asked_as t clouds old new a b e asked = subst (λ (x : Bool). HasAskedClouds t clouds old new x) e asked
 
 -- one ask that adds nothing
 pub asked_once : {L : Type 0} (t : LinkTelling L) (old new : L) (e : Exchange) (loss : Bool)
     → IsReading e.content → t.passes old e new → LeavesOthers t e.cloud old new → t.losses old ≤ t.losses new
-    → (loss ≡ true → Rose (t.losses old) (t.losses new)) → (IsTrue (t.lossless old) → (loss ≡ false) × IsTrue (t.lossless new)) → Asked t (e.cloud ∷ []) old new loss
+    → (loss ≡ true → Rose (t.losses old) (t.losses new)) → (IsTrue (t.lossless old) → (loss ≡ false) × IsTrue (t.lossless new)) → HasAskedClouds t (e.cloud ∷ []) old new loss
 asked_once t old new e loss reading passes others later lost lossless = record {
   asks = e ∷ [];
   passed = ((contains_here e.cloud [], reading), (new, passes, refl));

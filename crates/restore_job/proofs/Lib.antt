@@ -12,3 +12,6 @@ pub mod Ending
 pub mod Speaking
 pub mod Beside
 pub mod Readable
+pub mod UserDedup
+pub mod CaontRs
+pub mod Recipe

@@ -1,12 +1,12 @@
 -- Replies that can be read, one ask after another.
 use Rattle.std.proofs.Common.{◌≡◌, ◌⊎◌, ℕ, List, [], ◌∷◌, None, Some, Result, Ok, Err, refl, sym, subst, inl, inr}
-use Rattle.cd_base.specs.declared.ids.CloudNo.{CloudNo}
-use Rattle.cd_base.specs.declared.shape.Shape.{Shape}
-use Rattle.messages.specs.declared.reply.Reply.{Reply}
-use Rattle.messages.specs.declared.reply.Reply.TheVariants as replies
-use Rattle.recipe.specs.declared.recipe.Recipe.{Recipe}
+use Rattle.user_dedup.specs.CdBase.ids.CloudNo.{CloudNo}
+use Rattle.user_dedup.specs.CdBase.shape.Shape.{Shape}
+use Rattle.user_dedup.specs.Messages.reply.Reply.{Reply}
+use Rattle.user_dedup.specs.Messages.reply.Reply.TheVariants as replies
+use Rattle.user_dedup.specs.Recipe.recipe.Recipe.{Recipe}
 use Rattle.user_dedup.specs.Link.{Exchange, LinkTelling, Passes}
-use Rattle.messages.specs.ReplyReading.{reply_at}
+use Rattle.user_dedup.specs.Messages.ReplyReading.{reply_at}
 use Rattle.restore_job.specs.Asking.{IsReadable, IsUnread, Readable, UnreadIn}
 use Rattle.restore_job.specs.Steps.{NoRecipe, NoShares, RecipeFrom, Refuses, SharesFrom}
 use Rattle.restore_job.specs.declared.error.RestoreErr.{RestoreErr}

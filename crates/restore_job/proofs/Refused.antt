@@ -1,10 +1,10 @@
 -- The refusal that a reply is.
 use Rattle.std.proofs.Common.{◌≡◌, ℕ, Result, Ok, refl, subst}
-use Rattle.cd_base.specs.declared.ids.CloudNo.{CloudNo}
-use Rattle.cd_base.specs.declared.shape.Shape.{Shape}
-use Rattle.messages.specs.declared.reply.Reply.{Reply}
-use Rattle.messages.specs.declared.reply.Reply.TheVariants as replies
-use Rattle.messages.specs.ReplyViews.{IsSmall}
+use Rattle.user_dedup.specs.CdBase.ids.CloudNo.{CloudNo}
+use Rattle.user_dedup.specs.CdBase.shape.Shape.{Shape}
+use Rattle.user_dedup.specs.Messages.reply.Reply.{Reply}
+use Rattle.user_dedup.specs.Messages.reply.Reply.TheVariants as replies
+use Rattle.user_dedup.specs.Messages.ReplyViews.{IsSmall}
 use Rattle.restore_job.specs.Steps.{NoRecipe, NoShares, Refuses, RecipeRefused, refusal}
 use Rattle.restore_job.specs.declared.error.RestoreErr.TheVariants as errors
 

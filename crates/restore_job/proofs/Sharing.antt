@@ -6,20 +6,20 @@ use Rattle.std.proofs.lemmas.Bool.{ne_eqb}
 use Rattle.std.proofs.lemmas.List.{get_or-map, get_or-take, get_or-drop, length-map}
 use Rattle.std.proofs.lemmas.List.Elements.{All-from_get_or, All-get_or}
 use Rattle.sha2.specs.Sha256.{sha256 as sha256_of}
-use Rattle.cd_base.specs.Lengths.{share_len_of}
-use Rattle.cd_base.specs.Reading.{AreBytes}
-use Rattle.cd_base.specs.declared.ids.CloudNo.{CloudNo}
-use Rattle.cd_base.specs.declared.ids.Fp.{Fp}
-use Rattle.cd_base.specs.declared.ids.Tag.{Tag}
-use Rattle.cd_base.specs.declared.ids.UserId.{UserId}
-use Rattle.cd_base.specs.declared.ids.Version.{Version}
-use Rattle.cd_base.specs.declared.shape.Shape.{Shape}
-use Rattle.recipe.specs.declared.items.Item.{Item}
-use Rattle.recipe.specs.declared.recipe.Recipe.{Recipe}
-use Rattle.messages.specs.declared.reply.Reply.{Reply}
-use Rattle.messages.specs.declared.reply.Reply.TheVariants as replies
-use Rattle.messages.specs.declared.request.Request.TheVariants as requests
-use Rattle.messages.specs.ReplyReading.{reply_at}
+use Rattle.user_dedup.specs.CdBase.Lengths.{share_len_of}
+use Rattle.user_dedup.specs.CdBase.Reading.{AreBytes}
+use Rattle.user_dedup.specs.CdBase.ids.CloudNo.{CloudNo}
+use Rattle.user_dedup.specs.CdBase.ids.Fp.{Fp}
+use Rattle.user_dedup.specs.CdBase.ids.Tag.{Tag}
+use Rattle.user_dedup.specs.CdBase.ids.UserId.{UserId}
+use Rattle.user_dedup.specs.CdBase.ids.Version.{Version}
+use Rattle.user_dedup.specs.CdBase.shape.Shape.{Shape}
+use Rattle.user_dedup.specs.Recipe.items.Item.{Item}
+use Rattle.user_dedup.specs.Recipe.recipe.Recipe.{Recipe}
+use Rattle.user_dedup.specs.Messages.reply.Reply.{Reply}
+use Rattle.user_dedup.specs.Messages.reply.Reply.TheVariants as replies
+use Rattle.user_dedup.specs.Messages.request.Request.TheVariants as requests
+use Rattle.user_dedup.specs.Messages.ReplyReading.{reply_at}
 use Rattle.user_dedup.specs.declared.command.Command.{Command}
 use Rattle.user_dedup.specs.Owning.{fps_in}
 use Rattle.user_dedup.specs.Exec.{Peer}

@@ -6,17 +6,17 @@ use Rattle.std.proofs.lemmas.Option.{get_or_from_slice_get, slice_get-get_or}
 use Rattle.sha2.specs.Sha256.{sha256 as sha256_of}
 use Rattle.std.specs.Prelude.{slice_index_or}
 use Rattle.std.specs.List.{flat_map}
-use Rattle.cd_base.specs.Lengths.{share_len_of}
-use Rattle.cd_base.specs.declared.ids.Fp.{Fp}
-use Rattle.cd_base.specs.declared.shape.Shape.{Shape}
-use Rattle.recipe.specs.declared.items.Item.{Item}
+use Rattle.user_dedup.specs.CdBase.Lengths.{share_len_of}
+use Rattle.user_dedup.specs.CdBase.ids.Fp.{Fp}
+use Rattle.user_dedup.specs.CdBase.shape.Shape.{Shape}
+use Rattle.user_dedup.specs.Recipe.items.Item.{Item}
 use Rattle.user_dedup.specs.Owning.{fps_in}
 use Rattle.std.specs.Int.{w16, w32, to_be_bytes}
 use Rattle.std.proofs.lemmas.List.{get_or-map, length-map}
 use Rattle.std.proofs.lemmas.List.Elements.{All-from_get_or}
-use Rattle.cd_base.specs.declared.ids.UserId.{UserId}
-use Rattle.messages.specs.declared.request.Request.TheVariants as requests
-use Rattle.messages.specs.Requests.{FitsRequest, request_bytes}
+use Rattle.user_dedup.specs.CdBase.ids.UserId.{UserId}
+use Rattle.user_dedup.specs.Messages.request.Request.TheVariants as requests
+use Rattle.user_dedup.specs.Messages.Requests.{FitsRequest, request_bytes}
 use Rattle.restore_job.specs.Restored.{Unrestored, Given, no_item, item_of, items_difference, string_at, joined, behind, of_secret, secret_opened, secrets_opened}
 use Rattle.caont_rs.specs.Opening.{opened}
 use Rattle.caont_rs.specs.declared.opening.RecoverErr.TheVariants as opening

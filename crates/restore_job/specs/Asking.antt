@@ -1,10 +1,10 @@
 -- What reading does to the clouds of a link.
 use Rattle.std.specs.Prelude.{◌≡◌, ◌≢◌, ℕ, ◌≤◌, ◌⊎◌, ◌&&◌, Bool, true, false, IsTrue, List, [], ◌∷◌, ◌++◌, Some, Result, Ok, Err}
 use Rattle.std.specs.List.{Contains}
-use Rattle.cd_edges.specs.Causes.{Rose}
-use Rattle.messages.specs.ReplyReading.{reply_at}
-use Rattle.messages.specs.declared.reply.Reply.{Reply}
-use Rattle.user_dedup.specs.Exec.{Peer, Settles, Stays, CountsOn}
+use Rattle.user_dedup.specs.CdEdges.Causes.{Rose}
+use Rattle.user_dedup.specs.Messages.ReplyReading.{reply_at}
+use Rattle.user_dedup.specs.Messages.reply.Reply.{Reply}
+use Rattle.user_dedup.specs.Exec.{Peer, Settles, KeepsPeer, CountsOn}
 use Rattle.user_dedup.specs.Link.{LinkTelling, Exchange, Passes, ReadsFrom}
 use Rattle.restore_job.specs.declared.error.RestoreErr.{RestoreErr}
 use Rattle.restore_job.specs.declared.error.RestoreErr.TheVariants as errors
@@ -22,14 +22,14 @@ Reads old new = Settles old new × CountsOn old new
 
 -- a cloud that may have been asked
 abbrev pub MayRead : Peer → Peer → Type 0
-MayRead old new = (Stays old new ⊎ Settles old new) × CountsOn old new
+MayRead old new = (KeepsPeer old new ⊎ Settles old new) × CountsOn old new
 
 -- a cloud that answered fault
 abbrev pub ReadFails : Peer → Peer → Type 0
 ReadFails old new = Rose old.faults new.faults × MayRead old new
 
 -- these clouds may have been asked, and the others are as they were
-pub record OnlyRead (clouds : List ℕ) (old new : ℕ → Peer) : Type 0 where
+pub record AreOnlyAsked (clouds : List ℕ) (old new : ℕ → Peer) : Type 0 where
   pub read : (cloud : ℕ) → MayRead (old cloud) (new cloud)
   pub others : (cloud : ℕ) → (Contains clouds cloud → ⊥) → new cloud ≡ old cloud
 
@@ -38,7 +38,7 @@ pub record OnlyRead (clouds : List ℕ) (old new : ℕ → Peer) : Type 0 where
 abbrev pub Leads : {L : Type 0} → LinkTelling L → List ℕ → L → L → ((ℕ → Peer) → (ℕ → Peer) → Type 0) → ((ℕ → Peer) → (ℕ → Peer) → Type 0) → Type 0
 Leads t clouds old new Always Related =
     (these : ℕ → Bool) → ((cloud : ℕ) → Contains clouds cloud → IsTrue (these cloud)) → (before : ℕ → Peer) → PeersOf t old these before
-    → (after : ℕ → Peer) × PeersOf t new these after × OnlyRead clouds before after × Always before after
+    → (after : ℕ → Peer) × PeersOf t new these after × AreOnlyAsked clouds before after × Always before after
     × (TellsAll t old clouds → Related before after)
 
 -- What a link tells of some clouds alone: of the others it tells no lists, and they may stand for anything.
@@ -82,7 +82,7 @@ is_lost (Err e) = is_loss e
 
 -- A link after some asks of these clouds, each of which adds nothing: the others stand for what they stood for, whatever these stand for, and what the link tells beside its
 -- clouds stays. An ask is lost only where the count of losses rose, and never where the link tells that it loses nothing, which it then tells still.
-pub record Asked {L : Type 0} (t : LinkTelling L) (clouds : List ℕ) (old new : L) (loss : Bool) : Type 0 where
+pub record HasAskedClouds {L : Type 0} (t : LinkTelling L) (clouds : List ℕ) (old new : L) (loss : Bool) : Type 0 where
   pub asks : List Exchange
   pub passed : Passes t (ReadsFrom clouds) old asks new
   pub others : (cloud : ℕ) (p : Peer) → (Contains clouds cloud → ⊥) → t.stands old cloud p → t.stands new cloud p

@@ -1,11 +1,11 @@
 -- What a restored file follows from, told or not: a recipe from each cloud, and for each secret a string from each cloud.
 use Rattle.std.specs.Prelude.{◌≡◌, ℕ, zero, suc, List, [], ◌∷◌, ◌++◌, length, All, None, Ok}
 use Rattle.sha2.specs.Sha256.{sha256 as sha256_of}
-use Rattle.cd_base.specs.declared.shape.Shape.{Shape}
+use Rattle.user_dedup.specs.CdBase.shape.Shape.{Shape}
 use Rattle.caont_rs.specs.Opening.{opened}
-use Rattle.recipe.specs.Spelling.{Fits}
-use Rattle.recipe.specs.declared.items.Item.{Item}
-use Rattle.recipe.specs.declared.recipe.Recipe.{Recipe}
+use Rattle.user_dedup.specs.Recipe.Spelling.{Fits}
+use Rattle.user_dedup.specs.Recipe.items.Item.{Item}
+use Rattle.user_dedup.specs.Recipe.recipe.Recipe.{Recipe}
 use Rattle.restore_job.specs.Restored.{item_of, difference}
 
 -- for each recipe, in order, a string with the fingerprint of its item i

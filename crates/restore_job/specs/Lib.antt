@@ -1,7 +1,11 @@
-pub mod Restored
 pub mod Asking
-pub mod Refusals
 pub mod Brought
-pub mod Reading
-pub mod Steps
+pub mod CaontRs
 pub mod Exchanges
+pub mod Messages
+pub mod Reading
+pub mod Recipe
+pub mod Refusals
+pub mod Restored
+pub mod Steps
+pub mod UserDedup

@@ -2,20 +2,20 @@
 use Rattle.std.specs.Prelude.{◌≡◌, ◌≢◌, ℕ, ◌+◌, ◌<◌, ◌≤◌, ◌⊎◌, List, [], ◌∷◌, ◌++◌, length, map, slice_index_or, Option, Some, None, unwrap_or, Result, Ok, Err, All, IsTrue}
 use Rattle.std.specs.List.{Contains, flat_map}
 use Rattle.sha2.specs.Sha256.{sha256 as sha256_of}
-use Rattle.cd_base.specs.Lengths.{share_len_of}
-use Rattle.cd_base.specs.Limits.{secret_limit}
-use Rattle.cd_base.specs.declared.ids.CloudNo.{CloudNo}
-use Rattle.cd_base.specs.declared.ids.Tag.{Tag}
-use Rattle.cd_base.specs.declared.ids.UserId.{UserId}
-use Rattle.cd_base.specs.declared.ids.Version.{Version}
-use Rattle.cd_base.specs.declared.shape.Shape.{Shape}
+use Rattle.user_dedup.specs.CdBase.Lengths.{share_len_of}
+use Rattle.user_dedup.specs.CdBase.Limits.{secret_limit}
+use Rattle.user_dedup.specs.CdBase.ids.CloudNo.{CloudNo}
+use Rattle.user_dedup.specs.CdBase.ids.Tag.{Tag}
+use Rattle.user_dedup.specs.CdBase.ids.UserId.{UserId}
+use Rattle.user_dedup.specs.CdBase.ids.Version.{Version}
+use Rattle.user_dedup.specs.CdBase.shape.Shape.{Shape}
 use Rattle.caont_rs.specs.declared.opening.RecoverErr.TheVariants as opening
-use Rattle.recipe.specs.Reading.{recipe_at}
-use Rattle.recipe.specs.declared.items.Item.{Item}
-use Rattle.recipe.specs.declared.recipe.Recipe.{Recipe}
-use Rattle.messages.specs.declared.reply.Reply.{Reply}
-use Rattle.messages.specs.declared.reply.Reply.TheVariants as replies
-use Rattle.messages.specs.ReplyViews.{kind_in}
+use Rattle.user_dedup.specs.Recipe.Reading.{recipe_at}
+use Rattle.user_dedup.specs.Recipe.items.Item.{Item}
+use Rattle.user_dedup.specs.Recipe.recipe.Recipe.{Recipe}
+use Rattle.user_dedup.specs.Messages.reply.Reply.{Reply}
+use Rattle.user_dedup.specs.Messages.reply.Reply.TheVariants as replies
+use Rattle.user_dedup.specs.Messages.ReplyViews.{kind_in}
 use Rattle.user_dedup.specs.Cloud.{held_string}
 use Rattle.user_dedup.specs.Exec.{Peer}
 use Rattle.user_dedup.specs.Link.{LinkTelling}

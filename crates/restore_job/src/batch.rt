@@ -2,16 +2,16 @@
 
 ghost use Rattle.std.specs.Prelude.{◌≡◌, ◌++◌, ◌+◌, ◌≤◌, ◌<◌, ℕ, length, min, All, IsTrue, IfErr, OnOk, List};
 ghost use Rattle.std.specs.List.{Contains};
-ghost use Rattle.cd_base.specs.Numbers.{numbers_of};
-ghost use Rattle.cd_base.specs.declared.ids.Tag.{Tag};
-ghost use Rattle.cd_base.specs.declared.ids.Version.{Version};
-ghost use Rattle.message_fields.specs.Fingerprints.{batch_limit};
-ghost use Rattle.recipe.specs.Spelling.{item_limit};
-ghost use Rattle.reed_solomon.specs.Dispersal.{AreChoice};
-ghost use Rattle.restore_job.specs.Asking.{Asked, LeadsAny, Readable, among, is_lost};
+ghost use Rattle.user_dedup.specs.CdBase.Numbers.{numbers_of};
+ghost use Rattle.user_dedup.specs.CdBase.ids.Tag.{Tag};
+ghost use Rattle.user_dedup.specs.CdBase.ids.Version.{Version};
+ghost use Rattle.user_dedup.specs.MessageFields.Fingerprints.{batch_limit};
+ghost use Rattle.user_dedup.specs.Recipe.Spelling.{item_limit};
+ghost use Rattle.caont_rs.specs.ReedSolomon.Dispersal.{AreChoice};
+ghost use Rattle.restore_job.specs.Asking.{HasAskedClouds, LeadsAny, Readable, among, is_lost};
 ghost use Rattle.restore_job.specs.Reading.{Ends};
 ghost use Rattle.restore_job.specs.Brought.{AreSecrets, Extends};
-ghost use Rattle.restore_job.specs.Exchanges.{BatchRun, Exchange, HasSpoken, ItemsRun, LostSaid, Unlost};
+ghost use Rattle.restore_job.specs.Exchanges.{BatchRun, CloudExchange, HasSpoken, ItemsRun, LostSaid, Unlost};
 ghost use Rattle.restore_job.specs.Refusals.{Names};
 ghost use Rattle.restore_job.specs.Restored.{batch_opened, items_opened};
 ghost use Rattle.restore_job.specs.Steps.{AreItemsAt, BatchShown, Grows, Ready, givens};
@@ -19,13 +19,9 @@ ghost use Rattle.restore_job.specs.Steps.{AreItemsAt, BatchShown, Grows, Ready, 
 use crate::RestoreErr;
 use crate::fetching::fetch_batch;
 use crate::opening::open_batch;
-use crate::rooms::Rooms;
-use cd_base::{Bytes, CloudNo, Shape, UserId};
-use frames::ReplyBuf;
-use message_fields::BATCH_LIMIT;
-use recipe::{Item, Recipe};
+use crate::rooms::SecretRooms;
 use std::alloc::Global;
-use user_dedup::Link;
+use user_dedup::{BATCH_LIMIT, Bytes, CloudNo, Item, Link, Recipe, ReplyBuf, Shape, UserId};
 
 // How many secrets the next batch has, of so many that are left.
 fn size_of(left: usize) -> usize
@@ -51,7 +47,7 @@ fn restore_batch<L: Link>(
     place: usize,
     count: usize,
     reply: &mut ReplyBuf,
-    rooms: &mut Rooms,
+    rooms: &mut SecretRooms,
     out: &mut Bytes,
 ) -> Result<(), RestoreErr>
     requires shape { L.tells.shape link.old ≡ shape }
@@ -67,7 +63,7 @@ fn restore_batch<L: Link>(
     requires items { All (λ recipe. AreItemsAt recipe.items) recipes.now }
     requires few { length firsts.now ≤ item_limit }
     requires room { count ≤ length rooms.old }
-    ensures asked { Asked L.tells (numbers_of clouds.now) link.old link.new (is_lost result) }
+    ensures asked { HasAskedClouds L.tells (numbers_of clouds.now) link.old link.new (is_lost result) }
     ensures told { (tag : Tag) (version : Version)
         → LeadsAny L.tells (numbers_of clouds.now) link.old link.new
         (λ these. BatchShown (among these L.tells) link.old shape user (tag, version) (numbers_of clouds.now) firsts.now
@@ -81,7 +77,7 @@ fn restore_batch<L: Link>(
         (Extends shape (numbers_of clouds.now) firsts.now recipes.now place (place + count) out.old out.new) }
     ensures grows { Grows out.old out.new }
     ensures rooms { length rooms.new ≡ length rooms.old }
-    ensures said { Unlost result ((log : List Exchange) × HasSpoken L.talk link.old link.new log
+    ensures said { Unlost result ((log : List CloudExchange) × HasSpoken L.talk link.old link.new log
         × BatchRun shape user clouds.now points.now firsts.now recipes.now place count log out.old out.new result) }
     ensures beside { LostSaid L.talk link.old link.new result }
     ensures readable { Readable L.tells link.old link.new result }
@@ -120,7 +116,7 @@ pub fn restore_items<L: Link>(
     requires lens { AreItemsAt firsts.now }
     requires items { All (λ recipe. AreItemsAt recipe.items) recipes.now }
     requires few { length firsts.now ≤ item_limit }
-    ensures asked { Asked L.tells (numbers_of clouds.now) link.old link.new (is_lost result) }
+    ensures asked { HasAskedClouds L.tells (numbers_of clouds.now) link.old link.new (is_lost result) }
     ensures told { (tag : Tag) (version : Version)
         → LeadsAny L.tells (numbers_of clouds.now) link.old link.new
         (λ these. BatchShown (among these L.tells) link.old shape user (tag, version) (numbers_of clouds.now) firsts.now
@@ -133,12 +129,12 @@ pub fn restore_items<L: Link>(
     ensures brought { OnOk result ((file : List ℕ) × (out.new ≡ out.old ++ file)
         × AreSecrets shape (numbers_of clouds.now) firsts.now recipes.now (length firsts.now) file) }
     ensures grows { Grows out.old out.new }
-    ensures said { Unlost result ((log : List Exchange) × HasSpoken L.talk link.old link.new log
+    ensures said { Unlost result ((log : List CloudExchange) × HasSpoken L.talk link.old link.new log
         × ItemsRun shape user clouds.now points.now firsts.now recipes.now 0 log out.old out.new result) }
     ensures beside { LostSaid L.talk link.old link.new result }
     ensures readable { Readable L.tells link.old link.new result }
 {
-    let mut rooms = match Rooms::make(alloc, BATCH_LIMIT) {
+    let mut rooms = match SecretRooms::make(alloc, BATCH_LIMIT) {
         Ok(rooms) => rooms,
         Err(_) => return Err(RestoreErr::NoMemory),
     };

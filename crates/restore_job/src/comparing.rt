@@ -1,14 +1,13 @@
 //! Comparing the recipes of a file.
 
 ghost use Rattle.std.specs.Prelude.{◌≡◌, ◌+◌, ◌≤◌, ◌<◌, ◌^◌, length, OnOk, All, option_map};
-ghost use Rattle.cd_base.specs.Numbers.{numbers_of};
-ghost use Rattle.recipe.specs.Spelling.{item_limit};
+ghost use Rattle.user_dedup.specs.CdBase.Numbers.{numbers_of};
+ghost use Rattle.user_dedup.specs.Recipe.Spelling.{item_limit};
 ghost use Rattle.restore_job.specs.Restored.{items_difference, difference};
 ghost use Rattle.restore_job.specs.Steps.{Compares, NextPair};
 
 use crate::RestoreErr;
-use cd_base::CloudNo;
-use recipe::{Item, Recipe};
+use user_dedup::{CloudNo, Item, Recipe};
 
 // Two items that stand first, and those behind them.
 fn next_pair<'a>(one: &'a [Item], other: &'a [Item]) -> Option<(u32, u32, &'a [Item], &'a [Item])>

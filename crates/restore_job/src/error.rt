@@ -1,6 +1,6 @@
 //! Why a file was not restored.
 
-use cd_base::{CloudNo, Fp, NoMemory};
+use user_dedup::{CloudNo, Fp, NoMemory};
 
 /// Why a file was not restored. Places of secrets are counted from 0 in the order of the recipe.
 #[derive(Clone, Copy, Debug, PartialEq, Eq)]

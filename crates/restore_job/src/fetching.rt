@@ -3,24 +3,24 @@
 ghost use Rattle.std.specs.Prelude.{◌≡◌, ◌+◌, ◌≤◌, ◌<◌, ◌*◌, ℕ, [], ◌∷◌, ◌++◌, List, length, map, IsTrue, Ok, Err, All};
 ghost use Rattle.std.specs.Prelude.{MatchOption, IfOk, IfErr, OnOk, OnErr};
 ghost use Rattle.std.specs.List.{Contains};
-ghost use Rattle.cd_base.specs.Lengths.{share_len_of};
-ghost use Rattle.cd_base.specs.Numbers.{numbers_of};
-ghost use Rattle.cd_base.specs.declared.ids.Tag.{Tag};
-ghost use Rattle.cd_base.specs.declared.ids.Version.{Version};
-ghost use Rattle.frames.specs.Frames.{frame_limit};
-ghost use Rattle.message_fields.specs.Fingerprints.{batch_limit};
-ghost use Rattle.messages.specs.declared.request.Request.{Request};
-ghost use Rattle.messages.specs.declared.request.Request.TheVariants as requests;
-ghost use Rattle.messages.specs.Requests.{IsRequest};
-ghost use Rattle.recipe.specs.Spelling.{Fits, item_limit};
+ghost use Rattle.user_dedup.specs.CdBase.Lengths.{share_len_of};
+ghost use Rattle.user_dedup.specs.CdBase.Numbers.{numbers_of};
+ghost use Rattle.user_dedup.specs.CdBase.ids.Tag.{Tag};
+ghost use Rattle.user_dedup.specs.CdBase.ids.Version.{Version};
+ghost use Rattle.user_dedup.specs.Frames.Frames.{frame_limit};
+ghost use Rattle.user_dedup.specs.MessageFields.Fingerprints.{batch_limit};
+ghost use Rattle.user_dedup.specs.Messages.request.Request.{Request};
+ghost use Rattle.user_dedup.specs.Messages.request.Request.TheVariants as requests;
+ghost use Rattle.user_dedup.specs.Messages.Requests.{IsRequest};
+ghost use Rattle.user_dedup.specs.Recipe.Spelling.{Fits, item_limit};
 ghost use Rattle.sha2.specs.Sha256.{sha256 as sha256_of};
 ghost use Rattle.user_dedup.specs.Link.{Asks, LeavesOthers, IsReading, exchange_of};
 ghost use Rattle.user_dedup.specs.Owning.{fps_in};
 ghost use Rattle.user_dedup.specs.Requests.{IsAsked};
-ghost use Rattle.restore_job.specs.Asking.{Asked, LeadsAny, Readable, among, is_lost};
+ghost use Rattle.restore_job.specs.Asking.{HasAskedClouds, LeadsAny, Readable, among, is_lost};
 ghost use Rattle.restore_job.specs.Brought.{HasShares};
 ghost use Rattle.restore_job.specs.Refusals.{Names};
-ghost use Rattle.restore_job.specs.Exchanges.{BatchSaid, Exchange, HasSpoken, LostSaid, RecipeSaid, RecipesSaid};
+ghost use Rattle.restore_job.specs.Exchanges.{BatchSaid, CloudExchange, HasSpoken, LostSaid, RecipeSaid, RecipesSaid};
 ghost use Rattle.restore_job.specs.Exchanges.{SharesSaid, Unlost};
 ghost use Rattle.restore_job.specs.Restored.{item_of};
 ghost use Rattle.restore_job.specs.Steps.{AreItemsAt, BatchShown, BatchTold, Ready, ReadyAt, RecipeShown, RecipeTold};
@@ -30,14 +30,12 @@ ghost use Rattle.restore_job.specs.Steps.{room_of};
 use crate::RestoreErr;
 use crate::recipes::Recipes;
 use crate::reply::{recipe_from, shares_from};
-use crate::rooms::Rooms;
+use crate::rooms::SecretRooms;
 use crate::shares::take_shares;
-use cd_base::{Bytes, CloudNo, Fps, NoMemory, Shape, UserId};
-use frames::ReplyBuf;
-use messages::Request;
-use recipe::{Item, Recipe};
 use std::alloc::Global;
-use user_dedup::{Link, Lost};
+use user_dedup::{
+    Bytes, CloudNo, Fps, Item, Link, Lost, NoMemory, Recipe, ReplyBuf, Request, Shape, UserId,
+};
 
 // Asks a cloud.
 fn ask<L: Link>(
@@ -50,7 +48,7 @@ fn ask<L: Link>(
     requires some { 1 ≤ length request.now }
     requires framed { length request.now ≤ frame_limit }
     requires reading { IsReading request.now }
-    ensures asked { Asked L.tells (cloud.0 ∷ []) link.old link.new (is_lost result) }
+    ensures asked { HasAskedClouds L.tells (cloud.0 ∷ []) link.old link.new (is_lost result) }
     ensures exec { (r : Request) → IsAsked (L.tells.shape link.old) request.now r
         → Asks L.tells cloud.0 link.old r reply.new result link.new }
     ensures others { LeavesOthers L.tells cloud.0 link.old link.new }
@@ -81,7 +79,7 @@ fn fetch_recipe<L: Link>(
     requires some { 1 ≤ length request.now }
     requires framed { length request.now ≤ frame_limit }
     requires reading { IsReading request.now }
-    ensures asked { Asked L.tells (cloud.0 ∷ []) link.old link.new (is_lost result) }
+    ensures asked { HasAskedClouds L.tells (cloud.0 ∷ []) link.old link.new (is_lost result) }
     ensures told { (user : UserId) (tag : Tag) (version : Version)
         → IsRequest request.now (requests.GetRecipe user tag version)
         → LeadsAny L.tells (cloud.0 ∷ []) link.old link.new
@@ -89,7 +87,7 @@ fn fetch_recipe<L: Link>(
         (λ before after. RecipeTold shape user (tag, version) cloud result (before cloud.0) (after cloud.0)) }
     ensures named { IfErr result (Names (λ c. c ≡ cloud.0)) }
     ensures fits { IfOk result (Fits shape) }
-    ensures said { Unlost result ((x : Exchange) × HasSpoken L.talk link.old link.new (x ∷ [])
+    ensures said { Unlost result ((x : CloudExchange) × HasSpoken L.talk link.old link.new (x ∷ [])
         × RecipeSaid shape request.now cloud x result) }
     ensures beside { LostSaid L.talk link.old link.new result }
     ensures readable { Readable L.tells link.old link.new result }
@@ -124,7 +122,7 @@ pub fn fetch_recipes<L: Link>(
     requires some { 1 ≤ length request.now }
     requires framed { length request.now ≤ frame_limit }
     requires reading { IsReading request.now }
-    ensures asked { Asked L.tells (numbers_of clouds.now) link.old link.new (is_lost result) }
+    ensures asked { HasAskedClouds L.tells (numbers_of clouds.now) link.old link.new (is_lost result) }
     ensures told { (user : UserId) (tag : Tag) (version : Version)
         → IsRequest request.now (requests.GetRecipe user tag version)
         → LeadsAny L.tells (numbers_of clouds.now) link.old link.new
@@ -133,7 +131,7 @@ pub fn fetch_recipes<L: Link>(
     ensures named { IfErr result (Names (Contains (numbers_of clouds.now))) }
     ensures fits { IfOk result (All (Fits shape)) }
     ensures pairs { IfOk result (λ recipes. length recipes ≡ length clouds.now) }
-    ensures said { Unlost result ((log : List Exchange) × HasSpoken L.talk link.old link.new log
+    ensures said { Unlost result ((log : List CloudExchange) × HasSpoken L.talk link.old link.new log
         × RecipesSaid shape request.now clouds.now log result) }
     ensures beside { LostSaid L.talk link.old link.new result }
     ensures readable { Readable L.tells link.old link.new result }
@@ -199,7 +197,7 @@ fn fetch_shares<L: Link>(
     place: usize,
     count: usize,
     reply: &mut ReplyBuf,
-    rooms: &mut Rooms,
+    rooms: &mut SecretRooms,
 ) -> Result<(), RestoreErr>
     requires shape { L.tells.shape link.old ≡ shape }
     requires reached { IsTrue (L.tells.reaches link.old cloud.0) }
@@ -211,7 +209,7 @@ fn fetch_shares<L: Link>(
     requires items { AreItemsAt recipe.now.items }
     requires few { length firsts.now ≤ item_limit }
     requires room { count ≤ length rooms.old }
-    ensures asked { Asked L.tells (cloud.0 ∷ []) link.old link.new (is_lost result) }
+    ensures asked { HasAskedClouds L.tells (cloud.0 ∷ []) link.old link.new (is_lost result) }
     ensures told { (tag : Tag) (version : Version)
         → LeadsAny L.tells (cloud.0 ∷ []) link.old link.new
         (λ these. SharesShown (among these L.tells) link.old shape user (tag, version) cloud.0 firsts.now recipe.now
@@ -228,7 +226,7 @@ fn fetch_shares<L: Link>(
         → length (room_of rooms.new j) ≡ length (room_of rooms.old j)
         + share_len_of shape.k (item_of firsts.now (place + j)).secret_len) }
     ensures rooms { length rooms.new ≡ length rooms.old }
-    ensures said { Unlost result ((x : Exchange) × HasSpoken L.talk link.old link.new (x ∷ [])
+    ensures said { Unlost result ((x : CloudExchange) × HasSpoken L.talk link.old link.new (x ∷ [])
         × SharesSaid shape user cloud firsts.now recipe.now place count x rooms.old rooms.new result) }
     ensures beside { LostSaid L.talk link.old link.new result }
     ensures readable { Readable L.tells link.old link.new result }
@@ -277,7 +275,7 @@ pub fn fetch_batch<L: Link>(
     place: usize,
     count: usize,
     reply: &mut ReplyBuf,
-    rooms: &mut Rooms,
+    rooms: &mut SecretRooms,
 ) -> Result<(), RestoreErr>
     requires shape { L.tells.shape link.old ≡ shape }
     requires reached { (cloud : ℕ) → Contains (numbers_of clouds.now) cloud → IsTrue (L.tells.reaches link.old cloud) }
@@ -290,7 +288,7 @@ pub fn fetch_batch<L: Link>(
     requires items { All (λ recipe. AreItemsAt recipe.items) recipes.now }
     requires few { length firsts.now ≤ item_limit }
     requires room { count ≤ length rooms.old }
-    ensures asked { Asked L.tells (numbers_of clouds.now) link.old link.new (is_lost result) }
+    ensures asked { HasAskedClouds L.tells (numbers_of clouds.now) link.old link.new (is_lost result) }
     ensures told { (tag : Tag) (version : Version)
         → LeadsAny L.tells (numbers_of clouds.now) link.old link.new
         (λ these. BatchShown (among these L.tells) link.old shape user (tag, version) (numbers_of clouds.now) firsts.now
@@ -306,7 +304,7 @@ pub fn fetch_batch<L: Link>(
         → length (room_of rooms.new j) ≡ length (room_of rooms.old j)
         + length clouds.now * share_len_of shape.k (item_of firsts.now (place + j)).secret_len) }
     ensures rooms { length rooms.new ≡ length rooms.old }
-    ensures said { Unlost result ((log : List Exchange) × HasSpoken L.talk link.old link.new log
+    ensures said { Unlost result ((log : List CloudExchange) × HasSpoken L.talk link.old link.new log
         × BatchSaid shape user firsts.now place count clouds.now recipes.now log rooms.old rooms.new result) }
     ensures beside { LostSaid L.talk link.old link.new result }
     ensures readable { Readable L.tells link.old link.new result }

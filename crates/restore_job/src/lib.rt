@@ -14,8 +14,10 @@ mod rooms;
 mod shares;
 mod versions;
 
+pub use caont_rs::tag_of;
 pub use comparing::compare;
 pub use error::RestoreErr;
 pub use recipes::Recipes;
 pub use restoring::{restore, restore_agreed};
+pub use user_dedup::{Link, Lost};
 pub use versions::fetch_version;

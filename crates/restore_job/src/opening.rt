@@ -2,11 +2,11 @@
 
 ghost use Rattle.std.specs.Prelude.{◌≡◌, ◌+◌, ◌*◌, ◌≤◌, ◌<◌, ◌^◌, ℕ, List, [], length, map, false, IfErr, OnOk};
 ghost use Rattle.std.specs.List.{flat_map};
-ghost use Rattle.cd_base.specs.Lengths.{share_len_of};
-ghost use Rattle.cd_base.specs.Limits.{secret_limit};
+ghost use Rattle.user_dedup.specs.CdBase.Lengths.{share_len_of};
+ghost use Rattle.user_dedup.specs.CdBase.Limits.{secret_limit};
 ghost use Rattle.caont_rs.specs.Opening.{opened};
-ghost use Rattle.recipe.specs.declared.recipe.Recipe.{Recipe};
-ghost use Rattle.reed_solomon.specs.Dispersal.{AreChoice};
+ghost use Rattle.user_dedup.specs.Recipe.recipe.Recipe.{Recipe};
+ghost use Rattle.caont_rs.specs.ReedSolomon.Dispersal.{AreChoice};
 ghost use Rattle.restore_job.specs.Asking.{is_lost};
 ghost use Rattle.restore_job.specs.Brought.{Extends, HasShares};
 ghost use Rattle.restore_job.specs.Exchanges.{OpensBatch};
@@ -15,10 +15,9 @@ ghost use Rattle.restore_job.specs.Restored.{Given, item_of, of_secret, secrets_
 ghost use Rattle.restore_job.specs.Steps.{AreItemsAt, Grows, OpensTo, room_of};
 
 use crate::RestoreErr;
-use crate::rooms::Rooms;
+use crate::rooms::SecretRooms;
 use caont_rs::{RecoverErr, recover};
-use cd_base::{Bytes, Shape};
-use recipe::Item;
+use user_dedup::{Bytes, Item, Shape};
 
 // Appends a secret.
 fn open_secret(
@@ -57,7 +56,7 @@ pub fn open_batch(
     firsts: &[Item],
     place: usize,
     count: usize,
-    rooms: &Rooms,
+    rooms: &SecretRooms,
     out: &mut Bytes,
 ) -> Result<(), RestoreErr>
     requires choice { AreChoice shape points.now }

@@ -2,10 +2,9 @@
 
 ghost use Rattle.std.specs.Prelude.{◌≡◌, [], ◌∷◌, ◌++◌, OnOk, OnErr};
 
-use cd_base::NoMemory;
-use recipe::Recipe;
 use std::alloc::Global;
 use std::marker::Model;
+use user_dedup::{NoMemory, Recipe};
 
 /// Recipes, in order.
 #[derive(Debug, Drop)]
@@ -15,7 +14,7 @@ pub struct Recipes {
 
 impl Model for Recipes {
     ghost use Rattle.std.specs.Prelude.{List};
-    ghost use Rattle.recipe.specs.declared.recipe.Recipe.{Recipe};
+    ghost use Rattle.user_dedup.specs.Recipe.recipe.Recipe.{Recipe};
 
     ghost Value = { List Recipe };
 

@@ -1,19 +1,18 @@
 //! Replies to reading requests.
 
 ghost use Rattle.std.specs.Prelude.{◌≡◌, ◌<◌, ◌^◌, List, ℕ, length, IfOk, Ok};
-ghost use Rattle.cd_base.specs.Reading.{AreBytes};
-ghost use Rattle.messages.specs.declared.reply.Reply.TheVariants as replies;
-ghost use Rattle.messages.specs.ReplyReading.{reply_at};
-ghost use Rattle.messages.specs.ReplyViews.{kind_in};
-ghost use Rattle.recipe.specs.Spelling.{Fits};
+ghost use Rattle.user_dedup.specs.CdBase.Reading.{AreBytes};
+ghost use Rattle.user_dedup.specs.Messages.reply.Reply.TheVariants as replies;
+ghost use Rattle.user_dedup.specs.Messages.ReplyReading.{reply_at};
+ghost use Rattle.user_dedup.specs.Messages.ReplyViews.{kind_in};
+ghost use Rattle.user_dedup.specs.Recipe.Spelling.{Fits};
 ghost use Rattle.restore_job.specs.Steps.{HasKind, NamesKind, RecipeFrom, SharesFrom, refusal};
 
 use crate::RestoreErr;
-use cd_base::{CloudNo, Shape};
-use message_fields::SharesView;
-use messages::{MsgErr, Reply, ReplyView, kind_of};
-use recipe::{Recipe, RecipeErr};
 use std::alloc::Global;
+use user_dedup::{
+    CloudNo, MsgErr, Recipe, RecipeErr, Reply, ReplyView, Shape, SharesView, kind_of,
+};
 
 // The refusal that a reply is which brings nothing, where `missing` is what Missing says.
 fn refusal_of(cloud: CloudNo, kind: u8, missing: RestoreErr, reply: &Reply) -> RestoreErr

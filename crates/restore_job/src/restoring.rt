@@ -2,20 +2,20 @@
 
 ghost use Rattle.std.specs.Prelude.{◌≡◌, ◌+◌, ◌≤◌, ◌<◌, ℕ, List, length, take, All, IsTrue, IfOk, IfErr, OnOk, OnErr};
 ghost use Rattle.std.specs.List.{Contains};
-ghost use Rattle.cd_base.specs.Limits.{IsPath};
-ghost use Rattle.cd_base.specs.Numbers.{numbers_of};
-ghost use Rattle.cd_base.specs.declared.ids.Tag.{Tag};
-ghost use Rattle.cd_base.specs.declared.ids.Version.{Version};
+ghost use Rattle.user_dedup.specs.CdBase.Limits.{IsPath};
+ghost use Rattle.user_dedup.specs.CdBase.Numbers.{numbers_of};
+ghost use Rattle.user_dedup.specs.CdBase.ids.Tag.{Tag};
+ghost use Rattle.user_dedup.specs.CdBase.ids.Version.{Version};
 ghost use Rattle.caont_rs.specs.Package.{tag as tag_at};
-ghost use Rattle.frames.specs.Frames.{frame_limit};
-ghost use Rattle.messages.specs.declared.request.Request.TheVariants as requests;
-ghost use Rattle.messages.specs.Requests.{IsRequest};
-ghost use Rattle.recipe.specs.Spelling.{Fits};
-ghost use Rattle.reed_solomon.specs.Dispersal.{AreChoice};
-ghost use Rattle.restore_job.specs.Asking.{Asked, Leads, LeadsAny, Readable, among, is_lost};
+ghost use Rattle.user_dedup.specs.Frames.Frames.{frame_limit};
+ghost use Rattle.user_dedup.specs.Messages.request.Request.TheVariants as requests;
+ghost use Rattle.user_dedup.specs.Messages.Requests.{IsRequest};
+ghost use Rattle.user_dedup.specs.Recipe.Spelling.{Fits};
+ghost use Rattle.caont_rs.specs.ReedSolomon.Dispersal.{AreChoice};
+ghost use Rattle.restore_job.specs.Asking.{HasAskedClouds, Leads, LeadsAny, Readable, among, is_lost};
 ghost use Rattle.restore_job.specs.Reading.{Ends, Restores};
 ghost use Rattle.restore_job.specs.Brought.{Agree, Appends, Brought};
-ghost use Rattle.restore_job.specs.Exchanges.{AgreedRun, Exchange, HasSpoken, LostSaid, RestoreRun, RestoreSaid, Unlost};
+ghost use Rattle.restore_job.specs.Exchanges.{AgreedRun, CloudExchange, HasSpoken, LostSaid, RestoreRun, RestoreSaid, Unlost};
 ghost use Rattle.restore_job.specs.Refusals.{CausesAmong, Names, Shows};
 ghost use Rattle.restore_job.specs.Restored.{agreed};
 ghost use Rattle.restore_job.specs.Steps.{AgreedShown, BatchCaused, Grows, Ready, givens};
@@ -26,11 +26,10 @@ use crate::comparing::compare;
 use crate::fetching::{fetch_recipes, next_pair};
 use crate::versions::version_request;
 use caont_rs::tag_of;
-use cd_base::{Bytes, CloudNo, Clouds, NoMemory, Shape, UserId, Version};
-use frames::ReplyBuf;
-use recipe::Recipe;
 use std::alloc::Global;
-use user_dedup::Link;
+use user_dedup::{
+    Bytes, CloudNo, Clouds, Link, NoMemory, Recipe, ReplyBuf, Shape, UserId, Version,
+};
 
 // The content of a request for the recipe of a version.
 fn recipe_request(
@@ -76,7 +75,7 @@ pub fn restore_agreed<L: Link>(
     requires choice { AreChoice shape (numbers_of clouds.now) }
     requires pairs { length clouds.now ≡ length recipes.now }
     requires fits { All (Fits shape) recipes.now }
-    ensures asked { Asked L.tells (numbers_of clouds.now) link.old link.new (is_lost result) }
+    ensures asked { HasAskedClouds L.tells (numbers_of clouds.now) link.old link.new (is_lost result) }
     ensures told { (tag : Tag) (version : Version)
         → Leads L.tells (numbers_of clouds.now) link.old link.new
         (BatchCaused L.tells link.old shape user (tag, version) (numbers_of clouds.now) recipes.now result)
@@ -97,7 +96,7 @@ pub fn restore_agreed<L: Link>(
     ensures brought { OnOk result (Agree recipes.now
         × Appends shape (numbers_of clouds.now) recipes.now out.old out.new) }
     ensures grows { Grows out.old out.new }
-    ensures said { Unlost result ((log : List Exchange) × HasSpoken L.talk link.old link.new log
+    ensures said { Unlost result ((log : List CloudExchange) × HasSpoken L.talk link.old link.new log
         × AgreedRun shape user clouds.now recipes.now log out.old out.new result) }
     ensures beside { LostSaid L.talk link.old link.new result }
     ensures readable { Readable L.tells link.old link.new result }
@@ -137,7 +136,7 @@ fn restore_into<L: Link>(
     requires reached { (cloud : ℕ) → Contains (numbers_of clouds.now) cloud → IsTrue (L.tells.reaches link.old cloud) }
     requires choice { AreChoice shape (numbers_of clouds.now) }
     requires path { IsPath path.now }
-    ensures asked { Asked L.tells (numbers_of clouds.now) link.old link.new (is_lost result) }
+    ensures asked { HasAskedClouds L.tells (numbers_of clouds.now) link.old link.new (is_lost result) }
     ensures restored { LeadsAny L.tells (numbers_of clouds.now) link.old link.new
         (λ these. Shows (among these L.tells) link.old shape user (record { 0 = tag_at shape path.now }, version)
         result)
@@ -146,7 +145,7 @@ fn restore_into<L: Link>(
     ensures named { IfErr result (Names (Contains (numbers_of clouds.now))) }
     ensures brought { OnOk result (Brought shape (numbers_of clouds.now) out.old out.new) }
     ensures grows { Grows out.old out.new }
-    ensures said { Unlost result ((log : List Exchange) × HasSpoken L.talk link.old link.new log
+    ensures said { Unlost result ((log : List CloudExchange) × HasSpoken L.talk link.old link.new log
         × RestoreRun shape user (record { 0 = tag_at shape path.now }) version clouds.now log out.old out.new result) }
     ensures beside { LostSaid L.talk link.old link.new result }
     ensures readable { Readable L.tells link.old link.new result }
@@ -212,7 +211,7 @@ pub fn restore<L: Link>(
 
     // The other clouds stay, whatever these stand for. An ask is lost only where the link's count of losses rose, and never
     // where it tells that it loses nothing.
-    ensures asked { Asked L.tells clouds.now link.old link.new (is_lost result) }
+    ensures asked { HasAskedClouds L.tells clouds.now link.old link.new (is_lost result) }
 
     // A refusal names no other clouds.
     ensures named { IfErr result (Names (Contains clouds.now)) }

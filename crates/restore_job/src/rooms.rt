@@ -3,17 +3,17 @@
 ghost use Rattle.std.specs.Prelude.{◌≡◌, ◌<◌, ◌++◌, ℕ, [], length, slice_set, IfOk, OnOk};
 ghost use Rattle.restore_job.specs.Steps.{room_of};
 
-use cd_base::{Bytes, NoMemory};
 use std::alloc::Global;
 use std::marker::Model;
+use user_dedup::{Bytes, NoMemory};
 
 /// A room for each secret of a batch. What is cleared keeps its memory, so all batches share that of the first.
 #[derive(Debug, Drop)]
-pub struct Rooms {
+pub struct SecretRooms {
     items: Vec<Bytes>,
 }
 
-impl Model for Rooms {
+impl Model for SecretRooms {
     ghost use Rattle.std.specs.Prelude.{ℕ, List};
 
     ghost Value = { List (List ℕ) };
@@ -21,16 +21,16 @@ impl Model for Rooms {
     ghost view = { λ r. r.items.items };
 }
 
-impl Rooms {
+impl SecretRooms {
     /// So many empty rooms.
-    pub fn make(alloc: Global, count: usize) -> Result<Rooms, NoMemory>
+    pub fn make(alloc: Global, count: usize) -> Result<SecretRooms, NoMemory>
         ensures { IfOk result (λ rooms. length rooms ≡ count) }
     {
         let mut items = Vec::new(alloc);
         for i in 0..count {
             items.push(Bytes::new(alloc))?;
         }
-        Ok(Rooms { items })
+        Ok(SecretRooms { items })
     }
 
     /// Empties each room.

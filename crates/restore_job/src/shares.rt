@@ -1,15 +1,13 @@
 //! Looking at the shares of a batch, and bringing them together.
 
 ghost use Rattle.std.specs.Prelude.{◌≡◌, ◌+◌, ◌≤◌, ◌<◌, ◌^◌, length};
-ghost use Rattle.cd_base.specs.Limits.{secret_limit};
-ghost use Rattle.message_fields.specs.Shares.{share_limit};
+ghost use Rattle.user_dedup.specs.CdBase.Limits.{secret_limit};
+ghost use Rattle.user_dedup.specs.MessageFields.Shares.{share_limit};
 ghost use Rattle.restore_job.specs.Steps.{AreItemsAt, Checks, IsItem, Takes};
 
 use crate::RestoreErr;
-use crate::rooms::Rooms;
-use cd_base::{CloudNo, Fp, Shape, sha256, share_len};
-use messages::SharesView;
-use recipe::Item;
+use crate::rooms::SecretRooms;
+use user_dedup::{CloudNo, Fp, Item, Shape, SharesView, sha256, share_len};
 
 // Looks at the length and then at the hash of a share of secret number `secret`, which has `secret_len` bytes.
 fn check_share(
@@ -58,7 +56,7 @@ pub fn take_shares(
     place: usize,
     count: usize,
     shares: &SharesView<'_>,
-    rooms: &mut Rooms,
+    rooms: &mut SecretRooms,
 ) -> Result<(), RestoreErr>
     requires all { length shares.now ≡ count }
     requires firsts { place + count ≤ length firsts.now }

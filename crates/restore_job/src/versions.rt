@@ -2,24 +2,21 @@
 
 ghost use Rattle.std.specs.Prelude.{◌≡◌, ◌≤◌, ℕ, List, length, All, IsTrue, IfOk, IfErr};
 ghost use Rattle.std.specs.List.{Contains};
-ghost use Rattle.cd_base.specs.Numbers.{numbers_of};
-ghost use Rattle.frames.specs.Frames.{frame_limit};
-ghost use Rattle.messages.specs.declared.request.Request.TheVariants as requests;
-ghost use Rattle.messages.specs.Requests.{IsRequest};
-ghost use Rattle.recipe.specs.Spelling.{Fits};
-ghost use Rattle.restore_job.specs.Asking.{Asked, Leads, is_lost};
-ghost use Rattle.restore_job.specs.Exchanges.{Exchange, HasSpoken, RecipesSaid, Unlost};
+ghost use Rattle.user_dedup.specs.CdBase.Numbers.{numbers_of};
+ghost use Rattle.user_dedup.specs.Frames.Frames.{frame_limit};
+ghost use Rattle.user_dedup.specs.Messages.request.Request.TheVariants as requests;
+ghost use Rattle.user_dedup.specs.Messages.Requests.{IsRequest};
+ghost use Rattle.user_dedup.specs.Recipe.Spelling.{Fits};
+ghost use Rattle.restore_job.specs.Asking.{HasAskedClouds, Leads, is_lost};
+ghost use Rattle.restore_job.specs.Exchanges.{CloudExchange, HasSpoken, RecipesSaid, Unlost};
 ghost use Rattle.restore_job.specs.Refusals.{Names};
 ghost use Rattle.restore_job.specs.Steps.{RecipesCaused, RecipesTold};
 
 use crate::RestoreErr;
 use crate::fetching::fetch_recipes;
 use crate::recipes::Recipes;
-use cd_base::{Bytes, CloudNo, NoMemory, Shape, Tag, UserId, Version};
-use frames::ReplyBuf;
-use messages::Request;
 use std::alloc::Global;
-use user_dedup::Link;
+use user_dedup::{Bytes, CloudNo, Link, NoMemory, ReplyBuf, Request, Shape, Tag, UserId, Version};
 
 /// The content of a request for the recipe of a version.
 pub fn version_request(
@@ -57,7 +54,7 @@ pub fn fetch_version<L: Link>(
 
     // The other clouds stay, whatever these stand for. An ask is lost only where the link's count of losses rose, and never
     // where it tells that it loses nothing.
-    ensures asked { Asked L.tells (numbers_of clouds.now) link.old link.new (is_lost result) }
+    ensures asked { HasAskedClouds L.tells (numbers_of clouds.now) link.old link.new (is_lost result) }
 
     // From all that the clouds stood for they went on: only these clouds were read. Of told clouds the recipes are those of
     // their lists; and a refusal is what it says at the cloud that it names, each told or not.
@@ -72,7 +69,7 @@ pub fn fetch_version<L: Link>(
 
     // Over a link that tells its replies: what was asked and what came, in order, and the result by it.
     ensures said { Unlost result ((request : List ℕ) × IsRequest request (requests.GetRecipe user tag version)
-        × ((log : List Exchange) × HasSpoken L.talk link.old link.new log
+        × ((log : List CloudExchange) × HasSpoken L.talk link.old link.new log
         × RecipesSaid shape request clouds.now log result)) }
 {
     let request = match version_request(alloc, user, tag, version) {

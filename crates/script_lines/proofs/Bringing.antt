@@ -4,36 +4,36 @@ use Rattle.std.specs.Prelude.{Result, Ok, Err}
 use Rattle.std.specs.List.{Contains, range_with_len}
 use Rattle.std.proofs.lemmas.List.{map-append}
 use Rattle.std.proofs.lemmas.List.Elements.{Contains-append_left, Contains-append_right}
-use Rattle.cd_edges.specs.Disk.{Cloud}
-use Rattle.cd_edges.proofs.Moments.{joined}
+use Rattle.session_model.specs.CdEdges.Disk.{Cloud}
+use Rattle.session_model.proofs.CdEdges.Moments.{joined}
 use Rattle.session_model.specs.CloudAreas.Peers.{StandsForSome}
-use Rattle.messages.specs.declared.request.Request.{Request}
-use Rattle.messages.specs.declared.reply.Reply.{Reply}
-use Rattle.user_dedup.specs.declared.command.Command.{Command}
-use Rattle.user_dedup.specs.Exec.{Peer, MaySettleAs}
-use Rattle.user_dedup.specs.Link.{Talk}
-use Rattle.user_dedup.proofs.Owned.{contains_here}
-use Rattle.upload_job.specs.declared.news.LaneNews.{LaneNews}
-use Rattle.upload_job.specs.Lane.{LaneState, news_of}
-use Rattle.upload_job.specs.Lanes.{LaneView, with_state}
-use Rattle.lane_steps.specs.Runs.{Turn, Progress, starting, request_of, progress_after, LaneRun, LaneAlong, Tell, lane_at}
-use Rattle.lane_steps.specs.declared.error.StepErr.{StepErr}
-use Rattle.lane_steps.specs.declared.error.StepErr.TheVariants as step_errors
-use Rattle.lane_steps.specs.Steps.{Heard, Untaken, LaneSteps, Finishes, IsFound}
+use Rattle.deletions.specs.Messages.request.Request.{Request}
+use Rattle.deletions.specs.Messages.reply.Reply.{Reply}
+use Rattle.session_model.specs.UserDedup.command.Command.{Command}
+use Rattle.session_model.specs.UserDedup.Exec.{Peer, MaySettleAs}
+use Rattle.session_model.specs.UserDedup.Link.{Talk}
+use Rattle.session_model.proofs.UserDedup.Owned.{contains_here}
+use Rattle.session_model.specs.UploadJob.news.LaneNews.{LaneNews}
+use Rattle.session_model.specs.UploadJob.Lane.{LaneState, news_of}
+use Rattle.session_model.specs.UploadJob.Lanes.{LaneView, with_state}
+use Rattle.session_jobs.specs.LaneSteps.Runs.{LaneTurn, Progress, starting, request_of, progress_after, LaneRun, LaneAlong, Tell, lane_at}
+use Rattle.session_jobs.specs.LaneSteps.error.StepErr.{StepErr}
+use Rattle.session_jobs.specs.LaneSteps.error.StepErr.TheVariants as step_errors
+use Rattle.session_jobs.specs.LaneSteps.Steps.{Heard, Untaken, LaneSteps, Finishes, IsFound}
 use Rattle.session_model.specs.LocalLink.link.LocalLink.{LocalLink}
 use Rattle.session_model.specs.LocalLink.Tells.{telling}
-use Rattle.session.specs.Spelling.{IsJob}
-use Rattle.session.specs.declared.event.Event.TheVariants as events
-use Rattle.transcript.specs.declared.line.Line.{Line}
-use Rattle.transcript.specs.declared.line.Line.TheVariants as lines
-use Rattle.session_model.specs.Vault.{Setting, JobState, Vault, Executes, lanes_of, with_lanes}
+use Rattle.session_model.specs.Session.Spelling.{IsJob}
+use Rattle.session_model.specs.Session.event.Event.TheVariants as events
+use Rattle.session_model.specs.Transcript.line.Line.{Line}
+use Rattle.session_model.specs.Transcript.line.Line.TheVariants as lines
+use Rattle.session_model.specs.Vault.{Setting, JobState, Vault, HasVaultExecuted, lanes_of, with_lanes}
 use Rattle.session_model.specs.Steps.{Moment, moment_of, step_line, all_done, stored_line, FinishLanes}
 use Rattle.session_model.specs.Run.{IsListIn}
 use Rattle.session_model.specs.Headline.{IsPartOf}
 use Rattle.session_model.specs.Cut.{FinishCut}
-use Rattle.session.specs.Texts.{text_of}
-use Rattle.script_lines.specs.At.{LinkAt, IsAt, Leaves, header_in}
-use Rattle.script_lines.specs.Does.{Images, Does, Cut}
+use Rattle.session_model.specs.Session.Texts.{text_of}
+use Rattle.script_lines.specs.At.{LinkAt, IsAt, KeepsOtherClouds, header_in}
+use Rattle.script_lines.specs.Does.{Images, Does, IsLineCut}
 use Rattle.script_lines.specs.Jobs.{job_lanes, with_job}
 use Rattle.script_lines.specs.Stepping.{stored_if}
 use Rattle.script_lines.specs.Finishing.{lane_lines, IsBrought, Finished, FinishedPart}
@@ -49,7 +49,7 @@ abbrev pub First : (ℕ → Peer) → List Moment → (ℕ → Peer) → Type 0
 First old moments new = ((moments ≡ []) × (new ≡ old)) ⊎ ((m : Moment) × (rest : List Moment) × (moments ≡ m ∷ rest) × (m.peers ≡ old))
 
 module _ (s : Setting) (job : ℕ) where
-  first_run : (cloud : ℕ) (p : Progress) (old : ℕ → Peer) (turns : List (Turn (ℕ → Peer))) (last : Progress) (mid : ℕ → Peer) (rest moments : List Moment) (new : ℕ → Peer) → LaneAlong (Executes s cloud) p old turns last mid
+  first_run : (cloud : ℕ) (p : Progress) (old : ℕ → Peer) (turns : List (LaneTurn (ℕ → Peer))) (last : Progress) (mid : ℕ → Peer) (rest moments : List Moment) (new : ℕ → Peer) → LaneAlong (HasVaultExecuted s cloud) p old turns last mid
       → First mid rest new → moments ≡ map (moment_of cloud) turns ++ rest → First old moments new
   first_run cloud p old [] last mid rest moments new along (inl x) e = inl (e ∙ x.0, x.1 ∙ along.1)
   first_run cloud p old [] last mid rest moments new along (inr x) e = inr (x.0, x.1, e ∙ x.2, x.3 ∙ along.1)
@@ -59,20 +59,20 @@ module _ (s : Setting) (job : ℕ) where
   first_lanes [] old answers moments new f = inl (f.1, ap (λ (v : Vault). v.peers) f.2)
   first_lanes (cloud ∷ clouds) old answers moments new f =
       first_run cloud (starting (lane_at (lanes_of old.jobs job) cloud)) old.peers f.0 f.1 f.3.peers f.6 moments new.peers
-      (run_along (Executes s cloud) (starting (lane_at (lanes_of old.jobs job) cloud)) old.peers f.0 f.1 f.3.peers f.7).0 (first_lanes clouds f.3 f.5 f.6 new f.13) f.12
+      (run_along (HasVaultExecuted s cloud) (starting (lane_at (lanes_of old.jobs job) cloud)) old.peers f.0 f.1 f.3.peers f.7).0 (first_lanes clouds f.3 f.5 f.6 new f.13) f.12
 
   first_cut : (clouds : List ℕ) (old : Vault) (moments : List Moment) (last : ℕ → Peer) → FinishCut s job clouds old moments last → First old.peers moments last
   first_cut [] old moments last f = inl (f.0, f.1)
   first_cut (cloud ∷ clouds) old moments last f = by_where f.5 (λ after rest last c. first_cut clouds after rest last c)
     where
-      by_where : ((LaneAlong (Executes s cloud) (starting (lane_at (lanes_of old.jobs job) cloud)) old.peers f.0 f.1 f.3) × (moments ≡ map (moment_of cloud) f.0) × (last ≡ f.3))
-          ⊎ ((LaneRun (Executes s cloud) (starting (lane_at (lanes_of old.jobs job) cloud)) old.peers f.0 f.1 f.3) × ((rest : List Moment) × (moments ≡ map (moment_of cloud) f.0 ++ rest)
+      by_where : ((LaneAlong (HasVaultExecuted s cloud) (starting (lane_at (lanes_of old.jobs job) cloud)) old.peers f.0 f.1 f.3) × (moments ≡ map (moment_of cloud) f.0) × (last ≡ f.3))
+          ⊎ ((LaneRun (HasVaultExecuted s cloud) (starting (lane_at (lanes_of old.jobs job) cloud)) old.peers f.0 f.1 f.3) × ((rest : List Moment) × (moments ≡ map (moment_of cloud) f.0 ++ rest)
           × FinishCut s job clouds (record { peers = f.3; jobs = with_lanes old.jobs job (with_state (lanes_of old.jobs job) cloud f.1.lane.state) }) rest last))
           → ((after : Vault) (rest : List Moment) (last : ℕ → Peer) → FinishCut s job clouds after rest last → First after.peers rest last) → First old.peers moments last
       by_where (inl x) again = first_run cloud (starting (lane_at (lanes_of old.jobs job) cloud)) old.peers f.0 f.1 f.3 [] moments last x.0 (inl (refl, x.2)) (x.1 ∙ sym (append-nil (map (moment_of cloud) f.0)))
       by_where (inr x) again =
           first_run cloud (starting (lane_at (lanes_of old.jobs job) cloud)) old.peers f.0 f.1 f.3 x.1.0 moments last
-          (run_along (Executes s cloud) (starting (lane_at (lanes_of old.jobs job) cloud)) old.peers f.0 f.1 f.3 x.0).0
+          (run_along (HasVaultExecuted s cloud) (starting (lane_at (lanes_of old.jobs job) cloud)) old.peers f.0 f.1 f.3 x.0).0
           (again (record { peers = f.3; jobs = with_lanes old.jobs job (with_state (lanes_of old.jobs job) cloud f.1.lane.state) }) x.1.0 last x.1.2) x.1.1
 
   pub lanes_join : (xs ys : List ℕ) (old mid new : Vault) (one two : List Line) (before behind : List Moment) → FinishLanes s job xs old one before mid → FinishLanes s job ys mid two behind new
@@ -105,11 +105,11 @@ module _ (s : Setting) (job : ℕ) where
   cut_longer : (cloud : ℕ) (clouds : List ℕ) (v : Vault) (moments : List Moment) (last : ℕ → Peer) → FinishCut s job (cloud ∷ []) v moments last → FinishCut s job (cloud ∷ clouds) v moments last
   cut_longer cloud clouds v moments last f = (f.0, f.1, f.2, f.3, f.4, by_where f.5)
     where
-      by_where : ((LaneAlong (Executes s cloud) (starting (lane_at (lanes_of v.jobs job) cloud)) v.peers f.0 f.1 f.3) × (moments ≡ map (moment_of cloud) f.0) × (last ≡ f.3))
-          ⊎ ((LaneRun (Executes s cloud) (starting (lane_at (lanes_of v.jobs job) cloud)) v.peers f.0 f.1 f.3) × ((rest : List Moment) × (moments ≡ map (moment_of cloud) f.0 ++ rest)
+      by_where : ((LaneAlong (HasVaultExecuted s cloud) (starting (lane_at (lanes_of v.jobs job) cloud)) v.peers f.0 f.1 f.3) × (moments ≡ map (moment_of cloud) f.0) × (last ≡ f.3))
+          ⊎ ((LaneRun (HasVaultExecuted s cloud) (starting (lane_at (lanes_of v.jobs job) cloud)) v.peers f.0 f.1 f.3) × ((rest : List Moment) × (moments ≡ map (moment_of cloud) f.0 ++ rest)
           × FinishCut s job [] (record { peers = f.3; jobs = with_lanes v.jobs job (with_state (lanes_of v.jobs job) cloud f.1.lane.state) }) rest last))
-          → ((LaneAlong (Executes s cloud) (starting (lane_at (lanes_of v.jobs job) cloud)) v.peers f.0 f.1 f.3) × (moments ≡ map (moment_of cloud) f.0) × (last ≡ f.3))
-          ⊎ ((LaneRun (Executes s cloud) (starting (lane_at (lanes_of v.jobs job) cloud)) v.peers f.0 f.1 f.3) × ((rest : List Moment) × (moments ≡ map (moment_of cloud) f.0 ++ rest)
+          → ((LaneAlong (HasVaultExecuted s cloud) (starting (lane_at (lanes_of v.jobs job) cloud)) v.peers f.0 f.1 f.3) × (moments ≡ map (moment_of cloud) f.0) × (last ≡ f.3))
+          ⊎ ((LaneRun (HasVaultExecuted s cloud) (starting (lane_at (lanes_of v.jobs job) cloud)) v.peers f.0 f.1 f.3) × ((rest : List Moment) × (moments ≡ map (moment_of cloud) f.0 ++ rest)
           × FinishCut s job clouds (record { peers = f.3; jobs = with_lanes v.jobs job (with_state (lanes_of v.jobs job) cloud f.1.lane.state) }) rest last))
       by_where (inl x) = inl x
       by_where (inr x) = inr (x.0, (x.1.0, x.1.1, cut_here clouds (record { peers = f.3; jobs = with_lanes v.jobs job (with_state (lanes_of v.jobs job) cloud f.1.lane.state) }) x.1.0 last x.1.2.0 x.1.2.1))
@@ -213,7 +213,7 @@ module _ {V : Type 0} (clouds : V → ℕ → Cloud) (s : Setting) (job : ℕ) w
 
 module _ {V : Type 0} (clouds : V → ℕ → Cloud) (talk : LocalLink V → ℕ → Talk → Type 0) (cloud : ℕ) where
   pub one_leaves : (views after : List LaneView) (old new : LocalLink V) (came : Result (Unit {0}) StepErr) (before now : List LaneNews) → Finishes (telling clouds) talk cloud old views before came new after now
-      → Leaves clouds old new × (new.shelf.ghost_name ≡ old.shelf.ghost_name)
+      → KeepsOtherClouds clouds old new × (new.shelf.ghost_name ≡ old.shelf.ghost_name)
   one_leaves views after old new (Ok u) before now f =
       along_leaves clouds talk cloud (starting (lane_at views cloud)) old f.0 f.1 new (run_along (Heard (telling clouds) talk cloud) (starting (lane_at views cloud)) old f.0 f.1 new f.3).0
   one_leaves views after old new (Err e) before now f =
@@ -228,7 +228,7 @@ lane_with [] cloud state lt = absurd (let l : cloud < 0 = lt in omega arith)
 lane_with (lane ∷ views) zero state lt = refl
 lane_with (lane ∷ views) (suc cloud) state lt = lane_with views cloud state (omega arith)
 
-tell_more : {S : Type 0} (Does : S → Request → Reply → S → Type 0) (p : Progress) (old : S) (turns : List (Turn S)) (at : Progress) (mid : S) (told : List LaneNews) (t : Turn S) (next : LaneNews)
+tell_more : {S : Type 0} (Does : S → Request → Reply → S → Type 0) (p : Progress) (old : S) (turns : List (LaneTurn S)) (at : Progress) (mid : S) (told : List LaneNews) (t : LaneTurn S) (next : LaneNews)
     → LaneAlong Does p old turns at mid → Tell p.lane turns told → news_of at.lane.state t.reply ≡ Some next → Tell p.lane (turns ++ t ∷ []) (told ++ next ∷ [])
 tell_more Does p old [] at mid told t next along tell news =
     (next, [], subst (λ (o : Progress). news_of o.lane.state t.reply ≡ Some next) along.0 news, refl, ap (λ (l : List LaneNews). l ++ next ∷ []) tell)
@@ -257,7 +257,7 @@ module _ {V : Type 0} (clouds : V → ℕ → Cloud) (talk : LocalLink V → ℕ
           after,
           [],
           [],
-          along_run (Executes s cloud) (starting (lane_at views cloud)) v.peers w.walked f.1 w.mid w.along run.1,
+          along_run (HasVaultExecuted s cloud) (starting (lane_at views cloud)) v.peers w.walked f.1 w.mid w.along run.1,
           w.tells (lane_at views cloud) f.2 f.4,
           f.6,
           refl,
@@ -318,7 +318,7 @@ module _ {V : Type 0} (clouds : V → ℕ → Cloud) (talk : LocalLink V → ℕ
           let views = lanes_of v.jobs job in
           let h = u.heard (w.mid cloud) (w.link_at.stands cloud lt) in
           let step = heard_step clouds talk s f.3 new w.mid cloud r h.0 w.link_at lt h.3 in
-          let t : Turn (ℕ → Peer) = record { before = w.mid; request = r; reply = h.0 } in
+          let t : LaneTurn (ℕ → Peer) = record { before = w.mid; request = r; reply = h.0 } in
           let last = put w.mid cloud step.left in
           let news = subst (λ (x : LaneState). news_of x h.0 ≡ Some h.1) (lane_with views cloud f.1.lane.state has) h.2 in
           record {
@@ -329,9 +329,9 @@ module _ {V : Type 0} (clouds : V → ℕ → Cloud) (talk : LocalLink V → ℕ
               progress_after f.1 h.0,
               f.2 ++ h.1 ∷ [],
               last,
-              tell_more (Executes s cloud) (starting (lane_at views cloud)) v.peers w.walked f.1 w.mid f.2 t h.1 w.along (w.tells (lane_at views cloud) f.2 f.5) news,
+              tell_more (HasVaultExecuted s cloud) (starting (lane_at views cloud)) v.peers w.walked f.1 w.mid f.2 t h.1 w.along (w.tells (lane_at views cloud) f.2 f.5) news,
               inl (
-                along_more (Executes s cloud) (starting (lane_at views cloud)) v.peers w.walked f.1 w.mid r h.0 last w.along f.7 asks step.exec,
+                along_more (HasVaultExecuted s cloud) (starting (lane_at views cloud)) v.peers w.walked f.1 w.mid r h.0 last w.along f.7 asks step.exec,
                 sym (map-append (moment_of cloud) w.walked (t ∷ [])),
                 refl,
               ),
@@ -414,5 +414,5 @@ module _ {V : Type 0} (clouds : V → ℕ → Cloud) (s : Setting) (job : ℕ) w
       )
 
   pub finish_cut : (old new : LocalLink V) (v : Vault) → (g : FinishedPart clouds s job (range_with_len 0 s.shape.n) old new v) → IsPartOf s v (record { event = events.Finish job; moments = g.moments }) g.last
-      → Cut clouds s (events.Finish job) old new v
+      → IsLineCut clouds s (events.Finish job) old new v
   finish_cut old new v g part = record { moments = g.moments; last = g.last; part = part; left = g.left; images = g.images }

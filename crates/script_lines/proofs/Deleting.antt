@@ -2,42 +2,42 @@
 use Rattle.std.proofs.Common.{◌≡◌, ℕ, ◌<◌, Bool, true, false, List, [], ◌∷◌, Option, Some, None, refl, sym, ap, subst, inl, inr}
 use Rattle.std.specs.Prelude.{◌≢◌, IsTrue, IsOk, Result, Ok, Err}
 use Rattle.std.specs.Bool.{MatchBool}
-use Rattle.caont_rs.specs.Package.{tag}
-use Rattle.cd_base.specs.declared.ids.CloudNo.{CloudNo}
-use Rattle.cd_base.specs.declared.ids.Tag.{Tag}
-use Rattle.cd_base.specs.declared.ids.UserId.{UserId}
-use Rattle.cd_base.specs.declared.ids.Version.{Version}
-use Rattle.cd_base.specs.declared.shape.Shape.{Shape}
-use Rattle.cd_edges.specs.Disk.{Cloud}
+use Rattle.session_model.specs.CaontRs.Package.{tag}
+use Rattle.recipe.specs.CdBase.ids.CloudNo.{CloudNo}
+use Rattle.recipe.specs.CdBase.ids.Tag.{Tag}
+use Rattle.recipe.specs.CdBase.ids.UserId.{UserId}
+use Rattle.recipe.specs.CdBase.ids.Version.{Version}
+use Rattle.recipe.specs.CdBase.shape.Shape.{Shape}
+use Rattle.session_model.specs.CdEdges.Disk.{Cloud}
 use Rattle.deletions.specs.Replies.{line_of}
-use Rattle.messages.specs.declared.request.Request.{Request}
-use Rattle.messages.specs.declared.request.Request.TheVariants as requests
-use Rattle.messages.specs.Requests.{IsRequest}
-use Rattle.messages.specs.declared.reply.Reply.{Reply}
-use Rattle.messages.specs.declared.reply.Reply.TheVariants as replies
-use Rattle.messages.specs.Answering.{IsReplyTo}
-use Rattle.messages.specs.Replies.{IsReply}
-use Rattle.user_dedup.specs.declared.command.Command.{Command}
-use Rattle.user_dedup.specs.declared.command.Command.TheVariants as commands
-use Rattle.user_dedup.specs.declared.file_list.FileEntry.{FileEntry}
-use Rattle.user_dedup.specs.declared.link.Lost.{Lost}
-use Rattle.user_dedup.specs.Cloud.{user_view}
-use Rattle.user_dedup.specs.Dedup.{FullRoom, delete_outcome, by_room, unless_full}
-use Rattle.user_dedup.specs.Pages.{entry_at}
-use Rattle.user_dedup.specs.Exec.{Peer, Exec, ExecTold, ExecUntold, served}
-use Rattle.user_dedup.specs.Link.{Asks, LeavesOthers, exchange_of}
-use Rattle.user_dedup.specs.Requests.{asked_at}
-use Rattle.user_dedup.proofs.Asked.{asked_law}
-use Rattle.upload_job.specs.Lanes.{LaneView}
+use Rattle.deletions.specs.Messages.request.Request.{Request}
+use Rattle.deletions.specs.Messages.request.Request.TheVariants as requests
+use Rattle.deletions.specs.Messages.Requests.{IsRequest}
+use Rattle.deletions.specs.Messages.reply.Reply.{Reply}
+use Rattle.deletions.specs.Messages.reply.Reply.TheVariants as replies
+use Rattle.deletions.specs.Messages.Answering.{IsReplyTo}
+use Rattle.deletions.specs.Messages.Replies.{IsReply}
+use Rattle.session_model.specs.UserDedup.command.Command.{Command}
+use Rattle.session_model.specs.UserDedup.command.Command.TheVariants as commands
+use Rattle.session_model.specs.UserDedup.file_list.FileEntry.{FileEntry}
+use Rattle.session_model.specs.UserDedup.link.Lost.{Lost}
+use Rattle.session_model.specs.UserDedup.Cloud.{user_view}
+use Rattle.session_model.specs.UserDedup.Dedup.{FullRoom, delete_outcome, by_room, unless_full}
+use Rattle.session_model.specs.UserDedup.Pages.{entry_at}
+use Rattle.session_model.specs.UserDedup.Exec.{Peer, Exec, ExecTold, ExecUntold, served}
+use Rattle.session_model.specs.UserDedup.Link.{Asks, LeavesOthers, exchange_of}
+use Rattle.session_model.specs.UserDedup.Requests.{asked_at}
+use Rattle.session_model.proofs.UserDedup.Asked.{asked_law}
+use Rattle.session_model.specs.UploadJob.Lanes.{LaneView}
 use Rattle.session_model.specs.LocalLink.link.LocalLink.{LocalLink}
 use Rattle.session_model.specs.LocalLink.Tells.{is_delivered, full_at, telling, PassesOn}
-use Rattle.session.specs.declared.event.Event.TheVariants as events
-use Rattle.transcript.specs.declared.line.Line.{Line}
-use Rattle.transcript.specs.declared.line.Line.TheVariants as lines
-use Rattle.session_model.specs.Vault.{Setting, Vault, Executes}
+use Rattle.session_model.specs.Session.event.Event.TheVariants as events
+use Rattle.session_model.specs.Transcript.line.Line.{Line}
+use Rattle.session_model.specs.Transcript.line.Line.TheVariants as lines
+use Rattle.session_model.specs.Vault.{Setting, Vault, HasVaultExecuted}
 use Rattle.session_model.specs.Steps.{IsDeleteLine}
-use Rattle.script_lines.specs.At.{IsAt, Leaves}
-use Rattle.script_lines.specs.Does.{Images, Goes, Cut}
+use Rattle.script_lines.specs.At.{IsAt, KeepsOtherClouds}
+use Rattle.script_lines.specs.Does.{Images, Goes, IsLineCut}
 use Rattle.script_lines.proofs.Going.{put, before_exec, moves, executes, images_executed, leaves_rest, cut_behind}
 
 -- ---- what is said of a reply
@@ -91,7 +91,7 @@ said_exec cloud shape told full p q user tag version reply exec = by_told told e
 module _ {V : Type 0} (clouds : V → ℕ → Cloud) where
   -- however the ask ended
   pub ask_leaves : (old new : LocalLink V) (cloud : ℕ) (content bytes : List ℕ) (result : Result (Unit {0}) Lost) → (telling clouds).passes old (exchange_of cloud content result bytes) new
-      → Leaves clouds old new × (new.shelf.ghost_name ≡ old.shelf.ghost_name)
+      → KeepsOtherClouds clouds old new × (new.shelf.ghost_name ≡ old.shelf.ghost_name)
   ask_leaves old new cloud content bytes (Ok u) passes = (leaves_rest clouds old new cloud passes.reached passes.rest, passes.same_reference)
   ask_leaves old new cloud content bytes (Err e) passes = (leaves_rest clouds old new cloud passes.reached passes.rest, passes.same_reference)
 
@@ -104,7 +104,7 @@ module _ {V : Type 0} (clouds : V → ℕ → Cloud) where
     pub record Deletes (old new : LocalLink V) (jobs : List (List LaneView)) (v : Vault) (bytes : List ℕ) : Type 0 where
       pub left : Peer
       pub reply : Reply
-      pub exec : Executes s cloud.0 v.peers (asks s.shape) reply (put v.peers cloud.0 left)
+      pub exec : HasVaultExecuted s cloud.0 v.peers (asks s.shape) reply (put v.peers cloud.0 left)
       pub is_at : IsAt clouds s new jobs (record { peers = put v.peers cloud.0 left; jobs = v.jobs })
       pub images : Images clouds s old new (before_exec v.peers cloud.0 (asks s.shape) reply ∷ []) (put v.peers cloud.0 left)
       pub reads : IsReply bytes reply
@@ -150,6 +150,6 @@ module _ {V : Type 0} (clouds : V → ℕ → Cloud) where
     }
 
     -- the text of the line found no memory
-    pub delete_cut : (old new : LocalLink V) (jobs : List (List LaneView)) (v : Vault) (bytes : List ℕ) → Deletes old new jobs v bytes → Cut clouds s (events.Delete user path version cloud) old new v
+    pub delete_cut : (old new : LocalLink V) (jobs : List (List LaneView)) (v : Vault) (bytes : List ℕ) → Deletes old new jobs v bytes → IsLineCut clouds s (events.Delete user path version cloud) old new v
     delete_cut old new jobs v bytes d =
         cut_behind clouds s (events.Delete user path version cloud) old new jobs v (d.said.told ∷ []) (delete_goes old new jobs v bytes d d.said.told refl)

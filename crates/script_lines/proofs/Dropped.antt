@@ -1,20 +1,20 @@
 -- A request of which the reply is lost.
 use Rattle.std.proofs.Common.{◌≡◌, ℕ, ◌<◌, List, sym, ap, ◌∙◌, subst}
 use Rattle.std.specs.Prelude.{◌≢◌, IsTrue, IsSomeAnd, Ok}
-use Rattle.cd_edges.specs.Disk.{Cloud}
-use Rattle.journal_start.specs.declared.start.Header.{Header}
-use Rattle.messages.specs.declared.request.Request.{Request}
-use Rattle.messages.specs.declared.reply.Reply.{Reply}
-use Rattle.user_dedup.specs.Requests.{asked_at}
-use Rattle.user_dedup.specs.Exec.{Peer}
-use Rattle.user_dedup.specs.Link.{LeavesOthers, Does, serves}
+use Rattle.session_model.specs.CdEdges.Disk.{Cloud}
+use Rattle.session_model.specs.JournalStart.start.Header.{Header}
+use Rattle.deletions.specs.Messages.request.Request.{Request}
+use Rattle.deletions.specs.Messages.reply.Reply.{Reply}
+use Rattle.session_model.specs.UserDedup.Requests.{asked_at}
+use Rattle.session_model.specs.UserDedup.Exec.{Peer}
+use Rattle.session_model.specs.UserDedup.Link.{LeavesOthers, Does, serves}
 use Rattle.session_model.specs.CloudAreas.Peers.{ImagesSince, MayBecome}
 use Rattle.session_model.specs.CloudServer.server.Server.{Server}
 use Rattle.session_model.specs.LocalLink.fate.Fate.TheVariants as fates
 use Rattle.session_model.specs.LocalLink.fate.Fate.TheVariants.{Deliver}
 use Rattle.session_model.specs.LocalLink.link.LocalLink.{LocalLink}
 use Rattle.session_model.specs.LocalLink.Tells.{rooms_at, header_at, telling, StandsAt, LeavesRest}
-use Rattle.script_lines.specs.Dropping.{Executed}
+use Rattle.script_lines.specs.Dropping.{IsReplyDropped}
 
 module _ {V : Type 0} (clouds : V → ℕ → Cloud) (cloud : ℕ) (content : List ℕ) where
   asked_of : (old mid new : LocalLink V) → mid ≡ record old { fate = fates.LoseReply } → cloud < old.servers.shape.n → new.fate ≡ Deliver → LeavesOthers (telling clouds) cloud mid new → LeavesRest clouds cloud mid new
@@ -23,7 +23,7 @@ module _ {V : Type 0} (clouds : V → ℕ → Cloud) (cloud : ℕ) (content : Li
       → ((p : Peer) (r : Request) → IsTrue (clouds mid.shelf.now cloud).told → StandsAt clouds mid cloud p → asked_at mid.servers.shape content ≡ Ok r
       → ImagesSince (clouds mid.shelf.now cloud) (clouds new.shelf.now cloud) (header_at mid.servers cloud) (MayBecome (serves (telling clouds) mid cloud) p r))
       → rooms_at new.servers cloud ≡ rooms_at mid.servers cloud
-      → (mid.fate ≡ fates.LoseReply → Executed clouds cloud content mid new)
+      → (mid.fate ≡ fates.LoseReply → IsReplyDropped clouds cloud content mid new)
   asked_of old mid new set below fate others rest same executed images rooms loses = record {
     fate = fate;
     others = others;
@@ -35,7 +35,7 @@ module _ {V : Type 0} (clouds : V → ℕ → Cloud) (cloud : ℕ) (content : Li
   }
 
   -- nothing that is said of it sees the fate
-  by_fate : (old new : LocalLink V) → Executed clouds cloud content (record old { fate = fates.LoseReply }) new → Executed clouds cloud content old new
+  by_fate : (old new : LocalLink V) → IsReplyDropped clouds cloud content (record old { fate = fates.LoseReply }) new → IsReplyDropped clouds cloud content old new
   by_fate old new x = record {
     fate = x.fate;
     others = record { stands = x.others.stands; reaches = x.others.reaches; shape = x.others.shape; told = x.others.told; full = x.others.full };
@@ -52,7 +52,7 @@ module _ {V : Type 0} (clouds : V → ℕ → Cloud) (cloud : ℕ) (content : Li
       → ((p : Peer) (r : Request) → IsTrue (clouds mid.shelf.now cloud).told → StandsAt clouds mid cloud p → asked_at mid.servers.shape content ≡ Ok r
       → ImagesSince (clouds mid.shelf.now cloud) (clouds new.shelf.now cloud) (header_at mid.servers cloud) (MayBecome (serves (telling clouds) mid cloud) p r))
       → rooms_at new.servers cloud ≡ rooms_at mid.servers cloud
-      → Executed clouds cloud content old new
+      → IsReplyDropped clouds cloud content old new
   dropped old mid new set below fate others rest same executed images rooms =
-      by_fate old new (subst (λ (l : LocalLink V). Executed clouds cloud content l new) set
+      by_fate old new (subst (λ (l : LocalLink V). IsReplyDropped clouds cloud content l new) set
       (asked_of old mid new set below fate others rest same executed images rooms (ap (λ (l : LocalLink V). l.fate) set)))

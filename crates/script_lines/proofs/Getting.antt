@@ -2,22 +2,22 @@
 use Rattle.std.proofs.Common.{◌≡◌, ℕ, ◌⊎◌, Bool, true, false, List, [], ◌∷◌, ◌++◌, All, Result, Ok, Err, refl, sym, ap, ◌∙◌, subst, inl, inr}
 use Rattle.std.specs.Prelude.{IsTrue, OnErr}
 use Rattle.std.specs.List.{Contains}
-use Rattle.user_dedup.specs.Exec.{Peer}
-use Rattle.user_dedup.specs.Link.{LinkTelling, Talk}
-use Rattle.user_dedup.proofs.Owned.{contains_cases, contains_nothing, contains_here}
-use Rattle.restore_job.specs.Asking.{Leads, is_loss}
-use Rattle.restore_job.specs.Reading.{Ends}
-use Rattle.restore_job.specs.Refusals.{Caused, Causes}
-use Rattle.restore_job.specs.declared.error.RestoreErr.{RestoreErr}
-use Rattle.restore_job.specs.declared.error.RestoreErr.TheVariants as errors
-use Rattle.restore_job.proofs.Leading.{leads_to}
-use Rattle.subset_restore.specs.Subsets.{subsets}
-use Rattle.subset_restore.specs.Tries.{Try}
-use Rattle.subset_restore.specs.Ends.{Sought, outcome_of, any_outcome, GivesNone, IsNone, AllRefused, AllCaused, CameTold, NoneTold, NoneCame, OnlyLeads, NoneBy, AnyEnds}
-use Rattle.subset_restore.proofs.Choices.{subset_among}
-use Rattle.subset_restore.proofs.Elements.{contains_front, all_of, of_all}
-use Rattle.subset_restore.proofs.Going.{any_at, any_none}
-use Rattle.subset_restore.proofs.Standing.{ends_among}
+use Rattle.session_model.specs.UserDedup.Exec.{Peer}
+use Rattle.session_model.specs.UserDedup.Link.{LinkTelling, Talk}
+use Rattle.session_model.proofs.UserDedup.Owned.{contains_cases, contains_nothing, contains_here}
+use Rattle.session_model.specs.RestoreJob.Asking.{Leads, is_loss}
+use Rattle.session_model.specs.RestoreJob.Reading.{Ends}
+use Rattle.session_model.specs.RestoreJob.Refusals.{Caused, Causes}
+use Rattle.session_model.specs.RestoreJob.error.RestoreErr.{RestoreErr}
+use Rattle.session_model.specs.RestoreJob.error.RestoreErr.TheVariants as errors
+use Rattle.session_model.proofs.RestoreJob.Leading.{leads_to}
+use Rattle.session_model.specs.SubsetRestore.Subsets.{subsets}
+use Rattle.session_model.specs.SubsetRestore.Tries.{Try}
+use Rattle.session_model.specs.SubsetRestore.Ends.{Sought, outcome_of, any_outcome, GivesNone, IsNone, AllRefused, AllCaused, CameTold, NoneTold, NoneCame, OnlyLeads, NoneBy, AnyEnds}
+use Rattle.session_model.proofs.SubsetRestore.Choices.{subset_among}
+use Rattle.session_model.proofs.SubsetRestore.Elements.{contains_front, all_of, of_all}
+use Rattle.session_model.proofs.SubsetRestore.Going.{any_at, any_none}
+use Rattle.session_model.proofs.SubsetRestore.Standing.{ends_among}
 use Rattle.session_model.specs.Steps.{NoneFrom, ComesFrom, ComesFromNone, ComesBy, NoneRose, Gets}
 
 -- what is said over told clouds, but of want of memory

@@ -2,34 +2,34 @@
 use Rattle.std.proofs.Common.{◌≡◌, ℕ, ◌<◌, ◌≤◌, Bool, cond, List, [], ◌∷◌, refl, sym, ap, ◌∙◌, subst, inl, inr, eq-eqb, eqb, arith, append-nil}
 use Rattle.std.specs.Prelude.{◌≢◌, IsTrue, Option, Some}
 use Rattle.std.proofs.lemmas.Bool.{cases_eq, ne_eqb}
-use Rattle.cd_base.specs.declared.shape.Shape.{Shape}
-use Rattle.cd_edges.specs.Disk.{Cloud}
-use Rattle.cd_edges.proofs.Moments.{weaker, left_alone, started, at_end}
-use Rattle.journal_start.specs.declared.start.Header.{Header}
+use Rattle.recipe.specs.CdBase.shape.Shape.{Shape}
+use Rattle.session_model.specs.CdEdges.Disk.{Cloud}
+use Rattle.session_model.proofs.CdEdges.Moments.{weaker, left_alone, started, at_end}
+use Rattle.session_model.specs.JournalStart.start.Header.{Header}
 use Rattle.session_model.specs.CloudServer.Names.{header_of}
-use Rattle.messages.specs.declared.request.Request.{Request}
-use Rattle.messages.specs.declared.reply.Reply.{Reply}
-use Rattle.user_dedup.specs.declared.command.Command.{Command}
-use Rattle.user_dedup.specs.Dedup.{FullRoom, Outcome}
-use Rattle.user_dedup.specs.Exec.{Peer, MaySettleAs, Exec, served}
-use Rattle.user_dedup.specs.Spending.{full_for}
-use Rattle.user_dedup.specs.Link.{LeavesOthers, Exchange, Passes}
-use Rattle.user_dedup.proofs.Owned.{contains_here}
+use Rattle.deletions.specs.Messages.request.Request.{Request}
+use Rattle.deletions.specs.Messages.reply.Reply.{Reply}
+use Rattle.session_model.specs.UserDedup.command.Command.{Command}
+use Rattle.session_model.specs.UserDedup.Dedup.{FullRoom, Outcome}
+use Rattle.session_model.specs.UserDedup.Exec.{Peer, MaySettleAs, Exec, served}
+use Rattle.session_model.specs.UserDedup.Spending.{full_for}
+use Rattle.session_model.specs.UserDedup.Link.{LeavesOthers, Exchange, Passes}
+use Rattle.session_model.proofs.UserDedup.Owned.{contains_here}
 use Rattle.session_model.specs.CloudAreas.Peers.{StandsForSome, ImagesNow, ImagesSince, MayBecome}
-use Rattle.upload_job.specs.Lanes.{LaneView}
+use Rattle.session_model.specs.UploadJob.Lanes.{LaneView}
 use Rattle.session_model.specs.LocalLink.fate.Fate.TheVariants.{Deliver}
 use Rattle.session_model.specs.LocalLink.link.LocalLink.{LocalLink}
 use Rattle.session_model.specs.LocalLink.servers.Servers.{Servers}
 use Rattle.session_model.specs.LocalLink.Tells.{rooms_of, rooms_at, header_at, full_at, telling, serving_at, StandsAt, LeavesRest}
 use Rattle.session_model.proofs.OfLocalLink.Passing.{read_images}
-use Rattle.session.specs.declared.event.Event.{Event}
-use Rattle.transcript.specs.declared.line.Line.{Line}
-use Rattle.session_model.specs.Vault.{Setting, Vault, Executes, served_at}
+use Rattle.session_model.specs.Session.event.Event.{Event}
+use Rattle.session_model.specs.Transcript.line.Line.{Line}
+use Rattle.session_model.specs.Vault.{Setting, Vault, HasVaultExecuted, served_at}
 use Rattle.session_model.specs.Steps.{Moment, VStep}
 use Rattle.session_model.specs.Run.{IsListIn}
 use Rattle.session_model.specs.Headline.{IsPartOf}
-use Rattle.script_lines.specs.At.{header_in, LinkAt, IsAt, Leaves}
-use Rattle.script_lines.specs.Does.{Images, Goes, IsLeft, Cut}
+use Rattle.script_lines.specs.At.{header_in, LinkAt, IsAt, KeepsOtherClouds}
+use Rattle.script_lines.specs.Does.{Images, Goes, IsLeftByCut, IsLineCut}
 
 -- ---- clouds by number, one of which goes on
 
@@ -77,7 +77,7 @@ module _ {V : Type 0} (clouds : V → ℕ → Cloud) where
   asks_rooms Is [] old new same c = ap (λ (l : LocalLink V). rooms_at l.servers c) same
   asks_rooms Is (e ∷ es) old new chain c = asks_rooms Is es chain.1.0 new chain.1.2 c ∙ rooms_kept old chain.1.0 e.cloud c chain.1.1.rest chain.1.1.rooms
 
-  pub leaves_rest : (old new : LocalLink V) (cloud : ℕ) → cloud < old.servers.shape.n → LeavesRest clouds cloud old new → Leaves clouds old new
+  pub leaves_rest : (old new : LocalLink V) (cloud : ℕ) → cloud < old.servers.shape.n → LeavesRest clouds cloud old new → KeepsOtherClouds clouds old new
   leaves_rest old new cloud below rest = record {
     shape = rest.shape_stays;
     told = rest.told_stays;
@@ -87,14 +87,14 @@ module _ {V : Type 0} (clouds : V → ℕ → Cloud) where
       past : (c : ℕ) → c ≡ cloud → old.servers.shape.n ≤ c → ⊥
       past c same le = omega arith
 
-  pub leaves_all : (old new : LocalLink V) → new ≡ old → Leaves clouds old new
+  pub leaves_all : (old new : LocalLink V) → new ≡ old → KeepsOtherClouds clouds old new
   leaves_all old new same = record {
     shape = ap (λ (l : LocalLink V). l.servers.shape) same;
     told = λ c. ap (λ (l : LocalLink V). (clouds l.shelf.now c).told) same;
     others = λ c le. ap (λ (l : LocalLink V). clouds l.shelf.now c) same;
   }
 
-  pub leaves_join : (old mid new : LocalLink V) → Leaves clouds old mid → Leaves clouds mid new → Leaves clouds old new
+  pub leaves_join : (old mid new : LocalLink V) → KeepsOtherClouds clouds old mid → KeepsOtherClouds clouds mid new → KeepsOtherClouds clouds old new
   leaves_join old mid new one two = record {
     shape = two.shape ∙ one.shape;
     told = λ c. two.told c ∙ one.told c;
@@ -111,7 +111,7 @@ module _ {V : Type 0} (clouds : V → ℕ → Cloud) (s : Setting) where
       (read_images clouds [] [] link link cloud (peers cloud) refl (subst (λ (sh : Shape). cloud < sh.n) (sym is.shape) lt) (is.told cloud ∙ told) (is.stands cloud lt)))
 
   -- and so what is left of the clouds
-  pub left_at : (link : LocalLink V) (peers : ℕ → Peer) → LinkAt clouds s link peers → IsLeft clouds s link peers
+  pub left_at : (link : LocalLink V) (peers : ℕ → Peer) → LinkAt clouds s link peers → IsLeftByCut clouds s link peers
   left_at link peers is = record {
     faults = λ cloud lt. let e = (is.stands cloud lt).faults in subst (λ (n : ℕ). n ≤ (clouds link.shelf.now cloud).faults) (sym e) (same_le (clouds link.shelf.now cloud).faults);
     armings = λ cloud lt. (is.stands cloud lt).armings;
@@ -138,7 +138,7 @@ module _ {V : Type 0} (clouds : V → ℕ → Cloud) (s : Setting) where
   -- what the cloud of a link executes, in the session's words
   pub executes : (old : LocalLink V) (peers : ℕ → Peer) (cloud : ℕ) (request : Request) (reply : Reply) (q : Peer) → LinkAt clouds s old peers → cloud < s.shape.n
       → Exec old.servers.shape (clouds old.shelf.now cloud).told (serving_at old cloud) (peers cloud) request reply q
-      → Executes s cloud peers request reply (put peers cloud q)
+      → HasVaultExecuted s cloud peers request reply (put peers cloud q)
   executes old peers cloud request reply q is lt exec = record {
     does = subst (Exec s.shape (s.told cloud) (served_at s cloud) (peers cloud) request reply) (sym (put_here peers cloud q)) (by_rooms (by_told (by_shape exec)));
     others = put_other peers cloud q;
@@ -212,7 +212,7 @@ module _ {V : Type 0} (clouds : V → ℕ → Cloud) (s : Setting) where
   -- ---- lines that were cut
 
   -- the whole line was carried out
-  pub cut_behind : (event : Event) (old new : LocalLink V) (jobs : List (List LaneView)) (v : Vault) (answers : List Line) → Goes clouds s event old new jobs v answers → Cut clouds s event old new v
+  pub cut_behind : (event : Event) (old new : LocalLink V) (jobs : List (List LaneView)) (v : Vault) (answers : List Line) → Goes clouds s event old new jobs v answers → IsLineCut clouds s event old new v
   cut_behind event old new jobs v answers g = record {
     moments = g.moments;
     last = g.after.peers;
@@ -223,7 +223,7 @@ module _ {V : Type 0} (clouds : V → ℕ → Cloud) (s : Setting) where
 
   -- nothing of it was
   pub cut_before : (event : Event) (old new : LocalLink V) (jobs : List (List LaneView)) (v : Vault) → IsAt clouds s old jobs v → new ≡ old
-      → IsPartOf s v (record { event = event; moments = [] }) v.peers → Cut clouds s event old new v
+      → IsPartOf s v (record { event = event; moments = [] }) v.peers → IsLineCut clouds s event old new v
   cut_before event old new jobs v is same part = record {
     moments = [];
     last = v.peers;

@@ -2,32 +2,32 @@
 use Rattle.std.proofs.Common.{◌≡◌, ℕ, ◌<◌, Bool, true, false, not, ◌&&◌, List, [], ◌∷◌, ◌++◌, length, Option, Some, None, refl, sym, ap, ◌∙◌, subst, inl, inr, ◌⊎◌, append_assoc}
 use Rattle.std.specs.Prelude.{◌↔◌, Result, Ok, Err, IsOk, OnOk, OnErr}
 use Rattle.std.proofs.lemmas.Grind.{flat_map-append}
-use Rattle.cd_base.specs.declared.ids.NoMemory.{NoMemory}
-use Rattle.cd_base.specs.declared.shape.Shape.{Shape}
-use Rattle.cd_edges.specs.Disk.{Cloud}
-use Rattle.messages.specs.declared.request.Request.{Request}
-use Rattle.messages.specs.declared.reply.Reply.{Reply}
-use Rattle.user_dedup.specs.Link.{Talk}
-use Rattle.upload_job.specs.declared.news.LaneNews.{LaneNews}
-use Rattle.upload_job.specs.Lane.{news_of}
-use Rattle.upload_job.specs.Lanes.{LaneView, with_state, request_at}
-use Rattle.lane_steps.specs.Runs.{moved, lane_at}
-use Rattle.lane_steps.specs.declared.error.StepErr.{StepErr}
-use Rattle.lane_steps.specs.declared.error.StepErr.TheVariants as step_errors
-use Rattle.lane_steps.specs.Steps.{Heard, Untaken, LaneSteps, IsFound}
+use Rattle.recipe.specs.CdBase.ids.NoMemory.{NoMemory}
+use Rattle.recipe.specs.CdBase.shape.Shape.{Shape}
+use Rattle.session_model.specs.CdEdges.Disk.{Cloud}
+use Rattle.deletions.specs.Messages.request.Request.{Request}
+use Rattle.deletions.specs.Messages.reply.Reply.{Reply}
+use Rattle.session_model.specs.UserDedup.Link.{Talk}
+use Rattle.session_model.specs.UploadJob.news.LaneNews.{LaneNews}
+use Rattle.session_model.specs.UploadJob.Lane.{news_of}
+use Rattle.session_model.specs.UploadJob.Lanes.{LaneView, with_state, request_at}
+use Rattle.session_jobs.specs.LaneSteps.Runs.{moved, lane_at}
+use Rattle.session_jobs.specs.LaneSteps.error.StepErr.{StepErr}
+use Rattle.session_jobs.specs.LaneSteps.error.StepErr.TheVariants as step_errors
+use Rattle.session_jobs.specs.LaneSteps.Steps.{Heard, Untaken, LaneSteps, IsFound}
 use Rattle.session_model.specs.LocalLink.link.LocalLink.{LocalLink}
 use Rattle.session_model.specs.LocalLink.Tells.{telling}
-use Rattle.session.specs.Spelling.{IsJob}
-use Rattle.session.specs.declared.event.Event.TheVariants as events
-use Rattle.transcript.specs.declared.line.Line.{Line}
-use Rattle.transcript.specs.Transcript.{line_text}
+use Rattle.session_model.specs.Session.Spelling.{IsJob}
+use Rattle.session_model.specs.Session.event.Event.TheVariants as events
+use Rattle.session_model.specs.Transcript.line.Line.{Line}
+use Rattle.session_model.specs.Transcript.Transcript.{line_text}
 use Rattle.session_model.specs.Vault.{Setting, Vault, lanes_of, with_lanes}
 use Rattle.session_model.specs.Steps.{Moment, quiet, cloud_no, step_line, all_done, stored_line, LaneStep}
 use Rattle.session_model.specs.Headline.{IsPartOf}
-use Rattle.session.specs.Texts.{text_of}
+use Rattle.session_model.specs.Session.Texts.{text_of}
 use Rattle.script_lines.specs.declared.error.CarryErr.{CarryErr}
-use Rattle.script_lines.specs.At.{LinkAt, IsAt, Leaves}
-use Rattle.script_lines.specs.Does.{Images, Goes, Cut}
+use Rattle.script_lines.specs.At.{LinkAt, IsAt, KeepsOtherClouds}
+use Rattle.script_lines.specs.Does.{Images, Goes, IsLineCut}
 use Rattle.script_lines.specs.Jobs.{job_lanes, with_job}
 use Rattle.script_lines.specs.Stepping.{stored_if, step_lines, IsTold}
 use Rattle.script_lines.proofs.Going.{put, before_exec, images_still, leaves_rest, leaves_all, cut_behind, cut_before}
@@ -68,12 +68,12 @@ stored_same job old new stored e = ap (stored_if job) (sym e)
 -- ---- what stays
 
 module _ {V : Type 0} (clouds : V → ℕ → Cloud) (talk : LocalLink V → ℕ → Talk → Type 0) (cloud : ℕ) where
-  still : (old new : LocalLink V) → new ≡ old → Leaves clouds old new × (new.shelf.ghost_name ≡ old.shelf.ghost_name)
+  still : (old new : LocalLink V) → new ≡ old → KeepsOtherClouds clouds old new × (new.shelf.ghost_name ≡ old.shelf.ghost_name)
   still old new same = (leaves_all clouds old new same, ap (λ (l : LocalLink V). l.shelf.ghost_name) same)
 
   -- what stays
   pub step_leaves : (asks : Option Request) (views after : List LaneView) (old new : LocalLink V) (came : Result (Option LaneNews) StepErr) → LaneSteps (telling clouds) talk cloud old views asks came new after
-      → Leaves clouds old new × (new.shelf.ghost_name ≡ old.shelf.ghost_name)
+      → KeepsOtherClouds clouds old new × (new.shelf.ghost_name ≡ old.shelf.ghost_name)
   step_leaves None views after old new (Ok None) steps = still old new steps.0
   step_leaves None views after old new (Ok (Some told)) steps = absurd steps
   step_leaves None views after old new (Err step_errors.NoMemory) steps = still old new steps.0
@@ -83,7 +83,7 @@ module _ {V : Type 0} (clouds : V → ℕ → Cloud) (talk : LocalLink V → ℕ
   step_leaves (Some request) views after old new (Ok (Some told)) steps = let p = steps.3.passed.passes in (leaves_rest clouds old new cloud p.reached p.rest, p.same_reference)
   step_leaves (Some request) views after old new (Err step_errors.NoMemory) steps = by_taken steps.0
     where
-      by_taken : (new ≡ old) ⊎ Untaken (telling clouds) talk cloud (lane_at views cloud) old request new → Leaves clouds old new × (new.shelf.ghost_name ≡ old.shelf.ghost_name)
+      by_taken : (new ≡ old) ⊎ Untaken (telling clouds) talk cloud (lane_at views cloud) old request new → KeepsOtherClouds clouds old new × (new.shelf.ghost_name ≡ old.shelf.ghost_name)
       by_taken (inl same) = still old new same
       by_taken (inr u) = let p = u.passed.passes in (leaves_rest clouds old new cloud p.reached p.rest, p.same_reference)
   step_leaves (Some request) views after old new (Err step_errors.Lost) steps = let p = steps.0.passes in (leaves_rest clouds old new cloud p.reached p.rest, p.same_reference)
@@ -170,7 +170,7 @@ module _ {V : Type 0} (clouds : V → ℕ → Cloud) (talk : LocalLink V → ℕ
   pub step_cut : (old new : LocalLink V) (jobs before : List (List LaneView)) (v : Vault) (came : Result (Option LaneNews) StepErr) (stored : Bool) → IsAt clouds s old before v
       → IsPartOf s v (record { event = events.Step job (cloud_no cloud); moments = [] }) v.peers
       → LaneCame (request_at (lanes_of v.jobs job) cloud) old new jobs v came stored
-      → Cut clouds s (events.Step job (cloud_no cloud)) old new v
+      → IsLineCut clouds s (events.Step job (cloud_no cloud)) old new v
   step_cut old new jobs before v (Ok told) stored is part g =
       cut_behind clouds s (events.Step job (cloud_no cloud)) old new jobs v (step_lines job cloud (Ok told) stored) (record { moments = g.moments; after = g.after; is_at = g.is_at; step = g.step; images = g.images })
   step_cut old new jobs before v (Err step_errors.Lost) stored is part g =

@@ -5,37 +5,37 @@ use Rattle.std.specs.Prelude.{IsTrue, IsSomeAnd, Result, Ok, Err, IfErr, OnErr, 
 use Rattle.std.specs.Bool.{MatchBool}
 use Rattle.std.specs.List.{Contains}
 use Rattle.std.proofs.lemmas.Bool.{lt-ltb, ltb-true}
-use Rattle.cd_base.specs.declared.ids.CloudNo.{CloudNo}
-use Rattle.cd_base.specs.declared.ids.UserId.{UserId}
-use Rattle.cd_base.specs.declared.ids.Version.{Version}
-use Rattle.cd_base.specs.declared.shape.Shape.{Shape}
-use Rattle.cd_edges.specs.Causes.{Rose}
-use Rattle.cd_edges.specs.Disk.{Areas, Cloud, Image, IsImage, LeavesOnly}
-use Rattle.cd_edges.specs.Shelf.{Arms, HasFailed, KeepsCounts}
-use Rattle.cd_edges.proofs.Moments.{at_end}
-use Rattle.half_journal.specs.declared.errors.OpenErr.{OpenErr}
-use Rattle.half_journal.specs.declared.errors.OpenErr.TheVariants as errors
-use Rattle.journal_start.specs.declared.start.Header.{Header}
-use Rattle.half_journal.specs.Openings.{OnFault}
-use Rattle.messages.specs.declared.request.Request.{Request}
-use Rattle.messages.specs.Requests.{request_bytes}
-use Rattle.user_dedup.specs.declared.command.Command.{Command}
-use Rattle.user_dedup.specs.Dedup.{FullRoom}
-use Rattle.user_dedup.specs.Requests.{asked_at}
-use Rattle.user_dedup.specs.Exec.{Peer, MaySettleAs, Stays, CountsOn}
-use Rattle.user_dedup.specs.Link.{LeavesOthers, Talk, ReadsFrom}
+use Rattle.recipe.specs.CdBase.ids.CloudNo.{CloudNo}
+use Rattle.recipe.specs.CdBase.ids.UserId.{UserId}
+use Rattle.recipe.specs.CdBase.ids.Version.{Version}
+use Rattle.recipe.specs.CdBase.shape.Shape.{Shape}
+use Rattle.session_model.specs.CdEdges.Causes.{Rose}
+use Rattle.session_model.specs.CdEdges.Disk.{Areas, Cloud, Image, IsImage, LeavesOnly}
+use Rattle.session_model.specs.CdEdges.Shelf.{Arms, HasFailed, KeepsCounts}
+use Rattle.session_model.proofs.CdEdges.Moments.{at_end}
+use Rattle.session_model.specs.HalfJournal.errors.OpenErr.{OpenErr}
+use Rattle.session_model.specs.HalfJournal.errors.OpenErr.TheVariants as errors
+use Rattle.session_model.specs.JournalStart.start.Header.{Header}
+use Rattle.session_model.specs.HalfJournal.Openings.{OnFault}
+use Rattle.deletions.specs.Messages.request.Request.{Request}
+use Rattle.deletions.specs.Messages.Requests.{request_bytes}
+use Rattle.session_model.specs.UserDedup.command.Command.{Command}
+use Rattle.session_model.specs.UserDedup.Dedup.{FullRoom}
+use Rattle.session_model.specs.UserDedup.Requests.{asked_at}
+use Rattle.session_model.specs.UserDedup.Exec.{Peer, MaySettleAs, KeepsPeer, CountsOn}
+use Rattle.session_model.specs.UserDedup.Link.{LeavesOthers, Talk, ReadsFrom}
 use Rattle.session_model.specs.CloudAreas.Peers.{StandsForSome, ImagesNow, ImagesSince}
-use Rattle.restore_job.specs.Asking.{PeersOf, OnlyRead, Leads, Asked, is_lost, TellsAll}
-use Rattle.restore_job.specs.Refusals.{Names, Causes}
-use Rattle.restore_job.specs.declared.error.RestoreErr.{RestoreErr}
-use Rattle.restore_job.specs.declared.error.RestoreErr.TheVariants as restore_errors
-use Rattle.subset_restore.specs.Ends.{AnyEnds}
-use Rattle.subset_restore.specs.Going.{sought}
+use Rattle.session_model.specs.RestoreJob.Asking.{PeersOf, AreOnlyAsked, Leads, HasAskedClouds, is_lost, TellsAll}
+use Rattle.session_model.specs.RestoreJob.Refusals.{Names, Causes}
+use Rattle.session_model.specs.RestoreJob.error.RestoreErr.{RestoreErr}
+use Rattle.session_model.specs.RestoreJob.error.RestoreErr.TheVariants as restore_errors
+use Rattle.session_model.specs.SubsetRestore.Ends.{AnyEnds}
+use Rattle.session_model.specs.SubsetRestore.Going.{sought}
 use Rattle.session_model.specs.CloudServer.server.Server.{Server}
 use Rattle.session_model.specs.CloudServer.Serving.{ReopensAs}
-use Rattle.upload_job.specs.Lanes.{LaneView, lanes_begun, request_at, IsAsked}
-use Rattle.lane_steps.specs.Reached.{IsReached}
-use Rattle.rebuild.specs.KeptFiles.Kept.{key_of}
+use Rattle.session_model.specs.UploadJob.Lanes.{LaneView, lanes_begun, request_at, IsAsked}
+use Rattle.session_jobs.specs.LaneSteps.Reached.{IsReached}
+use Rattle.session_model.specs.Rebuild.KeptFiles.Kept.{key_of}
 use Rattle.session_model.specs.LocalLink.fate.Fate.{Fate}
 use Rattle.session_model.specs.LocalLink.fate.Fate.TheVariants as fates
 use Rattle.session_model.specs.LocalLink.fate.Fate.TheVariants.{Deliver}
@@ -44,20 +44,20 @@ use Rattle.session_model.specs.LocalLink.servers.Servers.{Servers}
 use Rattle.session_model.specs.LocalLink.Tells.{rooms_at, header_at, is_delivered, telling, StandsAt, LeavesRest}
 use Rattle.session_model.specs.LocalLink.Calls.{Armed}
 use Rattle.session_model.proofs.OfLocalLink.Passing.{read_images, read_others, read_same}
-use Rattle.session.specs.declared.event.Event.TheVariants as events
-use Rattle.session.specs.Spelling.{AreSources}
-use Rattle.transcript.specs.declared.line.Line.{Line}
-use Rattle.transcript.specs.declared.line.Line.TheVariants as lines
-use Rattle.transcript.specs.declared.news.News.TheVariants as news
+use Rattle.session_model.specs.Session.event.Event.TheVariants as events
+use Rattle.session_model.specs.Session.Spelling.{AreSources}
+use Rattle.session_model.specs.Transcript.line.Line.{Line}
+use Rattle.session_model.specs.Transcript.line.Line.TheVariants as lines
+use Rattle.session_model.specs.Transcript.news.News.TheVariants as news
 use Rattle.session_model.specs.Vault.{Setting, JobState, Vault, new_job, lanes_of}
 use Rattle.session_model.specs.Steps.{Moment, quiet, cloud_no, version_of, lose_lines, DropStep, IsGetLine, Gets, told_so, IsRestartLine, RestartStep, ReopensUntold, IsFault}
 use Rattle.session_model.specs.Run.{IsListIn}
 use Rattle.session_model.specs.Headline.{IsPartOf}
-use Rattle.session.specs.Texts.{text_of}
-use Rattle.script_lines.specs.At.{LinkAt, IsAt, Leaves, header_in}
-use Rattle.script_lines.specs.Does.{Images, Goes, Cut}
+use Rattle.session_model.specs.Session.Texts.{text_of}
+use Rattle.script_lines.specs.At.{LinkAt, IsAt, KeepsOtherClouds, header_in}
+use Rattle.script_lines.specs.Does.{Images, Goes, IsLineCut}
 use Rattle.script_lines.specs.Jobs.{job_lanes}
-use Rattle.script_lines.specs.Dropping.{Executed, Drops}
+use Rattle.script_lines.specs.Dropping.{IsReplyDropped, Drops}
 use Rattle.script_lines.proofs.Getting.{GetsIf, got_by}
 use Rattle.script_lines.proofs.Walking.{views_are}
 use Rattle.session_model.specs.CloudServer.Refusals.{IsDamage}
@@ -129,7 +129,7 @@ module _ {V : Type 0} (clouds : V → ℕ → Cloud) (s : Setting) (job cloud : 
         images = images_still clouds s old new v.peers (quiet v.peers) is.link_at same;
       }
   drop_lane (Some r) more before content old new jobs v is lt asked reads drops =
-      let x : Executed clouds cloud content old new = subst (λ (b : Bool). Drops clouds cloud b content old new) asked.0 drops in
+      let x : IsReplyDropped clouds cloud content old new = subst (λ (b : Bool). Drops clouds cloud b content old new) asked.0 drops in
       let read : asked_at old.servers.shape content ≡ Ok r = subst (λ (l : List ℕ). asked_at old.servers.shape l ≡ Ok r) (sym asked.1) (reads r refl) in
       let went = x.goes r (v.peers cloud) read (is.link_at.stands cloud lt) in
       record {
@@ -256,7 +256,7 @@ module _ {V : Type 0} (clouds : V → ℕ → Cloud) (s : Setting) (old new : Lo
   -- what an opening ensures
   pub record Opened (before now : ℕ) : Type 0 where
     pub peer : (p : Peer) → IsTrue (clouds old.shelf.now cloud).told → StandsAt clouds old cloud p → (q : Peer) × StandsAt clouds new cloud q × ReopensAs true p q result
-    pub untold : (p : Peer) → (clouds old.shelf.now cloud).told ≡ false → StandsAt clouds old cloud p → (q : Peer) × StandsAt clouds new cloud q × Stays p q × CountsOn p q
+    pub untold : (p : Peer) → (clouds old.shelf.now cloud).told ≡ false → StandsAt clouds old cloud p → (q : Peer) × StandsAt clouds new cloud q × KeepsPeer p q × CountsOn p q
     pub counts : OnFault result (HasFailed (clouds old.shelf.now cloud) (clouds new.shelf.now cloud) before now) (KeepsCounts (clouds old.shelf.now cloud) (clouds new.shelf.now cloud) before now)
     pub images : IsTrue (clouds old.shelf.now cloud).told → (lists : List (List Command)) → ImagesNow (clouds old.shelf.now cloud) (header_at old.servers cloud) (Contains lists)
         → ImagesSince (clouds old.shelf.now cloud) (clouds new.shelf.now cloud) (header_at old.servers cloud) (Contains lists)
@@ -325,7 +325,7 @@ module _ {V : Type 0} (clouds : V → ℕ → Cloud) (old new : LocalLink V) (na
   within_at : (shape : Shape) → AreSources shape named → (c : ℕ) → Contains named c → c < shape.n
   within_at shape are c has = subst (λ (x : ℕ). x < shape.n) has.2 (are.within has.0 c has.1)
 
-  pub get_leaves : (loss : Bool) → Asked (telling clouds) named old new loss → AreSources old.servers.shape named → Leaves clouds old new
+  pub get_leaves : (loss : Bool) → HasAskedClouds (telling clouds) named old new loss → AreSources old.servers.shape named → KeepsOtherClouds clouds old new
   get_leaves loss asked are = record {
     shape = asked.shape;
     told = λ c. ap (λ (f : ℕ → Bool). f c) asked.told;
@@ -335,7 +335,7 @@ module _ {V : Type 0} (clouds : V → ℕ → Cloud) (old new : LocalLink V) (na
       past : (c : ℕ) → c < old.servers.shape.n → old.servers.shape.n ≤ c → ⊥
       past c lt le = omega arith
 
-  pub get_same : (loss : Bool) → Asked (telling clouds) named old new loss → new.shelf.ghost_name ≡ old.shelf.ghost_name
+  pub get_same : (loss : Bool) → HasAskedClouds (telling clouds) named old new loss → new.shelf.ghost_name ≡ old.shelf.ghost_name
   get_same loss asked = read_same clouds named asked.asks old new asked.passed
 
   pub read_by : (talk : LocalLink V → ℕ → Talk → Type 0) (shape : Shape) (user : UserId) (path : List ℕ) (version : Version) (result : Result (Unit {0}) RestoreErr) (was file : List ℕ) → shape ≡ old.servers.shape → was ≡ []
@@ -389,7 +389,7 @@ module _ {V : Type 0} (clouds : V → ℕ → Cloud) (s : Setting) (old new : Lo
   pub record Read (user : UserId) (path : List ℕ) (version : Version) (file : List ℕ) : Type 0 where
     pub restored : Leads (telling clouds) named old new (Causes (telling clouds) old old.servers.shape user (key_of old.servers.shape path version) result)
         (GetsIf (sought old.servers.shape user path version named) result file)
-    pub asked : Asked (telling clouds) named old new (is_lost result)
+    pub asked : HasAskedClouds (telling clouds) named old new (is_lost result)
     pub named_so : IfErr result (Names (Contains named))
 
   module _ (user : UserId) (path : List ℕ) (version : Version) (file : List ℕ) (r : Read user path version file) (v : Vault) (is : LinkAt clouds s old v.peers) where
@@ -402,7 +402,7 @@ module _ {V : Type 0} (clouds : V → ℕ → Cloud) (s : Setting) (old new : Lo
         subst (λ (h : Header). ImagesSince (clouds old.shelf.now c) (clouds new.shelf.now c) h (MaySettleAs (v.peers c))) (header_is old.servers s c is.shape (is.rooms c lt))
         (read_images clouds named r.asked.asks old new c (v.peers c) r.asked.passed (subst (λ (sh : Shape). c < sh.n) (sym is.shape) lt) (is.told c ∙ told) (is.stands c lt))
 
-    gone : AreSources old.servers.shape named → (after : ℕ → Peer) × PeersOf (telling clouds) new (λ c. nat_lt c old.servers.shape.n) after × OnlyRead named v.peers after
+    gone : AreSources old.servers.shape named → (after : ℕ → Peer) × PeersOf (telling clouds) new (λ c. nat_lt c old.servers.shape.n) after × AreOnlyAsked named v.peers after
         × Causes (telling clouds) old old.servers.shape user (key_of old.servers.shape path version) result v.peers after
         × (TellsAll (telling clouds) old named → GetsIf (sought old.servers.shape user path version named) result file v.peers after)
     gone are = r.restored (λ c. nat_lt c old.servers.shape.n) (λ c has. lt-ltb c old.servers.shape.n (within_at clouds old new named old.servers.shape are c has)) v.peers
@@ -447,7 +447,7 @@ module _ {V : Type 0} (clouds : V → ℕ → Cloud) (s : Setting) (old new : Lo
           images = λ c lt told. images_weaker clouds s old new c (MaySettleAs (v.peers c)) (IsListIn s c (quiet v.peers) went.0) (λ list settles. listed clouds s c (record { peers = v.peers; event = None }) [] went.0 list settles) (read_since c lt told);
         }
 
-    pub get_cut : AreSources old.servers.shape named → IsPartOf s v (record { event = events.Get user path version named; moments = [] }) v.peers → Cut clouds s (events.Get user path version named) old new v
+    pub get_cut : AreSources old.servers.shape named → IsPartOf s v (record { event = events.Get user path version named; moments = [] }) v.peers → IsLineCut clouds s (events.Get user path version named) old new v
     get_cut are part =
         let went = gone are in
         record {

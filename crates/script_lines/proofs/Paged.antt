@@ -4,48 +4,48 @@ use Rattle.std.specs.Prelude.{Result, Ok, Err, ◌==◌, slice_get}
 use Rattle.std.specs.Bool.{MatchBool}
 use Rattle.std.proofs.lemmas.Bool.{cases_eq, eqb-false}
 use Rattle.std.proofs.lemmas.List.{length-append, map-append}
-use Rattle.cd_base.specs.declared.ids.CloudNo.{CloudNo}
-use Rattle.cd_base.specs.declared.ids.Tag.{Tag}
-use Rattle.cd_base.specs.declared.ids.UserId.{UserId}
-use Rattle.cd_base.specs.declared.ids.Version.{Version}
-use Rattle.cd_base.specs.declared.shape.Shape.{Shape}
-use Rattle.cd_edges.specs.Disk.{Cloud}
-use Rattle.message_fields.specs.Keys.{key_limit}
-use Rattle.messages.specs.declared.request.Request.{Request}
-use Rattle.messages.specs.declared.request.Request.TheVariants as requests
-use Rattle.messages.specs.Requests.{IsRequest}
-use Rattle.messages.specs.declared.reply.Reply.{Reply}
-use Rattle.messages.specs.declared.reply.Reply.TheVariants as replies
-use Rattle.messages.specs.Answering.{IsReplyTo}
-use Rattle.messages.specs.Replies.{FitsReply, IsReply}
-use Rattle.user_dedup.specs.declared.command.Command.{Command}
-use Rattle.user_dedup.specs.declared.link.Lost.{Lost}
-use Rattle.user_dedup.specs.Cloud.{user_view}
-use Rattle.user_dedup.specs.Dedup.{FullRoom}
-use Rattle.user_dedup.specs.Pages.{page_of}
-use Rattle.user_dedup.specs.Exec.{Peer, Exec, ExecTold, ExecUntold, served}
-use Rattle.user_dedup.specs.Link.{Asks, LeavesOthers}
-use Rattle.user_dedup.specs.Requests.{asked_at}
-use Rattle.user_dedup.proofs.Asked.{asked_law}
-use Rattle.upload_job.specs.Lanes.{LaneView}
-use Rattle.lane_steps.specs.Runs.{Turn}
+use Rattle.recipe.specs.CdBase.ids.CloudNo.{CloudNo}
+use Rattle.recipe.specs.CdBase.ids.Tag.{Tag}
+use Rattle.recipe.specs.CdBase.ids.UserId.{UserId}
+use Rattle.recipe.specs.CdBase.ids.Version.{Version}
+use Rattle.recipe.specs.CdBase.shape.Shape.{Shape}
+use Rattle.session_model.specs.CdEdges.Disk.{Cloud}
+use Rattle.session_model.specs.MessageFields.Keys.{key_limit}
+use Rattle.deletions.specs.Messages.request.Request.{Request}
+use Rattle.deletions.specs.Messages.request.Request.TheVariants as requests
+use Rattle.deletions.specs.Messages.Requests.{IsRequest}
+use Rattle.deletions.specs.Messages.reply.Reply.{Reply}
+use Rattle.deletions.specs.Messages.reply.Reply.TheVariants as replies
+use Rattle.deletions.specs.Messages.Answering.{IsReplyTo}
+use Rattle.deletions.specs.Messages.Replies.{FitsReply, IsReply}
+use Rattle.session_model.specs.UserDedup.command.Command.{Command}
+use Rattle.session_model.specs.UserDedup.link.Lost.{Lost}
+use Rattle.session_model.specs.UserDedup.Cloud.{user_view}
+use Rattle.session_model.specs.UserDedup.Dedup.{FullRoom}
+use Rattle.session_model.specs.UserDedup.Pages.{page_of}
+use Rattle.session_model.specs.UserDedup.Exec.{Peer, Exec, ExecTold, ExecUntold, served}
+use Rattle.session_model.specs.UserDedup.Link.{Asks, LeavesOthers}
+use Rattle.session_model.specs.UserDedup.Requests.{asked_at}
+use Rattle.session_model.proofs.UserDedup.Asked.{asked_law}
+use Rattle.session_model.specs.UploadJob.Lanes.{LaneView}
+use Rattle.session_jobs.specs.LaneSteps.Runs.{LaneTurn}
 use Rattle.session_model.specs.LocalLink.link.LocalLink.{LocalLink}
 use Rattle.session_model.specs.LocalLink.Tells.{full_at, telling, PassesOn}
-use Rattle.session.specs.declared.event.Event.TheVariants as events
-use Rattle.transcript.specs.declared.refusal.Refusal.{Refusal}
-use Rattle.transcript.specs.declared.refusal.Refusal.TheVariants as refusals
-use Rattle.transcript.specs.declared.line.Line.TheVariants as lines
+use Rattle.session_model.specs.Session.event.Event.TheVariants as events
+use Rattle.session_model.specs.Transcript.refusal.Refusal.{Refusal}
+use Rattle.session_model.specs.Transcript.refusal.Refusal.TheVariants as refusals
+use Rattle.session_model.specs.Transcript.line.Line.TheVariants as lines
 use Rattle.session_model.specs.Vault.{Setting, Vault}
 use Rattle.session_model.specs.Steps.{Moment, cloud_no, moment_of, list_refusal, EndsListing, behind_page, ListRun, entry_line, list_lines}
-use Rattle.session.specs.Texts.{text_of}
+use Rattle.session_model.specs.Session.Texts.{text_of}
 use Rattle.session_model.proofs.Parts.{fault_of, fails}
 use Rattle.session_model.proofs.Parts as parts
 use Rattle.script_lines.specs.declared.listing.Listing.{Listing}
 use Rattle.script_lines.specs.declared.listing.NoPage.{NoPage}
 use Rattle.script_lines.specs.declared.listing.NoPage.TheVariants as no_pages
 use Rattle.script_lines.specs.At.{LinkAt, IsAt}
-use Rattle.script_lines.specs.Does.{Images, Goes, Cut, CarriesOut, IsCutOff}
-use Rattle.script_lines.specs.Paging.{IsListReply, TakesPage, Adds, PageAsked, PageTurns, TurnsBy, Listed, Lists, SaysNoPage}
+use Rattle.script_lines.specs.Does.{Images, Goes, IsLineCut, CarriesOut, IsCutOff}
+use Rattle.script_lines.specs.Paging.{IsListReply, TakesPage, HasAddedPage, PageAsked, PageTurns, TurnsBy, Listed, Lists, SaysNoPage}
 use Rattle.script_lines.proofs.Going.{put, moves, executes, images_executed, images_still, left_at, cut_behind}
 use Rattle.script_lines.proofs.Lines.{text_join}
 use Rattle.script_lines.proofs.Bringing.{images_later}
@@ -144,12 +144,12 @@ module _ {V : Type 0} (clouds : V → ℕ → Cloud) (s : Setting) (user : UserI
 
   pub record Pages (old now : LocalLink V) (peers : ℕ → Peer) (above : Option (Tag × Version)) : Type 0 where
     pub entries : List (Tag × Version)
-    pub turns : List (Turn (ℕ → Peer))
+    pub turns : List (LaneTurn (ℕ → Peer))
     pub at : ℕ → Peer
     pub link_at : LinkAt clouds s now at
     pub images : Images clouds s old now (map (moment_of cloud) turns) at
     -- however the listing goes on, all of it is a listing
-    pub runs : (more : List (Turn (ℕ → Peer))) (listed : Result (List (Tag × Version)) Refusal) (new : ℕ → Peer) → ListRun s user cloud above at more listed new
+    pub runs : (more : List (LaneTurn (ℕ → Peer))) (listed : Result (List (Tag × Version)) Refusal) (new : ℕ → Peer) → ListRun s user cloud above at more listed new
         → ListRun s user cloud None peers (turns ++ more) (behind_page entries listed) new
 
   none_behind : (listed : Result (List (Tag × Version)) Refusal) → behind_page [] listed ≡ listed
@@ -172,7 +172,7 @@ module _ {V : Type 0} (clouds : V → ℕ → Cloud) (s : Setting) (user : UserI
 
   module _ (old mid new : LocalLink V) (peers : ℕ → Peer) (above : Option (Tag × Version)) (p : Pages old mid peers above) (IsSo : Reply → Type 0)
       (a : PageAsked clouds s user cloud above mid new p.at IsSo) where
-    abbrev turn : Turn (ℕ → Peer)
+    abbrev turn : LaneTurn (ℕ → Peer)
     turn = record { before = p.at; request = requests.List user above; reply = a.reply }
 
     images_on : Images clouds s old new (map (moment_of cloud) (p.turns ++ turn ∷ [])) a.left
@@ -190,7 +190,7 @@ module _ {V : Type 0} (clouds : V → ℕ → Cloud) (s : Setting) (user : UserI
       images = images_on;
       runs = λ more listed last run.
           subst (λ (r : Result (List (Tag × Version)) Refusal). ListRun s user cloud None peers ((p.turns ++ turn ∷ []) ++ more) r last) (both_behind p.entries page listed)
-          (subst (λ (l : List (Turn (ℕ → Peer))). ListRun s user cloud None peers l (behind_page p.entries (behind_page page listed)) last) (sym (append_assoc p.turns (turn ∷ []) more))
+          (subst (λ (l : List (LaneTurn (ℕ → Peer))). ListRun s user cloud None peers l (behind_page p.entries (behind_page page listed)) last) (sym (append_assoc p.turns (turn ∷ []) more))
           (p.runs (turn ∷ more) (behind_page page listed) last (refl, refl, (a.left, a.exec, inr (page, listed, e, full, refl, run)))));
     }
 
@@ -220,11 +220,11 @@ module _ {V : Type 0} (clouds : V → ℕ → Cloud) (s : Setting) (user : UserI
   }
 
   -- cut between two pages: it goes on by a fault
-  pub cut_between : (old now : LocalLink V) (v : Vault) (above : Option (Tag × Version)) → Pages old now v.peers above → Cut clouds s (events.List user (cloud_no cloud)) old now v
+  pub cut_between : (old now : LocalLink V) (v : Vault) (above : Option (Tag × Version)) → Pages old now v.peers above → IsLineCut clouds s (events.List user (cloud_no cloud)) old now v
   cut_between old now v above p =
       let why : Refusal = refusals.Fault (cloud_no cloud) in
       let request : Request = requests.List user above in
-      let t : Turn (ℕ → Peer) = record { before = p.at; request = request; reply = replies.Fault } in
+      let t : LaneTurn (ℕ → Peer) = record { before = p.at; request = request; reply = replies.Fault } in
       let broke = parts.put p.at cloud (fault_of (p.at cloud)) in
       record {
         moments = map (moment_of cloud) p.turns;
@@ -249,7 +249,7 @@ module _ {V : Type 0} (clouds : V → ℕ → Cloud) (s : Setting) (user : UserI
 
   -- cut behind a reply
   pub cut_replied : (old mid new : LocalLink V) (jobs : List (List LaneView)) (v : Vault) (above : Option (Tag × Version)) (p : Pages old mid v.peers above) (IsSo : Reply → Type 0) → IsAt clouds s old jobs v
-      → PageAsked clouds s user cloud above mid new p.at IsSo → Cut clouds s (events.List user (cloud_no cloud)) old new v
+      → PageAsked clouds s user cloud above mid new p.at IsSo → IsLineCut clouds s (events.List user (cloud_no cloud)) old new v
   cut_replied old mid new jobs v above p IsSo is a = elim a.kind [
     | inl x ↦ elim (cases_eq (length x.0) key_limit) [
       | inl full ↦ cut_between old new v (slice_get x.0 (length x.0 - 1)) (pages_more old mid new v.peers above p IsSo a x.0 x.1 full)
@@ -284,10 +284,10 @@ module _ {V : Type 0} (clouds : V → ℕ → Cloud) (s : Setting) (user : UserI
     asked_here : (P : Reply → Type 0) → PageAsked clouds s user cloud before.above mid new h.pages.at P → PageAsked clouds s user cloud h.above mid new h.pages.at P
     asked_here P a = subst (λ (above : Option (Tag × Version)). PageAsked clouds s user cloud above mid new h.pages.at P) h.above_is a
 
-    count_on : (page : List (Tag × Version)) (after : Listing) → Adds before page after → after.count ≡ length (h.pages.entries ++ page)
+    count_on : (page : List (Tag × Version)) (after : Listing) → HasAddedPage before page after → after.count ≡ length (h.pages.entries ++ page)
     count_on page after adds = adds.count ∙ ap (λ (n : ℕ). n + length page) h.count_is ∙ sym (length-append h.pages.entries page)
 
-    lines_on : (page : List (Tag × Version)) (after : Listing) → Adds before page after → after.lines ≡ text_of (map entry_line (h.pages.entries ++ page))
+    lines_on : (page : List (Tag × Version)) (after : Listing) → HasAddedPage before page after → after.lines ≡ text_of (map entry_line (h.pages.entries ++ page))
     lines_on page after adds = adds.lines ∙ ap (λ (l : List ℕ). l ++ text_of (map entry_line page)) h.lines_are ∙ lines_both h.pages.entries page
 
     pub listed_more : (after : Listing) → PageAsked clouds s user cloud before.above mid new h.pages.at (TurnsBy cloud before after (Ok true)) → HasListed old new peers after
@@ -325,9 +325,9 @@ module _ {V : Type 0} (clouds : V → ℕ → Cloud) (s : Setting) (user : UserI
         refused_end old mid new peers h.above h.pages (TurnsBy cloud before after (Err (no_pages.Refused why))) a why a.so
 
   pub listed_cut : (old mid new : LocalLink V) (jobs : List (List LaneView)) (v : Vault) (before after : Listing) → IsAt clouds s old jobs v → (h : HasListed old mid v.peers before)
-      → (new ≡ mid) ⊎ PageAsked clouds s user cloud before.above mid new h.pages.at (TurnsBy cloud before after (Err no_pages.NoMemory)) → Cut clouds s (events.List user (cloud_no cloud)) old new v
+      → (new ≡ mid) ⊎ PageAsked clouds s user cloud before.above mid new h.pages.at (TurnsBy cloud before after (Err no_pages.NoMemory)) → IsLineCut clouds s (events.List user (cloud_no cloud)) old new v
   listed_cut old mid new jobs v before after is h (inl same) =
-      subst (λ (l : LocalLink V). Cut clouds s (events.List user (cloud_no cloud)) old l v) (sym same) (cut_between old mid v h.above h.pages)
+      subst (λ (l : LocalLink V). IsLineCut clouds s (events.List user (cloud_no cloud)) old l v) (sym same) (cut_between old mid v h.above h.pages)
   listed_cut old mid new jobs v before after is h (inr asked) =
       cut_replied old mid new jobs v h.above h.pages (TurnsBy cloud before after (Err no_pages.NoMemory)) is (asked_here old mid new v.peers before h (TurnsBy cloud before after (Err no_pages.NoMemory)) asked)
 
@@ -355,7 +355,7 @@ module _ {V : Type 0} (clouds : V → ℕ → Cloud) (s : Setting) (user : UserI
     turns_err after no_pages.NoMemory (inr a) = inr (with_so before.above old new peers (λ reply. TakesPage cloud reply (no_page no_pages.NoMemory)) (TurnsBy cloud before after (no_turn no_pages.NoMemory)) (λ reply so. tt) a)
 
     -- a page was taken
-    pub turns_page : (after : Listing) (page : List (Tag × Version)) (more : Bool) → length page ≤ key_limit → more ≡ (length page == key_limit) → Adds before page after
+    pub turns_page : (after : Listing) (page : List (Tag × Version)) (more : Bool) → length page ≤ key_limit → more ≡ (length page == key_limit) → HasAddedPage before page after
         → ((a_page page ≡ no_page no_pages.NoMemory) × (new ≡ old)) ⊎ PageAsked clouds s user cloud before.above old new peers (λ reply. TakesPage cloud reply (a_page page))
         → ((a_turn more ≡ no_turn no_pages.NoMemory) × (new ≡ old)) ⊎ PageAsked clouds s user cloud before.above old new peers (TurnsBy cloud before after (a_turn more))
     turns_page after page more few is adds (inl x) = absurd (let e : a_page page ≡ no_page no_pages.NoMemory = x.0 in cc)

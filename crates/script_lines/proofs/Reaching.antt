@@ -5,14 +5,14 @@ use Rattle.std.proofs.lemmas.List.{length-set, get_or-set_same, get_or-set_other
 use Rattle.std.proofs.lemmas.List.Sums.{AllPass-from_list_all, list_all-from_AllPass}
 use Rattle.std.proofs.lemmas.Bool.{cases_eq}
 use Rattle.std.proofs.lemmas.List.FromFn.{length-map-range_with_len}
-use Rattle.cd_base.specs.declared.shape.Shape.{Shape}
-use Rattle.upload_job.specs.declared.news.LaneNews.{LaneNews}
-use Rattle.upload_job.specs.declared.news.LaneErr.{LaneErr}
-use Rattle.upload_job.specs.Upload.{work_of}
-use Rattle.upload_job.specs.Lane.{LaneState, Asking, Sending, Committing, Done, Refused}
-use Rattle.upload_job.specs.Lanes.{LaneView, AnswersAt, begun}
-use Rattle.lane_steps.specs.Reached.{IsReached, Begun, Answered}
-use Rattle.session.specs.Spelling.{IsJob}
+use Rattle.recipe.specs.CdBase.shape.Shape.{Shape}
+use Rattle.session_model.specs.UploadJob.news.LaneNews.{LaneNews}
+use Rattle.session_model.specs.UploadJob.news.LaneErr.{LaneErr}
+use Rattle.session_model.specs.UploadJob.Upload.{work_of}
+use Rattle.session_model.specs.UploadJob.Lane.{LaneState, Asking, Sending, Committing, Done, Refused}
+use Rattle.session_model.specs.UploadJob.Lanes.{LaneView, AnswersAt, begun}
+use Rattle.session_jobs.specs.LaneSteps.Reached.{IsReached, Begun, Answered}
+use Rattle.session_model.specs.Session.Spelling.{IsJob}
 use Rattle.session_model.specs.Steps.{is_done, all_done}
 use Rattle.script_lines.specs.Jobs.{job_lanes, with_job, AreReached}
 

@@ -3,49 +3,49 @@ use Rattle.std.proofs.Common.{◌≡◌, ℕ, ◌<◌, ◌≤◌, Bool, true, fa
 use Rattle.std.specs.Prelude.{◌≢◌, IsTrue, Result, Ok, Err, nat_lt}
 use Rattle.std.specs.List.{Contains}
 use Rattle.std.proofs.lemmas.Bool.{cases_eq, lt-ltb, ltb-true}
-use Rattle.cd_base.specs.declared.ids.CloudNo.{CloudNo}
-use Rattle.cd_base.specs.declared.ids.UserId.{UserId}
-use Rattle.cd_base.specs.declared.shape.Shape.{Shape}
-use Rattle.cd_edges.specs.Disk.{Cloud, Image, IsImage}
-use Rattle.cd_edges.proofs.Moments.{at_end}
-use Rattle.user_dedup.specs.declared.command.Command.{Command}
-use Rattle.user_dedup.specs.Dedup.{FullRoom}
-use Rattle.user_dedup.specs.Exec.{Peer, MaySettleAs, served}
-use Rattle.user_dedup.specs.Link.{LinkTelling, Talk, serves}
-use Rattle.user_dedup.proofs.Owned.{contains_cases, contains_here, contains_later, contains_nothing}
+use Rattle.recipe.specs.CdBase.ids.CloudNo.{CloudNo}
+use Rattle.recipe.specs.CdBase.ids.UserId.{UserId}
+use Rattle.recipe.specs.CdBase.shape.Shape.{Shape}
+use Rattle.session_model.specs.CdEdges.Disk.{Cloud, Image, IsImage}
+use Rattle.session_model.proofs.CdEdges.Moments.{at_end}
+use Rattle.session_model.specs.UserDedup.command.Command.{Command}
+use Rattle.session_model.specs.UserDedup.Dedup.{FullRoom}
+use Rattle.session_model.specs.UserDedup.Exec.{Peer, MaySettleAs, served}
+use Rattle.session_model.specs.UserDedup.Link.{LinkTelling, Talk, serves}
+use Rattle.session_model.proofs.UserDedup.Owned.{contains_cases, contains_here, contains_later, contains_nothing}
 use Rattle.session_model.specs.CloudAreas.Peers.{StandsForSome, ImagesSince, MayBecome}
-use Rattle.upload_job.specs.Lanes.{LaneView}
-use Rattle.lane_steps.specs.Runs.{Turn}
+use Rattle.session_model.specs.UploadJob.Lanes.{LaneView}
+use Rattle.session_jobs.specs.LaneSteps.Runs.{LaneTurn}
 use Rattle.session_model.specs.LocalLink.fate.Fate.{Fate}
 use Rattle.session_model.specs.LocalLink.fate.Fate.TheVariants as fates
 use Rattle.session_model.specs.LocalLink.fate.Fate.TheVariants.{Deliver}
 use Rattle.session_model.specs.LocalLink.link.LocalLink.{LocalLink}
 use Rattle.session_model.specs.LocalLink.Tells.{is_delivered, full_at, telling, StandsAt}
-use Rattle.restore_job.specs.Asking.{TellsAll}
-use Rattle.restore_job.specs.declared.error.RestoreErr.TheVariants as restore_errors
-use Rattle.rebuild.specs.declared.error.RebuildErr.{RebuildErr}
-use Rattle.rebuild.specs.declared.error.RebuildErr.TheVariants as errors
-use Rattle.rebuild.specs.declared.skips.Rebuilt.{Rebuilt}
-use Rattle.rebuild.specs.Rebuilding.{LeavesBut, RunsTo, IsCut}
-use Rattle.rebuild.specs.Over.{Asked, Causes, HandsOn, Holds, Leads, TargetAlong, ThenLost, is_lost, AsksFor}
-use Rattle.rebuild.specs.Turns.{EndsLane, OfReply, OwnLanes, SaidLast}
-use Rattle.rebuild.specs.Kept.{Refills}
-use Rattle.session.specs.Spelling.{AreClouds}
-use Rattle.session.specs.declared.event.Event.TheVariants as events
-use Rattle.transcript.specs.declared.refusal.Refusal.TheVariants as refusals
-use Rattle.transcript.specs.declared.refusal.TargetWhy.TheVariants as target_whys
-use Rattle.transcript.specs.declared.line.Line.{Line}
-use Rattle.transcript.specs.declared.line.Line.TheVariants as lines
+use Rattle.session_model.specs.RestoreJob.Asking.{TellsAll}
+use Rattle.session_model.specs.RestoreJob.error.RestoreErr.TheVariants as restore_errors
+use Rattle.session_model.specs.Rebuild.error.RebuildErr.{RebuildErr}
+use Rattle.session_model.specs.Rebuild.error.RebuildErr.TheVariants as errors
+use Rattle.session_model.specs.Rebuild.skips.Rebuilt.{Rebuilt}
+use Rattle.session_model.specs.Rebuild.Rebuilding.{LeavesBut, RunsTo, IsRebuildCut}
+use Rattle.session_model.specs.Rebuild.Over.{HasAskedToRebuild, Causes, HandsOn, HasRebuildCause, Leads, TargetAlong, ThenLost, is_lost, AsksFor}
+use Rattle.session_model.specs.Rebuild.Turns.{EndsLane, OfReply, OwnLanes, SaidLast}
+use Rattle.session_model.specs.Rebuild.Kept.{Refills}
+use Rattle.session_model.specs.Session.Spelling.{AreClouds}
+use Rattle.session_model.specs.Session.event.Event.TheVariants as events
+use Rattle.session_model.specs.Transcript.refusal.Refusal.TheVariants as refusals
+use Rattle.session_model.specs.Transcript.refusal.TargetWhy.TheVariants as target_whys
+use Rattle.session_model.specs.Transcript.line.Line.{Line}
+use Rattle.session_model.specs.Transcript.line.Line.TheVariants as lines
 use Rattle.session_model.specs.Vault.{Setting, JobState, Vault, served_at, with_peer, ExecutesAll}
 use Rattle.session_model.specs.Steps.{Moment, quiet, cloud_no, told_so, skip_line, AreRebuildLines, turn_moment, target_moments, rebuild_moments, AllTold}
 use Rattle.session_model.specs.Run.{IsListIn}
 use Rattle.session_model.specs.Headline.{IsPartOf}
 use Rattle.session_model.proofs.With.{with_here, with_other}
 use Rattle.script_lines.specs.At.{LinkAt, header_in}
-use Rattle.script_lines.specs.Does.{Images, IsLeft, Goes, Cut}
+use Rattle.script_lines.specs.Does.{Images, IsLeftByCut, Goes, IsLineCut}
 use Rattle.script_lines.proofs.Going.{now_by, images_weaker, listed, cut_behind, header_is, full_is, asks_rooms}
 use Rattle.script_lines.proofs.Turned.{TargetAt, asks_images, along_all, along_since}
-use Rattle.journal_start.specs.declared.start.Header.{Header}
+use Rattle.session_model.specs.JournalStart.start.Header.{Header}
 
 -- ---- results
 
@@ -95,22 +95,22 @@ has_lines user target from (Err errors.NoMemory) named = inl refl
 -- ---- moments
 
 module _ (old : ℕ → Peer) (target : ℕ) where
-  turns_among : (turns : List (Turn Peer)) (end : Peer) (t : Turn Peer) → Contains turns t → Contains (target_moments old target turns end) (turn_moment old target t)
+  turns_among : (turns : List (LaneTurn Peer)) (end : Peer) (t : LaneTurn Peer) → Contains turns t → Contains (target_moments old target turns end) (turn_moment old target t)
   turns_among [] end t has = absurd (contains_nothing t has)
   turns_among (u ∷ us) end t has = elim (contains_cases u us t has) [
-    | inl same ↦ subst (λ (x : Turn Peer). Contains (turn_moment old target u ∷ target_moments old target us end) (turn_moment old target x)) same (contains_here (turn_moment old target u) (target_moments old target us end))
+    | inl same ↦ subst (λ (x : LaneTurn Peer). Contains (turn_moment old target u ∷ target_moments old target us end) (turn_moment old target x)) same (contains_here (turn_moment old target u) (target_moments old target us end))
     | inr later ↦ contains_later (turn_moment old target u) (target_moments old target us end) (turn_moment old target t) (turns_among us end t later)
   ]
 
-  turns_mapped : (turns : List (Turn Peer)) (t : Turn Peer) → Contains turns t → Contains (map (turn_moment old target) turns) (turn_moment old target t)
+  turns_mapped : (turns : List (LaneTurn Peer)) (t : LaneTurn Peer) → Contains turns t → Contains (map (turn_moment old target) turns) (turn_moment old target t)
   turns_mapped [] t has = absurd (contains_nothing t has)
   turns_mapped (u ∷ us) t has = elim (contains_cases u us t has) [
-    | inl same ↦ subst (λ (x : Turn Peer). Contains (turn_moment old target u ∷ map (turn_moment old target) us) (turn_moment old target x)) same (contains_here (turn_moment old target u) (map (turn_moment old target) us))
+    | inl same ↦ subst (λ (x : LaneTurn Peer). Contains (turn_moment old target u ∷ map (turn_moment old target) us) (turn_moment old target x)) same (contains_here (turn_moment old target u) (map (turn_moment old target) us))
     | inr later ↦ contains_later (turn_moment old target u) (map (turn_moment old target) us) (turn_moment old target t) (turns_mapped us t later)
   ]
 
   -- what the target may leave behind at one of its turns
-  turn_listed : (s : Setting) (moments : List Moment) (last : ℕ → Peer) (t : Turn Peer) → Contains moments (turn_moment old target t) → (list : List Command)
+  turn_listed : (s : Setting) (moments : List Moment) (last : ℕ → Peer) (t : LaneTurn Peer) → Contains moments (turn_moment old target t) → (list : List Command)
       → MaySettleAs t.before list ⊎ MayBecome (served_at s target) t.before t.request list → IsListIn s target moments last list
   turn_listed s moments last t has list (inl settles) = inr (turn_moment old target t, has, inl (subst (λ (p : Peer). MaySettleAs p list) (sym (with_here old target t.before)) settles))
   turn_listed s moments last t has list (inr becomes) =
@@ -122,7 +122,7 @@ module _ {V : Type 0} (clouds : V → ℕ → Cloud) (talk : LocalLink V → ℕ
   -- what becomes of the clouds, of which some are told
   abbrev pub Brings : Shape → Type 0
   Brings shape = Leads (telling clouds) talk target.0 from old new result
-      (Holds (telling clouds) old shape user target.0 result)
+      (HasRebuildCause (telling clouds) old shape user target.0 result)
       (λ turns before at after.
       RunsTo shape user target.0 (serves (telling clouds) old target.0) from result turns before at after
       × Refills shape target.0 from user after result)
@@ -130,10 +130,10 @@ module _ {V : Type 0} (clouds : V → ℕ → Cloud) (talk : LocalLink V → ℕ
   -- what a rebuild ensures
   pub record Came : Type 0 where
     pub rebuilt : Brings old.servers.shape
-    pub asked : Asked (telling clouds) target.0 from old new (is_lost result)
+    pub asked : HasAskedToRebuild (telling clouds) target.0 from old new (is_lost result)
     pub named : HandsOn from result
 
-  pub came_by : (shape : Shape) → shape ≡ old.servers.shape → Brings shape → Asked (telling clouds) target.0 from old new (is_lost result) → HandsOn from result → Came
+  pub came_by : (shape : Shape) → shape ≡ old.servers.shape → Brings shape → HasAskedToRebuild (telling clouds) target.0 from old new (is_lost result) → HandsOn from result → Came
   came_by shape same brings asked named = record { rebuilt = subst Brings same brings; asked = asked; named = named }
 
   within_at : (shape : Shape) → AreClouds shape from → (c : ℕ) → Contains from c → c < shape.n
@@ -161,7 +161,7 @@ module _ {V : Type 0} (clouds : V → ℕ → Cloud) (talk : LocalLink V → ℕ
     -- the clouds went on so
     pub record Went : Type 0 where
       pub after : ℕ → Peer
-      pub turns : List (Turn Peer)
+      pub turns : List (LaneTurn Peer)
       pub stands : (c : ℕ) → c < s.shape.n → StandsAt clouds new c (after c)
       pub leaves : LeavesBut from target.0 v.peers after
       pub along : TargetAlong (telling clouds) talk target.0 from old (v.peers target.0) turns new (after target.0)
@@ -171,7 +171,7 @@ module _ {V : Type 0} (clouds : V → ℕ → Cloud) (talk : LocalLink V → ℕ
       pub own : OwnLanes s.shape user target.0 turns
       pub told : AllTold s (target.0 ∷ from) → RunsTo s.shape user target.0 (served_at s target.0) from result turns v.peers (after target.0) after × Refills s.shape target.0 from user after result
 
-    told_of : (after : ℕ → Peer) (turns : List (Turn Peer)) (at : Peer) → after target.0 ≡ at
+    told_of : (after : ℕ → Peer) (turns : List (LaneTurn Peer)) (at : Peer) → after target.0 ≡ at
         → (TellsAll (telling clouds) old (target.0 ∷ from) → RunsTo old.servers.shape user target.0 (serves (telling clouds) old target.0) from result turns v.peers at after × Refills old.servers.shape target.0 from user after result)
         → AllTold s (target.0 ∷ from) → RunsTo s.shape user target.0 (served_at s target.0) from result turns v.peers (after target.0) after × Refills s.shape target.0 from user after result
     told_of after turns at same by all =
@@ -212,7 +212,7 @@ module _ {V : Type 0} (clouds : V → ℕ → Cloud) (talk : LocalLink V → ℕ
         (asks_images clouds target.0 from came.asked.asks old new c (v.peers c) ne came.asked.passed (lt_old c lt) (is.told c ∙ told) (is.stands c lt))
 
     -- and of the target
-    target_since : (w : Went) (moments : List Moment) (last : ℕ → Peer) → last target.0 ≡ w.after target.0 → ((t : Turn Peer) → Contains w.turns t → Contains moments (turn_moment v.peers target.0 t))
+    target_since : (w : Went) (moments : List Moment) (last : ℕ → Peer) → last target.0 ≡ w.after target.0 → ((t : LaneTurn Peer) → Contains w.turns t → Contains moments (turn_moment v.peers target.0 t))
         → target.0 < s.shape.n → IsTrue (s.told target.0) → ImagesSince (clouds old.shelf.now target.0) (clouds new.shelf.now target.0) (header_in s target.0) (IsListIn s target.0 moments last)
     target_since w moments last end among lt told =
         along_since clouds talk s target.0 from apart told lt (IsListIn s target.0 moments last) old new (v.peers target.0) w.turns (w.after target.0) w.along target_at (is.stands target.0 lt)
@@ -220,7 +220,7 @@ module _ {V : Type 0} (clouds : V → ℕ → Cloud) (talk : LocalLink V → ℕ
         (λ t has list some. turn_listed v.peers target.0 s moments last t (among t has) list some)
 
     images_by : (w : Went) (moments : List Moment) (last : ℕ → Peer) → last target.0 ≡ w.after target.0
-        → ((t : Turn Peer) → Contains w.turns t → Contains (quiet v.peers ++ moments) (turn_moment v.peers target.0 t)) → Images clouds s old new (quiet v.peers ++ moments) last
+        → ((t : LaneTurn Peer) → Contains w.turns t → Contains (quiet v.peers ++ moments) (turn_moment v.peers target.0 t)) → Images clouds s old new (quiet v.peers ++ moments) last
     images_by w moments last end among c lt told = elim (cases_eq c target.0) [
       | inl same ↦ subst (λ (n : ℕ). ImagesSince (clouds old.shelf.now n) (clouds new.shelf.now n) (header_in s n) (IsListIn s n (quiet v.peers ++ moments) last)) (sym same)
           (target_since w (quiet v.peers ++ moments) last end among (subst (λ (n : ℕ). n < s.shape.n) same lt) (subst (λ (n : ℕ). IsTrue (s.told n)) same told))
@@ -300,12 +300,12 @@ module _ {V : Type 0} (clouds : V → ℕ → Cloud) (talk : LocalLink V → ℕ
     -- ---- cut
 
     abbrev pub IsPart : Type 0
-    IsPart = (turns : List (Turn Peer)) (at : Peer) → AreClouds s.shape from → (Contains from target.0 → ⊥) → ExecutesAll s target.0 (v.peers target.0) turns at → OwnLanes s.shape user target.0 turns
-        → (AllTold s (target.0 ∷ from) → (after : ℕ → Peer) × IsCut s.shape user target.0 (served_at s target.0) from turns v.peers at after)
+    IsPart = (turns : List (LaneTurn Peer)) (at : Peer) → AreClouds s.shape from → (Contains from target.0 → ⊥) → ExecutesAll s target.0 (v.peers target.0) turns at → OwnLanes s.shape user target.0 turns
+        → (AllTold s (target.0 ∷ from) → (after : ℕ → Peer) × IsRebuildCut s.shape user target.0 (served_at s target.0) from turns v.peers at after)
         → IsPartOf s v (record { event = events.Rebuild user target from; moments = quiet v.peers ++ map (turn_moment v.peers target.0) turns }) (with_peer v.peers target.0 at)
 
     -- each cloud, where the target is as it is left and the others as before
-    left_by : (w : Went) → IsLeft clouds s new (with_peer v.peers target.0 (w.after target.0))
+    left_by : (w : Went) → IsLeftByCut clouds s new (with_peer v.peers target.0 (w.after target.0))
     left_by w = record {
       faults = λ c lt. elim (cases_eq c target.0) [
         | inl same ↦ subst (λ (n : ℕ). n ≤ (clouds new.shelf.now c).faults) (sym (here c same)) (same_le (w.after c).faults (clouds new.shelf.now c).faults (w.stands c lt).faults)
@@ -342,7 +342,7 @@ module _ {V : Type 0} (clouds : V → ℕ → Cloud) (talk : LocalLink V → ℕ
         }
 
     -- memory ran out in between
-    cut_between : result ≡ Err errors.NoMemory → IsPart → Cut clouds s (events.Rebuild user target from) old new v
+    cut_between : result ≡ Err errors.NoMemory → IsPart → IsLineCut clouds s (events.Rebuild user target from) old new v
     cut_between memory part =
         let w = went in
         record {
@@ -354,10 +354,10 @@ module _ {V : Type 0} (clouds : V → ℕ → Cloud) (talk : LocalLink V → ℕ
               (λ t has. contains_later (record { peers = v.peers; event = None }) (map (turn_moment v.peers target.0) w.turns) (turn_moment v.peers target.0 t) (turns_mapped v.peers target.0 w.turns t has));
         }
       where
-        is_cut : (w : Went) → AllTold s (target.0 ∷ from) → IsCut s.shape user target.0 (served_at s target.0) from w.turns v.peers (w.after target.0) w.after
+        is_cut : (w : Went) → AllTold s (target.0 ∷ from) → IsRebuildCut s.shape user target.0 (served_at s target.0) from w.turns v.peers (w.after target.0) w.after
         is_cut w all = subst (λ (r : Result Rebuilt RebuildErr). RunsTo s.shape user target.0 (served_at s target.0) from r w.turns v.peers (w.after target.0) w.after) memory (w.told all).0
 
-    pub rebuild_cut : (jobs : List (List LaneView)) → map (λ (j : JobState). j.lanes) v.jobs ≡ jobs → IsPart → Cut clouds s (events.Rebuild user target from) old new v
+    pub rebuild_cut : (jobs : List (List LaneView)) → map (λ (j : JobState). j.lanes) v.jobs ≡ jobs → IsPart → IsLineCut clouds s (events.Rebuild user target from) old new v
     rebuild_cut jobs jobs_are part = elim (has_lines user target.0 from result came.named) [
       | inl memory ↦ cut_between memory part
       | inr x ↦ cut_behind clouds s (events.Rebuild user target from) old new jobs v x.0 (rebuild_goes jobs x.0 jobs_are x.1)

@@ -3,35 +3,35 @@ use Rattle.std.proofs.Common.{◌≡◌, ℕ, ◌<◌, ◌≤◌, Bool, true, fa
 use Rattle.std.specs.Prelude.{IsTrue, IsSomeAnd, Result, Ok, Err}
 use Rattle.std.specs.List.{Contains}
 use Rattle.std.proofs.lemmas.Bool.{cases_eq}
-use Rattle.cd_base.specs.declared.ids.CloudNo.{CloudNo}
-use Rattle.cd_base.specs.declared.shape.Shape.{Shape}
-use Rattle.cd_edges.specs.declared.area.Area.{Area}
-use Rattle.cd_edges.specs.declared.stream.Failed.{Failed}
-use Rattle.cd_edges.specs.Causes.{Rose}
-use Rattle.cd_edges.specs.Disk.{Cloud, Image, IsImage}
-use Rattle.cd_edges.specs.Shelf.{IsCall, HasFailed, KeepsCounts, Refreshes}
-use Rattle.cd_edges.specs.Shelf as shelves
-use Rattle.cd_edges.proofs.Moments.{weaker, joined, stayed, left_alone, at_end}
-use Rattle.half_journal.specs.declared.errors.OpenErr.{OpenErr}
-use Rattle.half_journal.specs.declared.errors.OpenErr.TheVariants as errors
-use Rattle.journal_start.specs.declared.start.Header.{Header}
-use Rattle.half_journal.specs.Openings.{OnFault}
-use Rattle.user_dedup.specs.declared.command.Command.{Command}
-use Rattle.user_dedup.specs.Exec.{Peer, MaySettleAs}
-use Rattle.user_dedup.specs.Link.{LeavesOthers}
-use Rattle.user_dedup.proofs.Owned.{contains_here, contains_cases, contains_nothing}
+use Rattle.recipe.specs.CdBase.ids.CloudNo.{CloudNo}
+use Rattle.recipe.specs.CdBase.shape.Shape.{Shape}
+use Rattle.session_model.specs.CdEdges.area.Area.{Area}
+use Rattle.session_model.specs.CdEdges.stream.Failed.{Failed}
+use Rattle.session_model.specs.CdEdges.Causes.{Rose}
+use Rattle.session_model.specs.CdEdges.Disk.{Cloud, Image, IsImage}
+use Rattle.session_model.specs.CdEdges.Shelf.{IsCall, HasFailed, KeepsCounts, Refreshes}
+use Rattle.session_model.specs.CdEdges.Shelf as shelves
+use Rattle.session_model.proofs.CdEdges.Moments.{weaker, joined, stayed, left_alone, at_end}
+use Rattle.session_model.specs.HalfJournal.errors.OpenErr.{OpenErr}
+use Rattle.session_model.specs.HalfJournal.errors.OpenErr.TheVariants as errors
+use Rattle.session_model.specs.JournalStart.start.Header.{Header}
+use Rattle.session_model.specs.HalfJournal.Openings.{OnFault}
+use Rattle.session_model.specs.UserDedup.command.Command.{Command}
+use Rattle.session_model.specs.UserDedup.Exec.{Peer, MaySettleAs}
+use Rattle.session_model.specs.UserDedup.Link.{LeavesOthers}
+use Rattle.session_model.proofs.UserDedup.Owned.{contains_here, contains_cases, contains_nothing}
 use Rattle.session_model.specs.CloudAreas.Peers.{StandsForSome, ImagesNow, ImagesSince}
 use Rattle.session_model.specs.CloudServer.server.Server.{Server}
 use Rattle.session_model.specs.CloudServer.Serving.{ReopensAs}
 use Rattle.session_model.proofs.CloudServer.NoCommands.{empty_stands}
-use Rattle.upload_job.specs.Lanes.{LaneView}
+use Rattle.session_model.specs.UploadJob.Lanes.{LaneView}
 use Rattle.session_model.specs.LocalLink.link.LocalLink.{LocalLink}
 use Rattle.session_model.specs.LocalLink.Tells.{rooms_at, header_at, telling, StandsAt, LeavesRest}
 use Rattle.session_model.specs.LocalLink.Calls.{Replaces}
 use Rattle.session_model.proofs.OfLocalLink.Calling.{was_before}
-use Rattle.session.specs.declared.event.Event.TheVariants as events
-use Rattle.transcript.specs.declared.line.Line.{Line}
-use Rattle.transcript.specs.declared.line.Line.TheVariants as lines
+use Rattle.session_model.specs.Session.event.Event.TheVariants as events
+use Rattle.session_model.specs.Transcript.line.Line.{Line}
+use Rattle.session_model.specs.Transcript.line.Line.TheVariants as lines
 use Rattle.session_model.specs.Vault.{Setting, Vault}
 use Rattle.session_model.specs.Steps.{Moment, quiet, cloud_no, IsReplaceLine, ReplaceStep}
 use Rattle.session_model.specs.Run.{IsListIn}

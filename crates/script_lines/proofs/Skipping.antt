@@ -2,9 +2,9 @@
 use Rattle.std.proofs.Common.{◌≡◌, ℕ, zero, suc, ◌+◌, List, [], ◌∷◌, ◌++◌, map, take, Some, None, sym, ap, ◌∙◌, arith}
 use Rattle.std.specs.Prelude.{slice_get}
 use Rattle.std.proofs.lemmas.List.{map-append}
-use Rattle.rebuild.specs.declared.skips.Skip.{Skip}
-use Rattle.session.specs.Texts.{text_of}
-use Rattle.transcript.specs.declared.line.Line.{Line}
+use Rattle.session_model.specs.Rebuild.skips.Skip.{Skip}
+use Rattle.session_model.specs.Session.Texts.{text_of}
+use Rattle.session_model.specs.Transcript.line.Line.{Line}
 use Rattle.session_model.specs.Steps.{skip_line}
 use Rattle.script_lines.proofs.Lines.{text_more}
 

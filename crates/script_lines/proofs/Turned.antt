@@ -3,35 +3,35 @@ use Rattle.std.proofs.Common.{◌≡◌, ℕ, ◌<◌, Bool, List, [], ◌∷◌
 use Rattle.std.specs.Prelude.{◌≢◌, IsTrue, Ok}
 use Rattle.std.specs.List.{Contains}
 use Rattle.std.proofs.lemmas.Bool.{cases_eq}
-use Rattle.cd_base.specs.declared.shape.Shape.{Shape}
-use Rattle.cd_edges.specs.Disk.{Cloud}
-use Rattle.cd_edges.proofs.Moments.{joined, weaker}
-use Rattle.messages.specs.declared.request.Request.{Request}
-use Rattle.messages.specs.declared.request.Request.TheVariants as requests
-use Rattle.messages.specs.declared.reply.Reply.{Reply}
-use Rattle.user_dedup.specs.declared.command.Command.{Command}
-use Rattle.user_dedup.specs.Dedup.{FullRoom, Outcome}
-use Rattle.user_dedup.specs.Exec.{Peer, MaySettleAs, Stays, Settles, Exec, served}
-use Rattle.user_dedup.specs.Link.{Exchange, Talk, Passes, ReadsFrom, AddsNothing, Does}
-use Rattle.user_dedup.specs.Requests.{asked_at, HasRecipe}
-use Rattle.user_dedup.proofs.Asked.{asked_law}
-use Rattle.user_dedup.proofs.Owned.{contains_here, contains_later}
+use Rattle.recipe.specs.CdBase.shape.Shape.{Shape}
+use Rattle.session_model.specs.CdEdges.Disk.{Cloud}
+use Rattle.session_model.proofs.CdEdges.Moments.{joined, weaker}
+use Rattle.deletions.specs.Messages.request.Request.{Request}
+use Rattle.deletions.specs.Messages.request.Request.TheVariants as requests
+use Rattle.deletions.specs.Messages.reply.Reply.{Reply}
+use Rattle.session_model.specs.UserDedup.command.Command.{Command}
+use Rattle.session_model.specs.UserDedup.Dedup.{FullRoom, Outcome}
+use Rattle.session_model.specs.UserDedup.Exec.{Peer, MaySettleAs, KeepsPeer, Settles, Exec, served}
+use Rattle.session_model.specs.UserDedup.Link.{Exchange, Talk, Passes, ReadsFrom, AddsNothing, Does}
+use Rattle.session_model.specs.UserDedup.Requests.{asked_at, HasRecipe}
+use Rattle.session_model.proofs.UserDedup.Asked.{asked_law}
+use Rattle.session_model.proofs.UserDedup.Owned.{contains_here, contains_later}
 use Rattle.session_model.specs.CloudAreas.Peers.{StandsForSome, ImagesSince, MayBecome}
-use Rattle.user_dedup.specs.Spending.{full_for}
-use Rattle.lane_steps.specs.Runs.{Turn}
+use Rattle.session_model.specs.UserDedup.Spending.{full_for}
+use Rattle.session_jobs.specs.LaneSteps.Runs.{LaneTurn}
 use Rattle.session_model.specs.LocalLink.link.LocalLink.{LocalLink}
 use Rattle.session_model.specs.LocalLink.Tells.{server_at, rooms_at, header_at, full_at, telling, serving_at, StandsAt, IsPeer, PassesOn}
 use Rattle.session_model.proofs.OfLocalLink.Passing.{read_images}
 use Rattle.session_model.proofs.OfLocalLink.Standing.{peer_moves}
-use Rattle.restore_job.specs.Asking.{MayRead}
-use Rattle.restore_job.specs.declared.error.RestoreErr.TheVariants as restore_errors
-use Rattle.restore_job.proofs.Held.{lost_moves}
-use Rattle.rebuild.specs.Over.{TargetAlong, AsksFor}
+use Rattle.session_model.specs.RestoreJob.Asking.{MayRead}
+use Rattle.session_model.specs.RestoreJob.error.RestoreErr.TheVariants as restore_errors
+use Rattle.session_model.proofs.RestoreJob.Held.{lost_moves}
+use Rattle.session_model.specs.Rebuild.Over.{TargetAlong, AsksFor}
 use Rattle.session_model.specs.Vault.{Setting, served_at, ExecutesAll}
 use Rattle.session_model.proofs.Growing.{stays_in, settles_in}
-use Rattle.script_lines.specs.At.{Leaves, header_in}
+use Rattle.script_lines.specs.At.{KeepsOtherClouds, header_in}
 use Rattle.script_lines.proofs.Going.{leaves_rest, leaves_all, leaves_join, images_weaker, rooms_kept, header_kept, header_is, full_is, serves_is}
-use Rattle.journal_start.specs.declared.start.Header.{Header}
+use Rattle.session_model.specs.JournalStart.start.Header.{Header}
 
 -- ---- what is read adds nothing
 
@@ -58,13 +58,13 @@ has_recipe shape (requests.Delete user tag version) none = absurd none
 pub may_in : (p q : Peer) → MayRead p q → (list : List Command) → MaySettleAs q list → MaySettleAs p list
 may_in p q may = by_way may.0
   where
-    by_way : Stays p q ⊎ Settles p q → (list : List Command) → MaySettleAs q list → MaySettleAs p list
+    by_way : KeepsPeer p q ⊎ Settles p q → (list : List Command) → MaySettleAs q list → MaySettleAs p list
     by_way (inl stays) = stays_in p q stays
     by_way (inr settles) = settles_in p q settles
 
 module _ {V : Type 0} (clouds : V → ℕ → Cloud) where
   -- what stays over any asks
-  pub asks_leave : (Is : Exchange → Type 0) (asks : List Exchange) (old new : LocalLink V) → Passes (telling clouds) Is old asks new → Leaves clouds old new × (new.shelf.ghost_name ≡ old.shelf.ghost_name)
+  pub asks_leave : (Is : Exchange → Type 0) (asks : List Exchange) (old new : LocalLink V) → Passes (telling clouds) Is old asks new → KeepsOtherClouds clouds old new × (new.shelf.ghost_name ≡ old.shelf.ghost_name)
   asks_leave Is [] old new same = (leaves_all clouds old new same, ap (λ (l : LocalLink V). l.shelf.ghost_name) same)
   asks_leave Is (e ∷ es) old new chain =
       let rest = asks_leave Is es chain.1.0 new chain.1.2 in
@@ -156,7 +156,7 @@ module _ {V : Type 0} (clouds : V → ℕ → Cloud) (talk : LocalLink V → ℕ
       (subst (λ (b : Bool). Exec s.shape b (served s.shape target (full_at link.servers target)) p request reply q) at.told
       (subst (λ (sh : Shape). Exec sh (clouds link.shelf.now target).told (served sh target (full_at link.servers target)) p request reply q) at.shape does))
 
-  pub along_all : (old new : LocalLink V) (p : Peer) (turns : List (Turn Peer)) (last : Peer) → TargetAlong (telling clouds) talk target from old p turns new last → TargetAt old → ExecutesAll s target p turns last
+  pub along_all : (old new : LocalLink V) (p : Peer) (turns : List (LaneTurn Peer)) (last : Peer) → TargetAlong (telling clouds) talk target from old p turns new last → TargetAt old → ExecutesAll s target p turns last
   along_all old new p [] last x at = x.2
   along_all old new p (t ∷ turns) last x at =
       let mid_at = read_at x.2.0 old x.0 x.2.1 at in (
@@ -188,9 +188,9 @@ module _ {V : Type 0} (clouds : V → ℕ → Cloud) (talk : LocalLink V → ℕ
 
     -- Each image since then stands for a list that the target might have settled as before some turn, or may settle as now, or for one
     -- with the command of a turn.
-    pub along_since : (P : List Command → Type 0) (old new : LocalLink V) (p : Peer) (turns : List (Turn Peer)) (last : Peer) → TargetAlong (telling clouds) talk target from old p turns new last
+    pub along_since : (P : List Command → Type 0) (old new : LocalLink V) (p : Peer) (turns : List (LaneTurn Peer)) (last : Peer) → TargetAlong (telling clouds) talk target from old p turns new last
         → TargetAt old → StandsAt clouds old target p → ((list : List Command) → MaySettleAs last list → P list)
-        → ((t : Turn Peer) → Contains turns t → (list : List Command) → MaySettleAs t.before list ⊎ MayBecome (served_at s target) t.before t.request list → P list) → Since old new P
+        → ((t : LaneTurn Peer) → Contains turns t → (list : List Command) → MaySettleAs t.before list ⊎ MayBecome (served_at s target) t.before t.request list → P list) → Since old new P
     along_since P old new p [] last x at stands end each =
         images_weaker clouds s old new target (MaySettleAs p) P (λ list settles. end list (subst (λ (a : Peer). MaySettleAs a list) (sym x.2) settles)) (read_since x.0.0 old new p x.0.1 at stands)
     along_since P old new p (t ∷ turns) last x at stands end each =

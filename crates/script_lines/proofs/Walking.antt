@@ -3,24 +3,24 @@ use Rattle.std.proofs.Common.{◌≡◌, ℕ, zero, suc, ◌-◌, ◌<◌, false
 use Rattle.std.specs.Prelude.{IsTrue, slice_index_or, slice_set}
 use Rattle.std.proofs.lemmas.List.{set-get_or}
 use Rattle.std.proofs.lemmas.List.Elements.{Contains-append_left, Contains-append_right}
-use Rattle.cd_edges.specs.Disk.{Cloud}
-use Rattle.cd_edges.proofs.Moments.{joined}
+use Rattle.session_model.specs.CdEdges.Disk.{Cloud}
+use Rattle.session_model.proofs.CdEdges.Moments.{joined}
 use Rattle.session_model.specs.CloudAreas.Peers.{StandsForSome}
-use Rattle.messages.specs.declared.request.Request.{Request}
-use Rattle.messages.specs.declared.reply.Reply.{Reply}
-use Rattle.user_dedup.specs.declared.command.Command.{Command}
-use Rattle.user_dedup.specs.Exec.{Peer}
-use Rattle.user_dedup.specs.Link.{Talk}
-use Rattle.upload_job.specs.declared.news.LaneNews.{LaneNews}
-use Rattle.upload_job.specs.Lanes.{LaneView}
-use Rattle.lane_steps.specs.Runs.{Turn, Progress, moved, request_of, progress_after, LaneRun, LaneAlong, Tell}
-use Rattle.lane_steps.specs.Steps.{Heard}
+use Rattle.deletions.specs.Messages.request.Request.{Request}
+use Rattle.deletions.specs.Messages.reply.Reply.{Reply}
+use Rattle.session_model.specs.UserDedup.command.Command.{Command}
+use Rattle.session_model.specs.UserDedup.Exec.{Peer}
+use Rattle.session_model.specs.UserDedup.Link.{Talk}
+use Rattle.session_model.specs.UploadJob.news.LaneNews.{LaneNews}
+use Rattle.session_model.specs.UploadJob.Lanes.{LaneView}
+use Rattle.session_jobs.specs.LaneSteps.Runs.{LaneTurn, Progress, moved, request_of, progress_after, LaneRun, LaneAlong, Tell}
+use Rattle.session_jobs.specs.LaneSteps.Steps.{Heard}
 use Rattle.session_model.specs.LocalLink.link.LocalLink.{LocalLink}
 use Rattle.session_model.specs.LocalLink.Tells.{telling}
-use Rattle.session_model.specs.Vault.{Setting, JobState, Executes, lanes_at, with_lanes_at, lanes_of, with_lanes}
+use Rattle.session_model.specs.Vault.{Setting, JobState, HasVaultExecuted, lanes_at, with_lanes_at, lanes_of, with_lanes}
 use Rattle.session_model.specs.Steps.{Moment, moment_of}
 use Rattle.session_model.specs.Run.{IsListIn}
-use Rattle.script_lines.specs.At.{LinkAt, Leaves, header_in}
+use Rattle.script_lines.specs.At.{LinkAt, KeepsOtherClouds, header_in}
 use Rattle.script_lines.specs.Does.{Images}
 use Rattle.script_lines.specs.Jobs.{job_lanes, with_job}
 use Rattle.script_lines.proofs.Going.{put, before_exec, moves, executes, images_weaker, images_executed, images_still, leaves_rest, leaves_all, leaves_join}
@@ -49,21 +49,21 @@ same_job jobs job lanes e = ap (with_job jobs job) e ∙ set-get_or jobs (job - 
 
 -- ---- runs
 
-pub run_along : {S : Type 0} (Does : S → Request → Reply → S → Type 0) (p : Progress) (old : S) (turns : List (Turn S)) (last : Progress) (new : S) → LaneRun Does p old turns last new
+pub run_along : {S : Type 0} (Does : S → Request → Reply → S → Type 0) (p : Progress) (old : S) (turns : List (LaneTurn S)) (last : Progress) (new : S) → LaneRun Does p old turns last new
     → LaneAlong Does p old turns last new × (IsTrue last.stopped ⊎ (request_of last.lane ≡ None))
 run_along Does p old [] last new run = ((run.1, run.2), subst (λ (q : Progress). IsTrue q.stopped ⊎ (request_of q.lane ≡ None)) (sym run.1) run.0)
 run_along {S} Does p old (t ∷ turns) last new run =
     let r = run_along Does (progress_after p t.reply) run.3.0 turns last new run.3.2 in
     ((run.0, run.1, run.2, (run.3.0, run.3.1, r.0)), r.1)
 
-pub along_run : {S : Type 0} (Does : S → Request → Reply → S → Type 0) (p : Progress) (old : S) (turns : List (Turn S)) (last : Progress) (new : S) → LaneAlong Does p old turns last new
+pub along_run : {S : Type 0} (Does : S → Request → Reply → S → Type 0) (p : Progress) (old : S) (turns : List (LaneTurn S)) (last : Progress) (new : S) → LaneAlong Does p old turns last new
     → IsTrue last.stopped ⊎ (request_of last.lane ≡ None) → LaneRun Does p old turns last new
 along_run Does p old [] last new along ends = (subst (λ (q : Progress). IsTrue q.stopped ⊎ (request_of q.lane ≡ None)) along.0 ends, along.0, along.1)
 along_run {S} Does p old (t ∷ turns) last new along ends =
     (along.0, along.1, along.2, (along.3.0, along.3.1, along_run Does (progress_after p t.reply) along.3.0 turns last new along.3.2 ends))
 
 -- one turn more
-pub along_more : {S : Type 0} (Does : S → Request → Reply → S → Type 0) (p : Progress) (old : S) (turns : List (Turn S)) (at : Progress) (mid : S) (request : Request) (reply : Reply) (new : S)
+pub along_more : {S : Type 0} (Does : S → Request → Reply → S → Type 0) (p : Progress) (old : S) (turns : List (LaneTurn S)) (at : Progress) (mid : S) (request : Request) (reply : Reply) (new : S)
     → LaneAlong Does p old turns at mid → at.stopped ≡ false → request_of at.lane ≡ Some request → Does mid request reply new
     → LaneAlong Does p old (turns ++ record { before = mid; request = request; reply = reply } ∷ []) (progress_after at reply) new
 along_more {S} Does p old [] at mid request reply new along goes asks does =
@@ -74,8 +74,8 @@ along_more {S} Does p old (t ∷ turns) at mid request reply new along goes asks
 
 module _ {V : Type 0} (clouds : V → ℕ → Cloud) (talk : LocalLink V → ℕ → Talk → Type 0) where
   -- what else stays over a lane's way
-  pub along_leaves : (cloud : ℕ) (p : Progress) (old : LocalLink V) (turns : List (Turn (LocalLink V))) (last : Progress) (new : LocalLink V)
-      → LaneAlong (Heard (telling clouds) talk cloud) p old turns last new → Leaves clouds old new × (new.shelf.ghost_name ≡ old.shelf.ghost_name)
+  pub along_leaves : (cloud : ℕ) (p : Progress) (old : LocalLink V) (turns : List (LaneTurn (LocalLink V))) (last : Progress) (new : LocalLink V)
+      → LaneAlong (Heard (telling clouds) talk cloud) p old turns last new → KeepsOtherClouds clouds old new × (new.shelf.ghost_name ≡ old.shelf.ghost_name)
   along_leaves cloud p old [] last new along = (leaves_all clouds old new along.1, ap (λ (l : LocalLink V). l.shelf.ghost_name) along.1)
   along_leaves cloud p old (t ∷ turns) last new along =
       let passes = along.3.1.passed.passes in
@@ -87,7 +87,7 @@ module _ {V : Type 0} (clouds : V → ℕ → Cloud) (talk : LocalLink V → ℕ
   pub record Stepped (old new : LocalLink V) (peers : ℕ → Peer) (cloud : ℕ) (request : Request) (reply : Reply) : Type 0 where
     pub left : Peer
     pub link_at : LinkAt clouds s new (put peers cloud left)
-    pub exec : Executes s cloud peers request reply (put peers cloud left)
+    pub exec : HasVaultExecuted s cloud peers request reply (put peers cloud left)
     pub images : (last : ℕ → Peer) → Images clouds s old new (before_exec peers cloud request reply ∷ []) last
 
   pub heard_step : (old new : LocalLink V) (peers : ℕ → Peer) (cloud : ℕ) (request : Request) (reply : Reply) → LinkAt clouds s old peers → cloud < s.shape.n
@@ -117,15 +117,15 @@ module _ {V : Type 0} (clouds : V → ℕ → Cloud) (talk : LocalLink V → ℕ
       in_rest cloud list (inr x) = inr (x.0, Contains-append_right first rest x.0 x.1, x.2)
 
   -- the lane went on so along the vault's clouds
-  pub record Walked (cloud : ℕ) (p : Progress) (old new : LocalLink V) (turns : List (Turn (LocalLink V))) (last : Progress) (peers : ℕ → Peer) : Type 0 where
-    pub walked : List (Turn (ℕ → Peer))
+  pub record Walked (cloud : ℕ) (p : Progress) (old new : LocalLink V) (turns : List (LaneTurn (LocalLink V))) (last : Progress) (peers : ℕ → Peer) : Type 0 where
+    pub walked : List (LaneTurn (ℕ → Peer))
     pub mid : ℕ → Peer
-    pub along : LaneAlong (Executes s cloud) p peers walked last mid
+    pub along : LaneAlong (HasVaultExecuted s cloud) p peers walked last mid
     pub tells : (lane : LaneView) (told : List LaneNews) → Tell lane turns told → Tell lane walked told
     pub link_at : LinkAt clouds s new mid
     pub images : Images clouds s old new (map (moment_of cloud) walked) mid
 
-  pub walk : (cloud : ℕ) (p : Progress) (old : LocalLink V) (turns : List (Turn (LocalLink V))) (last : Progress) (new : LocalLink V) (peers : ℕ → Peer) → LinkAt clouds s old peers → cloud < s.shape.n
+  pub walk : (cloud : ℕ) (p : Progress) (old : LocalLink V) (turns : List (LaneTurn (LocalLink V))) (last : Progress) (new : LocalLink V) (peers : ℕ → Peer) → LinkAt clouds s old peers → cloud < s.shape.n
       → LaneAlong (Heard (telling clouds) talk cloud) p old turns last new → Walked cloud p old new turns last peers
   walk cloud p old [] last new peers is lt along = record {
     walked = [];
@@ -138,7 +138,7 @@ module _ {V : Type 0} (clouds : V → ℕ → Cloud) (talk : LocalLink V → ℕ
   walk cloud p old (t ∷ turns) last new peers is lt along =
       let step = heard_step old along.3.0 peers cloud t.request t.reply is lt along.3.1 in
       let rest = walk cloud (progress_after p t.reply) along.3.0 turns last new (put peers cloud step.left) step.link_at lt along.3.2 in
-      let here : Turn (ℕ → Peer) = record { before = peers; request = t.request; reply = t.reply } in
+      let here : LaneTurn (ℕ → Peer) = record { before = peers; request = t.request; reply = t.reply } in
       record {
         walked = here ∷ rest.walked;
         mid = rest.mid;

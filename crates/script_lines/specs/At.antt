@@ -1,9 +1,9 @@
 -- The servers of this process and the jobs at a vault.
 use Rattle.std.specs.Prelude.{◌≡◌, ℕ, ◌<◌, ◌≤◌, List, map}
-use Rattle.cd_edges.specs.Disk.{Cloud}
-use Rattle.journal_start.specs.declared.start.Header.{Header}
-use Rattle.user_dedup.specs.Exec.{Peer}
-use Rattle.upload_job.specs.Lanes.{LaneView}
+use Rattle.session_model.specs.CdEdges.Disk.{Cloud}
+use Rattle.session_model.specs.JournalStart.start.Header.{Header}
+use Rattle.session_model.specs.UserDedup.Exec.{Peer}
+use Rattle.session_model.specs.UploadJob.Lanes.{LaneView}
 use Rattle.session_model.specs.LocalLink.fate.Fate.TheVariants.{Deliver}
 use Rattle.session_model.specs.LocalLink.link.LocalLink.{LocalLink}
 use Rattle.session_model.specs.LocalLink.Tells.{rooms_at, StandsAt}
@@ -31,7 +31,7 @@ pub record IsAt {V : Type 0} (clouds : V → ℕ → Cloud) (s : Setting) (link 
   pub jobs_are : map (λ (j : JobState). j.lanes) v.jobs ≡ jobs
 
 -- The shape stays, and of which clouds the shelf tells; a cloud that the store doesn't have is as it was.
-pub record Leaves {V : Type 0} (clouds : V → ℕ → Cloud) (old new : LocalLink V) : Type 0 where
+pub record KeepsOtherClouds {V : Type 0} (clouds : V → ℕ → Cloud) (old new : LocalLink V) : Type 0 where
   pub shape : new.servers.shape ≡ old.servers.shape
   pub told : (cloud : ℕ) → (clouds new.shelf.now cloud).told ≡ (clouds old.shelf.now cloud).told
   pub others : (cloud : ℕ) → old.servers.shape.n ≤ cloud → clouds new.shelf.now cloud ≡ clouds old.shelf.now cloud

@@ -1,17 +1,17 @@
 -- What a line of a script does to the servers of this process and to the jobs.
 use Rattle.std.specs.Prelude.{◌≡◌, ℕ, ◌<◌, ◌≤◌, IsTrue, List, ◌++◌}
-use Rattle.cd_edges.specs.Disk.{Cloud}
-use Rattle.user_dedup.specs.Exec.{Peer, MaySettleAs}
+use Rattle.session_model.specs.CdEdges.Disk.{Cloud}
+use Rattle.session_model.specs.UserDedup.Exec.{Peer, MaySettleAs}
 use Rattle.session_model.specs.CloudAreas.Peers.{ImagesNow, ImagesSince}
-use Rattle.upload_job.specs.Lanes.{LaneView}
+use Rattle.session_model.specs.UploadJob.Lanes.{LaneView}
 use Rattle.session_model.specs.LocalLink.link.LocalLink.{LocalLink}
-use Rattle.session.specs.declared.event.Event.{Event}
-use Rattle.transcript.specs.declared.line.Line.{Line}
+use Rattle.session_model.specs.Session.event.Event.{Event}
+use Rattle.session_model.specs.Transcript.line.Line.{Line}
 use Rattle.session_model.specs.Vault.{Setting, Vault}
 use Rattle.session_model.specs.Steps.{Moment, VStep}
 use Rattle.session_model.specs.Run.{IsListIn}
 use Rattle.session_model.specs.Headline.{IsPartOf}
-use Rattle.session.specs.Texts.{text_of}
+use Rattle.session_model.specs.Session.Texts.{text_of}
 use Rattle.script_lines.specs.At.{IsAt, header_in}
 
 -- Each image of a told cloud since then stands for a list that the cloud had at one of these moments, or has now.
@@ -40,7 +40,7 @@ Does clouds s event old new jobs v before text =
 
 -- What a cut leaves: no count of a cloud is above the link's, its armings are the link's, and each image of a told cloud
 -- stands for a list that the peer may settle as.
-pub record IsLeft {V : Type 0} (clouds : V → ℕ → Cloud) (s : Setting) (link : LocalLink V) (last : ℕ → Peer)
+pub record IsLeftByCut {V : Type 0} (clouds : V → ℕ → Cloud) (s : Setting) (link : LocalLink V) (last : ℕ → Peer)
     : Type 0 where
   pub faults : (cloud : ℕ) → cloud < s.shape.n → (last cloud).faults ≤ (clouds link.shelf.now cloud).faults
   pub armings : (cloud : ℕ) → cloud < s.shape.n → (last cloud).armings ≡ (clouds link.shelf.now cloud).armings
@@ -48,12 +48,13 @@ pub record IsLeft {V : Type 0} (clouds : V → ℕ → Cloud) (s : Setting) (lin
       → ImagesNow (clouds link.shelf.now cloud) (header_in s cloud) (MaySettleAs (last cloud))
 
 -- Want of memory cut the line: a part of it was carried out, which leaves the clouds so.
-pub record Cut {V : Type 0} (clouds : V → ℕ → Cloud) (s : Setting) (event : Event) (old new : LocalLink V) (v : Vault)
+pub record IsLineCut {V : Type 0} (clouds : V → ℕ → Cloud) (s : Setting) (event : Event) (old new : LocalLink V)
+    (v : Vault)
     : Type 0 where
   pub moments : List Moment
   pub last : ℕ → Peer
   pub part : IsPartOf s v (record { event = event; moments = moments }) last
-  pub left : IsLeft clouds s new last
+  pub left : IsLeftByCut clouds s new last
   pub images : Images clouds s old new moments last
 
 -- Of each setting and vault at which link and jobs are: the line was carried out.
@@ -65,4 +66,4 @@ CarriesOut clouds event old old_jobs new new_jobs before text =
 -- Of each of those: want of memory cut it.
 abbrev pub IsCutOff : {V : Type 0} → (V → ℕ → Cloud) → Event → LocalLink V → List (List LaneView) → LocalLink V → Type 0
 IsCutOff clouds event old old_jobs new =
-    (s : Setting) (v : Vault) → IsAt clouds s old old_jobs v → Cut clouds s event old new v
+    (s : Setting) (v : Vault) → IsAt clouds s old old_jobs v → IsLineCut clouds s event old new v

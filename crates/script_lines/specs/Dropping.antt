@@ -1,18 +1,18 @@
 -- A request that a cloud executes and whose reply is lost.
 use Rattle.std.specs.Prelude.{◌≡◌, ℕ, Bool, true, false, IsTrue, List, Ok}
-use Rattle.cd_edges.specs.Disk.{Cloud}
-use Rattle.messages.specs.declared.request.Request.{Request}
-use Rattle.messages.specs.declared.reply.Reply.{Reply}
-use Rattle.user_dedup.specs.Requests.{asked_at}
-use Rattle.user_dedup.specs.Exec.{Peer, Exec}
-use Rattle.user_dedup.specs.Link.{LeavesOthers}
+use Rattle.session_model.specs.CdEdges.Disk.{Cloud}
+use Rattle.deletions.specs.Messages.request.Request.{Request}
+use Rattle.deletions.specs.Messages.reply.Reply.{Reply}
+use Rattle.session_model.specs.UserDedup.Requests.{asked_at}
+use Rattle.session_model.specs.UserDedup.Exec.{Peer, Exec}
+use Rattle.session_model.specs.UserDedup.Link.{LeavesOthers}
 use Rattle.session_model.specs.CloudAreas.Peers.{ImagesSince, MayBecome}
 use Rattle.session_model.specs.LocalLink.fate.Fate.TheVariants.{Deliver}
 use Rattle.session_model.specs.LocalLink.link.LocalLink.{LocalLink}
 use Rattle.session_model.specs.LocalLink.Tells.{telling, serving_at, StandsAt, LeavesRest, rooms_at, header_at}
 
 -- The cloud executed the content, and what it replied is lost.
-pub record Executed {V : Type 0} (clouds : V → ℕ → Cloud) (cloud : ℕ) (content : List ℕ) (old new : LocalLink V)
+pub record IsReplyDropped {V : Type 0} (clouds : V → ℕ → Cloud) (cloud : ℕ) (content : List ℕ) (old new : LocalLink V)
     : Type 0 where
   pub fate : new.fate ≡ Deliver
   pub others : LeavesOthers (telling clouds) cloud old new
@@ -29,5 +29,5 @@ pub record Executed {V : Type 0} (clouds : V → ℕ → Cloud) (cloud : ℕ) (c
 
 -- so where there is a request, and else nothing changed
 abbrev pub Drops : {V : Type 0} → (V → ℕ → Cloud) → ℕ → Bool → List ℕ → LocalLink V → LocalLink V → Type 0
-Drops clouds cloud true content old new = Executed clouds cloud content old new
+Drops clouds cloud true content old new = IsReplyDropped clouds cloud content old new
 Drops clouds cloud false content old new = new ≡ old

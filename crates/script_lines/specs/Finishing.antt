@@ -1,21 +1,21 @@
 -- The lanes of a finish, one after another.
 use Rattle.std.specs.Prelude.{◌≡◌, ℕ, Bool, List, [], ◌∷◌, ◌++◌, map, Result, Ok, Err}
-use Rattle.cd_edges.specs.Disk.{Cloud}
-use Rattle.user_dedup.specs.Exec.{Peer}
-use Rattle.upload_job.specs.declared.news.LaneNews.{LaneNews}
-use Rattle.upload_job.specs.Lanes.{LaneView}
-use Rattle.lane_steps.specs.declared.error.StepErr.{StepErr}
-use Rattle.lane_steps.specs.declared.error.StepErr.TheVariants as step_errors
+use Rattle.session_model.specs.CdEdges.Disk.{Cloud}
+use Rattle.session_model.specs.UserDedup.Exec.{Peer}
+use Rattle.session_model.specs.UploadJob.news.LaneNews.{LaneNews}
+use Rattle.session_model.specs.UploadJob.Lanes.{LaneView}
+use Rattle.session_jobs.specs.LaneSteps.error.StepErr.{StepErr}
+use Rattle.session_jobs.specs.LaneSteps.error.StepErr.TheVariants as step_errors
 use Rattle.session_model.specs.LocalLink.link.LocalLink.{LocalLink}
-use Rattle.transcript.specs.declared.line.Line.{Line}
-use Rattle.transcript.specs.declared.line.Line.TheVariants as lines
-use Rattle.transcript.specs.declared.news.News.TheVariants as news
+use Rattle.session_model.specs.Transcript.line.Line.{Line}
+use Rattle.session_model.specs.Transcript.line.Line.TheVariants as lines
+use Rattle.session_model.specs.Transcript.news.News.TheVariants as news
 use Rattle.session_model.specs.Vault.{Setting, Vault}
 use Rattle.session_model.specs.Steps.{Moment, cloud_no, step_line, FinishLanes}
 use Rattle.session_model.specs.Cut.{FinishCut}
-use Rattle.session.specs.Texts.{text_of}
+use Rattle.session_model.specs.Session.Texts.{text_of}
 use Rattle.script_lines.specs.At.{IsAt}
-use Rattle.script_lines.specs.Does.{Images, IsLeft}
+use Rattle.script_lines.specs.Does.{Images, IsLeftByCut}
 use Rattle.script_lines.specs.Stepping.{stored_if}
 
 -- the lines of a lane that went on to its end, or until it made no step
@@ -49,7 +49,7 @@ pub record FinishedPart {V : Type 0} (clouds : V → ℕ → Cloud) (s : Setting
   pub moments : List Moment
   pub last : ℕ → Peer
   pub cut : FinishCut s job lanes v moments last
-  pub left : IsLeft clouds s new last
+  pub left : IsLeftByCut clouds s new last
   pub images : Images clouds s old new moments last
 
 -- Of each setting and vault at which link and jobs are: so it was.

@@ -1,23 +1,23 @@
 -- A listing over the servers of this process, page by page.
 use Rattle.std.specs.Prelude.{◌≡◌, ◌⊎◌, ℕ, ◌+◌, ◌-◌, ◌≤◌, ◌==◌, Bool, List, [], ◌∷◌, ◌++◌, length, map, slice_get, Option, Some, None, Result, Ok, Err}
-use Rattle.cd_base.specs.declared.ids.Tag.{Tag}
-use Rattle.cd_base.specs.declared.ids.UserId.{UserId}
-use Rattle.cd_base.specs.declared.ids.Version.{Version}
-use Rattle.cd_edges.specs.Disk.{Cloud}
-use Rattle.message_fields.specs.Keys.{key_limit}
-use Rattle.messages.specs.declared.request.Request.TheVariants as requests
-use Rattle.messages.specs.declared.reply.Reply.{Reply}
-use Rattle.messages.specs.declared.reply.Reply.TheVariants as replies
-use Rattle.user_dedup.specs.Exec.{Peer}
-use Rattle.upload_job.specs.Lanes.{LaneView}
-use Rattle.lane_steps.specs.Runs.{Turn}
+use Rattle.recipe.specs.CdBase.ids.Tag.{Tag}
+use Rattle.recipe.specs.CdBase.ids.UserId.{UserId}
+use Rattle.recipe.specs.CdBase.ids.Version.{Version}
+use Rattle.session_model.specs.CdEdges.Disk.{Cloud}
+use Rattle.session_model.specs.MessageFields.Keys.{key_limit}
+use Rattle.deletions.specs.Messages.request.Request.TheVariants as requests
+use Rattle.deletions.specs.Messages.reply.Reply.{Reply}
+use Rattle.deletions.specs.Messages.reply.Reply.TheVariants as replies
+use Rattle.session_model.specs.UserDedup.Exec.{Peer}
+use Rattle.session_model.specs.UploadJob.Lanes.{LaneView}
+use Rattle.session_jobs.specs.LaneSteps.Runs.{LaneTurn}
 use Rattle.session_model.specs.LocalLink.link.LocalLink.{LocalLink}
-use Rattle.session.specs.declared.event.Event.TheVariants as events
-use Rattle.transcript.specs.declared.refusal.Refusal.{Refusal}
-use Rattle.transcript.specs.declared.line.Line.TheVariants as lines
-use Rattle.session_model.specs.Vault.{Setting, Vault, Executes}
+use Rattle.session_model.specs.Session.event.Event.TheVariants as events
+use Rattle.session_model.specs.Transcript.refusal.Refusal.{Refusal}
+use Rattle.session_model.specs.Transcript.line.Line.TheVariants as lines
+use Rattle.session_model.specs.Vault.{Setting, Vault, HasVaultExecuted}
 use Rattle.session_model.specs.Steps.{cloud_no, executed, moment_of, list_refusal, ListRun, entry_line}
-use Rattle.session.specs.Texts.{text_of}
+use Rattle.session_model.specs.Session.Texts.{text_of}
 use Rattle.script_lines.specs.declared.listing.Listing.{Listing}
 use Rattle.script_lines.specs.declared.listing.NoPage.{NoPage}
 use Rattle.script_lines.specs.declared.listing.NoPage.TheVariants as no_pages
@@ -41,7 +41,7 @@ TakesPage cloud reply (Err (no_pages.Refused why)) = list_refusal cloud reply �
 TakesPage cloud reply (Err no_pages.NoMemory) = Unit {0}
 
 -- A page stands behind those so far.
-pub record Adds (before : Listing) (page : List (Tag × Version)) (after : Listing) : Type 0 where
+pub record HasAddedPage (before : Listing) (page : List (Tag × Version)) (after : Listing) : Type 0 where
   pub above : after.above ≡ slice_get page (length page - 1)
   pub count : after.count ≡ before.count + length page
   pub lines : after.lines ≡ before.lines ++ text_of (map entry_line page)
@@ -51,7 +51,7 @@ pub record PageAsked {V : Type 0} (clouds : V → ℕ → Cloud) (s : Setting) (
     (above : Option (Tag × Version)) (old new : LocalLink V) (peers : ℕ → Peer) (IsSo : Reply → Type 0) : Type 0 where
   pub left : ℕ → Peer
   pub reply : Reply
-  pub exec : Executes s cloud peers (requests.List user above) reply left
+  pub exec : HasVaultExecuted s cloud peers (requests.List user above) reply left
   pub link_at : LinkAt clouds s new left
   pub images : (last : ℕ → Peer)
       → Images clouds s old new (executed peers cloud (requests.List user above) reply ∷ []) last
@@ -70,7 +70,7 @@ PageComes clouds user cloud above old new came =
 abbrev pub TurnsBy : ℕ → Listing → Listing → Result Bool NoPage → Reply → Type 0
 TurnsBy cloud before after (Ok more) reply =
     (page : List (Tag × Version)) × (reply ≡ replies.Entries page) × (length page ≤ key_limit)
-    × (more ≡ (length page == key_limit)) × Adds before page after
+    × (more ≡ (length page == key_limit)) × HasAddedPage before page after
 TurnsBy cloud before after (Err (no_pages.Refused why)) reply = list_refusal cloud reply ≡ Some why
 TurnsBy cloud before after (Err no_pages.NoMemory) reply = Unit {0}
 
@@ -84,7 +84,7 @@ PageTurns clouds user cloud old before new after came =
 -- The listing went on to its end, or to a refusal.
 pub record Listed {V : Type 0} (clouds : V → ℕ → Cloud) (s : Setting) (user : UserId) (cloud : ℕ)
     (old new : LocalLink V) (peers : ℕ → Peer) (listed : Result (List (Tag × Version)) Refusal) : Type 0 where
-  pub turns : List (Turn (ℕ → Peer))
+  pub turns : List (LaneTurn (ℕ → Peer))
   pub after : ℕ → Peer
   pub run : ListRun s user cloud None peers turns listed after
   pub link_at : LinkAt clouds s new after

@@ -1,10 +1,10 @@
 -- What the line of a rebuild says.
 use Rattle.std.specs.Prelude.{◌≡◌, ℕ, List, ◌++◌, Result}
-use Rattle.cd_base.specs.declared.ids.UserId.{UserId}
-use Rattle.rebuild.specs.declared.error.RebuildErr.{RebuildErr}
-use Rattle.rebuild.specs.declared.skips.Rebuilt.{Rebuilt}
-use Rattle.session.specs.Texts.{text_of}
-use Rattle.transcript.specs.declared.line.Line.{Line}
+use Rattle.recipe.specs.CdBase.ids.UserId.{UserId}
+use Rattle.session_model.specs.Rebuild.error.RebuildErr.{RebuildErr}
+use Rattle.session_model.specs.Rebuild.skips.Rebuilt.{Rebuilt}
+use Rattle.session_model.specs.Session.Texts.{text_of}
+use Rattle.session_model.specs.Transcript.line.Line.{Line}
 use Rattle.session_model.specs.Steps.{AreRebuildLines}
 
 -- the text of the lines of this rebuild stands behind what was there; a want of memory has none

@@ -1,21 +1,21 @@
 -- A replacement over the servers of this process.
 use Rattle.std.specs.Prelude.{◌≡◌, ℕ, List, [], Result, Ok, Err}
-use Rattle.cd_base.specs.declared.ids.CloudNo.{CloudNo}
-use Rattle.cd_edges.specs.Causes.{Rose}
-use Rattle.cd_edges.specs.Disk.{Cloud}
-use Rattle.half_journal.specs.declared.errors.OpenErr.{OpenErr}
-use Rattle.upload_job.specs.Lanes.{LaneView}
+use Rattle.recipe.specs.CdBase.ids.CloudNo.{CloudNo}
+use Rattle.session_model.specs.CdEdges.Causes.{Rose}
+use Rattle.session_model.specs.CdEdges.Disk.{Cloud}
+use Rattle.session_model.specs.HalfJournal.errors.OpenErr.{OpenErr}
+use Rattle.session_model.specs.UploadJob.Lanes.{LaneView}
 use Rattle.session_model.specs.LocalLink.link.LocalLink.{LocalLink}
-use Rattle.session.specs.declared.event.Event.{Event}
-use Rattle.session.specs.declared.event.Event.TheVariants as events
-use Rattle.transcript.specs.declared.line.Line.{Line}
-use Rattle.transcript.specs.declared.line.Line.TheVariants as lines
+use Rattle.session_model.specs.Session.event.Event.{Event}
+use Rattle.session_model.specs.Session.event.Event.TheVariants as events
+use Rattle.session_model.specs.Transcript.line.Line.{Line}
+use Rattle.session_model.specs.Transcript.line.Line.TheVariants as lines
 use Rattle.session_model.specs.Vault.{Setting, Vault}
 use Rattle.session_model.specs.Steps.{cloud_no}
 use Rattle.script_lines.specs.declared.error.CarryErr.{CarryErr}
 use Rattle.script_lines.specs.declared.error.CarryErr.TheVariants as carry_errors
 use Rattle.script_lines.specs.At.{IsAt}
-use Rattle.script_lines.specs.Does.{Cut}
+use Rattle.script_lines.specs.Does.{IsLineCut}
 use Rattle.script_lines.specs.Stepping.{IsOpening}
 
 -- the line of a new store whose first opening ended so: where it didn't begin the store, that of an opening
@@ -26,7 +26,7 @@ IsNewStore cloud (Err error) line = IsOpening cloud (Err error) line
 -- The cloud's areas couldn't be made empty: all clouds are as they were, but that its count rose.
 pub record FailsFresh {V : Type 0} (clouds : V → ℕ → Cloud) (s : Setting) (event : Event) (cloud : CloudNo)
     (old new : LocalLink V) (v : Vault) : Type 0 where
-  pub cut : Cut clouds s event old new v
+  pub cut : IsLineCut clouds s event old new v
   pub moments_are : cut.moments ≡ []
   pub last_is : cut.last ≡ v.peers
   pub rose : Rose (cut.last cloud.0).faults (clouds new.shelf.now cloud.0).faults

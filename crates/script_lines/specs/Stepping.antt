@@ -1,14 +1,14 @@
 -- What one line says of what came of it.
 use Rattle.std.specs.Prelude.{◌≡◌, ℕ, Bool, List, [], ◌∷◌, Option, Some, None, Result, Ok, Err, if◌then◌else◌}
-use Rattle.half_journal.specs.declared.errors.OpenErr.{OpenErr}
-use Rattle.half_journal.specs.declared.errors.OpenErr.TheVariants as errors
+use Rattle.session_model.specs.HalfJournal.errors.OpenErr.{OpenErr}
+use Rattle.session_model.specs.HalfJournal.errors.OpenErr.TheVariants as errors
 use Rattle.session_model.specs.CloudServer.Refusals.{IsDamage}
-use Rattle.upload_job.specs.declared.news.LaneNews.{LaneNews}
-use Rattle.lane_steps.specs.declared.error.StepErr.{StepErr}
-use Rattle.lane_steps.specs.declared.error.StepErr.TheVariants as step_errors
-use Rattle.transcript.specs.declared.line.Line.{Line}
-use Rattle.transcript.specs.declared.line.Line.TheVariants as lines
-use Rattle.transcript.specs.declared.news.News.TheVariants as news
+use Rattle.session_model.specs.UploadJob.news.LaneNews.{LaneNews}
+use Rattle.session_jobs.specs.LaneSteps.error.StepErr.{StepErr}
+use Rattle.session_jobs.specs.LaneSteps.error.StepErr.TheVariants as step_errors
+use Rattle.session_model.specs.Transcript.line.Line.{Line}
+use Rattle.session_model.specs.Transcript.line.Line.TheVariants as lines
+use Rattle.session_model.specs.Transcript.news.News.TheVariants as news
 use Rattle.session_model.specs.Steps.{cloud_no, step_line, no_step}
 
 -- the line of a job that is stored

@@ -1,9 +1,9 @@
 //! A line of a script, carried out.
 
 ghost use Rattle.std.specs.Prelude.{◌≡◌, ◌↔◌, length, Err, IsOk, IfErr, OnOk, OnErr};
-ghost use Rattle.session.specs.Spelling.{Fits};
-ghost use Rattle.session.specs.Scripts.{jobs_after};
-ghost use Rattle.script_lines.specs.At.{Leaves};
+ghost use Rattle.session_model.specs.Session.Spelling.{Fits};
+ghost use Rattle.session_model.specs.Session.Scripts.{jobs_after};
+ghost use Rattle.script_lines.specs.At.{KeepsOtherClouds};
 ghost use Rattle.script_lines.specs.Does.{CarriesOut, IsCutOff};
 ghost use Rattle.script_lines.specs.Jobs.{AreReached};
 ghost use Rattle.script_lines.specs.Replacing.{IsShelfFault};
@@ -17,14 +17,10 @@ use crate::one::{arm_line, replace_line, restart_line};
 use crate::rebuilding::rebuild_line;
 use crate::upload::upload_line;
 use crate::{CarryErr, Jobs};
-use cd_base::{Bytes, NoMemory};
-use cd_edges::Shelf;
-use frames::ReplyBuf;
-use session::Event;
-use session_model::LocalLink;
+use deletions::ReplyBuf;
+use recipe::{Bytes, NoMemory};
+use session_model::{Answer, Event, LaneNews, LocalLink, Shelf};
 use std::alloc::Global;
-use transcript::Answer;
-use upload_job::LaneNews;
 
 /// What is written and read on the way, and kept from line to line for its memory alone.
 #[derive(Debug, Drop)]
@@ -85,7 +81,7 @@ pub fn carry_out<V: Shelf>(
 
     // Always: the shape stays, of which clouds the shelf tells, the clouds that the store doesn't have, and the shelf's
     // reference.
-    ensures leaves { Leaves V.cloud_at link.old link.new }
+    ensures leaves { KeepsOtherClouds V.cloud_at link.old link.new }
     ensures same_reference { link.new.shelf.ghost_name ≡ link.old.shelf.ghost_name }
 
     // The jobs are ones of the shape still, and an upload is one more.

@@ -1,21 +1,17 @@
 //! The line that deletes a version of a file at a cloud.
 
 ghost use Rattle.std.specs.Prelude.{◌≡◌, ◌<◌, List, OnOk, OnErr};
-ghost use Rattle.cd_base.specs.Limits.{IsPath};
-ghost use Rattle.session.specs.declared.event.Event.TheVariants as events;
-ghost use Rattle.upload_job.specs.Lanes.{LaneView};
-ghost use Rattle.script_lines.specs.At.{Leaves};
+ghost use Rattle.recipe.specs.CdBase.Limits.{IsPath};
+ghost use Rattle.session_model.specs.Session.event.Event.TheVariants as events;
+ghost use Rattle.session_model.specs.UploadJob.Lanes.{LaneView};
+ghost use Rattle.script_lines.specs.At.{KeepsOtherClouds};
 ghost use Rattle.script_lines.specs.Does.{CarriesOut, IsCutOff};
 
 use crate::news::put_line;
-use cd_base::{CloudNo, NoMemory, UserId, Version};
-use cd_edges::Shelf;
-use deletions::{delete_request, line_of};
-use frames::ReplyBuf;
-use session_model::{LocalLink, law_of_parts};
+use deletions::{ReplyBuf, delete_request, line_of};
+use recipe::{CloudNo, NoMemory, UserId, Version};
+use session_model::{Answer, Link, LocalLink, Shelf, law_of_parts};
 use std::alloc::Global;
-use transcript::Answer;
-use user_dedup::Link;
 
 /// `delete USER PATH VERSION CLOUD`: the cloud deletes the version, and what it replied is the answer. The jobs stay, whatever
 /// they are. Where memory lacks for the request, the cloud isn't asked.
@@ -35,7 +31,7 @@ pub fn delete_line<V: Shelf>(
         (events.Delete user path.now version cloud) link.old jobs link.new jobs text.old text.new) }
     ensures cut { OnErr result ((jobs : List (List LaneView)) → IsCutOff V.cloud_at
         (events.Delete user path.now version cloud) link.old jobs link.new) }
-    ensures leaves { Leaves V.cloud_at link.old link.new }
+    ensures leaves { KeepsOtherClouds V.cloud_at link.old link.new }
     ensures same_reference { link.new.shelf.ghost_name ≡ link.old.shelf.ghost_name }
 {
     law_of_parts();

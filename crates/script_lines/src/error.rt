@@ -1,6 +1,6 @@
 //! Why a line wasn't carried out to its end.
 
-use cd_base::CloudNo;
+use recipe::CloudNo;
 
 /// Why a line wasn't carried out to its end.
 #[derive(Clone, Copy, Debug, PartialEq, Eq)]

@@ -2,24 +2,21 @@
 
 ghost use Rattle.std.specs.Prelude.{◌≡◌, ◌<◌, ◌++◌, ◌∷◌, [], length, map, OnOk, OnErr};
 ghost use Rattle.std.specs.List.{range_with_len};
-ghost use Rattle.session.specs.Spelling.{IsJob};
-ghost use Rattle.session.specs.declared.event.Event.TheVariants as events;
+ghost use Rattle.session_model.specs.Session.Spelling.{IsJob};
+ghost use Rattle.session_model.specs.Session.event.Event.TheVariants as events;
 ghost use Rattle.session_model.specs.Steps.{step_line as step_line_of};
-ghost use Rattle.session.specs.Texts.{text_of};
-ghost use Rattle.script_lines.specs.At.{Leaves};
+ghost use Rattle.session_model.specs.Session.Texts.{text_of};
+ghost use Rattle.script_lines.specs.At.{KeepsOtherClouds};
 ghost use Rattle.script_lines.specs.Does.{CarriesOut, IsCutOff};
 ghost use Rattle.script_lines.specs.Finishing.{lane_lines, IsBrought, FinishesLanes, CutsLanes};
 ghost use Rattle.script_lines.specs.Jobs.{AreReached};
 
 use crate::Jobs;
 use crate::news::{as_news, becomes, put_line, put_stored};
-use cd_base::{Bytes, CloudNo, NoMemory};
-use cd_edges::Shelf;
-use frames::ReplyBuf;
-use lane_steps::StepErr;
-use session_model::{LocalLink, law_of_parts};
-use transcript::{Answer, Line, News};
-use upload_job::LaneNews;
+use deletions::ReplyBuf;
+use recipe::{Bytes, CloudNo, NoMemory};
+use session_jobs::StepErr;
+use session_model::{Answer, LaneNews, Line, LocalLink, News, Shelf, law_of_parts};
 
 // Appends what each reply told.
 fn put_told(job: u32, lane: CloudNo, told: &[LaneNews], text: &mut Answer) -> Result<(), NoMemory>
@@ -79,7 +76,7 @@ fn finish_one<V: Shelf>(
     ensures does { OnOk result (FinishesLanes V.cloud_at job (λ s. lane.0 ∷ []) link.old jobs.old
         link.new jobs.new text.old text.new) }
     ensures cut { OnErr result (CutsLanes V.cloud_at job (λ s. lane.0 ∷ []) link.old jobs.old link.new) }
-    ensures leaves { Leaves V.cloud_at link.old link.new }
+    ensures leaves { KeepsOtherClouds V.cloud_at link.old link.new }
     ensures reached { AreReached link.old.servers.shape jobs.new }
     ensures count { length jobs.new ≡ length jobs.old }
     ensures same_reference { link.new.shelf.ghost_name ≡ link.old.shelf.ghost_name }
@@ -106,7 +103,7 @@ fn finish_lanes<V: Shelf>(
     ensures does { OnOk result (FinishesLanes V.cloud_at job (λ s. range_with_len 0 s.shape.n) link.old jobs.old
         link.new jobs.new text.old text.new) }
     ensures cut { OnErr result (CutsLanes V.cloud_at job (λ s. range_with_len 0 s.shape.n) link.old jobs.old link.new) }
-    ensures leaves { Leaves V.cloud_at link.old link.new }
+    ensures leaves { KeepsOtherClouds V.cloud_at link.old link.new }
     ensures reached { AreReached link.old.servers.shape jobs.new }
     ensures count { length jobs.new ≡ length jobs.old }
     ensures same_reference { link.new.shelf.ghost_name ≡ link.old.shelf.ghost_name }
@@ -133,7 +130,7 @@ pub fn finish_line<V: Shelf>(
     ensures does { OnOk result (CarriesOut V.cloud_at (events.Finish job) link.old jobs.old
         link.new jobs.new text.old text.new) }
     ensures cut { OnErr result (IsCutOff V.cloud_at (events.Finish job) link.old jobs.old link.new) }
-    ensures leaves { Leaves V.cloud_at link.old link.new }
+    ensures leaves { KeepsOtherClouds V.cloud_at link.old link.new }
     ensures reached { AreReached link.old.servers.shape jobs.new }
     ensures count { length jobs.new ≡ length jobs.old }
     ensures same_reference { link.new.shelf.ghost_name ≡ link.old.shelf.ghost_name }

@@ -1,23 +1,21 @@
 //! The line that reads a version of a file.
 
 ghost use Rattle.std.specs.Prelude.{◌≡◌, ◌<◌, ◌++◌, ◌∷◌, [], ℕ, List, Ok, Err, length, OnOk, OnErr};
-ghost use Rattle.cd_base.specs.Limits.{IsPath};
-ghost use Rattle.session.specs.Spelling.{AreSources};
-ghost use Rattle.session.specs.declared.event.Event.TheVariants as events;
+ghost use Rattle.recipe.specs.CdBase.Limits.{IsPath};
+ghost use Rattle.session_model.specs.Session.Spelling.{AreSources};
+ghost use Rattle.session_model.specs.Session.event.Event.TheVariants as events;
 ghost use Rattle.session_model.specs.Steps.{IsGetLine};
-ghost use Rattle.script_lines.specs.At.{Leaves};
+ghost use Rattle.script_lines.specs.At.{KeepsOtherClouds};
 ghost use Rattle.script_lines.specs.Does.{CarriesOut, IsCutOff};
 ghost use Rattle.script_lines.specs.Getting.{SaysGet};
 
 use crate::Jobs;
 use crate::news::{put_got, put_line};
-use cd_base::{Bytes, Clouds, NoMemory, UserId, Version};
-use cd_edges::Shelf;
-use restore_job::RestoreErr;
-use session_model::{LocalLink, law_of_parts};
+use recipe::{Bytes, Clouds, NoMemory, UserId, Version};
+use session_model::{
+    Answer, Line, LocalLink, RestoreErr, Shelf, as_refusal, law_of_parts, restore_any,
+};
 use std::alloc::Global;
-use subset_restore::{as_refusal, restore_any};
-use transcript::{Answer, Line};
 
 // Appends the file that a restore gave, or why it gave none.
 fn put_file(file: Bytes, came: Result<(), RestoreErr>, text: &mut Answer) -> Result<(), NoMemory>
@@ -49,7 +47,7 @@ pub fn get_line<V: Shelf>(
         link.new jobs.now text.old text.new) }
     ensures cut { OnErr result (IsCutOff V.cloud_at (events.Get user path.now version clouds.now)
         link.old jobs.now link.new) }
-    ensures leaves { Leaves V.cloud_at link.old link.new }
+    ensures leaves { KeepsOtherClouds V.cloud_at link.old link.new }
     ensures same_reference { link.new.shelf.ghost_name ≡ link.old.shelf.ghost_name }
 {
     law_of_parts();

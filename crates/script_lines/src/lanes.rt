@@ -1,13 +1,13 @@
 //! The lines on one lane of a job: a step, a request that is lost, and a reply that is lost.
 
 ghost use Rattle.std.specs.Prelude.{◌≡◌, ◌<◌, ◌≤◌, ◌++◌, ◌∷◌, [], length, false, IsTrue, OnOk, OnErr};
-ghost use Rattle.frames.specs.Frames.{frame_limit};
-ghost use Rattle.session.specs.Spelling.{IsJob};
-ghost use Rattle.session.specs.declared.event.Event.TheVariants as events;
-ghost use Rattle.transcript.specs.declared.line.Line.TheVariants as lines;
-ghost use Rattle.transcript.specs.declared.news.News.TheVariants as news_words;
-ghost use Rattle.session.specs.Texts.{text_of};
-ghost use Rattle.script_lines.specs.At.{Leaves};
+ghost use Rattle.deletions.specs.Frames.Frames.{frame_limit};
+ghost use Rattle.session_model.specs.Session.Spelling.{IsJob};
+ghost use Rattle.session_model.specs.Session.event.Event.TheVariants as events;
+ghost use Rattle.session_model.specs.Transcript.line.Line.TheVariants as lines;
+ghost use Rattle.session_model.specs.Transcript.news.News.TheVariants as news_words;
+ghost use Rattle.session_model.specs.Session.Texts.{text_of};
+ghost use Rattle.script_lines.specs.At.{KeepsOtherClouds};
 ghost use Rattle.script_lines.specs.Does.{CarriesOut, IsCutOff};
 ghost use Rattle.script_lines.specs.Jobs.{AreReached};
 ghost use Rattle.script_lines.specs.Dropping.{Drops};
@@ -16,13 +16,10 @@ ghost use Rattle.session_model.specs.Steps.{step_line as step_line_of};
 
 use crate::Jobs;
 use crate::news::{as_news, becomes, put_line, put_stored};
-use cd_base::{Bytes, CloudNo, NoMemory};
-use cd_edges::Shelf;
-use frames::ReplyBuf;
-use lane_steps::{StepErr, law_of_lane_requests};
-use session_model::{Fate, LocalLink, law_of_parts};
-use transcript::{Answer, Line, News};
-use upload_job::LaneNews;
+use deletions::ReplyBuf;
+use recipe::{Bytes, CloudNo, NoMemory};
+use session_jobs::{StepErr, law_of_lane_requests};
+use session_model::{Answer, Fate, LaneNews, Line, LocalLink, News, Shelf, law_of_parts};
 
 // Appends what a reply told, and where it made the job a stored one the line of that.
 fn put_told_step(
@@ -83,7 +80,7 @@ pub fn step_line<V: Shelf>(
     ensures does { OnOk result (CarriesOut V.cloud_at (events.Step job lane) link.old jobs.old
         link.new jobs.new text.old text.new) }
     ensures cut { OnErr result (IsCutOff V.cloud_at (events.Step job lane) link.old jobs.old link.new) }
-    ensures leaves { Leaves V.cloud_at link.old link.new }
+    ensures leaves { KeepsOtherClouds V.cloud_at link.old link.new }
     ensures reached { AreReached link.old.servers.shape jobs.new }
     ensures count { length jobs.new ≡ length jobs.old }
     ensures same_reference { link.new.shelf.ghost_name ≡ link.old.shelf.ghost_name }
@@ -174,7 +171,7 @@ pub fn drop_line<V: Shelf>(
     ensures does { OnOk result (CarriesOut V.cloud_at (events.Drop job lane) link.old jobs.old
         link.new jobs.new text.old text.new) }
     ensures cut { OnErr result (IsCutOff V.cloud_at (events.Drop job lane) link.old jobs.old link.new) }
-    ensures leaves { Leaves V.cloud_at link.old link.new }
+    ensures leaves { KeepsOtherClouds V.cloud_at link.old link.new }
     ensures same { jobs.new ≡ jobs.old }
     ensures same_reference { link.new.shelf.ghost_name ≡ link.old.shelf.ghost_name }
 {

@@ -1,31 +1,28 @@
 //! The line that lists a user's files at a cloud, page by page.
 
 ghost use Rattle.std.specs.Prelude.{◌≡◌, ◌≤◌, ◌<◌, ◌^◌, ◌++◌, ◌==◌, [], ◌∷◌, length, map, IsTrue, IfOk, OnOk, OnErr};
-ghost use Rattle.frames.specs.Frames.{frame_limit};
-ghost use Rattle.message_fields.specs.Keys.{AreEntries, key_limit};
-ghost use Rattle.messages.specs.declared.reply.Reply.{Reply};
-ghost use Rattle.messages.specs.declared.request.Request.TheVariants as requests;
-ghost use Rattle.messages.specs.Replies.{IsReply};
-ghost use Rattle.messages.specs.Requests.{IsRequest};
-ghost use Rattle.session.specs.declared.event.Event.TheVariants as events;
-ghost use Rattle.transcript.specs.declared.line.Line.TheVariants as lines;
+ghost use Rattle.deletions.specs.Frames.Frames.{frame_limit};
+ghost use Rattle.session_model.specs.MessageFields.Keys.{AreEntries, key_limit};
+ghost use Rattle.deletions.specs.Messages.reply.Reply.{Reply};
+ghost use Rattle.deletions.specs.Messages.request.Request.TheVariants as requests;
+ghost use Rattle.deletions.specs.Messages.Replies.{IsReply};
+ghost use Rattle.deletions.specs.Messages.Requests.{IsRequest};
+ghost use Rattle.session_model.specs.Session.event.Event.TheVariants as events;
+ghost use Rattle.session_model.specs.Transcript.line.Line.TheVariants as lines;
 ghost use Rattle.session_model.specs.Steps.{entry_line as line_of_entry};
-ghost use Rattle.session.specs.Texts.{text_of};
-ghost use Rattle.script_lines.specs.At.{Leaves};
+ghost use Rattle.session_model.specs.Session.Texts.{text_of};
+ghost use Rattle.script_lines.specs.At.{KeepsOtherClouds};
 ghost use Rattle.script_lines.specs.Does.{CarriesOut, IsCutOff};
-ghost use Rattle.script_lines.specs.Paging.{IsListReply, RefusesAs, TakesPage, Adds, PageComes, PageTurns, Lists, SaysNoPage};
+ghost use Rattle.script_lines.specs.Paging.{IsListReply, RefusesAs, TakesPage, HasAddedPage, PageComes, PageTurns, Lists, SaysNoPage};
 
 use crate::Jobs;
 use crate::news::put_line;
-use cd_base::{Bytes, CloudNo, NoMemory, Tag, UserId, Version};
-use cd_edges::Shelf;
-use frames::ReplyBuf;
-use message_fields::{Entries, KEY_LIMIT};
-use messages::{MsgErr, Reply, Request};
-use session_model::LocalLink;
+use deletions::{MsgErr, Reply, ReplyBuf, Request};
+use recipe::{Bytes, CloudNo, NoMemory, Tag, UserId, Version};
+use session_model::{
+    Answer, Entries, KEY_LIMIT, Line, Link, LocalLink, Lost, Refusal, Shelf, write_line,
+};
 use std::alloc::Global;
-use transcript::{Answer, Line, Refusal, write_line};
-use user_dedup::{Link, Lost};
 
 // Why a page wasn't taken.
 #[derive(Clone, Copy, Debug, PartialEq, Eq)]
@@ -132,7 +129,7 @@ fn ask_page<V: Shelf>(
     requires below { cloud.0 < link.old.servers.shape.n }
     ensures comes { PageComes V.cloud_at user cloud.0 above link.old link.new result }
     ensures few { IfOk result AreEntries }
-    ensures leaves { Leaves V.cloud_at link.old link.new }
+    ensures leaves { KeepsOtherClouds V.cloud_at link.old link.new }
     ensures same_reference { link.new.shelf.ghost_name ≡ link.old.shelf.ghost_name }
 {
     match put_request(user, above, content) {
@@ -179,7 +176,7 @@ fn put_entries(page: &[(Tag, Version)], lines: &mut Bytes) -> Result<(), NoMemor
 // Takes a page, and answers whether it is full, so that another one comes behind it.
 fn take_page(listing: &mut Listing, page: &Entries) -> Result<bool, NoMemory>
     requires few { length page.now ≤ key_limit }
-    ensures adds { OnOk result (Adds listing.old page.now listing.new) }
+    ensures adds { OnOk result (HasAddedPage listing.old page.now listing.new) }
     ensures more { IfOk result (λ more. more ≡ (length page.now == key_limit)) }
     ensures small { OnOk result (listing.new.count < 2 ^ 32) }
 {
@@ -209,7 +206,7 @@ fn next_page<V: Shelf>(
     ensures turns { PageTurns V.cloud_at user cloud.0 link.old listing.old link.new listing.new result }
     ensures counted { IfOk result (λ more. IsTrue more → listing.old.count < listing.new.count) }
     ensures small { OnOk result (listing.new.count < 2 ^ 32) }
-    ensures leaves { Leaves V.cloud_at link.old link.new }
+    ensures leaves { KeepsOtherClouds V.cloud_at link.old link.new }
     ensures same_reference { link.new.shelf.ghost_name ≡ link.old.shelf.ghost_name }
 {
     let page = match ask_page(alloc, link, user, cloud, listing.above, content, reply) {
@@ -234,7 +231,7 @@ fn list_pages<V: Shelf>(
 ) -> Result<Listing, NoPage>
     requires below { cloud.0 < link.old.servers.shape.n }
     ensures lists { Lists V.cloud_at user cloud.0 link.old jobs.now link.new result }
-    ensures leaves { Leaves V.cloud_at link.old link.new }
+    ensures leaves { KeepsOtherClouds V.cloud_at link.old link.new }
     ensures same_reference { link.new.shelf.ghost_name ≡ link.old.shelf.ghost_name }
 {
     let mut listing = Listing {
@@ -294,7 +291,7 @@ pub fn list_line<V: Shelf>(
     ensures does { OnOk result (CarriesOut V.cloud_at (events.List user cloud) link.old jobs.now
         link.new jobs.now text.old text.new) }
     ensures cut { OnErr result (IsCutOff V.cloud_at (events.List user cloud) link.old jobs.now link.new) }
-    ensures leaves { Leaves V.cloud_at link.old link.new }
+    ensures leaves { KeepsOtherClouds V.cloud_at link.old link.new }
     ensures same_reference { link.new.shelf.ghost_name ≡ link.old.shelf.ghost_name }
 {
     match list_pages(alloc, link, jobs, user, cloud, content, reply) {

@@ -1,14 +1,13 @@
 //! What a transcript says of news.
 
 ghost use Rattle.std.specs.Prelude.{◌≡◌, ◌++◌, ◌∷◌, [], ◌&&◌, not, OnOk, OnErr};
-ghost use Rattle.transcript.specs.declared.line.Line.TheVariants as lines;
+ghost use Rattle.session_model.specs.Transcript.line.Line.TheVariants as lines;
 ghost use Rattle.session_model.specs.Steps.{as_told};
-ghost use Rattle.session.specs.Texts.{text_of};
+ghost use Rattle.session_model.specs.Session.Texts.{text_of};
 ghost use Rattle.script_lines.specs.Stepping.{stored_if};
 
-use cd_base::{Bytes, NoMemory};
-use transcript::{Answer, Line, News};
-use upload_job::LaneNews;
+use recipe::{Bytes, NoMemory};
+use session_model::{Answer, LaneNews, Line, News};
 
 /// The news of a lane, as a transcript says them.
 pub fn as_news(told: LaneNews) -> News

@@ -1,8 +1,8 @@
 //! The lines on one cloud: its device is armed, its server is opened again, and the cloud is replaced.
 
 ghost use Rattle.std.specs.Prelude.{◌≡◌, ◌<◌, IfErr, OnOk, OnErr};
-ghost use Rattle.session.specs.declared.event.Event.TheVariants as events;
-ghost use Rattle.script_lines.specs.At.{Leaves};
+ghost use Rattle.session_model.specs.Session.event.Event.TheVariants as events;
+ghost use Rattle.script_lines.specs.At.{KeepsOtherClouds};
 ghost use Rattle.script_lines.specs.Does.{CarriesOut, IsCutOff};
 ghost use Rattle.script_lines.specs.Replacing.{IsNewStore, IsShelfFault};
 ghost use Rattle.script_lines.specs.Stepping.{IsOpening};
@@ -10,10 +10,8 @@ ghost use Rattle.session_model.specs.CloudServer.Serving.{an_error};
 
 use crate::news::put_line;
 use crate::{CarryErr, Jobs};
-use cd_base::{CloudNo, NoMemory};
-use cd_edges::{Failed, Shelf};
-use session_model::{LocalLink, OpenErr, damage_of, law_of_parts};
-use transcript::{Answer, Line};
+use recipe::{CloudNo, NoMemory};
+use session_model::{Answer, Failed, Line, LocalLink, OpenErr, Shelf, damage_of, law_of_parts};
 
 /// `arm CLOUD CALLS KEEP`: a later write or sync of the cloud is cut.
 pub fn arm_line<V: Shelf>(
@@ -28,7 +26,7 @@ pub fn arm_line<V: Shelf>(
     ensures does { OnOk result (CarriesOut V.cloud_at (events.Arm cloud calls keep) link.old jobs.now
         link.new jobs.now text.old text.new) }
     ensures cut { OnErr result (IsCutOff V.cloud_at (events.Arm cloud calls keep) link.old jobs.now link.new) }
-    ensures leaves { Leaves V.cloud_at link.old link.new }
+    ensures leaves { KeepsOtherClouds V.cloud_at link.old link.new }
     ensures same_reference { link.new.shelf.ghost_name ≡ link.old.shelf.ghost_name }
 {
     link.arm(cloud, calls, keep);
@@ -69,7 +67,7 @@ pub fn restart_line<V: Shelf>(
     ensures does { OnOk result (CarriesOut V.cloud_at (events.Restart cloud) link.old jobs.now
         link.new jobs.now text.old text.new) }
     ensures cut { OnErr result (IsCutOff V.cloud_at (events.Restart cloud) link.old jobs.now link.new) }
-    ensures leaves { Leaves V.cloud_at link.old link.new }
+    ensures leaves { KeepsOtherClouds V.cloud_at link.old link.new }
     ensures same_reference { link.new.shelf.ghost_name ≡ link.old.shelf.ghost_name }
 {
     let opened = link.reopen(cloud, true);
@@ -99,7 +97,7 @@ pub fn replace_line<V: Shelf>(
         link.new jobs.now text.old text.new) }
     ensures cut { OnErr result (IsCutOff V.cloud_at (events.Replace cloud) link.old jobs.now link.new) }
     ensures shelf { IfErr result (IsShelfFault V.cloud_at (events.Replace cloud) link.old jobs.now link.new) }
-    ensures leaves { Leaves V.cloud_at link.old link.new }
+    ensures leaves { KeepsOtherClouds V.cloud_at link.old link.new }
     ensures same_reference { link.new.shelf.ghost_name ≡ link.old.shelf.ghost_name }
 {
     law_of_parts();

@@ -2,24 +2,23 @@
 
 ghost use Rattle.std.specs.Prelude.{◌≡◌, ◌<◌, ◌++◌, ◌∷◌, [], length, map, OnOk, OnErr};
 ghost use Rattle.std.specs.List.{Contains};
-ghost use Rattle.session.specs.Spelling.{AreClouds};
-ghost use Rattle.session.specs.Texts.{text_of};
-ghost use Rattle.session.specs.declared.event.Event.TheVariants as events;
-ghost use Rattle.transcript.specs.declared.line.Line.TheVariants as lines;
+ghost use Rattle.session_model.specs.Session.Spelling.{AreClouds};
+ghost use Rattle.session_model.specs.Session.Texts.{text_of};
+ghost use Rattle.session_model.specs.Session.event.Event.TheVariants as events;
+ghost use Rattle.session_model.specs.Transcript.line.Line.TheVariants as lines;
 ghost use Rattle.session_model.specs.Steps.{skip_word, skip_line, rebuild_refusal};
-ghost use Rattle.script_lines.specs.At.{Leaves};
+ghost use Rattle.script_lines.specs.At.{KeepsOtherClouds};
 ghost use Rattle.script_lines.specs.Does.{CarriesOut, IsCutOff};
 ghost use Rattle.script_lines.specs.Rebuilding.{SaysRebuild};
 
 use crate::Jobs;
 use crate::news::put_line;
-use cd_base::{CloudNo, Clouds, NoMemory, UserId};
-use cd_edges::Shelf;
-use rebuild::{RebuildErr, Rebuilt, Skip, SkipWhy, Skips, rebuild};
-use session_model::{LocalLink, law_of_parts};
+use recipe::{CloudNo, Clouds, NoMemory, UserId};
+use session_model::{
+    Answer, Line, LocalLink, RebuildErr, Rebuilt, Refusal, Shelf, Skip, SkipWhy, SkipWord, Skips,
+    TargetWhy, as_refusal, law_of_parts, rebuild,
+};
 use std::alloc::Global;
-use subset_restore::as_refusal;
-use transcript::{Answer, Line, Refusal, SkipWord, TargetWhy};
 
 // Why a version was skipped, as a transcript says it.
 fn as_word(why: SkipWhy) -> SkipWord
@@ -173,7 +172,7 @@ pub fn rebuild_line<V: Shelf>(
     ensures does { OnOk result (CarriesOut V.cloud_at (events.Rebuild user target from.now) link.old jobs.now
         link.new jobs.now text.old text.new) }
     ensures cut { OnErr result (IsCutOff V.cloud_at (events.Rebuild user target from.now) link.old jobs.now link.new) }
-    ensures leaves { Leaves V.cloud_at link.old link.new }
+    ensures leaves { KeepsOtherClouds V.cloud_at link.old link.new }
     ensures same_reference { link.new.shelf.ghost_name ≡ link.old.shelf.ghost_name }
 {
     law_of_parts();

@@ -1,20 +1,17 @@
 //! The line that begins a job.
 
 ghost use Rattle.std.specs.Prelude.{◌≡◌, ◌<◌, ◌≤◌, ◌+◌, ◌++◌, ◌∷◌, [], length, OnOk, OnErr};
-ghost use Rattle.cd_base.specs.Limits.{IsPath};
-ghost use Rattle.session.specs.Spelling.{IsUpload};
-ghost use Rattle.session.specs.declared.event.Event.TheVariants as events;
+ghost use Rattle.recipe.specs.CdBase.Limits.{IsPath};
+ghost use Rattle.session_model.specs.Session.Spelling.{IsUpload};
+ghost use Rattle.session_model.specs.Session.event.Event.TheVariants as events;
 ghost use Rattle.script_lines.specs.Does.{CarriesOut, IsCutOff};
 ghost use Rattle.script_lines.specs.Jobs.{AreReached};
 
 use crate::Jobs;
 use crate::news::put_line;
-use cd_base::{NoMemory, UserId, Version};
-use cd_edges::Shelf;
-use session_model::{LocalLink, law_of_parts};
+use recipe::{NoMemory, UserId, Version};
+use session_model::{Answer, Job, Line, LocalLink, Shelf, law_of_parts};
 use std::alloc::Global;
-use transcript::{Answer, Line};
-use upload_job::Job;
 
 /// `upload USER PATH VERSION BYTES`: a job that is to bring a version of a file to all clouds. No cloud is asked.
 pub fn upload_line<V: Shelf>(

@@ -1,6 +1,6 @@
 -- A responder's run as a run of what its states stand for.
 use Rattle.std.proofs.Common.{ℕ, List}
-use Rattle.frames.specs.Frames.{IsContent}
+use Rattle.ports_link.specs.Frames.Frames.{IsContent}
 use Rattle.serve_command.specs.Connection.{Responds, None, More}
 
 module _ {S T : Type 0} (step : S → List ℕ → List ℕ → S → Type 0) (does : T → List ℕ → List ℕ → T → Type 0) (Stands : S → T → Type 0)

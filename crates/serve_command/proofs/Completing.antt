@@ -1,30 +1,30 @@
 -- Where nothing fails, all connections are served or memory runs out: each other status has a cause that isn't there.
 use Rattle.std.proofs.Common.{◌≡◌, ◌⊎◌, ⊎_elim, inl, inr, ℕ, ◌-◌, ◌^◌, ◌≤◌, min, List, [], refl, sym, ◌∙◌, ap, subst, arith}
-use Rattle.cd_edges.specs.Causes.{Rose}
-use Rattle.cd_edges.specs.declared.area.Area.TheVariants.{Journal}
-use Rattle.cd_edges.specs.Disk.{Image, reads}
-use Rattle.cd_edges.specs.Shelf.{HasFailed, KeepsCounts}
-use Rattle.half_journal.specs.declared.errors.OpenErr.{OpenErr}
-use Rattle.half_journal.specs.declared.errors.OpenErr.TheVariants as errors
-use Rattle.half_journal.specs.Openings.{OnFault}
-use Rattle.journal_start.specs.declared.rooms.Rooms.{Rooms}
-use Rattle.journal_start.specs.declared.start.Header.{Header}
-use Rattle.journal_start.specs.declared.start.Start.{Start}
-use Rattle.journal_halves.specs.Beginnings.{IsUnbegun}
-use Rattle.journal_halves.specs.Findings.{IsFoundDamage}
-use Rattle.journal_halves.specs.Halves.{IsCurrent}
+use Rattle.cloud_server.specs.CdEdges.Causes.{Rose}
+use Rattle.cloud_server.specs.CdEdges.area.Area.TheVariants.{Journal}
+use Rattle.cloud_server.specs.CdEdges.Disk.{Image, reads}
+use Rattle.cloud_server.specs.CdEdges.Shelf.{HasFailed, KeepsCounts}
+use Rattle.cloud_server.specs.HalfJournal.errors.OpenErr.{OpenErr}
+use Rattle.cloud_server.specs.HalfJournal.errors.OpenErr.TheVariants as errors
+use Rattle.cloud_server.specs.HalfJournal.Openings.{OnFault}
+use Rattle.cloud_server.specs.JournalStart.rooms.UserRooms.{UserRooms}
+use Rattle.cloud_server.specs.JournalStart.start.Header.{Header}
+use Rattle.cloud_server.specs.JournalStart.start.Start.{Start}
+use Rattle.cloud_server.specs.JournalHalves.Beginnings.{IsUnbegun}
+use Rattle.cloud_server.specs.JournalHalves.Findings.{IsFoundDamage}
+use Rattle.cloud_server.specs.JournalHalves.Halves.{IsCurrent}
 use Rattle.cloud_server.specs.StoreOpening.Spared.{IsOkOrFault}
 use Rattle.cloud_server.proofs.StoreOpening.Current.{not_unbegun}
 use Rattle.cloud_server.proofs.StoreOpening.OneStart.{current_whole, unbegun_whole}
-use Rattle.user_dedup.specs.declared.command.Command.{Command}
-use Rattle.user_dedup.specs.Spending.{IsWithin}
-use Rattle.user_dedup.proofs.Spending.{none_within}
-use Rattle.cloud_areas.specs.Standing.{StandsFor}
+use Rattle.cloud_server.specs.UserDedup.command.Command.{Command}
+use Rattle.cloud_server.specs.UserDedup.Spending.{IsWithin}
+use Rattle.cloud_server.proofs.UserDedup.Spending.{none_within}
+use Rattle.cloud_server.specs.CloudAreas.Standing.{StandsFor}
 use Rattle.cloud_server.specs.Names.{HasNoJournal}
 use Rattle.cloud_server.specs.Serving.{an_error}
 use Rattle.serve_command.specs.Serving.{RepliesOne}
-use Rattle.serve_command.specs.Complete.{IsStill, HasList, IsNew, GoesWell}
-use Rattle.serve_command.specs.Served.{Call, old_cloud, own_header, Refuses, HasRooms, IsUnreadable, IsUnfound, IsUnopened, IsOpened, Ends, IsServed}
+use Rattle.serve_command.specs.Complete.{IsStill, HasList, IsNew, IsServeUnhindered}
+use Rattle.serve_command.specs.Served.{ServeCall, old_cloud, own_header, IsOpeningRefused, HasRooms, IsUnreadable, IsUnfound, IsUnopenedToServe, IsOpenedToServe, Ends, IsServed}
 use Rattle.serve_command.specs.Served.{IsUnopenedOrServed}
 use Rattle.serve_command.proofs.Running.{run_later}
 
@@ -47,7 +47,7 @@ OneHeader = (image : Image) (header : Header) (list : List Command) (half : ℕ)
     → ¬ IsUnbegun (image Journal) → IsCurrent (image Journal) half start → start.header ≡ header
 
 -- The areas stand for a list within these rooms.
-abbrev HasIn : Call → Rooms → Type 0
+abbrev HasIn : ServeCall → UserRooms → Type 0
 HasIn call rooms = (list : List Command) × StandsFor (reads (old_cloud call).now) (own_header rooms call) list
     × IsWithin call.shape rooms list
 
@@ -61,7 +61,7 @@ not_damaged image header list at byte stands damage = elim stands.1 [
 ]
 
 module _ (none : NoneStands) (one : OneHeader) where
-  has_in : (call : Call) (rooms : Rooms) → HasList call ⊎ IsNew call → HasRooms ((old_cloud call).now Journal).read rooms
+  has_in : (call : ServeCall) (rooms : UserRooms) → HasList call ⊎ IsNew call → HasRooms ((old_cloud call).now Journal).read rooms
       → HasIn call rooms
   has_in call rooms holds (inl unbegun) = (
     [],
@@ -74,14 +74,14 @@ module _ (none : NoneStands) (one : OneHeader) where
       let header_is : found.1.header ≡ own_header has.0 call = one (reads (old_cloud call).now) (own_header has.0 call) has.1
       found.0 found.1 has.2 (not_unbegun ((old_cloud call).now Journal).read found.0 found.1 found.2) found.2 in
       let rooms_are : has.0 ≡ rooms = sym (found.3 ∙ ap (λ (h : Header). h.rooms) header_is) in
-      subst (λ (r : Rooms). HasIn call r) rooms_are (has.1, has.2, has.3)
+      subst (λ (r : UserRooms). HasIn call r) rooms_are (has.1, has.2, has.3)
 
   -- ---- no other status
 
-  not_unread : (call : Call) (error : OpenErr) → IsUnreadable (old_cloud call) error → OnFault (an_error error)
+  not_unread : (call : ServeCall) (error : OpenErr) → IsUnreadable (old_cloud call) error → OnFault (an_error error)
       (HasFailed (old_cloud call) (call.new call.cloud.0) call.total_before call.total_after)
       (KeepsCounts (old_cloud call) (call.new call.cloud.0) call.total_before call.total_after)
-      → GoesWell call → ⊥
+      → IsServeUnhindered call → ⊥
   not_unread call errors.Fault unreadable counts well = not_risen _ _ well.cloud counts.cloud
   not_unread call (errors.NotBegun len) unreadable counts well = unreadable
   not_unread call (errors.OtherStore found asked at) unreadable counts well = unreadable
@@ -90,14 +90,14 @@ module _ (none : NoneStands) (one : OneHeader) where
     | inr new ↦ unbegun_whole ((old_cloud call).now Journal).read at byte new (unreadable well.told)
   ]
 
-  not_refused : (call : Call) (rooms : Rooms) (error : OpenErr) → Refuses rooms call error → IsOkOrFault (an_error error)
+  not_refused : (call : ServeCall) (rooms : UserRooms) (error : OpenErr) → IsOpeningRefused rooms call error → IsOkOrFault (an_error error)
       → IsStill (old_cloud call).faults (call.new call.cloud.0).faults → ⊥
   not_refused call rooms errors.Fault refuses may still = not_risen _ _ still refuses.counts.cloud
   not_refused call rooms (errors.NotBegun len) refuses may still = may
   not_refused call rooms (errors.Damaged at byte) refuses may still = may
   not_refused call rooms (errors.OtherStore found asked at) refuses may still = may
 
-  ends_well : (rooms : Rooms) (status : ℕ) (call : Call) (is : IsOpened rooms status call) → GoesWell call
+  ends_well : (rooms : UserRooms) (status : ℕ) (call : ServeCall) (is : IsOpenedToServe rooms status call) → IsServeUnhindered call
       → Ends status call.address call.count call.out is.all is.after call.ports_after → (status ≡ 0) ⊎ (status ≡ 6)
   ends_well rooms status call is well (inl done) = inl done.status_is
   ends_well rooms status call is well (inr (inl stopped)) =
@@ -106,13 +106,13 @@ module _ (none : NoneStands) (one : OneHeader) where
       absurd (not_risen_since _ is.after _ well.ports
       (run_later RepliesOne _ _ is.opened is.last call.ports_before is.after is.all is.replied) refused.ports)
 
-  in_rooms_well : (rooms : Rooms) (status : ℕ) (call : Call) → HasIn call rooms → IsUnopenedOrServed rooms status call
-      → GoesWell call → (status ≡ 0) ⊎ (status ≡ 6)
+  in_rooms_well : (rooms : UserRooms) (status : ℕ) (call : ServeCall) → HasIn call rooms → IsUnopenedOrServed rooms status call
+      → IsServeUnhindered call → (status ≡ 0) ⊎ (status ≡ 6)
   in_rooms_well rooms status call has (inl is) well = absurd (not_refused call rooms is.error is.refuses
       (is.refuses.whole well.told has.0 has.1 has.2) well.cloud)
   in_rooms_well rooms status call has (inr opened) well = ends_well rooms status call opened well opened.ends
 
-  pub completes : (status : ℕ) (call : Call) → IsServed status call → GoesWell call → (status ≡ 0) ⊎ (status ≡ 6)
+  pub completes : (status : ℕ) (call : ServeCall) → IsServed status call → IsServeUnhindered call → (status ≡ 0) ⊎ (status ≡ 6)
   completes status call (inl unmade) well = inr unmade.status_is
   completes status call (inr (inl unfound)) well =
       absurd (not_unread call unfound.error unfound.unreadable unfound.counts well)

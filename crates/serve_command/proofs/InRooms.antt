@@ -1,17 +1,17 @@
 -- The rooms of a cloud, and what comes of them.
 use Rattle.std.proofs.Common.{◌≡◌, inl, inr, ℕ, IsTrue, Result, Err, sym, subst}
 use Rattle.std.proofs.lemmas.Bool.Decides.{eqb_tells}
-use Rattle.cd_base.specs.declared.ids.CloudNo.{CloudNo}
-use Rattle.cd_edges.specs.declared.area.Area.TheVariants.{Journal}
-use Rattle.cd_edges.specs.Disk.{Cloud}
-use Rattle.cd_edges.specs.Shelf.{IsCall, HasFailed, KeepsCounts, Stays}
-use Rattle.journal_start.specs.declared.rooms.Rooms.{Rooms}
-use Rattle.journal_start.specs.Ranges.{AreRooms}
-use Rattle.half_journal.specs.declared.errors.OpenErr.{OpenErr}
-use Rattle.half_journal.specs.declared.errors.OpenErr.TheVariants as errors
+use Rattle.ports_link.specs.CdBase.ids.CloudNo.{CloudNo}
+use Rattle.cloud_server.specs.CdEdges.area.Area.TheVariants.{Journal}
+use Rattle.cloud_server.specs.CdEdges.Disk.{Cloud}
+use Rattle.cloud_server.specs.CdEdges.Shelf.{IsCall, HasFailed, KeepsCounts, Stays}
+use Rattle.cloud_server.specs.JournalStart.rooms.UserRooms.{UserRooms}
+use Rattle.cloud_server.specs.JournalStart.Ranges.{AreRooms}
+use Rattle.cloud_server.specs.HalfJournal.errors.OpenErr.{OpenErr}
+use Rattle.cloud_server.specs.HalfJournal.errors.OpenErr.TheVariants as errors
 use Rattle.cloud_server.specs.Serving.{an_error}
-use Rattle.serve_command.specs.Served.{Call, old_cloud, HasRooms, IsUnreadable, IsUnfound, IsUnmade, IsUnopenedOrServed, IsInRooms, IsServed}
-use Rattle.serve_command.specs.Steps.{Closes, Counts, IsUnmadeOrServed}
+use Rattle.serve_command.specs.Served.{ServeCall, old_cloud, HasRooms, IsUnreadable, IsUnfound, IsUnmade, IsUnopenedOrServed, IsInRooms, IsServed}
+use Rattle.serve_command.specs.Steps.{IsClosedUnopened, Counts, IsUnmadeOrServed}
 use Rattle.serve_command.proofs.Openings.{reported_by}
 
 -- A call that changes nothing of its cloud's areas and no count leaves all clouds as they were.
@@ -37,7 +37,7 @@ module _ (old new : ℕ → Cloud) (number before now : ℕ) (call : IsCall old 
   all_stay = λ i n. each_stays n i
 
 -- what was served behind a search that left all as it was
-pub behind : (rooms : Rooms) (status : ℕ) (call : Call) (old : ℕ → Cloud) (total : ℕ) → call.old ≡ old
+pub behind : (rooms : UserRooms) (status : ℕ) (call : ServeCall) (old : ℕ → Cloud) (total : ℕ) → call.old ≡ old
     → call.total_before ≡ total → IsUnmadeOrServed rooms status call
     → IsUnmadeOrServed rooms status (record call { old = old; total_before = total })
 behind rooms status call old total same still served =
@@ -45,7 +45,7 @@ behind rooms status call old total same still served =
     (subst (λ (n : ℕ). IsUnmadeOrServed rooms status (record call { total_before = n })) still served)
 
 -- the rooms were found
-pub in_rooms : (rooms : Rooms) (status : ℕ) (call : Call) → AreRooms rooms
+pub in_rooms : (rooms : UserRooms) (status : ℕ) (call : ServeCall) → AreRooms rooms
     → (IsTrue (old_cloud call).told → HasRooms ((old_cloud call).now Journal).read rooms)
     → IsUnmadeOrServed rooms status call → IsServed status call
 in_rooms rooms status call allowed found (inl unmade) = inl unmade
@@ -53,7 +53,7 @@ in_rooms rooms status call allowed found (inr served) =
     inr (inr (record { rooms = rooms; allowed = allowed; found = found; served = served }))
 
 -- a search that ended with this error
-abbrev pub no_rooms : OpenErr → Result Rooms OpenErr
+abbrev pub no_rooms : OpenErr → Result UserRooms OpenErr
 no_rooms error = Err error
 
 -- the counts by an error are those of an opening that ends with it
@@ -65,10 +65,10 @@ counts_by old new before now (errors.Damaged at byte) counts = counts
 counts_by old new before now (errors.OtherStore found asked at) counts = counts
 
 -- they weren't
-pub not_found : (call : Call) (error : OpenErr) (status : ℕ) → IsUnreadable (old_cloud call) error
+pub not_found : (call : ServeCall) (error : OpenErr) (status : ℕ) → IsUnreadable (old_cloud call) error
     → Stays (old_cloud call) (call.new call.cloud.0)
     → Counts (old_cloud call) (call.new call.cloud.0) call.total_before call.total_after (no_rooms error)
-    → Closes call.cloud error call.out status → call.tells_after ≡ call.tells_before
+    → IsClosedUnopened call.cloud error call.out status → call.tells_after ≡ call.tells_before
     → call.ports_after ≡ call.ports_before → IsServed status call
 not_found call error status unreadable stays counts closes tells ports = inr (inl (record {
   error = error;

@@ -1,36 +1,36 @@
 -- A cloud that was to be opened, and what comes of it.
 use Rattle.std.proofs.Common.{◌≡◌, ℕ, Bool, true, IsTrue, List, Result, Ok, Err, IfOk, OnOk, None, refl, sym, ◌∙◌, subst}
 use Rattle.std.specs.List.{Contains}
-use Rattle.cd_base.specs.declared.ids.CloudNo.{CloudNo}
-use Rattle.journal_start.specs.declared.rooms.Rooms.{Rooms}
-use Rattle.cd_base.specs.declared.shape.Shape.{Shape}
-use Rattle.cd_edges.specs.declared.area.Area.TheVariants.{Journal}
-use Rattle.cd_edges.specs.Disk.{Cloud, Image, reads}
-use Rattle.cd_edges.specs.Shelf.{IsCall, HasFailed, KeepsCounts}
-use Rattle.half_journal.specs.declared.errors.OpenErr.{OpenErr}
-use Rattle.half_journal.specs.declared.errors.OpenErr.TheVariants as errors
-use Rattle.journal_start.specs.declared.start.Header.{Header}
-use Rattle.half_journal.specs.Openings.{OnFault}
-use Rattle.user_dedup.specs.declared.command.Command.{Command}
-use Rattle.user_dedup.specs.Exec.{Peer}
+use Rattle.ports_link.specs.CdBase.ids.CloudNo.{CloudNo}
+use Rattle.cloud_server.specs.JournalStart.rooms.UserRooms.{UserRooms}
+use Rattle.ports_link.specs.CdBase.shape.Shape.{Shape}
+use Rattle.cloud_server.specs.CdEdges.area.Area.TheVariants.{Journal}
+use Rattle.cloud_server.specs.CdEdges.Disk.{Cloud, Image, reads}
+use Rattle.cloud_server.specs.CdEdges.Shelf.{IsCall, HasFailed, KeepsCounts}
+use Rattle.cloud_server.specs.HalfJournal.errors.OpenErr.{OpenErr}
+use Rattle.cloud_server.specs.HalfJournal.errors.OpenErr.TheVariants as errors
+use Rattle.cloud_server.specs.JournalStart.start.Header.{Header}
+use Rattle.cloud_server.specs.HalfJournal.Openings.{OnFault}
+use Rattle.cloud_server.specs.UserDedup.command.Command.{Command}
+use Rattle.cloud_server.specs.UserDedup.Exec.{Peer}
 use Rattle.cloud_server.specs.StoreOpening.Exact.{Opens}
 use Rattle.cloud_server.specs.StoreOpening.Spared.{IsOkOrFault, MayBegin, Spares}
 use Rattle.cloud_server.specs.CloudMemory.Memory.{Memory}
 use Rattle.cloud_server.specs.CloudMemory.Rooms.{memory_of}
 use Rattle.cloud_server.specs.Openings.{OpensTo, OtherStoreIs}
-use Rattle.user_dedup.specs.Spending.{IsWithin}
-use Rattle.cloud_areas.specs.Peers.{ImagesNow, ImagesSince, StandsAs}
-use Rattle.cloud_areas.specs.Standing.{StandsFor}
+use Rattle.cloud_server.specs.UserDedup.Spending.{IsWithin}
+use Rattle.cloud_server.specs.CloudAreas.Peers.{ImagesNow, ImagesSince, StandsAs}
+use Rattle.cloud_server.specs.CloudAreas.Standing.{StandsFor}
 use Rattle.serve_command.specs.Serving.{ServesOne, standing}
-use Rattle.user_dedup.specs.Cloud.{counted}
+use Rattle.cloud_server.specs.UserDedup.Cloud.{counted}
 use Rattle.cloud_server.specs.Names.{header_of}
 use Rattle.cloud_server.specs.OpenStore.Store.{IsOpen}
 use Rattle.cloud_server.specs.Serving.{IsServing, an_error, settled_with}
 use Rattle.cloud_server.specs.declared.server.Server.{Server}
 use Rattle.serve_command.specs.Runs.{ServeRun}
-use Rattle.serve_command.specs.Served.{Call, Output, own_header, Refuses, HasServed, IsLeftOpen, IsReported, IsUnopened, IsOpened}
+use Rattle.serve_command.specs.Served.{ServeCall, ServeOutput, own_header, IsOpeningRefused, HasServed, IsLeftOpen, IsReported, IsUnopenedToServe, IsOpenedToServe}
 use Rattle.serve_command.specs.Served.{IsUnopenedOrServed}
-use Rattle.serve_command.specs.Steps.{Moment, Closes, ServesAll, held_at}
+use Rattle.serve_command.specs.Steps.{ServingMoment, IsClosedUnopened, ServesAll, held_at}
 
 -- what the bytes come to, with the memory that the opening leaves
 pub comes_to : (header : Header) (begin : Bool) (image : Image) (memory : Memory) (result : Result ℕ OpenErr)
@@ -79,7 +79,7 @@ reopened made server cloud old new before now result answer of is raw =
     (subst (λ (h : Header). Reopened h server old new before now result) of raw)
 
 -- the same serving, by the header
-pub served_by_own : (status : ℕ) (header : Header) (opened new : Moment) (address : List ℕ) (count : ℕ) (out : Output)
+pub served_by_own : (status : ℕ) (header : Header) (opened new : ServingMoment) (address : List ℕ) (count : ℕ) (out : ServeOutput)
     (before now : ℕ)
     → opened.server.store.header ≡ header
     → ServesAll status opened.server.store.header opened new address count out before now
@@ -88,17 +88,17 @@ served_by_own status header opened new address count out before now header_is al
     subst (λ (h : Header). ServesAll status h opened new address count out before now) header_is all
 
 -- the same of a shape and of rooms
-pub by_header : (status : ℕ) (call : Call) (shape : Shape) (found rooms : Rooms)
+pub by_header : (status : ℕ) (call : ServeCall) (shape : Shape) (found rooms : UserRooms)
     → call.shape ≡ shape → found ≡ rooms
     → IsUnopenedOrServed found status call → IsUnopenedOrServed rooms status (record call { shape = shape })
 by_header status call shape found rooms shape_is rooms_are served =
     subst (λ (s : Shape). IsUnopenedOrServed rooms status (record call { shape = s })) shape_is
-    (subst (λ (r : Rooms). IsUnopenedOrServed r status call) rooms_are served)
+    (subst (λ (r : UserRooms). IsUnopenedOrServed r status call) rooms_are served)
 
 -- ---- it isn't opened
 
 -- what is written of the error
-pub reported_by : (call : Call) (error : OpenErr) (status : ℕ) → Closes call.cloud error call.out status
+pub reported_by : (call : ServeCall) (error : OpenErr) (status : ℕ) → IsClosedUnopened call.cloud error call.out status
     → call.tells_after ≡ call.tells_before → call.ports_after ≡ call.ports_before → IsReported status call error
 reported_by call error status closes tells ports = record {
   due = closes.due;
@@ -109,10 +109,10 @@ reported_by call error status closes tells ports = record {
   ports = ports;
 }
 
-module _ (rooms : Rooms) (call : Call) (server : Server) (error : OpenErr)
+module _ (rooms : UserRooms) (call : ServeCall) (server : Server) (error : OpenErr)
     (opening : Reopened (own_header rooms call) server call.old call.new call.total_before call.total_after (Err error))
   where
-    refuses : Refuses rooms call error
+    refuses : IsOpeningRefused rooms call error
     refuses = record {
       exact = λ told. comes_to (own_header rooms call) true (reads (call.old call.cloud.0).now)
           (memory_of server.store.memory) (an_error error) (opening.exact told);
@@ -123,8 +123,8 @@ module _ (rooms : Rooms) (call : Call) (server : Server) (error : OpenErr)
       kept = opening.kept;
     }
 
-    pub unopened : (status : ℕ) → Closes call.cloud error call.out status → call.tells_after ≡ call.tells_before
-        → call.ports_after ≡ call.ports_before → IsUnopened rooms status call
+    pub unopened : (status : ℕ) → IsClosedUnopened call.cloud error call.out status → call.tells_after ≡ call.tells_before
+        → call.ports_after ≡ call.ports_before → IsUnopenedToServe rooms status call
     unopened status closes tells ports = record {
       error = error;
       refuses = refuses;
@@ -133,10 +133,10 @@ module _ (rooms : Rooms) (call : Call) (server : Server) (error : OpenErr)
 
 -- ---- it is opened, and serves
 
-module _ (shape : Shape) (rooms : Rooms) (cloud : CloudNo) (address : List ℕ) (count : ℕ) (out : Output) (old : ℕ → Cloud)
+module _ (shape : Shape) (rooms : UserRooms) (cloud : CloudNo) (address : List ℕ) (count : ℕ) (out : ServeOutput) (old : ℕ → Cloud)
     (total before now : ℕ)
-    (opened new : Moment) where
-  abbrev call_by : Call
+    (opened new : ServingMoment) where
+  abbrev call_by : ServeCall
   call_by = record {
     shape = shape;
     cloud = cloud;
@@ -193,7 +193,7 @@ module _ (shape : Shape) (rooms : Rooms) (cloud : CloudNo) (address : List ℕ) 
       kept = opening.kept;
     }
 
-    is_opened : IsOpened rooms status call_by
+    is_opened : IsOpenedToServe rooms status call_by
     is_opened = record {
       opened = held_at (own_header rooms call_by) opened;
       opens = left_open;
@@ -209,5 +209,5 @@ module _ (shape : Shape) (rooms : Rooms) (cloud : CloudNo) (address : List ℕ) 
     }
 
     -- the status that is answered
-    pub by_status : status ≡ answer → IsOpened rooms answer call_by
-    by_status is = subst (λ (n : ℕ). IsOpened rooms n call_by) is is_opened
+    pub by_status : status ≡ answer → IsOpenedToServe rooms answer call_by
+    by_status is = subst (λ (n : ℕ). IsOpenedToServe rooms n call_by) is is_opened

@@ -1,15 +1,15 @@
 -- What one answer of a server says.
 use Rattle.std.proofs.Common.{◌≡◌, inl, inr, ℕ, ◌≤◌, List, length, Result, Ok, Err, refl, sym, subst, arith}
-use Rattle.cd_base.specs.declared.shape.Shape.{Shape}
-use Rattle.cd_edges.specs.Disk.{Cloud}
-use Rattle.messages.specs.declared.request.Request.{Request}
-use Rattle.messages.specs.declared.reply.Reply.{Reply}
-use Rattle.messages.specs.declared.reply.Reply.TheVariants as replies
-use Rattle.messages.specs.Replies.{reply_bytes}
-use Rattle.user_dedup.specs.Requests.{asked_at}
+use Rattle.ports_link.specs.CdBase.shape.Shape.{Shape}
+use Rattle.cloud_server.specs.CdEdges.Disk.{Cloud}
+use Rattle.cloud_server.specs.Messages.request.Request.{Request}
+use Rattle.cloud_server.specs.Messages.reply.Reply.{Reply}
+use Rattle.cloud_server.specs.Messages.reply.Reply.TheVariants as replies
+use Rattle.cloud_server.specs.Messages.Replies.{reply_bytes}
+use Rattle.cloud_server.specs.UserDedup.Requests.{asked_at}
 use Rattle.cloud_server.specs.OpenStore.store.OpenStore.{OpenStore}
 use Rattle.cloud_server.specs.Serving.{Answered}
-use Rattle.serve_command.specs.Serving.{Held, RepliesOne, RepliesTo, held_of}
+use Rattle.serve_command.specs.Serving.{HeldStore, RepliesOne, RepliesTo, held_of}
 
 -- each reply has its kind in front
 pub some_bytes : (r : Reply) → 1 ≤ length (reply_bytes r)
@@ -32,7 +32,7 @@ some_bytes (replies.Rotten named found) = omega arith
 some_bytes (replies.Malformed at) = omega arith
 some_bytes replies.NoMemory = omega arith
 
-module _ (before after : Held) (content reply : List ℕ) where
+module _ (before after : HeldStore) (content reply : List ℕ) where
   -- content that is a request is replied to, and other content by the place that is wrong
   pub replied : ((r : Request) → asked_at before.store.header.shape content ≡ Ok r → RepliesTo before after r reply)
       → ((at : ℕ) → asked_at before.store.header.shape content ≡ Err at

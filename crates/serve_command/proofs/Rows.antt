@@ -1,20 +1,20 @@
 -- A row of a server's answers: as replies, as calls on its shelf, and as what becomes of a peer.
 use Rattle.std.proofs.Common.{◌≡◌, inl, inr, ℕ, List, [], ◌∷◌, Result, Ok, Err, IsTrue, refl, sym, ◌∙◌, ap, subst, arith}
-use Rattle.journal_start.specs.declared.start.Header.{Header}
-use Rattle.cd_edges.specs.Disk.{Cloud}
-use Rattle.cd_edges.specs.Ports.{Telling}
-use Rattle.cd_edges.specs.Shelf.{IsCall}
-use Rattle.cd_edges.proofs.Calls.{called_twice}
-use Rattle.messages.specs.declared.request.Request.{Request}
-use Rattle.user_dedup.specs.Exec.{Peer}
-use Rattle.user_dedup.specs.Requests.{asked_at}
-use Rattle.cloud_areas.specs.Peers as peers
+use Rattle.cloud_server.specs.JournalStart.start.Header.{Header}
+use Rattle.cloud_server.specs.CdEdges.Disk.{Cloud}
+use Rattle.cloud_server.specs.CdEdges.Ports.{Telling}
+use Rattle.cloud_server.specs.CdEdges.Shelf.{IsCall}
+use Rattle.cloud_server.proofs.CdEdges.Calls.{called_twice}
+use Rattle.cloud_server.specs.Messages.request.Request.{Request}
+use Rattle.cloud_server.specs.UserDedup.Exec.{Peer}
+use Rattle.cloud_server.specs.UserDedup.Requests.{asked_at}
+use Rattle.cloud_server.specs.CloudAreas.Peers as peers
 use Rattle.cloud_server.specs.Serving.{IsServing, number_of}
 use Rattle.cloud_server.specs.declared.server.Server.{Server}
 use Rattle.serve_command.specs.declared.served.Served.{Served}
 use Rattle.serve_command.specs.Connection.{Responds, Serves}
 use Rattle.serve_command.proofs.Carrying.{carried, mapped}
-use Rattle.serve_command.specs.Serving.{Answers, Held, Place, RepliesOne, ServesOne, Standing, held_of, standing}
+use Rattle.serve_command.specs.Serving.{HasAnsweredContent, HeldStore, ServingPlace, RepliesOne, ServesOne, Standing, held_of, standing}
 
 -- two names of loans are two names
 pub first_same : (a b c d : ℕ) → a ∷ b ∷ [] ≡ c ∷ d ∷ [] → a ≡ c
@@ -26,24 +26,24 @@ second_same a b c d e = cc
 -- ---- one answer
 
 -- the cloud of a place's server, which no answer changes to another
-abbrev pub cloud_in : Place → Place → Cloud
+abbrev pub cloud_in : ServingPlace → ServingPlace → Cloud
 cloud_in first place = place.clouds (number_of first.server)
 
 -- It is the first place's server, its shelf was called since, and its cloud is told if it was.
-pub record Since (first place : Place) : Type 0 where
+pub record Since (first place : ServingPlace) : Type 0 where
   pub same : place.server.store.header ≡ first.server.store.header
   pub call : IsCall first.clouds place.clouds (number_of first.server) first.faults place.faults
 
-pub since_none : (first : Place) → Since first first
+pub since_none : (first : ServingPlace) → Since first first
 since_none first = record {
   same = refl;
   call = record { others = λ other apart. refl; told = refl; armings = refl; later = omega arith; total_later = omega arith };
 }
 
-same_number : (first place : Place) → Since first place → number_of place.server ≡ number_of first.server
+same_number : (first place : ServingPlace) → Since first place → number_of place.server ≡ number_of first.server
 same_number first place since = ap (λ (h : Header). h.cloud.0) since.same
 
-pub since_more : (first before after : Place) (content reply : List ℕ) → Since first before → Answers before after content reply → Since first after
+pub since_more : (first before after : ServingPlace) (content reply : List ℕ) → Since first before → HasAnsweredContent before after content reply → Since first after
 since_more first before after content reply since answers = record {
   same = answers.same ∙ since.same;
   call = called_twice first.clouds before.clouds after.clouds (number_of first.server) first.faults before.faults after.faults since.call
@@ -51,10 +51,10 @@ since_more first before after content reply since answers = record {
 }
 
 -- what is held of a place's server
-abbrev pub held_in : Place → Place → Held
+abbrev pub held_in : ServingPlace → ServingPlace → HeldStore
 held_in first place = held_of place.server.store (cloud_in first place) place.faults
 
-pub replied_since : (first before after : Place) (content reply : List ℕ) → Since first before → Answers before after content reply
+pub replied_since : (first before after : ServingPlace) (content reply : List ℕ) → Since first before → HasAnsweredContent before after content reply
     → RepliesOne (held_in first before) content reply (held_in first after)
 replied_since first before after content reply since answers =
     subst (λ (h : Header). RepliesOne (held_of before.server.store (before.clouds h.cloud.0) before.faults) content reply
@@ -63,19 +63,19 @@ replied_since first before after content reply since answers =
 -- ---- what becomes of a peer
 
 -- The cloud is told, and stands as the peer.
-pub record StandsAs (first place : Place) (s : Standing) : Type 0 where
+pub record StandsAs (first place : ServingPlace) (s : Standing) : Type 0 where
   pub since : Since first place
   pub told : IsTrue (cloud_in first place).told
   pub serving : IsServing place.server (cloud_in first place) s.peer
   pub cloud : s.cloud ≡ cloud_in first place
 
 -- what an answer leaves of a peer
-pub record Goes (first before after : Place) (p : Peer) (content reply : List ℕ) : Type 0 where
+pub record Goes (first before after : ServingPlace) (p : Peer) (content reply : List ℕ) : Type 0 where
   pub left : Peer
   pub stands : StandsAs first after (standing left (cloud_in first after))
   pub does : ServesOne first.server.store.header (standing p (cloud_in first before)) content reply (standing left (cloud_in first after))
 
-module _ (first before after : Place) (p : Standing) (content reply : List ℕ) (stands : StandsAs first before p) (answers : Answers before after content reply) where
+module _ (first before after : ServingPlace) (p : Standing) (content reply : List ℕ) (stands : StandsAs first before p) (answers : HasAnsweredContent before after content reply) where
   number : number_of before.server ≡ number_of first.server
   number = same_number first before stands.since
 
@@ -145,9 +145,9 @@ module _ (first before after : Place) (p : Standing) (content reply : List ℕ) 
 
 -- ---- a row of answers
 
-module _ {S : Type 0} (place : S → Place) where
+module _ {S : Type 0} (place : S → ServingPlace) where
   abbrev Step : S → List ℕ → List ℕ → S → Type 0
-  Step before content reply after = Answers (place before) (place after) content reply
+  Step before content reply after = HasAnsweredContent (place before) (place after) content reply
 
   module _ (old new : Telling) (port : ℕ) (first last : S) (ended : Served) (serves : Serves Step old new port first last ended) where
     -- the same bytes, by another row with these requests and replies

@@ -1,15 +1,15 @@
 -- A run of connections, by one more.
 use Rattle.std.proofs.Common.{◌≡◌, ℕ, ◌-◌, ◌^◌, ◌≤◌, min, List, [], ◌∷◌, ◌++◌, IsTrue, refl, ap, ◌∙◌, subst, arith}
 use Rattle.std.proofs.lemmas.List.{map-append}
-use Rattle.cd_edges.specs.Ports.{Telling}
-use Rattle.cd_edges.proofs.Calls.{called_twice}
-use Rattle.journal_start.specs.declared.start.Header.{Header}
+use Rattle.cloud_server.specs.CdEdges.Ports.{Telling}
+use Rattle.cloud_server.proofs.CdEdges.Calls.{called_twice}
+use Rattle.cloud_server.specs.JournalStart.start.Header.{Header}
 use Rattle.serve_command.specs.Serving.{RepliesOne, ServesOne, standing}
 use Rattle.serve_command.specs.declared.served.Served.{Served}
 use Rattle.serve_command.specs.declared.served.Served.TheVariants as ends
 use Rattle.serve_command.specs.Connection.{EndsWithCause}
 use Rattle.serve_command.specs.Runs.{Connection, Runs, None, More, ServeRun}
-use Rattle.serve_command.specs.Steps.{Moment, OneServed, Goes, Went, held_at}
+use Rattle.serve_command.specs.Steps.{ServingMoment, OneServed, HasServedConnection, HasServedConnections, held_at}
 use Rattle.serve_command.proofs.Passing.{passed_none, passed_more}
 
 module _ {S : Type 0} (step : S → List ℕ → List ℕ → S → Type 0) where
@@ -55,8 +55,8 @@ run_later step old new first last before after all run = runs_later step first b
 
 -- ---- a server over its cloud
 
-pub went_none : (header : Header) (old : Moment) (before : ℕ)
-    → Went header old old before [] before
+pub went_none : (header : Header) (old : ServingMoment) (before : ℕ)
+    → HasServedConnections header old old before [] before
 went_none header old before = record {
   same = refl;
   call = record {
@@ -75,10 +75,10 @@ went_none header old before = record {
   );
 }
 
-module _ (header : Header) (old mid new : Moment) (before count after : ℕ) (all : List Served)
+module _ (header : Header) (old mid new : ServingMoment) (before count after : ℕ) (all : List Served)
     (ended : Served)
-    (went : Went header old mid before all count) (cause : EndsWithCause ended count after) where
-  by_same : Goes header mid new ended → Went header old new before (all ++ ended ∷ []) after
+    (went : HasServedConnections header old mid before all count) (cause : EndsWithCause ended count after) where
+  by_same : HasServedConnection header mid new ended → HasServedConnections header old new before (all ++ ended ∷ []) after
   by_same goes = record {
     same = goes.same ∙ went.same;
     call = called_twice old.clouds mid.clouds new.clouds header.cloud.0 old.total mid.total new.total went.call
@@ -100,6 +100,6 @@ module _ (header : Header) (old mid new : Moment) (before count after : ℕ) (al
   }
 
   -- the next connection
-  pub went_more : old.server.store.header ≡ header → Goes mid.server.store.header mid new ended
-      → Went header old new before (all ++ ended ∷ []) after
-  went_more header_is goes = by_same (subst (λ (h : Header). Goes h mid new ended) (went.same ∙ header_is) goes)
+  pub went_more : old.server.store.header ≡ header → HasServedConnection mid.server.store.header mid new ended
+      → HasServedConnections header old new before (all ++ ended ∷ []) after
+  went_more header_is goes = by_same (subst (λ (h : Header). HasServedConnection h mid new ended) (went.same ∙ header_is) goes)

@@ -3,10 +3,10 @@ use Rattle.std.proofs.Common.{◌≡◌, ℕ, ◌+◌, List, [], ◌∷◌, ◌+
 use Rattle.std.proofs.Common.{◌∙◌, subst, append_assoc, append-nil, arith}
 use Rattle.std.specs.Io.KnownBytes.{Appends}
 use Rattle.std.proofs.lemmas.List.{take-append-drop}
-use Rattle.cd_edges.specs.Causes.{Rose}
+use Rattle.cloud_server.specs.CdEdges.Causes.{Rose}
 use Rattle.serve_command.specs.declared.served.Served.{Served}
 use Rattle.serve_command.specs.Lines.{ready_text, connection_text, connection_texts, serving_text}
-use Rattle.serve_command.specs.Served.{IsWhole, IsCut, IsLeftOut, output_of}
+use Rattle.serve_command.specs.Served.{IsTextWhole, IsSinkCut, IsLeftOut, output_of}
 
 -- ---- bytes
 
@@ -26,7 +26,7 @@ appends_nothing (Some xs) = sym (append-nil xs)
 
 module _ (a b : Option (List ℕ)) (m n : ℕ) where
   -- nothing was written
-  pub whole_none : b ≡ a → n ≡ m → IsWhole (output_of a b m n) []
+  pub whole_none : b ≡ a → n ≡ m → IsTextWhole (output_of a b m n) []
   whole_none same still = record {
     written = subst (λ (o : Option (List ℕ)). Appends a o []) (sym same) (appends_nothing a);
     sink = still;
@@ -34,7 +34,7 @@ module _ (a b : Option (List ℕ)) (m n : ℕ) where
 
   -- the sink failed behind so many bytes of a line
   pub cut_at : (line : List ℕ) (sent : ℕ) → Appends a b (take sent line) → Rose m n
-      → IsCut 4 (output_of a b m n) [] line
+      → IsSinkCut 4 (output_of a b m n) [] line
   cut_at line sent appends rose = record {
     status_is = refl;
     part = take sent line;
@@ -44,15 +44,15 @@ module _ (a b : Option (List ℕ)) (m n : ℕ) where
     sink = rose;
   }
 
-module _ (a b c : Option (List ℕ)) (m n o : ℕ) (front line : List ℕ) (whole : IsWhole (output_of a b m n) front) where
-  pub whole_more : IsWhole (output_of b c n o) line → IsWhole (output_of a c m o) (front ++ line)
+module _ (a b c : Option (List ℕ)) (m n o : ℕ) (front line : List ℕ) (whole : IsTextWhole (output_of a b m n) front) where
+  pub whole_more : IsTextWhole (output_of b c n o) line → IsTextWhole (output_of a c m o) (front ++ line)
   whole_more more = record {
     written = appends_both a b c front line whole.written more.written;
     sink = more.sink
         ∙ whole.sink;
   }
 
-  pub cut_more : IsCut 4 (output_of b c n o) [] line → IsCut 4 (output_of a c m o) front line
+  pub cut_more : IsSinkCut 4 (output_of b c n o) [] line → IsSinkCut 4 (output_of a c m o) front line
   cut_more cut = record {
     status_is = refl;
     part = cut.part;

@@ -1,2 +1,2 @@
 -- What cloud_areas says, for callers.
-pub use Rattle.cloud_areas.specs.Peers
+pub use Rattle.cloud_server.specs.CloudAreas.Peers

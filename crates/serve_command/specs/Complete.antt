@@ -1,29 +1,29 @@
 -- When all connections are served, or memory runs out: a told cloud that stands for a list within the rooms or isn't
 -- begun, and nothing that fails.
 use Rattle.std.specs.Prelude.{◌≡◌, ◌⊎◌, ℕ, ◌-◌, ◌^◌, ◌<◌, IsTrue, List}
-use Rattle.cd_edges.specs.Disk.{reads}
-use Rattle.journal_start.specs.declared.rooms.Rooms.{Rooms}
-use Rattle.user_dedup.specs.declared.command.Command.{Command}
-use Rattle.user_dedup.specs.Spending.{IsWithin}
-use Rattle.cloud_areas.specs.Standing.{StandsFor}
+use Rattle.cloud_server.specs.CdEdges.Disk.{reads}
+use Rattle.cloud_server.specs.JournalStart.rooms.UserRooms.{UserRooms}
+use Rattle.cloud_server.specs.UserDedup.command.Command.{Command}
+use Rattle.cloud_server.specs.UserDedup.Spending.{IsWithin}
+use Rattle.cloud_server.specs.CloudAreas.Standing.{StandsFor}
 use Rattle.cloud_server.specs.Names.{HasNoJournal}
-use Rattle.serve_command.specs.Served.{Call, old_cloud, new_cloud, own_header}
+use Rattle.serve_command.specs.Served.{ServeCall, old_cloud, new_cloud, own_header}
 
 -- the count didn't rise, and isn't at its last value
 abbrev pub IsStill : ℕ → ℕ → Type 0
 IsStill before now = (now ≡ before) × (before < 2 ^ 64 - 1)
 
 -- the areas stand for a list within rooms of theirs
-abbrev pub HasList : Call → Type 0
-HasList call = (rooms : Rooms) × (list : List Command) × StandsFor (reads (old_cloud call).now) (own_header rooms call) list
+abbrev pub HasList : ServeCall → Type 0
+HasList call = (rooms : UserRooms) × (list : List Command) × StandsFor (reads (old_cloud call).now) (own_header rooms call) list
     × IsWithin call.shape rooms list
 
 -- the store isn't begun
-abbrev pub IsNew : Call → Type 0
+abbrev pub IsNew : ServeCall → Type 0
 IsNew call = HasNoJournal (reads (old_cloud call).now)
 
 -- Nothing fails in the call.
-pub record GoesWell (call : Call) : Type 0 where
+pub record IsServeUnhindered (call : ServeCall) : Type 0 where
   pub told : IsTrue (old_cloud call).told
   pub holds : HasList call ⊎ IsNew call
   pub cloud : IsStill (old_cloud call).faults (new_cloud call).faults

@@ -1,8 +1,8 @@
 -- One connection that is served: request frames come, and the frames of the replies go out.
 use Rattle.std.specs.Prelude.{◌≡◌, ◌≢◌, ◌⊎◌, ℕ, ◌^◌, ◌<◌, List, [], ◌∷◌, ◌++◌, length, IsTrue}
-use Rattle.cd_edges.specs.Causes.{Rose}
-use Rattle.frames.specs.Frames.{IsContent, NoneWithin, IsFrame, IsRefused, frame, stream, length_in}
-use Rattle.cd_edges.specs.Ports.{Telling, OthersStay}
+use Rattle.cloud_server.specs.CdEdges.Causes.{Rose}
+use Rattle.ports_link.specs.Frames.Frames.{IsContent, NoneWithin, IsFrame, IsRefused, frame, stream, length_in}
+use Rattle.cloud_server.specs.CdEdges.Ports.{Telling, OthersStay}
 use Rattle.serve_command.specs.declared.served.Served.{Served}
 use Rattle.serve_command.specs.declared.served.Served.TheVariants as ends
 
@@ -14,7 +14,7 @@ pub data Responds {S : Type 0} (step : S → List ℕ → List ℕ → S → Typ
       → Responds step first (requests ++ request ∷ []) (replies ++ reply ∷ []) after
 
 -- These bytes came on a port, and these were sent there. No other port changes.
-pub record Passed (old new : Telling) (number : ℕ) (came went : List ℕ) : Type 0 where
+pub record HasPassedBytes (old new : Telling) (number : ℕ) (came went : List ℕ) : Type 0 where
   pub came_is : (old.port number).to_come ≡ came ++ (new.port number).to_come
   pub went_is : (new.port number).sent ≡ (old.port number).sent ++ went
   pub opened : new.opened ≡ old.opened
@@ -59,7 +59,7 @@ EndsBy ends.Failed came requests replies went to_come =
 pub record HasBytes (old new : Telling) (port : ℕ) (requests replies : List (List ℕ)) (result : Served) : Type 0 where
   pub came : List ℕ
   pub went : List ℕ
-  pub passed : Passed old new port came went
+  pub passed : HasPassedBytes old new port came went
   pub ends : EndsBy result came requests replies went (new.port port).to_come
 
 -- A connection on a port, served from one state of a responder to another. Where the ports tell their bytes, they are as its end says.

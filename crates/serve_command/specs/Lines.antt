@@ -2,7 +2,7 @@
 use Rattle.std.specs.Prelude.{ℕ, ◌+◌, List, [], ◌∷◌, ◌++◌, codes, decimal}
 use Rattle.serve_command.specs.declared.served.Served.{Served}
 use Rattle.serve_command.specs.declared.served.Served.TheVariants as ends
-use Rattle.transcript.specs.Transcript.{ended}
+use Rattle.ports_link.specs.Transcript.Transcript.{ended}
 
 -- how a connection ended
 abbrev pub end_word : Served → List ℕ

@@ -1,6 +1,6 @@
 -- Connections that are served one after another.
 use Rattle.std.specs.Prelude.{◌≡◌, ◌⊎◌, ℕ, ◌+◌, ◌<◌, ◌≤◌, List, [], ◌∷◌, ◌++◌, length, map, IsTrue}
-use Rattle.cd_edges.specs.Ports.{Port, Telling}
+use Rattle.cloud_server.specs.CdEdges.Ports.{Port, Telling}
 use Rattle.serve_command.specs.declared.served.Served.{Served}
 use Rattle.serve_command.specs.Connection.{Responds, EndsBy, EndsWithCause}
 
@@ -24,7 +24,7 @@ pub data Runs {S : Type 0} (step : S → List ℕ → List ℕ → S → Type 0)
 -- These bytes came on a connection's port: they are the first of what was to come there before it was open, and the
 -- rest is still to come. Those that were sent there are what is told as sent. They are as its end says of its requests
 -- and replies.
-pub record HasBytes (old now : Port) (connection : Connection) : Type 0 where
+pub record HasConnectionBytes (old now : Port) (connection : Connection) : Type 0 where
   pub came : List ℕ
   pub came_is : old.to_come ≡ came ++ now.to_come
   pub ends : EndsBy connection.ended came connection.requests connection.replies now.sent now.to_come
@@ -33,7 +33,7 @@ pub record HasBytes (old now : Port) (connection : Connection) : Type 0 where
 abbrev pub HaveBytes : Telling → Telling → ℕ → List Connection → Type 0
 HaveBytes old now number [] = Unit {0}
 HaveBytes old now number (connection ∷ more) =
-    HasBytes (old.port number) (now.port number) connection × HaveBytes old now (number + 1) more
+    HasConnectionBytes (old.port number) (now.port number) connection × HaveBytes old now (number + 1) more
 
 -- What the ports tell in the end: the next ports were opened, one for each connection in order, with its bytes. Each
 -- other port is as it was.

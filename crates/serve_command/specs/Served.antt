@@ -2,61 +2,61 @@
 use Rattle.std.specs.Prelude.{◌≡◌, ◌⊎◌, ℕ, ◌<◌, ◌≤◌, true, IsTrue, List, [], ◌∷◌, ◌++◌, length, Option, Ok}
 use Rattle.std.specs.Io.KnownBytes.{Appends}
 use Rattle.std.specs.List.{Contains}
-use Rattle.cd_base.specs.declared.ids.CloudNo.{CloudNo}
-use Rattle.cd_base.specs.declared.shape.Shape.{Shape}
-use Rattle.cd_edges.specs.Causes.{Rose}
-use Rattle.cd_edges.specs.declared.area.Area.TheVariants.{Journal}
-use Rattle.cd_edges.specs.Disk.{Cloud, reads}
-use Rattle.cd_edges.specs.Ports.{Telling}
-use Rattle.cd_edges.specs.Shelf.{HasFailed, KeepsCounts, Stays}
-use Rattle.half_journal.specs.declared.errors.OpenErr.{OpenErr}
-use Rattle.half_journal.specs.declared.errors.OpenErr.TheVariants as errors
-use Rattle.journal_start.specs.declared.rooms.Rooms.{Rooms}
-use Rattle.journal_start.specs.declared.start.Header.{Header}
-use Rattle.journal_start.specs.declared.start.Start.{Start}
-use Rattle.journal_start.specs.Ranges.{AreRooms, usual_rooms}
-use Rattle.journal_halves.specs.Beginnings.{IsUnbegun}
-use Rattle.journal_halves.specs.Findings.{IsFoundDamage}
-use Rattle.journal_halves.specs.Halves.{IsCurrent}
-use Rattle.half_journal.specs.Openings.{OnFault}
-use Rattle.user_dedup.specs.declared.command.Command.{Command}
-use Rattle.user_dedup.specs.Exec.{Peer, MaySettleAs}
+use Rattle.ports_link.specs.CdBase.ids.CloudNo.{CloudNo}
+use Rattle.ports_link.specs.CdBase.shape.Shape.{Shape}
+use Rattle.cloud_server.specs.CdEdges.Causes.{Rose}
+use Rattle.cloud_server.specs.CdEdges.area.Area.TheVariants.{Journal}
+use Rattle.cloud_server.specs.CdEdges.Disk.{Cloud, reads}
+use Rattle.cloud_server.specs.CdEdges.Ports.{Telling}
+use Rattle.cloud_server.specs.CdEdges.Shelf.{HasFailed, KeepsCounts, Stays}
+use Rattle.cloud_server.specs.HalfJournal.errors.OpenErr.{OpenErr}
+use Rattle.cloud_server.specs.HalfJournal.errors.OpenErr.TheVariants as errors
+use Rattle.cloud_server.specs.JournalStart.rooms.UserRooms.{UserRooms}
+use Rattle.cloud_server.specs.JournalStart.start.Header.{Header}
+use Rattle.cloud_server.specs.JournalStart.start.Start.{Start}
+use Rattle.cloud_server.specs.JournalStart.Ranges.{AreRooms, usual_rooms}
+use Rattle.cloud_server.specs.JournalHalves.Beginnings.{IsUnbegun}
+use Rattle.cloud_server.specs.JournalHalves.Findings.{IsFoundDamage}
+use Rattle.cloud_server.specs.JournalHalves.Halves.{IsCurrent}
+use Rattle.cloud_server.specs.HalfJournal.Openings.{OnFault}
+use Rattle.cloud_server.specs.UserDedup.command.Command.{Command}
+use Rattle.cloud_server.specs.UserDedup.Exec.{Peer, MaySettleAs}
 use Rattle.cloud_server.specs.CloudMemory.Rooms.{memory_of}
 use Rattle.cloud_server.specs.StoreOpening.Exact.{Opens}
 use Rattle.cloud_server.specs.StoreOpening.Spared.{IsOkOrFault, Spares}
 use Rattle.cloud_server.specs.Openings.{OpensTo, OtherStoreIs}
-use Rattle.user_dedup.specs.Spending.{IsWithin}
-use Rattle.cloud_areas.specs.Peers.{ImagesNow, ImagesSince, StandsAs}
-use Rattle.cloud_areas.specs.Standing.{StandsFor}
-use Rattle.serve_command.specs.Serving.{Held, RepliesOne, ServesOne, standing}
+use Rattle.cloud_server.specs.UserDedup.Spending.{IsWithin}
+use Rattle.cloud_server.specs.CloudAreas.Peers.{ImagesNow, ImagesSince, StandsAs}
+use Rattle.cloud_server.specs.CloudAreas.Standing.{StandsFor}
+use Rattle.serve_command.specs.Serving.{HeldStore, RepliesOne, ServesOne, standing}
 use Rattle.serve_command.specs.declared.served.Served.{Served}
 use Rattle.cloud_server.specs.Names.{header_of}
 use Rattle.cloud_server.specs.OpenStore.Store.{IsOpen}
 use Rattle.cloud_server.specs.Serving.{an_error, settled_with, some_commands}
-use Rattle.transcript.specs.Endings.{ending_text}
-use Rattle.transcript.specs.declared.ending.Ending.TheVariants as endings
+use Rattle.ports_link.specs.Transcript.Endings.{ending_text}
+use Rattle.ports_link.specs.Transcript.ending.Ending.TheVariants as endings
 use Rattle.serve_command.specs.Lines.{ready_text, connection_text, serving_text}
 use Rattle.serve_command.specs.Runs.{ServeRun}
 
 -- the sink: its bytes and its count of faults, before and after
-pub record Output : Type 0 where
+pub record ServeOutput : Type 0 where
   pub written_before : Option (List ℕ)
   pub written_after : Option (List ℕ)
   pub faults_before : ℕ
   pub faults_after : ℕ
 
-abbrev pub output_of : Option (List ℕ) → Option (List ℕ) → ℕ → ℕ → Output
+abbrev pub output_of : Option (List ℕ) → Option (List ℕ) → ℕ → ℕ → ServeOutput
 output_of before after faults now =
     record { written_before = before; written_after = after; faults_before = faults; faults_after = now }
 
 -- what is served, and what the outside tells before and after: the sink, the shelf's clouds with their count of faults
 -- in all, and the ports with theirs
-pub record Call : Type 0 where
+pub record ServeCall : Type 0 where
   pub shape : Shape
   pub cloud : CloudNo
   pub address : List ℕ
   pub count : ℕ
-  pub out : Output
+  pub out : ServeOutput
   pub old : ℕ → Cloud
   pub new : ℕ → Cloud
   pub total_before : ℕ
@@ -67,20 +67,20 @@ pub record Call : Type 0 where
   pub ports_after : ℕ
 
 -- the served cloud, before and after
-abbrev pub old_cloud : Call → Cloud
+abbrev pub old_cloud : ServeCall → Cloud
 old_cloud call = call.old call.cloud.0
 
-abbrev pub new_cloud : Call → Cloud
+abbrev pub new_cloud : ServeCall → Cloud
 new_cloud call = call.new call.cloud.0
 
 -- the header of the served cloud's journal in these rooms
-abbrev pub own_header : Rooms → Call → Header
+abbrev pub own_header : UserRooms → ServeCall → Header
 own_header rooms call = header_of call.shape rooms call.cloud.0
 
 -- ---- no memory
 
 -- Memory ran out before anything was done but a read of the journal.
-pub record IsUnmade (status : ℕ) (call : Call) : Type 0 where
+pub record IsUnmade (status : ℕ) (call : ServeCall) : Type 0 where
   pub status_is : status ≡ 6
   pub written : call.out.written_after ≡ call.out.written_before
   pub sink : call.out.faults_after ≡ call.out.faults_before
@@ -94,7 +94,7 @@ pub record IsUnmade (status : ℕ) (call : Call) : Type 0 where
 -- The opening ended with this error. On a told cloud it is what the bytes of the areas come to, record by record,
 -- unless a device call failed; the areas are spared, whatever they hold; and each image since then stands for one of
 -- the lists that the images stood for.
-pub record Refuses (rooms : Rooms) (call : Call) (error : OpenErr) : Type 0 where
+pub record IsOpeningRefused (rooms : UserRooms) (call : ServeCall) (error : OpenErr) : Type 0 where
   pub exact : IsTrue (old_cloud call).told → OnFault (an_error error) (Unit {0})
       (OpensTo (own_header rooms call) true (reads (old_cloud call).now) (an_error error))
   pub other_store : IsTrue (old_cloud call).told
@@ -120,12 +120,12 @@ Reports cloud (errors.OtherStore found asked at) status line =
 Reports cloud (errors.NotBegun len) status line = ⊥
 
 -- All of a text was written.
-pub record IsWhole (out : Output) (text : List ℕ) : Type 0 where
+pub record IsTextWhole (out : ServeOutput) (text : List ℕ) : Type 0 where
   pub written : Appends out.written_before out.written_after text
   pub sink : out.faults_after ≡ out.faults_before
 
 -- The sink failed in a line, behind what stands before it.
-pub record IsCut (status : ℕ) (out : Output) (front line : List ℕ) : Type 0 where
+pub record IsSinkCut (status : ℕ) (out : ServeOutput) (front line : List ℕ) : Type 0 where
   pub status_is : status ≡ 4
   pub part : List ℕ
   pub rest : List ℕ
@@ -134,23 +134,24 @@ pub record IsCut (status : ℕ) (out : Output) (front line : List ℕ) : Type 0 
   pub sink : Rose out.faults_before out.faults_after
 
 -- Memory ran out for a line, and nothing of it was written.
-pub record IsLeftOut (status : ℕ) (out : Output) (front : List ℕ) : Type 0 where
+pub record IsLeftOut (status : ℕ) (out : ServeOutput) (front : List ℕ) : Type 0 where
   pub status_is : status ≡ 6
-  pub whole : IsWhole out front
+  pub whole : IsTextWhole out front
 
 -- What is written of the error: its last line, whole with its status, or a front of it. No port was touched.
-pub record IsReported (status : ℕ) (call : Call) (error : OpenErr) : Type 0 where
+pub record IsReported (status : ℕ) (call : ServeCall) (error : OpenErr) : Type 0 where
   pub due : ℕ
   pub line : List ℕ
   pub reports : Reports call.cloud error due line
-  pub ends : ((status ≡ due) × IsWhole call.out line) ⊎ (IsCut status call.out [] line ⊎ IsLeftOut status call.out [])
+  pub ends : ((status ≡ due) × IsTextWhole call.out line)
+      ⊎ (IsSinkCut status call.out [] line ⊎ IsLeftOut status call.out [])
   pub tells : call.tells_after ≡ call.tells_before
   pub ports : call.ports_after ≡ call.ports_before
 
 -- The cloud wasn't opened.
-pub record IsUnopened (rooms : Rooms) (status : ℕ) (call : Call) : Type 0 where
+pub record IsUnopenedToServe (rooms : UserRooms) (status : ℕ) (call : ServeCall) : Type 0 where
   pub error : OpenErr
-  pub refuses : Refuses rooms call error
+  pub refuses : IsOpeningRefused rooms call error
   pub reported : IsReported status call error
 
 -- ---- connections
@@ -163,42 +164,43 @@ IsLastLine address all front line =
     × (line ≡ connection_text (length all) last))
 
 -- As many connections as were asked for were served, and all lines are written.
-pub record IsDone (status : ℕ) (address : List ℕ) (count : ℕ) (out : Output) (all : List Served) (after now : ℕ)
+pub record IsDone (status : ℕ) (address : List ℕ) (count : ℕ) (out : ServeOutput) (all : List Served) (after now : ℕ)
     : Type 0 where
   pub status_is : status ≡ 0
   pub many : length all ≡ count
-  pub whole : IsWhole out (serving_text address all)
+  pub whole : IsTextWhole out (serving_text address all)
   pub ports : now ≡ after
 
 -- The line that was due wasn't written whole, and nothing was done behind it.
-pub record IsStopped (status : ℕ) (address : List ℕ) (count : ℕ) (out : Output) (all : List Served) (after now : ℕ)
+pub record IsStopped (status : ℕ) (address : List ℕ) (count : ℕ) (out : ServeOutput) (all : List Served) (after now : ℕ)
     : Type 0 where
   pub few : length all ≤ count
   pub front : List ℕ
   pub line : List ℕ
   pub last : IsLastLine address all front line
-  pub ends : IsCut status out front line ⊎ IsLeftOut status out front
+  pub ends : IsSinkCut status out front line ⊎ IsLeftOut status out front
   pub ports : now ≡ after
 
 -- The ports failed, and no further connection was accepted; or they failed before there was any, and no line is
 -- written.
-pub record IsRefused (status : ℕ) (address : List ℕ) (count : ℕ) (out : Output) (all : List Served) (after now : ℕ)
+pub record IsConnectionRefused (status : ℕ) (address : List ℕ) (count : ℕ) (out : ServeOutput) (all : List Served)
+    (after now : ℕ)
     : Type 0 where
   pub status_is : status ≡ 9
   pub few : length all < count
-  pub whole : IsWhole out (serving_text address all) ⊎ ((all ≡ []) × IsWhole out [])
+  pub whole : IsTextWhole out (serving_text address all) ⊎ ((all ≡ []) × IsTextWhole out [])
   pub ports : Rose after now
 
 -- How the serving ended behind these connections, the last of which left this count of the ports' faults: by what was
 -- written, and by the count now.
-abbrev pub Ends : ℕ → List ℕ → ℕ → Output → List Served → ℕ → ℕ → Type 0
+abbrev pub Ends : ℕ → List ℕ → ℕ → ServeOutput → List Served → ℕ → ℕ → Type 0
 Ends status address count out all after now = IsDone status address count out all after now
-    ⊎ (IsStopped status address count out all after now ⊎ IsRefused status address count out all after now)
+    ⊎ (IsStopped status address count out all after now ⊎ IsConnectionRefused status address count out all after now)
 
 -- What the opening left, of an open server: no count rose. Over a told cloud its memory is what the bytes of the areas
 -- came to, record by record; they are spared; and each image since stands for one of the lists that the images stood
 -- for.
-pub record IsLeftOpen (rooms : Rooms) (call : Call) (opened : Held) : Type 0 where
+pub record IsLeftOpen (rooms : UserRooms) (call : ServeCall) (opened : HeldStore) : Type 0 where
   pub header : opened.store.header ≡ own_header rooms call
   pub at_end : IsOpen opened.store
   pub counts : KeepsCounts (old_cloud call) opened.cloud call.total_before opened.total
@@ -214,7 +216,7 @@ pub record IsLeftOpen (rooms : Rooms) (call : Call) (opened : Held) : Type 0 whe
 -- first connection begins so. Each image between two requests stands for a list that the cloud has there, or for that
 -- list with the command of the request that is answered next; and each image now stands for the list that the last
 -- connection left, or for it with its pending command, all within the rooms.
-pub record HasServed (rooms : Rooms) (call : Call) (opened : Cloud) (all : List Served) (after : ℕ)
+pub record HasServed (rooms : UserRooms) (call : ServeCall) (opened : Cloud) (all : List Served) (after : ℕ)
     (list : List Command)
     : Type 0 where
   pub begins : StandsAs opened (own_header rooms call) (settled_with list (old_cloud call))
@@ -227,12 +229,12 @@ pub record HasServed (rooms : Rooms) (call : Call) (opened : Cloud) (all : List 
 
 -- The cloud was opened, and connections that ended so were served, from what the opening left to what is held now: each
 -- request was replied to as a server does whatever the cloud holds, and over a list by its rules.
-pub record IsOpened (rooms : Rooms) (status : ℕ) (call : Call) : Type 0 where
-  pub opened : Held
+pub record IsOpenedToServe (rooms : UserRooms) (status : ℕ) (call : ServeCall) : Type 0 where
+  pub opened : HeldStore
   pub opens : IsLeftOpen rooms call opened
   pub all : List Served
   pub after : ℕ
-  pub last : Held
+  pub last : HeldStore
   pub replied : ServeRun RepliesOne call.tells_before call.tells_after opened call.ports_before all last after
   pub cloud : last.cloud ≡ new_cloud call
   pub total : last.total ≡ call.total_after
@@ -242,14 +244,14 @@ pub record IsOpened (rooms : Rooms) (status : ℕ) (call : Call) : Type 0 where
   pub ends : Ends status call.address call.count call.out all after call.ports_after
   pub told : call.tells_after.told ≡ call.tells_before.told
 
-abbrev pub IsUnopenedOrServed : Rooms → ℕ → Call → Type 0
-IsUnopenedOrServed rooms status call = IsUnopened rooms status call ⊎ IsOpened rooms status call
+abbrev pub IsUnopenedOrServed : UserRooms → ℕ → ServeCall → Type 0
+IsUnopenedOrServed rooms status call = IsUnopenedToServe rooms status call ⊎ IsOpenedToServe rooms status call
 
 -- ---- the rooms
 
 -- The rooms that a journal of these bytes has: those of its current half's start, and the usual ones where no half is
 -- begun.
-abbrev pub HasRooms : List ℕ → Rooms → Type 0
+abbrev pub HasRooms : List ℕ → UserRooms → Type 0
 HasRooms journal rooms = (IsUnbegun journal × (rooms ≡ usual_rooms))
     ⊎ ((half : ℕ) × (start : Start) × IsCurrent journal half start × (rooms ≡ start.header.rooms))
 
@@ -261,7 +263,7 @@ IsUnreadable cloud (errors.OtherStore found asked at) = ⊥
 IsUnreadable cloud (errors.NotBegun len) = ⊥
 
 -- No rooms were found. Nothing of the cloud's areas changed.
-pub record IsUnfound (status : ℕ) (call : Call) : Type 0 where
+pub record IsUnfound (status : ℕ) (call : ServeCall) : Type 0 where
   pub error : OpenErr
   pub unreadable : IsUnreadable (old_cloud call) error
   pub stays : Stays (old_cloud call) (new_cloud call)
@@ -271,12 +273,12 @@ pub record IsUnfound (status : ℕ) (call : Call) : Type 0 where
   pub reported : IsReported status call error
 
 -- The cloud was to be opened with allowed rooms, which are those that a told cloud's journal has.
-pub record IsInRooms (status : ℕ) (call : Call) : Type 0 where
-  pub rooms : Rooms
+pub record IsInRooms (status : ℕ) (call : ServeCall) : Type 0 where
+  pub rooms : UserRooms
   pub allowed : AreRooms rooms
   pub found : IsTrue (old_cloud call).told → HasRooms ((old_cloud call).now Journal).read rooms
   pub served : IsUnopenedOrServed rooms status call
 
 -- The whole promise.
-abbrev pub IsServed : ℕ → Call → Type 0
+abbrev pub IsServed : ℕ → ServeCall → Type 0
 IsServed status call = IsUnmade status call ⊎ (IsUnfound status call ⊎ IsInRooms status call)

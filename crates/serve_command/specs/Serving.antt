@@ -1,28 +1,28 @@
 -- What requests on a connection do to a cloud.
 use Rattle.std.specs.Prelude.{◌≡◌, ◌⊎◌, ℕ, List, None, Ok, Err, true, IsTrue}
-use Rattle.cd_base.specs.declared.ids.Fp.{Fp}
-use Rattle.cd_base.specs.declared.shape.Shape.{Shape}
-use Rattle.cd_edges.specs.Disk.{Cloud}
-use Rattle.cd_edges.specs.Shelf.{IsCall}
-use Rattle.cd_edges.specs.Shelf.{Stays as StaysIn}
-use Rattle.journal_start.specs.declared.start.Header.{Header}
-use Rattle.messages.specs.declared.request.Request.{Request}
-use Rattle.messages.specs.declared.reply.Reply.{Reply}
-use Rattle.messages.specs.declared.reply.Reply.TheVariants as replies
-use Rattle.messages.specs.Replies.{IsReply, reply_bytes}
-use Rattle.user_dedup.specs.declared.command.Command.{Command}
-use Rattle.user_dedup.specs.Exec.{Peer, Exec}
-use Rattle.user_dedup.specs.Requests.{asked_at}
-use Rattle.user_dedup.specs.Served.{served_by}
-use Rattle.cloud_areas.specs.Peers.{ImagesSince, MayBecome, StandsAs}
+use Rattle.ports_link.specs.CdBase.ids.Fp.{Fp}
+use Rattle.ports_link.specs.CdBase.shape.Shape.{Shape}
+use Rattle.cloud_server.specs.CdEdges.Disk.{Cloud}
+use Rattle.cloud_server.specs.CdEdges.Shelf.{IsCall}
+use Rattle.cloud_server.specs.CdEdges.Shelf.{Stays as StaysIn}
+use Rattle.cloud_server.specs.JournalStart.start.Header.{Header}
+use Rattle.cloud_server.specs.Messages.request.Request.{Request}
+use Rattle.cloud_server.specs.Messages.reply.Reply.{Reply}
+use Rattle.cloud_server.specs.Messages.reply.Reply.TheVariants as replies
+use Rattle.cloud_server.specs.Messages.Replies.{IsReply, reply_bytes}
+use Rattle.cloud_server.specs.UserDedup.command.Command.{Command}
+use Rattle.cloud_server.specs.UserDedup.Exec.{Peer, Exec}
+use Rattle.cloud_server.specs.UserDedup.Requests.{asked_at}
+use Rattle.cloud_server.specs.UserDedup.Served.{served_by}
+use Rattle.cloud_server.specs.CloudAreas.Peers.{ImagesSince, MayBecome, StandsAs}
 use Rattle.cloud_server.specs.CloudMemory.Rooms.{memory_of}
 use Rattle.cloud_server.specs.OpenStore.store.OpenStore.{OpenStore}
 use Rattle.cloud_server.specs.OpenStore.Store.{IsOpen, ServesSome}
 use Rattle.cloud_server.specs.ServerCommands.Leaving.{IsFound, LeavesAll}
 use Rattle.cloud_server.specs.Serving.{IsServing, ExecutesAs, number_of, server_serves}
-use Rattle.cloud_server.specs.Serving.{Answered, ChangesBehind, EntersBy, OpensFirst, Refused}
+use Rattle.cloud_server.specs.Serving.{Answered, ChangesBehind, EntersBy, OpensFirst, IsUnopenedReply}
 use Rattle.cloud_server.specs.declared.server.Server.{Server}
-use Rattle.server_requests.specs.Asking.{IsForMemory}
+use Rattle.cloud_server.specs.ServerRequests.Asking.{IsForMemory}
 
 -- The content asks nothing, and is answered by the first place that is wrong.
 abbrev pub IsMalformed : Shape → List ℕ → List ℕ → Type 0
@@ -59,16 +59,16 @@ ServesOne header p content reply q =
 -- ---- whatever the cloud holds
 
 -- a server's store, its cloud, and the shelf's count of faults in all
-pub record Held : Type 0 where
+pub record HeldStore : Type 0 where
   pub store : OpenStore
   pub cloud : Cloud
   pub total : ℕ
 
-abbrev pub held_of : OpenStore → Cloud → ℕ → Held
+abbrev pub held_of : OpenStore → Cloud → ℕ → HeldStore
 held_of store cloud total = record { store = store; cloud = cloud; total = total }
 
 -- What a request whose reply has this content does, whatever the cloud holds.
-pub record RepliesTo (before after : Held) (request : Request) (reply : List ℕ) : Type 0 where
+pub record RepliesTo (before after : HeldStore) (request : Request) (reply : List ℕ) : Type 0 where
   pub same : after.store.header ≡ before.store.header
   pub told : after.cloud.told ≡ before.cloud.told
   -- It is a reply that some server gives, and never that memory ran out. Fault comes only where the cloud's count rose and
@@ -77,7 +77,7 @@ pub record RepliesTo (before after : Held) (request : Request) (reply : List ℕ
       before.total after.total reply
   -- Behind it the server is open, but for Fault and the error of an opening. An open server never answers Damaged.
   pub refusals : IsOpen after.store
-      ⊎ ((reply ≡ reply_bytes replies.Fault) ⊎ Refused before.store before.cloud after.cloud reply)
+      ⊎ ((reply ≡ reply_bytes replies.Fault) ⊎ IsUnopenedReply before.store before.cloud after.cloud reply)
   pub undamaged : (at byte : ℕ) → IsOpen before.store → IsReply reply (replies.Damaged at byte) → ⊥
   -- Rotten names what lies where the memory has it.
   pub rotten : (named found : Fp) → IsOpen before.store → IsReply reply (replies.Rotten named found)
@@ -100,10 +100,10 @@ pub record RepliesTo (before after : Held) (request : Request) (reply : List ℕ
   -- A closed server opens a told cloud first, or its reply is the error of the opening, and the areas are spared.
   pub first : IsTrue before.cloud.told → ¬ (IsOpen before.store)
       → OpensFirst before.store after.store before.cloud after.cloud request reply
-      ⊎ Refused before.store before.cloud after.cloud reply
+      ⊎ IsUnopenedReply before.store before.cloud after.cloud reply
 
 -- The content is a request that is replied to so, or it asks nothing and changes nothing.
-abbrev pub RepliesOne : Held → List ℕ → List ℕ → Held → Type 0
+abbrev pub RepliesOne : HeldStore → List ℕ → List ℕ → HeldStore → Type 0
 RepliesOne before content reply after =
     ((r : Request) × (asked_at before.store.header.shape content ≡ Ok r) × RepliesTo before after r reply)
     ⊎ (IsMalformed before.store.header.shape content reply × (after ≡ before))
@@ -111,16 +111,16 @@ RepliesOne before content reply after =
 -- ---- a server
 
 -- a server, and the clouds of its shelf with the count of faults in all
-pub record Place : Type 0 where
+pub record ServingPlace : Type 0 where
   pub server : Server
   pub clouds : ℕ → Cloud
   pub faults : ℕ
 
-abbrev pub place_of : Server → (ℕ → Cloud) → ℕ → Place
+abbrev pub place_of : Server → (ℕ → Cloud) → ℕ → ServingPlace
 place_of server clouds faults = record { server = server; clouds = clouds; faults = faults }
 
 -- What the server's answer to a content does: on a cloud that stands as a peer, and whatever it holds.
-pub record Answers (before after : Place) (content reply : List ℕ) : Type 0 where
+pub record HasAnsweredContent (before after : ServingPlace) (content reply : List ℕ) : Type 0 where
   pub same : after.server.store.header ≡ before.server.store.header
   pub exec : (p : Peer) (r : Request) → IsTrue (before.clouds (number_of before.server)).told
       → IsServing before.server (before.clouds (number_of before.server)) p

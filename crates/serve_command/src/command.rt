@@ -1,24 +1,21 @@
 //! Serving a cloud.
 
 ghost use Rattle.std.specs.Prelude.{◌≡◌, ◌⊎◌, ◌<◌};
-ghost use Rattle.cd_edges.specs.Shelf.{IsCall};
+ghost use Rattle.cloud_server.specs.CdEdges.Shelf.{IsCall};
 ghost use Rattle.cloud_server.specs.Names.{header_of};
-ghost use Rattle.serve_command.specs.Complete.{GoesWell};
+ghost use Rattle.serve_command.specs.Complete.{IsServeUnhindered};
 ghost use Rattle.serve_command.specs.Served.{IsServed, IsUnmade, IsUnopenedOrServed, output_of};
 ghost use Rattle.serve_command.specs.Steps.{IsUnmadeOrServed};
-ghost use Rattle.journal_start.specs.Ranges.{AreRooms};
+ghost use Rattle.cloud_server.specs.JournalStart.Ranges.{AreRooms};
 
 use crate::connections::serve_all;
 use crate::desk::Desk;
 use crate::finding::rooms_of;
 use crate::refusal::refuse;
 use crate::stop::status_of;
-use cd_base::{CloudNo, NoMemory, Shape};
-use cd_edges::{Ports, Shelf, Sink};
-use cloud_areas::laws::law_of_headers;
 use cloud_server::laws::law_of_no_commands;
-use journal_halves::WINDOW;
-use journal_start::Rooms;
+use cloud_server::{Ports, Shelf, Sink, UserRooms, WINDOW, law_of_headers};
+use ports_link::{CloudNo, NoMemory, Shape};
 use std::alloc::{AllocError, Global};
 
 // Opens the cloud of a desk, and serves it. It answers the status.
@@ -67,7 +64,7 @@ fn serve_in<K: Sink, V: Shelf, P: Ports>(
     alloc: Global,
     shape: Shape,
     cloud: CloudNo,
-    rooms: Rooms,
+    rooms: UserRooms,
     address: &str,
     count: u32,
     sink: &mut K,
@@ -161,7 +158,7 @@ pub fn serve<K: Sink, V: Shelf, P: Ports>(
     }) }
     ensures call { IsCall (V.cloud_at shelf.old) (V.cloud_at shelf.new) cloud.0
         (V.faults shelf.old) (V.faults shelf.new) }
-    ensures complete { GoesWell (record {
+    ensures complete { IsServeUnhindered (record {
       shape = shape;
       cloud = cloud;
       address = address.now;

@@ -1,17 +1,16 @@
 //! One connection to a cloud's server.
 
 ghost use Rattle.std.specs.Prelude.{◌≡◌, IsTrue};
-ghost use Rattle.cd_edges.specs.Shelf.{IsCall};
-ghost use Rattle.user_dedup.specs.Exec.{Peer};
+ghost use Rattle.cloud_server.specs.CdEdges.Shelf.{IsCall};
+ghost use Rattle.cloud_server.specs.UserDedup.Exec.{Peer};
 ghost use Rattle.cloud_server.specs.Serving.{IsServing, number_of};
 ghost use Rattle.serve_command.specs.Connection.{EndsWithCause, Serves};
 ghost use Rattle.serve_command.specs.Serving.{RepliesOne, ServesOne, held_of, place_of, standing};
 
 use crate::responder::CloudResponder;
 use crate::{Served, serve_frames};
-use cd_edges::{Ports, Shelf};
-use cloud_server::Server;
-use frames::{Framer, ReplyBuf};
+use cloud_server::{Ports, Server, Shelf};
+use ports_link::{Framer, ReplyBuf};
 
 // Serves the connection, and says what the server and its shelf did as the responder that they are.
 fn serve_responder<V: Shelf, P: Ports>(

@@ -1,16 +1,16 @@
 //! Connections, one after another.
 
 ghost use Rattle.std.specs.Prelude.{◌≡◌, ◌<◌, IfOk, OnErr};
-ghost use Rattle.cd_edges.specs.Causes.{Rose};
+ghost use Rattle.cloud_server.specs.CdEdges.Causes.{Rose};
 ghost use Rattle.serve_command.specs.Connection.{EndsWithCause};
 ghost use Rattle.serve_command.specs.Served.{output_of};
-ghost use Rattle.serve_command.specs.Steps.{Goes, ServesAll, moment_of, status_by};
+ghost use Rattle.serve_command.specs.Steps.{HasServedConnection, ServesAll, moment_of, status_by};
 
 use crate::desk::Desk;
 use crate::lines::{write_connection, write_ready};
-use crate::stop::Stop;
+use crate::stop::ServingStop;
 use crate::{Served, serve_connection};
-use cd_edges::{Failed, Ports, Shelf, Sink};
+use cloud_server::{Failed, Ports, Shelf, Sink};
 use std::alloc::Global;
 
 // Waits for the next connection, serves it, and ends it. It says how the connection ended.
@@ -19,7 +19,7 @@ fn serve_next<V: Shelf, P: Ports>(
     shelf: &mut V,
     ports: &mut P,
 ) -> Result<Served, Failed>
-    ensures goes { IfOk result (Goes desk.old.server.store.header
+    ensures goes { IfOk result (HasServedConnection desk.old.server.store.header
         (moment_of desk.old.server (V.cloud_at shelf.old) (V.faults shelf.old) (P.tells ports.old))
         (moment_of desk.new.server (V.cloud_at shelf.new) (V.faults shelf.new) (P.tells ports.new))) }
     ensures cause { IfOk result (λ ended. EndsWithCause ended (P.faults ports.old) (P.faults ports.new)) }
@@ -55,7 +55,7 @@ pub fn serve_all<K: Sink, V: Shelf, P: Ports>(
     sink: &mut K,
     shelf: &mut V,
     ports: &mut P,
-) -> Result<(), Stop>
+) -> Result<(), ServingStop>
     requires { 0 < count }
     ensures { ServesAll (status_by result) desk.old.server.store.header
         (moment_of desk.old.server (V.cloud_at shelf.old) (V.faults shelf.old) (P.tells ports.old))
@@ -66,7 +66,7 @@ pub fn serve_all<K: Sink, V: Shelf, P: Ports>(
 {
     match ports.listen(address) {
         Ok(()) => {}
-        Err(Failed) => return Err(Stop::PortsFault),
+        Err(Failed) => return Err(ServingStop::PortsFault),
     }
     match write_ready(alloc, address, sink) {
         Ok(()) => {}
@@ -75,7 +75,7 @@ pub fn serve_all<K: Sink, V: Shelf, P: Ports>(
     for number in 0..count {
         let served = match serve_next(desk, shelf, ports) {
             Ok(served) => served,
-            Err(Failed) => return Err(Stop::PortsFault),
+            Err(Failed) => return Err(ServingStop::PortsFault),
         };
         match write_connection(alloc, number + 1, served, sink) {
             Ok(()) => {}

@@ -2,13 +2,11 @@
 
 ghost use Rattle.std.specs.Prelude.{◌≡◌, ◌<◌, IfOk};
 ghost use Rattle.cloud_server.specs.Names.{header_of};
-ghost use Rattle.journal_start.specs.Ranges.{AreRooms};
+ghost use Rattle.cloud_server.specs.JournalStart.Ranges.{AreRooms};
 ghost use Rattle.cloud_server.specs.OpenStore.Store.{IsOpen};
 
-use cd_base::{CloudNo, NoMemory, Shape};
-use cloud_server::Server;
-use frames::{Framer, ReplyBuf};
-use journal_start::Rooms;
+use cloud_server::{Server, UserRooms};
+use ports_link::{CloudNo, Framer, NoMemory, ReplyBuf, Shape};
 use std::alloc::Global;
 
 /// A server and its buffers. They are made before the cloud is opened, so that no connection waits for memory.
@@ -24,7 +22,12 @@ pub struct Desk {
 
 impl Desk {
     /// A closed server of the cloud of a store of this shape, in these rooms. The only error is want of memory.
-    pub fn make(alloc: Global, shape: Shape, cloud: CloudNo, rooms: Rooms) -> Result<Desk, NoMemory>
+    pub fn make(
+        alloc: Global,
+        shape: Shape,
+        cloud: CloudNo,
+        rooms: UserRooms,
+    ) -> Result<Desk, NoMemory>
         requires cloud { cloud.0 < shape.n }
         requires rooms { AreRooms rooms }
         ensures of { IfOk result (λ desk. desk.server.store.header ≡ header_of shape rooms cloud.0) }

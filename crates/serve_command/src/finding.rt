@@ -1,18 +1,15 @@
 //! The rooms of a cloud.
 
 ghost use Rattle.std.specs.Prelude.{◌≡◌, length, IsTrue, IsErr, IfOk, IfErr, Ok, Err};
-ghost use Rattle.cd_edges.specs.declared.area.Area.{Area};
-ghost use Rattle.cd_edges.specs.Shelf.{IsCall, HasFailed, KeepsCounts, Stays};
-ghost use Rattle.half_journal.specs.Openings.{OnFault};
-ghost use Rattle.journal_start.specs.Ranges.{AreRooms};
+ghost use Rattle.cloud_server.specs.CdEdges.area.Area.{Area};
+ghost use Rattle.cloud_server.specs.CdEdges.Shelf.{IsCall, HasFailed, KeepsCounts, Stays};
+ghost use Rattle.cloud_server.specs.HalfJournal.Openings.{OnFault};
+ghost use Rattle.cloud_server.specs.JournalStart.Ranges.{AreRooms};
 ghost use Rattle.cloud_server.specs.Refusals.{MayCome};
 ghost use Rattle.serve_command.specs.Served.{HasRooms, IsUnreadable};
 
-use cd_base::CloudNo;
-use cd_edges::Shelf;
-use cloud_server::OpenErr;
-use journal_halves::{FindErr, find};
-use journal_start::Rooms;
+use cloud_server::{FindErr, OpenErr, Shelf, UserRooms, find};
+use ports_link::CloudNo;
 
 /// The rooms that a cloud's journal has, read through a window of 65,541 bytes; the usual ones where no half of it is
 /// begun. The error is Fault where the cloud's count of faults rose, and Damaged where the starts of the halves are
@@ -21,7 +18,7 @@ pub fn rooms_of<V: Shelf>(
     shelf: &mut V,
     cloud: CloudNo,
     window: &mut [u8],
-) -> Result<Rooms, OpenErr>
+) -> Result<UserRooms, OpenErr>
     requires { length window.old ≡ 65541 }
     ensures allowed { IfOk result AreRooms }
     ensures found { IsTrue (V.cloud_at shelf.old cloud.0).told
@@ -38,7 +35,7 @@ pub fn rooms_of<V: Shelf>(
 {
     match find(shelf, cloud, window) {
         Ok(found) => Ok(found.start.header.rooms),
-        Err(FindErr::NotBegun { .. }) => Ok(Rooms::usual()),
+        Err(FindErr::NotBegun { .. }) => Ok(UserRooms::usual()),
         Err(FindErr::Fault) => Err(OpenErr::Fault),
         Err(FindErr::Damaged { at, byte }) => Err(OpenErr::Damaged { at, byte }),
     }

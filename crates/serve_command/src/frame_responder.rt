@@ -1,9 +1,9 @@
 //! What answers requests.
 
 ghost use Rattle.std.specs.Prelude.{◌≡◌, ℕ, List, []};
-ghost use Rattle.frames.specs.Frames.{IsContent};
+ghost use Rattle.ports_link.specs.Frames.Frames.{IsContent};
 
-use frames::ReplyBuf;
+use ports_link::ReplyBuf;
 
 /// Answers requests, one after another.
 pub trait Responder {

@@ -1,19 +1,18 @@
 //! A connection, from its first byte to its end.
 
 ghost use Rattle.std.specs.Prelude.{◌≡◌, ◌+◌, ◌-◌, ◌≤◌, ◌<◌, [], ◌++◌, length, take, drop, IsTrue, IsFalse, IfOk, IfErr, OnErr, ℕ, List};
-ghost use Rattle.cd_edges.specs.Causes.{HasCause};
-ghost use Rattle.frames.specs.Frames.{IsContent, IsFrame, IsRefused};
-ghost use Rattle.frames.specs.Found.{found_of};
-ghost use Rattle.cd_edges.specs.Ports.{Telling};
-ghost use Rattle.serve_command.specs.declared.served.Stop.TheVariants.{BadLength};
+ghost use Rattle.cloud_server.specs.CdEdges.Causes.{HasCause};
+ghost use Rattle.ports_link.specs.Frames.Frames.{IsContent, IsFrame, IsRefused};
+ghost use Rattle.ports_link.specs.Frames.Found.{found_of};
+ghost use Rattle.cloud_server.specs.CdEdges.Ports.{Telling};
+ghost use Rattle.serve_command.specs.declared.served.ConnectionStop.TheVariants.{BadLength};
 ghost use Rattle.serve_command.specs.Connection.{EndsWithCause, Serves};
-ghost use Rattle.serve_command.specs.Framing.{Along, Broken, Stops, StopsWithCause, ended_with, stopped_by};
+ghost use Rattle.serve_command.specs.Framing.{IsAlongFrames, Broken, Stops, StopsWithCause, ended_with, stopped_by};
 
 use crate::frame_responder::Responder;
-use crate::served::{Served, Stop};
-use cd_edges::{Failed, Ports};
-use frames::{FrameErr, Framer, ReplyBuf};
-use ports_link::send_frame;
+use crate::served::{ConnectionStop, Served};
+use cloud_server::{Failed, Ports};
+use ports_link::{FrameErr, Framer, ReplyBuf, send_frame};
 
 // How many bytes are received at a time, at most.
 const PIECE: usize = 65_536;
@@ -31,12 +30,12 @@ fn answer_whole<P: Ports, R: Responder>(
 ) -> Result<bool, Failed>
     ensures along { (first : R) (start : Telling) (pending : List ℕ) (received : ℕ)
         → (P.tells ports.old).told ≡ start.told
-        → Along R.step start (P.tells ports.old) port first responder.old framer.old pending received
+        → IsAlongFrames R.step start (P.tells ports.old) port first responder.old framer.old pending received
         → IfOk result
-        (λ _. Along R.step start (P.tells ports.new) port first responder.new framer.new pending received) }
+        (λ _. IsAlongFrames R.step start (P.tells ports.new) port first responder.new framer.new pending received) }
     ensures broken { (first : R) (start : Telling) (pending : List ℕ) (received : ℕ)
         → (P.tells ports.old).told ≡ start.told
-        → Along R.step start (P.tells ports.old) port first responder.old framer.old pending received
+        → IsAlongFrames R.step start (P.tells ports.old) port first responder.old framer.old pending received
         → OnErr result (Broken R.step start (P.tells ports.new) port first responder.new) }
     ensures ready { IfOk result (λ _. ¬ IsFrame framer.new) }
     ensures stood { IfOk result (λ some. IsFalse some → framer.new ≡ framer.old) }
@@ -59,11 +58,11 @@ fn answer_whole<P: Ports, R: Responder>(
 }
 
 // Why a connection ends at a length that no frame has.
-fn stop_of(error: FrameErr) -> Stop
+fn stop_of(error: FrameErr) -> ConnectionStop
     ensures { result ≡ BadLength (found_of error) }
 {
     match error {
-        FrameErr::Length { found } => Stop::BadLength { found },
+        FrameErr::Length { found } => ConnectionStop::BadLength { found },
     }
 }
 
@@ -76,18 +75,18 @@ fn serve_next<P: Ports, R: Responder>(
     framer: &mut Framer,
     reply: &mut ReplyBuf,
     piece: &[u8],
-) -> Result<usize, Stop>
+) -> Result<usize, ConnectionStop>
     requires ready { ¬ IsFrame framer.old }
     requires some { 0 < length piece.now }
     ensures some { IfOk result (λ count. 0 < count) }
     ensures within { IfOk result (λ count. count ≤ length piece.now) }
     ensures along { (first : R) (start : Telling) (received : ℕ) → (P.tells ports.old).told ≡ start.told
-        → Along R.step start (P.tells ports.old) port first responder.old framer.old piece.now received
+        → IsAlongFrames R.step start (P.tells ports.old) port first responder.old framer.old piece.now received
         → IfOk result
-        (λ count. Along R.step start (P.tells ports.new) port first responder.new framer.new
+        (λ count. IsAlongFrames R.step start (P.tells ports.new) port first responder.new framer.new
         (drop count piece.now) received) }
     ensures stops { (first : R) (start : Telling) (received : ℕ) → (P.tells ports.old).told ≡ start.told
-        → Along R.step start (P.tells ports.old) port first responder.old framer.old piece.now received
+        → IsAlongFrames R.step start (P.tells ports.old) port first responder.old framer.old piece.now received
         → IfErr result (Stops R.step start (P.tells ports.new) port first responder.new) }
     ensures ready { IfOk result (λ _. ¬ IsFrame framer.new) }
     ensures lawful { IfOk result (λ _. ¬ IsRefused framer.new) }
@@ -101,7 +100,7 @@ fn serve_next<P: Ports, R: Responder>(
     };
     match answer_whole(responder, ports, port, framer, reply) {
         Ok(_) => Ok(count),
-        Err(Failed) => Err(Stop::Failed),
+        Err(Failed) => Err(ConnectionStop::Failed),
     }
 }
 
@@ -121,14 +120,15 @@ fn serve_piece<P: Ports, R: Responder>(
     framer: &mut Framer,
     reply: &mut ReplyBuf,
     piece: &[u8],
-) -> Result<(), Stop>
+) -> Result<(), ConnectionStop>
     requires ready { ¬ IsFrame framer.old }
     requires lawful { ¬ IsRefused framer.old }
     ensures along { (first : R) (start : Telling) (received : ℕ) → (P.tells ports.old).told ≡ start.told
-        → Along R.step start (P.tells ports.old) port first responder.old framer.old piece.now received
-        → IfOk result (λ _. Along R.step start (P.tells ports.new) port first responder.new framer.new [] received) }
+        → IsAlongFrames R.step start (P.tells ports.old) port first responder.old framer.old piece.now received
+        → IfOk result (λ _. IsAlongFrames R.step start
+        (P.tells ports.new) port first responder.new framer.new [] received) }
     ensures stops { (first : R) (start : Telling) (received : ℕ) → (P.tells ports.old).told ≡ start.told
-        → Along R.step start (P.tells ports.old) port first responder.old framer.old piece.now received
+        → IsAlongFrames R.step start (P.tells ports.old) port first responder.old framer.old piece.now received
         → IfErr result (Stops R.step start (P.tells ports.new) port first responder.new) }
     ensures ready { IfOk result (λ _. ¬ IsFrame framer.new) }
     ensures lawful { IfOk result (λ _. ¬ IsRefused framer.new) }
@@ -156,7 +156,7 @@ fn serve_some<P: Ports, R: Responder>(
     reply: &mut ReplyBuf,
     piece: &mut [u8],
     most: usize,
-) -> Result<usize, Stop>
+) -> Result<usize, ConnectionStop>
     requires most { 0 < most }
     requires piece { 0 < length piece.old }
     requires ready { ¬ IsFrame framer.old }
@@ -164,12 +164,12 @@ fn serve_some<P: Ports, R: Responder>(
     ensures most { IfOk result (λ count. count ≤ most) }
     ensures piece { length piece.new ≡ length piece.old }
     ensures along { (first : R) (start : Telling) (received : ℕ) → (P.tells ports.old).told ≡ start.told
-        → Along R.step start (P.tells ports.old) port first responder.old framer.old [] received
+        → IsAlongFrames R.step start (P.tells ports.old) port first responder.old framer.old [] received
         → IfOk result
-        (λ count. Along R.step start (P.tells ports.new) port first responder.new framer.new []
+        (λ count. IsAlongFrames R.step start (P.tells ports.new) port first responder.new framer.new []
         (received + count)) }
     ensures stops { (first : R) (start : Telling) (received : ℕ) → (P.tells ports.old).told ≡ start.told
-        → Along R.step start (P.tells ports.old) port first responder.old framer.old [] received
+        → IsAlongFrames R.step start (P.tells ports.old) port first responder.old framer.old [] received
         → IfErr result (Stops R.step start (P.tells ports.new) port first responder.new) }
     ensures ended { IsTrue (P.tells ports.old).told
         → IfOk result (λ count. count ≡ 0 → ((P.tells ports.new).port port).to_come ≡ []) }
@@ -182,7 +182,7 @@ fn serve_some<P: Ports, R: Responder>(
     let room = most.min(piece.len());
     let count = match ports.recv(port, &mut piece[..room]) {
         Ok(count) => count,
-        Err(Failed) => return Err(Stop::Failed),
+        Err(Failed) => return Err(ConnectionStop::Failed),
     };
     if count == 0 {
         return Ok(0);
@@ -213,12 +213,12 @@ fn ended(got: u32) -> Served
 }
 
 // How a connection ended that was stopped.
-fn stopped(stop: Stop) -> Served
+fn stopped(stop: ConnectionStop) -> Served
     ensures { result ≡ stopped_by stop }
 {
     match stop {
-        Stop::BadLength { found } => Served::BadLength { found },
-        Stop::Failed => Served::Failed,
+        ConnectionStop::BadLength { found } => Served::BadLength { found },
+        ConnectionStop::Failed => Served::Failed,
     }
 }
 

@@ -14,10 +14,11 @@ mod responder;
 mod served;
 mod stop;
 
-pub use cloud_server::{OpenErr, Server};
+pub use cloud_server::{OpenErr, Server, UserRooms};
 pub use command::serve;
 pub use connection::serve_connection;
 pub use finding::rooms_of;
 pub use frame_responder::Responder;
 pub use frames_in_turn::serve_frames;
+pub use ports_link::PortsLink;
 pub use served::Served;

@@ -1,14 +1,14 @@
 //! The lines of a cloud that is served.
 
 ghost use Rattle.std.specs.Prelude.{◌≡◌, [], ◌∷◌, IfOk, codes, decimal, string_bytes};
-ghost use Rattle.transcript.specs.Transcript.{ended};
+ghost use Rattle.ports_link.specs.Transcript.Transcript.{ended};
 ghost use Rattle.serve_command.specs.Lines.{connection_text, end_word, ready_text};
 ghost use Rattle.serve_command.specs.Served.{output_of};
 ghost use Rattle.serve_command.specs.Steps.{Writes};
 
 use crate::Served;
-use crate::stop::Stop;
-use cd_edges::{Sink, write_all};
+use crate::stop::ServingStop;
+use cloud_server::{Sink, write_all};
 use std::alloc::{AllocError, Global};
 
 // `ready ADDRESS`, with its newline.
@@ -47,24 +47,24 @@ fn connection_line(alloc: Global, number: u32, served: Served) -> Result<String,
 }
 
 /// Writes a line. Where the sink fails, a front of it may have been written.
-pub fn write_line<K: Sink>(sink: &mut K, line: &[u8]) -> Result<(), Stop>
+pub fn write_line<K: Sink>(sink: &mut K, line: &[u8]) -> Result<(), ServingStop>
     ensures { Writes line.now
         (output_of (K.written sink.old) (K.written sink.new) (K.faults sink.old) (K.faults sink.new)) result }
 {
     match write_all(sink, line) {
         Ok(()) => Ok(()),
-        Err(_) => Err(Stop::SinkFault),
+        Err(_) => Err(ServingStop::SinkFault),
     }
 }
 
 /// Writes the line behind which connections to the address are taken.
-pub fn write_ready<K: Sink>(alloc: Global, address: &str, sink: &mut K) -> Result<(), Stop>
+pub fn write_ready<K: Sink>(alloc: Global, address: &str, sink: &mut K) -> Result<(), ServingStop>
     ensures { Writes (ready_text address.now)
         (output_of (K.written sink.old) (K.written sink.new) (K.faults sink.old) (K.faults sink.new)) result }
 {
     match ready_line(alloc, address) {
         Ok(line) => write_line(sink, line.as_bytes()),
-        Err(AllocError) => Err(Stop::NoMemory),
+        Err(AllocError) => Err(ServingStop::NoMemory),
     }
 }
 
@@ -74,12 +74,12 @@ pub fn write_connection<K: Sink>(
     number: u32,
     served: Served,
     sink: &mut K,
-) -> Result<(), Stop>
+) -> Result<(), ServingStop>
     ensures { Writes (connection_text number served)
         (output_of (K.written sink.old) (K.written sink.new) (K.faults sink.old) (K.faults sink.new)) result }
 {
     match connection_line(alloc, number, served) {
         Ok(line) => write_line(sink, line.as_bytes()),
-        Err(AllocError) => Err(Stop::NoMemory),
+        Err(AllocError) => Err(ServingStop::NoMemory),
     }
 }

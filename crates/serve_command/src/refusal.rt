@@ -1,17 +1,15 @@
 //! A cloud that isn't opened.
 
 ghost use Rattle.cloud_server.specs.Refusals.{MayCome};
-ghost use Rattle.transcript.specs.Endings.{ending_text};
+ghost use Rattle.ports_link.specs.Transcript.Endings.{ending_text};
 ghost use Rattle.serve_command.specs.Served.{Reports, output_of};
-ghost use Rattle.serve_command.specs.Steps.{Closes};
+ghost use Rattle.serve_command.specs.Steps.{IsClosedUnopened};
 
 use crate::lines::write_line;
-use crate::stop::Stop;
-use cd_base::{Bytes, CloudNo, NoMemory};
-use cd_edges::Sink;
-use cloud_server::OpenErr;
+use crate::stop::ServingStop;
+use cloud_server::{OpenErr, Sink};
+use ports_link::{Bytes, CloudNo, Ending, NoMemory, write_ending};
 use std::alloc::Global;
-use transcript::{Ending, write_ending};
 
 // The status of a cloud that isn't opened for this error, and its last line.
 fn report_of(cloud: CloudNo, error: OpenErr) -> (u8, Ending)
@@ -39,7 +37,7 @@ fn report_of(cloud: CloudNo, error: OpenErr) -> (u8, Ending)
 /// sink failed in the line, and 6 where memory ran out for it.
 pub fn refuse<K: Sink>(alloc: Global, cloud: CloudNo, error: OpenErr, sink: &mut K) -> u8
     requires { MayCome error }
-    ensures { Closes cloud error
+    ensures { IsClosedUnopened cloud error
         (output_of (K.written sink.old) (K.written sink.new) (K.faults sink.old) (K.faults sink.new)) result }
 {
     let (status, last) = report_of(cloud, error);
@@ -50,8 +48,8 @@ pub fn refuse<K: Sink>(alloc: Global, cloud: CloudNo, error: OpenErr, sink: &mut
     }
     match write_line(sink, line.as_slice()) {
         Ok(()) => status,
-        Err(Stop::SinkFault) => 4,
-        Err(Stop::NoMemory) => 6,
-        Err(Stop::PortsFault) => 9,
+        Err(ServingStop::SinkFault) => 4,
+        Err(ServingStop::NoMemory) => 6,
+        Err(ServingStop::PortsFault) => 9,
     }
 }

@@ -1,13 +1,12 @@
 //! A server as what answers requests.
 
 ghost use Rattle.std.specs.Prelude.{[], ◌∷◌};
-ghost use Rattle.frames.specs.Frames.{IsContent};
-ghost use Rattle.serve_command.specs.Serving.{Answers, place_of};
+ghost use Rattle.ports_link.specs.Frames.Frames.{IsContent};
+ghost use Rattle.serve_command.specs.Serving.{HasAnsweredContent, place_of};
 
 use crate::Responder;
-use cd_edges::Shelf;
-use cloud_server::Server;
-use frames::ReplyBuf;
+use cloud_server::{Server, Shelf};
+use ports_link::ReplyBuf;
 
 /// A server over its shelf.
 #[derive(Drop)]
@@ -19,7 +18,7 @@ pub struct CloudResponder<'a, V: Shelf> {
 // Executes a request.
 fn execute<V: Shelf>(server: &mut Server, shelf: &mut V, request: &[u8], reply: &mut ReplyBuf)
     requires { IsContent request.now }
-    ensures answers { Answers (place_of server.old (V.cloud_at shelf.old) (V.faults shelf.old))
+    ensures answers { HasAnsweredContent (place_of server.old (V.cloud_at shelf.old) (V.faults shelf.old))
         (place_of server.new (V.cloud_at shelf.new) (V.faults shelf.new)) request.now reply.new }
     ensures content { IsContent reply.new }
 {
@@ -29,7 +28,7 @@ fn execute<V: Shelf>(server: &mut Server, shelf: &mut V, request: &[u8], reply: 
 
 impl<'a, V: Shelf> Responder for CloudResponder<'a, V> {
     ghost step = { λ before request reply after.
-        Answers (place_of before.server.now (V.cloud_at before.shelf.now) (V.faults before.shelf.now))
+        HasAnsweredContent (place_of before.server.now (V.cloud_at before.shelf.now) (V.faults before.shelf.now))
         (place_of after.server.now (V.cloud_at after.shelf.now) (V.faults after.shelf.now)) request reply };
 
     ghost loans = { λ responder. responder.server.ghost_name ∷ responder.shelf.ghost_name ∷ [] };

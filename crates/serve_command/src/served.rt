@@ -23,7 +23,7 @@ pub enum Served {
 
 // Why a connection ends before its stream does.
 #[derive(Clone, Copy, Debug, PartialEq, Eq)]
-pub enum Stop {
+pub enum ConnectionStop {
     BadLength { found: u32 },
     Failed,
 }

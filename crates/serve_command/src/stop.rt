@@ -5,7 +5,7 @@ ghost use Rattle.serve_command.specs.Steps.{status_by};
 
 /// Why serving ends before all connections were served.
 #[derive(Clone, Copy, Debug, PartialEq, Eq)]
-pub enum Stop {
+pub enum ServingStop {
     /// The sink failed in a line.
     SinkFault,
     /// Memory ran out for a line.
@@ -15,13 +15,13 @@ pub enum Stop {
 }
 
 /// The status of a serving that was stopped, or not.
-pub fn status_of(served: Result<(), Stop>) -> u8
+pub fn status_of(served: Result<(), ServingStop>) -> u8
     ensures { result ≡ status_by served }
 {
     match served {
         Ok(()) => 0,
-        Err(Stop::SinkFault) => 4,
-        Err(Stop::NoMemory) => 6,
-        Err(Stop::PortsFault) => 9,
+        Err(ServingStop::SinkFault) => 4,
+        Err(ServingStop::NoMemory) => 6,
+        Err(ServingStop::PortsFault) => 9,
     }
 }

@@ -1,19 +1,19 @@
 -- Two calls of a device, one after the other, the first of which only read.
 use Rattle.std.proofs.Common.{◌≡◌, ℕ, ◌++◌, List, Result, Ok, Err, refl, sym, ap, ◌∙◌, subst, arith}
 use Rattle.std.specs.Prelude.{OnOk, OnErr}
-use Rattle.cd_edges.specs.declared.area.Area.TheVariants.{Journal}
-use Rattle.cd_edges.specs.declared.stream.Failed.{Failed}
-use Rattle.cd_edges.specs.Disk.{Areas, Cloud, Image, LeavesOnly}
-use Rattle.cd_edges.specs.Causes.{Rose}
-use Rattle.cd_edges.specs.Shelf.{IsCall, HasFailed, KeepsCounts, Stays}
-use Rattle.cd_edges.proofs.Moments.{weaker, told_on}
-use Rattle.half_journal.specs.States as journals
-use Rattle.journal_halves.specs.Journals.{Where}
+use Rattle.server_reads.specs.CdEdges.area.Area.TheVariants.{Journal}
+use Rattle.server_reads.specs.CdEdges.stream.Failed.{Failed}
+use Rattle.server_reads.specs.CdEdges.Disk.{Areas, Cloud, Image, LeavesOnly}
+use Rattle.server_reads.specs.CdEdges.Causes.{Rose}
+use Rattle.server_reads.specs.CdEdges.Shelf.{IsCall, HasFailed, KeepsCounts, Stays}
+use Rattle.server_reads.proofs.CdEdges.Moments.{weaker, told_on}
+use Rattle.open_store.specs.HalfJournal.States as journals
+use Rattle.open_store.specs.JournalHalves.Journals.{Where}
 use Rattle.open_store.specs.declared.store.OpenStore.{OpenStore}
 use Rattle.open_store.specs.Adding.{IsLeftOf}
-use Rattle.server_reads.specs.Reading.{HasRead}
-use Rattle.server_reads.specs.declared.blobs.Stop.{Stop}
-use Rattle.server_reads.specs.declared.blobs.Stop.TheVariants as stops
+use Rattle.server_reads.specs.Reading.{HasReadCloud}
+use Rattle.server_reads.specs.declared.blobs.BlobStop.{BlobStop}
+use Rattle.server_reads.specs.declared.blobs.BlobStop.TheVariants as stops
 use Rattle.server_commands.specs.Executing.{GrowsBehind}
 use Rattle.server_commands.specs.Steps.{Calls}
 
@@ -23,10 +23,10 @@ ok_result = Ok tt
 abbrev pub failed_result : Result (Unit {0}) Failed
 failed_result = Err (record {})
 
-abbrev pub ok_read : Result (Unit {0}) Stop
+abbrev pub ok_read : Result (Unit {0}) BlobStop
 ok_read = Ok tt
 
-abbrev pub failed_read : Result (Unit {0}) Stop
+abbrev pub failed_read : Result (Unit {0}) BlobStop
 failed_read = Err stops.Failed
 
 -- ---- calls
@@ -51,14 +51,14 @@ counts_then : {T E : Type 0} (r : Result T E) (a b c : Cloud) (before mid now : 
 counts_then (Err e) a b c before mid now kept counts = tt
 counts_then (Ok v) a b c before mid now kept counts = record { cloud = counts.cloud ∙ kept.cloud; total = counts.total ∙ kept.total }
 
-pub calls_then : {T E : Type 0} (r : Result T E) (a b c : ℕ → Cloud) (number before mid now : ℕ) → HasRead a b number before mid ok_read → Calls b c number mid now r → Calls a c number before now r
+pub calls_then : {T E : Type 0} (r : Result T E) (a b c : ℕ → Cloud) (number before mid now : ℕ) → HasReadCloud a b number before mid ok_read → Calls b c number mid now r → Calls a c number before now r
 calls_then r a b c number before mid now read calls = record {
   call = called_twice a b c number before mid now read.call calls.call;
   failed = failed_then r (a number) (b number) (c number) before mid now read.counts calls.failed;
   counts = counts_then r (a number) (b number) (c number) before mid now read.counts calls.counts;
 }
 
-pub calls_failed : (a b : ℕ → Cloud) (number before now : ℕ) → HasRead a b number before now failed_read → Calls a b number before now failed_result
+pub calls_failed : (a b : ℕ → Cloud) (number before now : ℕ) → HasReadCloud a b number before now failed_read → Calls a b number before now failed_result
 calls_failed a b number before now read = record { call = read.call; failed = read.failed; counts = tt }
 
 pub calls_read : (a b : ℕ → Cloud) (number before now : ℕ) → IsCall a b number before now → KeepsCounts (a number) (b number) before now → Calls a b number before now ok_result
@@ -91,6 +91,6 @@ grows_read s mid a b c journal left stays told grows = record {
       since_read a b c (IsLeftOf s a w grows.body) stays
       (weaker b c (IsLeftOf mid b w grows.body) (IsLeftOf s a w grows.body)
       (grows.chain (told_on a b told is) w
-      (subst (λ (j : journals.State). journals.IsEnded j (b.now Journal) w) (sym journal) (subst (λ (x : Areas). journals.IsEnded s.disk.journal (x Journal) w) (sym stays.now) ended)))
+      (subst (λ (j : journals.JournalState). journals.IsJournalEnded j (b.now Journal) w) (sym journal) (subst (λ (x : Areas). journals.IsJournalEnded s.disk.journal (x Journal) w) (sym stays.now) ended)))
       (λ image. left w grows.body image));
 }

@@ -2,32 +2,32 @@
 use Rattle.std.proofs.Common.{◌≡◌, ◌≢◌, ℕ, ◌<◌, ◌≤◌, Bool, true, false, cond, List, ◌∷◌, length, get_or, Option, Result, Ok, Err, refl, sym, ap, ◌∙◌, arith}
 use Rattle.std.specs.Prelude.{OnOk, bytes_eq}
 use Rattle.std.proofs.lemmas.List.{length-map}
-use Rattle.cd_base.specs.Limits.{recipe_limit}
-use Rattle.cd_base.specs.declared.ids.Fp.{Fp}
-use Rattle.cd_base.specs.declared.ids.Tag.{Tag}
-use Rattle.cd_base.specs.declared.ids.UserId.{UserId}
-use Rattle.cd_base.specs.declared.ids.Version.{Version}
-use Rattle.cd_base.specs.declared.rooms.Room.{Room}
-use Rattle.cd_base.specs.declared.rooms.Room.TheVariants as rooms
-use Rattle.cd_base.specs.declared.shape.Shape.{Shape}
-use Rattle.messages.specs.declared.request.Request.{Request}
-use Rattle.messages.specs.declared.request.Request.TheVariants as requests
-use Rattle.messages.specs.declared.reply.Reply.{Reply}
-use Rattle.messages.specs.declared.reply.Reply.TheVariants as replies
-use Rattle.messages.specs.Replies.{IsReply, room_number}
-use Rattle.recipe.specs.declared.items.Item.{Item}
-use Rattle.recipe.specs.declared.recipe.Recipe.{Recipe}
-use Rattle.recipe.specs.Spelling.{IsRecipe, spelling}
-use Rattle.recipe.proofs.Written.{again, longest}
+use Rattle.server_reads.specs.CdBase.Limits.{recipe_limit}
+use Rattle.server_reads.specs.CdBase.ids.Fp.{Fp}
+use Rattle.server_reads.specs.CdBase.ids.Tag.{Tag}
+use Rattle.server_reads.specs.CdBase.ids.UserId.{UserId}
+use Rattle.server_reads.specs.CdBase.ids.Version.{Version}
+use Rattle.server_reads.specs.CdBase.rooms.Room.{Room}
+use Rattle.server_reads.specs.CdBase.rooms.Room.TheVariants as rooms
+use Rattle.server_reads.specs.CdBase.shape.Shape.{Shape}
+use Rattle.server_reads.specs.Messages.request.Request.{Request}
+use Rattle.server_reads.specs.Messages.request.Request.TheVariants as requests
+use Rattle.server_reads.specs.Messages.reply.Reply.{Reply}
+use Rattle.server_reads.specs.Messages.reply.Reply.TheVariants as replies
+use Rattle.server_reads.specs.Messages.Replies.{IsReply, room_number}
+use Rattle.server_reads.specs.Recipe.items.Item.{Item}
+use Rattle.server_reads.specs.Recipe.recipe.Recipe.{Recipe}
+use Rattle.server_reads.specs.Recipe.Spelling.{IsRecipe, spelling}
+use Rattle.server_reads.proofs.RecipeLaws.Written.{again, longest}
 use Rattle.sha2.specs.Sha256.{sha256 as sha256_of}
-use Rattle.user_dedup.specs.declared.command.Command.{Command}
-use Rattle.user_dedup.specs.declared.command.Command.TheVariants as commands
-use Rattle.user_dedup.specs.declared.file_list.FileEntry.{FileEntry}
-use Rattle.user_dedup.specs.Cloud.{fingerprint, user_view}
-use Rattle.user_dedup.specs.Owning.{fps_in, first_lacking}
-use Rattle.user_dedup.specs.Pages.{entry_at}
-use Rattle.user_dedup.specs.Requests.{fps_of, fps_read}
-use Rattle.user_dedup.specs.Dedup.{commit_outcome, answer_over}
+use Rattle.server_reads.specs.UserDedup.command.Command.{Command}
+use Rattle.server_reads.specs.UserDedup.command.Command.TheVariants as commands
+use Rattle.server_reads.specs.UserDedup.file_list.FileEntry.{FileEntry}
+use Rattle.server_reads.specs.UserDedup.Cloud.{fingerprint, user_view}
+use Rattle.server_reads.specs.UserDedup.Owning.{fps_in, first_lacking}
+use Rattle.server_reads.specs.UserDedup.Pages.{entry_at}
+use Rattle.server_reads.specs.UserDedup.Requests.{fps_of, fps_read}
+use Rattle.server_reads.specs.UserDedup.Dedup.{commit_outcome, answer_over}
 use Rattle.server_reads.specs.Allowed.{Replies}
 use Rattle.server_commands.specs.Leaving.{EntersNothing}
 use Rattle.server_commands.specs.Serving.{IsGiven, Gives}

@@ -2,15 +2,15 @@
 use Rattle.std.proofs.Common.{◌≡◌, ℕ, List, ◌∷◌, ◌++◌, length, get_or, take, drop, Result, Ok, Err, sym, ap, ◌∙◌, subst, arith}
 use Rattle.std.specs.Prelude.{OnOk, ◌≢◌}
 use Rattle.std.proofs.Math.Seq.{take-append_seam, drop-append_seam}
-use Rattle.cd_base.specs.declared.ids.Fp.{Fp}
-use Rattle.cd_base.specs.declared.ids.Tag.{Tag}
-use Rattle.cd_base.specs.declared.ids.UserId.{UserId}
-use Rattle.cd_base.specs.declared.ids.Version.{Version}
-use Rattle.cd_base.specs.declared.shape.Shape.{Shape}
-use Rattle.messages.specs.declared.request.Request.TheVariants as requests
-use Rattle.messages.specs.declared.reply.Reply.{Reply}
-use Rattle.messages.specs.declared.reply.Reply.TheVariants as replies
-use Rattle.messages.specs.Replies.{IsReply}
+use Rattle.server_reads.specs.CdBase.ids.Fp.{Fp}
+use Rattle.server_reads.specs.CdBase.ids.Tag.{Tag}
+use Rattle.server_reads.specs.CdBase.ids.UserId.{UserId}
+use Rattle.server_reads.specs.CdBase.ids.Version.{Version}
+use Rattle.server_reads.specs.CdBase.shape.Shape.{Shape}
+use Rattle.server_reads.specs.Messages.request.Request.TheVariants as requests
+use Rattle.server_reads.specs.Messages.reply.Reply.{Reply}
+use Rattle.server_reads.specs.Messages.reply.Reply.TheVariants as replies
+use Rattle.server_reads.specs.Messages.Replies.{IsReply}
 use Rattle.server_reads.specs.Allowed.{Replies}
 use Rattle.server_commands.specs.Leaving.{FindsNone}
 use Rattle.server_commands.specs.Serving.{IsGiven, Gives}

@@ -2,40 +2,40 @@
 use Rattle.std.proofs.Common.{◌≡◌, ℕ, List, Some, None, Result, Err, refl, sym, ◌∙◌, subst, arith}
 use Rattle.std.specs.Prelude.{OnOk}
 use Rattle.std.specs.FinMap.{get}
-use Rattle.cd_base.specs.declared.ids.Fp.{Fp}
-use Rattle.cd_base.specs.declared.ids.Tag.{Tag}
-use Rattle.cd_base.specs.declared.ids.UserId.{UserId}
-use Rattle.cd_base.specs.declared.ids.Version.{Version}
-use Rattle.cd_edges.specs.Disk.{Cloud}
-use Rattle.file_index.specs.declared.key.Entry.{Entry}
-use Rattle.file_index.specs.declared.key.FileKey.{FileKey}
-use Rattle.file_index.specs.Files.{key_of}
-use Rattle.messages.specs.declared.request.Request.{Request}
-use Rattle.messages.specs.declared.request.Request.TheVariants as requests
-use Rattle.messages.specs.declared.reply.Reply.TheVariants as replies
-use Rattle.messages.specs.Replies.{IsReply}
-use Rattle.user_dedup.specs.declared.command.Command.{Command}
-use Rattle.user_dedup.specs.declared.file_list.FileEntry.{FileEntry}
-use Rattle.user_dedup.specs.Cloud.{user_view}
-use Rattle.user_dedup.specs.Pages.{entry_at}
+use Rattle.server_reads.specs.CdBase.ids.Fp.{Fp}
+use Rattle.server_reads.specs.CdBase.ids.Tag.{Tag}
+use Rattle.server_reads.specs.CdBase.ids.UserId.{UserId}
+use Rattle.server_reads.specs.CdBase.ids.Version.{Version}
+use Rattle.server_reads.specs.CdEdges.Disk.{Cloud}
+use Rattle.server_reads.specs.FileIndex.key.Entry.{Entry}
+use Rattle.server_reads.specs.FileIndex.key.FileKey.{FileKey}
+use Rattle.server_reads.specs.FileIndex.Files.{key_of}
+use Rattle.server_reads.specs.Messages.request.Request.{Request}
+use Rattle.server_reads.specs.Messages.request.Request.TheVariants as requests
+use Rattle.server_reads.specs.Messages.reply.Reply.TheVariants as replies
+use Rattle.server_reads.specs.Messages.Replies.{IsReply}
+use Rattle.server_reads.specs.UserDedup.command.Command.{Command}
+use Rattle.server_reads.specs.UserDedup.file_list.FileEntry.{FileEntry}
+use Rattle.server_reads.specs.UserDedup.Cloud.{user_view}
+use Rattle.server_reads.specs.UserDedup.Pages.{entry_at}
 use Rattle.open_store.specs.CloudAreas.Standing.{Chain}
 use Rattle.server_reads.specs.CloudMemory.Rooms.{memory_of}
 use Rattle.open_store.specs.declared.store.OpenStore.{OpenStore}
 use Rattle.open_store.specs.Store.{IsSettled, IsOpen, Serves, closed}
-use Rattle.server_reads.specs.declared.blobs.Stop.{Stop}
-use Rattle.server_reads.specs.declared.blobs.Stop.TheVariants as stops
+use Rattle.server_reads.specs.declared.blobs.BlobStop.{BlobStop}
+use Rattle.server_reads.specs.declared.blobs.BlobStop.TheVariants as stops
 use Rattle.server_reads.specs.Allowed.{Replies}
 use Rattle.server_reads.specs.Found.{HasNone, IsFoundRecipe}
-use Rattle.server_reads.specs.Reading.{HasRead, IfRotten}
+use Rattle.server_reads.specs.Reading.{HasReadCloud, IfRotten}
 use Rattle.server_reads.proofs.Calling.{rotten_at}
 use Rattle.server_reads.proofs.Held.{none_there}
-use Rattle.server_commands.specs.Executing.{IsReady, GrowsBehind, Executes}
-use Rattle.server_commands.specs.Steps.{Calls, Leaves, Does, OnlyReads, ReadsFile, IsOfDelete}
+use Rattle.server_commands.specs.Executing.{IsStoreReady, GrowsBehind, Executes}
+use Rattle.server_commands.specs.Steps.{Calls, IsLeftSettled, Does, HasOnlyReadRecipes, ReadsFile, IsOfDelete}
 use Rattle.server_commands.proofs.Calls.{ok_result, failed_result, ok_read, failed_read, calls_then, calls_failed, calls_read, no_calls, stays_still}
 use Rattle.server_commands.proofs.Contents.{one_kind, rotten_said, rotten_leaves, delete_never_rotten, delete_adds, delete_gives, missing_given, rotten_of_delete}
 use Rattle.server_commands.proofs.Deletions.{missing_served}
 use Rattle.server_commands.proofs.Doing.{served_still, stays_executes, adds_executes}
-use Rattle.server_commands.proofs.Entries.{Answer}
+use Rattle.server_commands.proofs.EntryLaws.{Answer}
 use Rattle.server_commands.proofs.Reread.{does_read, behind_read, both_read, both_failed, leaves_failed, leaves_rotten, counts_at}
 
 module _ (user : UserId) (tag : Tag) (version : Version) where
@@ -47,7 +47,7 @@ module _ (user : UserId) (tag : Tag) (version : Version) where
 
   -- what adding the Delete of this recipe leaves of a store
   pub record Forgets {T E : Type 0} (x new : OpenStore) (b c : ℕ → Cloud) (f1 f2 : ℕ) (recipe content : List ℕ) (r : Result T E) : Type 0 where
-    pub leaves : Leaves x new r
+    pub leaves : IsLeftSettled x new r
     pub does : (list : List Command) (chain : Chain) (file : FileEntry) → Serves list chain x (b x.header.cloud.0)
         → entry_at (user_view x.header.shape list user).files (tag, version) ≡ Some file → file.recipe ≡ recipe
         → Does x new (b x.header.cloud.0) (c x.header.cloud.0) list (requests.Delete user tag version) content r
@@ -60,7 +60,7 @@ module _ (user : UserId) (tag : Tag) (version : Version) where
   ByLists old cloud bytes read = (list : List Command) (chain : Chain) → Serves list chain old cloud → ReadsFile (user_view old.header.shape list user).files (tag, version) bytes read
 
   module _ (Same : Type 0) (old mid new : OpenStore) (a b c : ℕ → Cloud) (f0 f1 f2 : ℕ) (bytes content : List ℕ) where
-    pub deleted : {T E : Type 0} (r : Result T E) (recipe : List ℕ) (entry : Entry) → get (memory_of old.memory).files key ≡ Some entry → OnlyReads old mid (a old.header.cloud.0) (b old.header.cloud.0) → HasRead a b old.header.cloud.0 f0 f1 ok_read
+    pub deleted : {T E : Type 0} (r : Result T E) (recipe : List ℕ) (entry : Entry) → get (memory_of old.memory).files key ≡ Some entry → HasOnlyReadRecipes old mid (a old.header.cloud.0) (b old.header.cloud.0) → HasReadCloud a b old.header.cloud.0 f0 f1 ok_read
         → ByLists old (a old.header.cloud.0) bytes ok_read → recipe ≡ bytes → Forgets mid new b c f1 f2 recipe content r
         → Executes Same old new a c f0 f2 (requests.Delete user tag version) content r
     deleted r recipe entry has o read there front forgets =
@@ -80,8 +80,8 @@ module _ (user : UserId) (tag : Tag) (version : Version) where
         (delete_adds content r (Same × (new ≡ old)) f.some)
         (delete_gives content r old.header.shape user tag version f.some)
 
-  module _ (Same : Type 0) (old mid : OpenStore) (a b : ℕ → Cloud) (f0 f1 : ℕ) (content : List ℕ) (o : OnlyReads old mid (a old.header.cloud.0) (b old.header.cloud.0)) (ready : IsReady old) where
-    pub failed : (new : OpenStore) → HasRead a b old.header.cloud.0 f0 f1 failed_read → new ≡ closed mid → IsSettled new → ¬ (IsOpen new)
+  module _ (Same : Type 0) (old mid : OpenStore) (a b : ℕ → Cloud) (f0 f1 : ℕ) (content : List ℕ) (o : HasOnlyReadRecipes old mid (a old.header.cloud.0) (b old.header.cloud.0)) (ready : IsStoreReady old) where
+    pub failed : (new : OpenStore) → HasReadCloud a b old.header.cloud.0 f0 f1 failed_read → new ≡ closed mid → IsSettled new → ¬ (IsOpen new)
         → Executes Same old new a b f0 f1 (requests.Delete user tag version) content failed_result
     failed new read is settled shut =
         let n = old.header.cloud.0 in
@@ -91,7 +91,7 @@ module _ (user : UserId) (tag : Tag) (version : Version) where
         (calls_failed a b n f0 f1 read)
         (λ list some. tt) (λ named found. tt) (λ answer leaves. tt) tt
 
-    pub rotten : (stop : Stop) (named found : Fp) (bytes : List ℕ) → stop ≡ stops.Rotten named found → HasRead {A = Unit {0}} a b old.header.cloud.0 f0 f1 (Err stop)
+    pub rotten : (stop : BlobStop) (named found : Fp) (bytes : List ℕ) → stop ≡ stops.Rotten named found → HasReadCloud {A = Unit {0}} a b old.header.cloud.0 f0 f1 (Err stop)
         → ByLists old (a old.header.cloud.0) bytes (Err stop) → IfRotten {A = Unit {0}} (Err stop) (IsFoundRecipe (a old.header.cloud.0) (memory_of old.memory) (key_of user.0 tag.0 version.0))
         → IsReply content (replies.Rotten named found) → Executes Same old mid a b f0 f1 (requests.Delete user tag version) content ok_result
     rotten stop named found bytes is read there lies content_is =
@@ -106,7 +106,7 @@ module _ (user : UserId) (tag : Tag) (version : Version) where
         (λ answer leaves other. rotten_leaves content named found (Same × (mid ≡ old)) content_is answer leaves other)
         (record { reply = replies.Rotten named found; is = content_is; given = rotten_of_delete old.header.shape user tag version named found })
 
-  pub missing : (Same : Type 0) (old : OpenStore) (a : ℕ → Cloud) (f : ℕ) (content : List ℕ) → Same → IsReady old → HasNone (memory_of old.memory) (key_of user.0 tag.0 version.0)
+  pub missing : (Same : Type 0) (old : OpenStore) (a : ℕ → Cloud) (f : ℕ) (content : List ℕ) → Same → IsStoreReady old → HasNone (memory_of old.memory) (key_of user.0 tag.0 version.0)
       → IsReply content replies.Missing → Executes Same old old a a f f (requests.Delete user tag version) content ok_result
   missing Same old a f content same ready none content_is =
       let n = old.header.cloud.0 in

@@ -1,21 +1,21 @@
 -- What a Delete does, by a list that the store serves.
 use Rattle.std.proofs.Common.{◌≡◌, ℕ, List, Option, Some, None, refl, ap}
-use Rattle.cd_base.specs.declared.ids.Tag.{Tag}
-use Rattle.cd_base.specs.declared.ids.UserId.{UserId}
-use Rattle.cd_base.specs.declared.ids.Version.{Version}
-use Rattle.cd_base.specs.declared.shape.Shape.{Shape}
-use Rattle.cd_edges.specs.Disk.{Cloud}
-use Rattle.journal_start.specs.declared.rooms.Rooms.{Rooms}
-use Rattle.messages.specs.declared.request.Request.TheVariants as requests
-use Rattle.messages.specs.declared.reply.Reply.TheVariants as replies
-use Rattle.messages.specs.Requests.{FitsRequest}
-use Rattle.user_dedup.specs.declared.command.Command.{Command}
-use Rattle.user_dedup.specs.declared.command.Command.TheVariants as commands
-use Rattle.user_dedup.specs.declared.file_list.FileEntry.{FileEntry}
-use Rattle.user_dedup.specs.Cloud.{user_view}
-use Rattle.user_dedup.specs.Dedup.{Outcome, only, delete_outcome, answer_over, Added}
-use Rattle.user_dedup.specs.Pages.{entry_at}
-use Rattle.user_dedup.specs.Spending.{full_for}
+use Rattle.server_reads.specs.CdBase.ids.Tag.{Tag}
+use Rattle.server_reads.specs.CdBase.ids.UserId.{UserId}
+use Rattle.server_reads.specs.CdBase.ids.Version.{Version}
+use Rattle.server_reads.specs.CdBase.shape.Shape.{Shape}
+use Rattle.server_reads.specs.CdEdges.Disk.{Cloud}
+use Rattle.open_store.specs.JournalStart.rooms.UserRooms.{UserRooms}
+use Rattle.server_reads.specs.Messages.request.Request.TheVariants as requests
+use Rattle.server_reads.specs.Messages.reply.Reply.TheVariants as replies
+use Rattle.server_reads.specs.Messages.Requests.{FitsRequest}
+use Rattle.server_reads.specs.UserDedup.command.Command.{Command}
+use Rattle.server_reads.specs.UserDedup.command.Command.TheVariants as commands
+use Rattle.server_reads.specs.UserDedup.file_list.FileEntry.{FileEntry}
+use Rattle.server_reads.specs.UserDedup.Cloud.{user_view}
+use Rattle.server_reads.specs.UserDedup.Dedup.{Outcome, only, delete_outcome, answer_over, Added}
+use Rattle.server_reads.specs.UserDedup.Pages.{entry_at}
+use Rattle.server_reads.specs.UserDedup.Spending.{full_for}
 use Rattle.open_store.specs.CloudAreas.Standing.{Chain}
 use Rattle.open_store.proofs.DiskProofs.Standing.{none_staged}
 use Rattle.open_store.specs.declared.store.OpenStore.{OpenStore}
@@ -26,7 +26,7 @@ use Rattle.server_commands.proofs.Doing.{served_only, served_added, adding}
 
 -- ---- outcomes
 
-no_room : (shape : Shape) (rooms : Rooms) (list : List Command) (user : UserId) (tag : Tag) (version : Version) → full_for shape rooms list (commands.Delete user tag version) ≡ None
+no_room : (shape : Shape) (rooms : UserRooms) (list : List Command) (user : UserId) (tag : Tag) (version : Version) → full_for shape rooms list (commands.Delete user tag version) ≡ None
 unfolding full_for
 no_room shape rooms list user tag version = refl
 

@@ -1,20 +1,20 @@
 -- What a request does, by a list that the store serves, and what one leaves that adds nothing.
 use Rattle.std.proofs.Common.{◌≡◌, inl, inr, ℕ, List, [], ◌∷◌, ◌++◌, Option, Some, None, Result, Ok, Err, IsTrue, refl, sym, ap, ◌∙◌, subst, append-nil}
 use Rattle.std.specs.Prelude.{OnOk, option_to_list}
-use Rattle.cd_base.specs.declared.ids.Fp.{Fp}
-use Rattle.cd_edges.specs.declared.area.Area.TheVariants.{Shares, Recipes}
-use Rattle.cd_edges.specs.Disk.{Areas, Cloud, Image, IsImage, reads}
-use Rattle.cd_edges.specs.Shelf.{Stays}
-use Rattle.cd_edges.proofs.Moments.{stayed, weaker}
-use Rattle.file_index.specs.Files.{key_of}
-use Rattle.file_index.specs.declared.key.FileKey.{FileKey}
-use Rattle.messages.specs.declared.request.Request.{Request}
-use Rattle.messages.specs.declared.request.Request.TheVariants as requests
-use Rattle.messages.specs.declared.reply.Reply.{Reply}
-use Rattle.messages.specs.declared.reply.Reply.TheVariants as replies
-use Rattle.messages.specs.Replies.{IsReply, reply_bytes}
-use Rattle.user_dedup.specs.declared.command.Command.{Command}
-use Rattle.user_dedup.specs.Dedup.{Outcome, only, FullRoom, unless_full, by_room}
+use Rattle.server_reads.specs.CdBase.ids.Fp.{Fp}
+use Rattle.server_reads.specs.CdEdges.area.Area.TheVariants.{Shares, Recipes}
+use Rattle.server_reads.specs.CdEdges.Disk.{Areas, Cloud, Image, IsImage, reads}
+use Rattle.server_reads.specs.CdEdges.Shelf.{Stays}
+use Rattle.server_reads.proofs.CdEdges.Moments.{stayed, weaker}
+use Rattle.server_reads.specs.FileIndex.Files.{key_of}
+use Rattle.server_reads.specs.FileIndex.key.FileKey.{FileKey}
+use Rattle.server_reads.specs.Messages.request.Request.{Request}
+use Rattle.server_reads.specs.Messages.request.Request.TheVariants as requests
+use Rattle.server_reads.specs.Messages.reply.Reply.{Reply}
+use Rattle.server_reads.specs.Messages.reply.Reply.TheVariants as replies
+use Rattle.server_reads.specs.Messages.Replies.{IsReply, reply_bytes}
+use Rattle.server_reads.specs.UserDedup.command.Command.{Command}
+use Rattle.server_reads.specs.UserDedup.Dedup.{Outcome, only, FullRoom, unless_full, by_room}
 use Rattle.open_store.specs.CloudAreas.Peers.{StandsForSome}
 use Rattle.open_store.specs.CloudAreas.Standing.{StandsFor}
 use Rattle.open_store.specs.CloudDisk.Disk.{KeepsOrAdds, StandsForEither}
@@ -26,8 +26,8 @@ use Rattle.open_store.specs.Store.{ServesSome}
 use Rattle.server_reads.specs.Found.{IsOther, IsFoundRecipe, IsFoundShare}
 use Rattle.server_commands.specs.Executing.{Executes, ForServed, GrowsBehind, LeavesBoth}
 use Rattle.server_commands.specs.Leaving.{LeavesAll, IsSteady, IsFound}
-use Rattle.server_commands.specs.Serving.{serves, Served, IsServedOrNot, Gives}
-use Rattle.server_commands.specs.Steps.{Calls, Leaves, Does}
+use Rattle.server_commands.specs.Serving.{serves, IsServedByList, IsServedOrNot, Gives}
+use Rattle.server_commands.specs.Steps.{Calls, IsLeftSettled, Does}
 
 -- ---- outcomes
 
@@ -55,7 +55,7 @@ images_served : (s : OpenStore) (cloud : Cloud) (list : List Command) → Serves
 images_served s cloud list some image left = images_on s.header list some.c s.disk cloud some.serves.known.on image left
 
 pub served_still : (old new : OpenStore) (after : Cloud) (list : List Command) (request : Request) (content : List ℕ) (reply : Reply) → serves old list request ≡ only reply
-    → content ≡ reply_bytes reply → ServesSome list new after → Served old new after list request content
+    → content ≡ reply_bytes reply → ServesSome list new after → IsServedByList old new after list request content
 served_still old new after list request content reply is content_is some = record {
   reply = content_is ∙ ap (λ (o : Outcome). reply_bytes o.reply) (sym is);
   next = subst (λ (o : Option Command). ServesSome (list ++ option_to_list o) new after) (sym (ap (λ (o : Outcome). o.adds) is))
@@ -72,7 +72,7 @@ stays_does old new before after list request content reply r is content_is some 
   stays = λ none. both;
 }
   where
-    by : {T E : Type 0} (r : Result T E) → OnOk r (content ≡ reply_bytes reply) → OnOk r (ServesSome list new after) → OnOk r (Served old new after list request content)
+    by : {T E : Type 0} (r : Result T E) → OnOk r (content ≡ reply_bytes reply) → OnOk r (ServesSome list new after) → OnOk r (IsServedByList old new after list request content)
     by (Err e) c s = tt
     by (Ok v) c s = served_still old new after list request content reply is c s
 
@@ -94,7 +94,7 @@ module _ (old new : OpenStore) (before after : Cloud) (list : List Command) (req
     stays = λ none. absurd (let no : None ≡ Some command = sym none ∙ adds in cc);
   }
     where
-      by : {T E : Type 0} (r : Result T E) → OnOk r (content ≡ reply_bytes reply) → OnOk r (ServesSome (list ++ command ∷ []) new after) → OnOk r (Served old new after list request content)
+      by : {T E : Type 0} (r : Result T E) → OnOk r (content ≡ reply_bytes reply) → OnOk r (ServesSome (list ++ command ∷ []) new after) → OnOk r (IsServedByList old new after list request content)
       by (Err e) c s = tt
       by (Ok v) c s = record {
         reply = c ∙ ap (λ (o : Outcome). reply_bytes o.reply) (sym is);
@@ -151,8 +151,8 @@ module _ {T E : Type 0} (r : Result T E) where
 
   module _ (Same : Type 0) (old new : OpenStore) (before after : ℕ → Cloud) (f0 f1 : ℕ) (request : Request) (content : List ℕ) where
     -- a request that adds nothing
-    pub stays_executes : Leaves old new r → LeavesBoth old new (before old.header.cloud.0) (after old.header.cloud.0) → Calls before after old.header.cloud.0 f0 f1 r
-        → ForServed old (before old.header.cloud.0) (λ list. OnOk r (Served old new (after old.header.cloud.0) list request content))
+    pub stays_executes : IsLeftSettled old new r → LeavesBoth old new (before old.header.cloud.0) (after old.header.cloud.0) → Calls before after old.header.cloud.0 f0 f1 r
+        → ForServed old (before old.header.cloud.0) (λ list. OnOk r (IsServedByList old new (after old.header.cloud.0) list request content))
         → ((named found : Fp) → OnOk r (IsReply content (replies.Rotten named found) → IsFound (before old.header.cloud.0) (memory_of old.memory) request named found))
         → ((answer : Reply) → LeavesAll request answer → OnOk r (IsReply content answer → Same × (new ≡ old)))
         → OnOk r (Gives old.header.shape request content) → Executes Same old new before after f0 f1 request content r
@@ -182,7 +182,7 @@ module _ {T E : Type 0} (r : Result T E) where
         }
 
     -- a request that adds its command where the store serves a list
-    pub adds_executes : Leaves old new r → ForServed old (before old.header.cloud.0) (λ list. Does old new (before old.header.cloud.0) (after old.header.cloud.0) list request content r)
+    pub adds_executes : IsLeftSettled old new r → ForServed old (before old.header.cloud.0) (λ list. Does old new (before old.header.cloud.0) (after old.header.cloud.0) list request content r)
         → GrowsBehind old (before old.header.cloud.0) (after old.header.cloud.0) → Calls before after old.header.cloud.0 f0 f1 r → (IsSteady (memory_of old.memory) request → ⊥)
         → ((named found : Fp) → OnOk r (IsReply content (replies.Rotten named found) → ⊥))
         → ((answer : Reply) → LeavesAll request answer → OnOk r (IsReply content answer → Same × (new ≡ old)))

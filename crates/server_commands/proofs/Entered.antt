@@ -2,33 +2,33 @@
 use Rattle.std.proofs.Common.{◌≡◌, ◌≢◌, ℕ, ◌+◌, ◌≤◌, max, List, [], ◌∷◌, length, Option, None, Result, Ok, Err, sym, ap, ◌∙◌, subst, arith}
 use Rattle.std.specs.Prelude.{OnOk, IsSome}
 use Rattle.std.proofs.lemmas.List.Elements.{All-nil}
-use Rattle.cd_base.specs.Limits.{recipe_limit}
-use Rattle.cd_base.specs.declared.ids.Fp.{Fp}
-use Rattle.cd_base.specs.declared.ids.Tag.{Tag}
-use Rattle.cd_base.specs.declared.ids.UserId.{UserId}
-use Rattle.cd_base.specs.declared.ids.Version.{Version}
-use Rattle.cd_base.specs.declared.rooms.Room.{Room}
-use Rattle.cd_base.specs.declared.rooms.Room.TheVariants as rooms
-use Rattle.cd_edges.specs.Disk.{Cloud}
-use Rattle.container_log.specs.Places.{place_of}
-use Rattle.container_log.specs.States.{State, HasStaged, need_of}
-use Rattle.container_log.proofs.Least.{place_behind}
-use Rattle.container_log.proofs.Rooms.{room_staged}
-use Rattle.container_log.proofs.Staged.{staged_end_of, staged_more}
-use Rattle.file_index.specs.declared.key.Entry.{Entry}
-use Rattle.file_index.specs.Files.{key_of}
-use Rattle.messages.specs.declared.request.Request.{Request}
-use Rattle.messages.specs.declared.request.Request.TheVariants as requests
-use Rattle.messages.specs.declared.reply.Reply.TheVariants as replies
-use Rattle.messages.specs.Requests.{FitsRequest}
-use Rattle.messages.specs.Replies.{IsReply}
-use Rattle.recipe.specs.declared.recipe.Recipe.{Recipe}
-use Rattle.recipe.specs.Spelling.{IsRecipe, spelling}
-use Rattle.user_dedup.specs.declared.command.Command.{Command}
-use Rattle.user_dedup.specs.declared.command.Command.TheVariants as commands
-use Rattle.user_dedup.specs.Cloud.{fingerprint, user_view}
-use Rattle.user_dedup.specs.Owning.{fps_in, first_lacking}
-use Rattle.user_dedup.specs.Dedup.{Outcome, Added}
+use Rattle.server_reads.specs.CdBase.Limits.{recipe_limit}
+use Rattle.server_reads.specs.CdBase.ids.Fp.{Fp}
+use Rattle.server_reads.specs.CdBase.ids.Tag.{Tag}
+use Rattle.server_reads.specs.CdBase.ids.UserId.{UserId}
+use Rattle.server_reads.specs.CdBase.ids.Version.{Version}
+use Rattle.server_reads.specs.CdBase.rooms.Room.{Room}
+use Rattle.server_reads.specs.CdBase.rooms.Room.TheVariants as rooms
+use Rattle.server_reads.specs.CdEdges.Disk.{Cloud}
+use Rattle.server_reads.specs.ContainerLog.Places.{place_of}
+use Rattle.server_reads.specs.ContainerLog.States.{State, HasStaged, need_of}
+use Rattle.server_reads.proofs.ContainerLog.Least.{place_behind}
+use Rattle.server_reads.proofs.ContainerLog.Rooms.{room_staged}
+use Rattle.server_reads.proofs.ContainerLog.Staged.{staged_end_of, staged_more}
+use Rattle.server_reads.specs.FileIndex.key.Entry.{Entry}
+use Rattle.server_reads.specs.FileIndex.Files.{key_of}
+use Rattle.server_reads.specs.Messages.request.Request.{Request}
+use Rattle.server_reads.specs.Messages.request.Request.TheVariants as requests
+use Rattle.server_reads.specs.Messages.reply.Reply.TheVariants as replies
+use Rattle.server_reads.specs.Messages.Requests.{FitsRequest}
+use Rattle.server_reads.specs.Messages.Replies.{IsReply}
+use Rattle.server_reads.specs.Recipe.recipe.Recipe.{Recipe}
+use Rattle.server_reads.specs.Recipe.Spelling.{IsRecipe, spelling}
+use Rattle.server_reads.specs.UserDedup.command.Command.{Command}
+use Rattle.server_reads.specs.UserDedup.command.Command.TheVariants as commands
+use Rattle.server_reads.specs.UserDedup.Cloud.{fingerprint, user_view}
+use Rattle.server_reads.specs.UserDedup.Owning.{fps_in, first_lacking}
+use Rattle.server_reads.specs.UserDedup.Dedup.{Outcome, Added}
 use Rattle.open_store.specs.CloudAreas.Standing.{Chain}
 use Rattle.open_store.proofs.DiskProofs.Standing.{none_staged}
 use Rattle.server_reads.specs.CloudMemory.Memory.{Remembers}
@@ -40,9 +40,9 @@ use Rattle.open_store.proofs.Held.{recipe_staged}
 use Rattle.server_reads.specs.Allowed.{Replies}
 use Rattle.server_reads.specs.Found.{HasNone}
 use Rattle.server_reads.proofs.Held.{none_there}
-use Rattle.server_commands.specs.Executing.{IsReady, GrowsBehind, Executes}
-use Rattle.server_commands.specs.Serving.{Served}
-use Rattle.server_commands.specs.Steps.{Calls, Leaves, Does, HasRecipeStaged, IsOfNew, IsAnsweredNew, staging}
+use Rattle.server_commands.specs.Executing.{IsStoreReady, GrowsBehind, Executes}
+use Rattle.server_commands.specs.Serving.{IsServedByList}
+use Rattle.server_commands.specs.Steps.{Calls, IsLeftSettled, Does, HasRecipeStaged, IsOfNew, IsAnsweredNew, staging}
 use Rattle.server_commands.proofs.Commits.{answers_commit, fps_spelled, new_never_rotten, new_leaves, new_gives}
 use Rattle.server_commands.proofs.Doing.{adds_executes}
 
@@ -51,7 +51,7 @@ use Rattle.server_commands.proofs.Doing.{adds_executes}
 pub recipe_room : (log : State) (recipe : List ℕ) → HasStaged log [] → length recipe ≤ recipe_limit → need_of log (length recipe) ≤ 4194304
 recipe_room log recipe none few = room_staged log [] recipe recipe_limit none (All-nil (λ (b : List ℕ). length b ≤ recipe_limit)) few (omega (arith, few))
 
-pub recipe_has : (s : OpenStore) (recipe : List ℕ) → IsReady s → length recipe ≤ recipe_limit → HasStaged (staging s recipe).disk.recipes (recipe ∷ [])
+pub recipe_has : (s : OpenStore) (recipe : List ℕ) → IsStoreReady s → length recipe ≤ recipe_limit → HasStaged (staging s recipe).disk.recipes (recipe ∷ [])
 recipe_has s recipe ready few = staged_more s.disk.recipes [] recipe ready.none.recipes (recipe_room s.disk.recipes recipe ready.none.recipes few)
 
 -- ---- the ends of both logs
@@ -86,7 +86,7 @@ is_commit s list c cloud user tag version fp len r serves fits answered is fp_is
 module _ (user : UserId) (tag : Tag) (version : Version) where
   -- what adding the Commit leaves of a store that has its recipe staged
   pub record Enters {T E : Type 0} (Same : Type 0) (x new : OpenStore) (b c : ℕ → Cloud) (f1 f2 : ℕ) (recipe content : List ℕ) (r : Result T E) : Type 0 where
-    pub leaves : Leaves x new r
+    pub leaves : IsLeftSettled x new r
     pub does : (list : List Command) (chain : Chain) → Serves list chain x (b x.header.cloud.0) → IsAnsweredNew x.header list user tag version recipe
         → Does x new (b x.header.cloud.0) (c x.header.cloud.0) list (requests.Commit user tag version recipe) content r
     pub behind : GrowsBehind x (b x.header.cloud.0) (c x.header.cloud.0)
@@ -101,7 +101,7 @@ module _ (user : UserId) (tag : Tag) (version : Version) where
   unstaged_is s recipe none = λ i. record s { disk = record s.disk { shares = record s.disk.shares { staged = sym none.shares.bytes i }; recipes = record s.disk.recipes { staged = sym none.recipes.bytes i } } }
 
   served_staged : {T E : Type 0} (old new : OpenStore) (c : Cloud) (recipe : List ℕ) (list : List Command) (request : Request) (content : List ℕ) (r : Result T E)
-      → OnOk r (Served (staging old recipe) new c list request content) → OnOk r (Served old new c list request content)
+      → OnOk r (IsServedByList (staging old recipe) new c list request content) → OnOk r (IsServedByList old new c list request content)
   served_staged old new c recipe list request content (Err e) s = tt
   served_staged old new c recipe list request content (Ok v) s = record { reply = s.reply; next = s.next }
 
@@ -118,7 +118,7 @@ module _ (user : UserId) (tag : Tag) (version : Version) where
   full_then (Ok v) P Same old new recipe none f = λ p. let u = f p in (u.0, u.1 ∙ unstaged_is old recipe none)
 
   pub entered : {T E : Type 0} (rs : Result T E) (Same : Type 0) (old x new : OpenStore) (a c : ℕ → Cloud) (f0 f2 : ℕ) (r : Recipe) (content : List ℕ) → x ≡ staging old (spelling r)
-      → IsReady old → IsRecipe old.header.shape (spelling r) r → HasNone (memory_of old.memory) (key_of user.0 tag.0 version.0)
+      → IsStoreReady old → IsRecipe old.header.shape (spelling r) r → HasNone (memory_of old.memory) (key_of user.0 tag.0 version.0)
       → ((list : List Command) → Remembers old.header.shape list (memory_of old.memory) → first_lacking (user_view old.header.shape list user).own (fps_in r.items) ≡ None)
       → ((list : List Command) (chain : Chain) (cloud : Cloud) → Serves list chain old cloud → Serves list chain x cloud)
       → Enters Same x new a c f0 f2 (spelling r) content rs

@@ -2,27 +2,27 @@
 use Rattle.std.proofs.Common.{◌≡◌, ℕ, Bool, true, false, cond, List, length, Option, Some, None, Result, Ok, Err, refl, sym, ap, ◌∙◌, subst}
 use Rattle.std.specs.Prelude.{OnOk, IsSome, bytes_eq}
 use Rattle.std.specs.FinMap.{get}
-use Rattle.cd_base.specs.declared.ids.Fp.{Fp}
-use Rattle.cd_base.specs.declared.ids.Tag.{Tag}
-use Rattle.cd_base.specs.declared.ids.UserId.{UserId}
-use Rattle.cd_base.specs.declared.ids.Version.{Version}
-use Rattle.cd_base.specs.declared.rooms.Room.TheVariants as names
-use Rattle.cd_base.specs.declared.shape.Shape.{Shape}
-use Rattle.container_log.specs.Places.{place_of}
-use Rattle.file_index.specs.declared.key.Entry.{Entry}
-use Rattle.file_index.specs.declared.key.FileKey.{FileKey}
-use Rattle.file_index.specs.Files.{key_of}
-use Rattle.journal_start.specs.declared.rooms.Rooms.{Rooms}
-use Rattle.journal_start.specs.declared.start.Header.{Header}
-use Rattle.messages.specs.declared.reply.Reply.{Reply}
-use Rattle.messages.specs.declared.reply.Reply.TheVariants as replies
-use Rattle.messages.specs.Replies.{IsReply}
-use Rattle.recipe.specs.declared.recipe.Recipe.{Recipe}
-use Rattle.recipe.specs.Spelling.{IsRecipe, spelling}
-use Rattle.user_dedup.specs.Cloud.{fingerprint}
-use Rattle.user_dedup.specs.Dedup.{FullRoom}
-use Rattle.user_dedup.specs.Owning.{fps_in}
-use Rattle.user_dedup.specs.Requests.{fps_of}
+use Rattle.server_reads.specs.CdBase.ids.Fp.{Fp}
+use Rattle.server_reads.specs.CdBase.ids.Tag.{Tag}
+use Rattle.server_reads.specs.CdBase.ids.UserId.{UserId}
+use Rattle.server_reads.specs.CdBase.ids.Version.{Version}
+use Rattle.server_reads.specs.CdBase.rooms.Room.TheVariants as names
+use Rattle.server_reads.specs.CdBase.shape.Shape.{Shape}
+use Rattle.server_reads.specs.ContainerLog.Places.{place_of}
+use Rattle.server_reads.specs.FileIndex.key.Entry.{Entry}
+use Rattle.server_reads.specs.FileIndex.key.FileKey.{FileKey}
+use Rattle.server_reads.specs.FileIndex.Files.{key_of}
+use Rattle.open_store.specs.JournalStart.rooms.UserRooms.{UserRooms}
+use Rattle.open_store.specs.JournalStart.start.Header.{Header}
+use Rattle.server_reads.specs.Messages.reply.Reply.{Reply}
+use Rattle.server_reads.specs.Messages.reply.Reply.TheVariants as replies
+use Rattle.server_reads.specs.Messages.Replies.{IsReply}
+use Rattle.server_reads.specs.Recipe.recipe.Recipe.{Recipe}
+use Rattle.server_reads.specs.Recipe.Spelling.{IsRecipe, spelling}
+use Rattle.server_reads.specs.UserDedup.Cloud.{fingerprint}
+use Rattle.server_reads.specs.UserDedup.Dedup.{FullRoom}
+use Rattle.server_reads.specs.UserDedup.Owning.{fps_in}
+use Rattle.server_reads.specs.UserDedup.Requests.{fps_of}
 use Rattle.server_reads.specs.CloudMemory.Memory.{Memory}
 use Rattle.server_reads.specs.CloudMemory.Rooms.{memory_of, full_commit}
 use Rattle.server_reads.specs.CloudMemory.Sharing.{AreOwned, IsFirstUnowned}
@@ -65,7 +65,7 @@ forgotten r old mid new user key recipe content entry header memory has long nam
 
 -- ---- a Commit
 
-module _ (rooms : Rooms) (m new : Memory) (user : UserId) (tag : Tag) (version : Version) where
+module _ (rooms : UserRooms) (m new : Memory) (user : UserId) (tag : Tag) (version : Version) where
   abbrev key : FileKey
   key = key_of user.0 tag.0 version.0
 
@@ -118,7 +118,7 @@ pub owned_spelled : (shape : Shape) (m : Memory) (user : UserId) (r : Recipe) (b
     → AreOwned m.owners user (fps_of shape bytes)
 owned_spelled shape m user r bytes is e owned = subst (AreOwned m.owners user) (sym (ap (fps_of shape) e ∙ fps_spelled shape r is)) owned
 
-pub lacking_commits : (rooms : Rooms) (shape : Shape) (m : Memory) (user : UserId) (tag : Tag) (version : Version) (r : Recipe) (content : List ℕ) (place : ℕ) → IsRecipe shape (spelling r) r
+pub lacking_commits : (rooms : UserRooms) (shape : Shape) (m : Memory) (user : UserId) (tag : Tag) (version : Version) (r : Recipe) (content : List ℕ) (place : ℕ) → IsRecipe shape (spelling r) r
     → IsFirstUnowned m.owners user (fps_in r.items) place → IsReply content (replies.Lacking place) → Replies content (Commits rooms m m user tag version (fps_of shape (spelling r)) (spelling r))
 lacking_commits rooms shape m user tag version r content place is first reply = record {
   reply = replies.Lacking place;

@@ -6,28 +6,28 @@ use Rattle.std.proofs.lemmas.List.{map_push, take_more_set}
 use Rattle.std.proofs.lemmas.List.Elements.{All-nil, All-cons, All-head, All-tail, All-push}
 use Rattle.std.proofs.lemmas.List.Folds.{list_any-append}
 use Rattle.std.proofs.lemmas.List.Sums.{sum_by-cons}
-use Rattle.cd_base.specs.Order.{fp_cmp}
-use Rattle.cd_base.specs.declared.ids.Fp.{Fp}
-use Rattle.cd_base.specs.declared.ids.UserId.{UserId}
-use Rattle.cd_base.specs.declared.place.Place.{Place}
-use Rattle.cd_base.specs.declared.shape.Shape.{Shape}
-use Rattle.container_log.specs.Laying.{lengths}
-use Rattle.container_log.specs.Places.{container_len}
-use Rattle.container_log.specs.States.{State, HasStaged, need_of}
-use Rattle.container_log.proofs.Rooms.{room_staged}
-use Rattle.message_fields.specs.Shares.{IsShare}
-use Rattle.share_index.specs.Order.{owner_cmp, owner_of}
-use Rattle.user_dedup.specs.declared.command.Command.{Command}
-use Rattle.user_dedup.specs.Cloud.{fingerprint, user_view}
-use Rattle.user_dedup.specs.Owning.{is_among, new_strings}
-use Rattle.user_dedup.proofs.New.{are_new}
+use Rattle.server_reads.specs.CdBase.Order.{fp_cmp}
+use Rattle.server_reads.specs.CdBase.ids.Fp.{Fp}
+use Rattle.server_reads.specs.CdBase.ids.UserId.{UserId}
+use Rattle.server_reads.specs.CdBase.place.Place.{Place}
+use Rattle.server_reads.specs.CdBase.shape.Shape.{Shape}
+use Rattle.server_reads.specs.ContainerLog.Laying.{lengths}
+use Rattle.server_reads.specs.ContainerLog.Places.{container_len}
+use Rattle.server_reads.specs.ContainerLog.States.{State, HasStaged, need_of}
+use Rattle.server_reads.proofs.ContainerLog.Rooms.{room_staged}
+use Rattle.server_reads.specs.MessageFields.Shares.{IsShare}
+use Rattle.server_reads.specs.ShareIndex.Order.{owner_cmp, owner_of}
+use Rattle.server_reads.specs.UserDedup.command.Command.{Command}
+use Rattle.server_reads.specs.UserDedup.Cloud.{fingerprint, user_view}
+use Rattle.server_reads.specs.UserDedup.Owning.{is_among, new_strings}
+use Rattle.server_reads.proofs.UserDedup.New.{are_new}
 use Rattle.server_reads.specs.CloudMemory.rooms.New.{New}
 use Rattle.server_reads.specs.CloudMemory.Memory.{Memory, Remembers, uses_of}
 use Rattle.server_reads.specs.CloudMemory.Rooms.{memory_of}
 use Rattle.open_store.specs.declared.store.OpenStore.{OpenStore}
 use Rattle.open_store.specs.Store.{IsOpen, IsSettled, EndsMeet}
 use Rattle.open_store.specs.Adding.{unplaced}
-use Rattle.server_commands.specs.Executing.{IsReady}
+use Rattle.server_commands.specs.Executing.{IsStoreReady}
 use Rattle.server_commands.specs.Entering.{new_of, unowned_from, unowned}
 use Rattle.server_commands.specs.Picked.{fps_of, with_shares, Picked}
 
@@ -121,7 +121,7 @@ pub record Picking (old store : OpenStore) (user : UserId) (sent : List (List �
   pub settled : IsSettled store
   pub meet : EndsMeet store
 
-pub begun : (old : OpenStore) (user : UserId) (sent : List (List ℕ)) (news : List New) → IsReady old → Picking old old user sent 0 0 sent news
+pub begun : (old : OpenStore) (user : UserId) (sent : List (List ℕ)) (news : List New) → IsStoreReady old → Picking old old user sent 0 0 sent news
 begun old user sent news ready = record {
   picked = [];
   front = refl;
@@ -200,7 +200,7 @@ pub record Tested (m : Memory) (user : UserId) (before : List New) (s : List ℕ
 memory_same : (old store : OpenStore) → store ≡ with_shares old store.disk.shares.staged → memory_of store.memory ≡ memory_of old.memory
 memory_same old store same = ap (λ (s : OpenStore). memory_of s.memory) same
 
-pub opened : (old store : OpenStore) → IsReady old → store ≡ with_shares old store.disk.shares.staged → IsOpen store
+pub opened : (old store : OpenStore) → IsStoreReady old → store ≡ with_shares old store.disk.shares.staged → IsOpen store
 opened old store ready same = subst IsOpen (sym same) ready.at_end
 
 module _ (old store : OpenStore) (user : UserId) (sent : List (List ℕ)) (place count : ℕ) (rest : List (List ℕ)) (news : List New) (s : List ℕ) (others : List (List ℕ)) (rest_is : rest ≡ s ∷ others)

@@ -4,28 +4,28 @@ use Rattle.std.specs.Prelude.{OnOk}
 use Rattle.std.specs.Int.{w16, to_be_bytes, from_be_bytes}
 use Rattle.std.proofs.lemmas.List.{nil_from_length}
 use Rattle.std.proofs.lemmas.Nat.{from_be_bytes-to_be_bytes_2}
-use Rattle.cd_base.specs.declared.ids.UserId.{UserId}
-use Rattle.cd_base.specs.declared.ids.Fp.{Fp}
-use Rattle.cd_base.specs.declared.rooms.Room.{Room}
-use Rattle.cd_base.specs.declared.rooms.Room.TheVariants as names
-use Rattle.cd_base.specs.declared.shape.Shape.{Shape}
-use Rattle.cd_edges.specs.Disk.{Cloud}
-use Rattle.container_log.specs.Laying.{laid}
-use Rattle.container_log.specs.States.{State, HasStaged}
-use Rattle.half_journal.specs.declared.journal.Stage.TheVariants.{AtEnd}
-use Rattle.journal_start.specs.declared.rooms.Rooms.{Rooms}
-use Rattle.message_fields.specs.Shares.{AreShares}
-use Rattle.messages.specs.declared.request.Request.{Request}
-use Rattle.messages.specs.declared.request.Request.TheVariants as requests
-use Rattle.messages.specs.declared.reply.Reply.{Reply}
-use Rattle.messages.specs.declared.reply.Reply.TheVariants as replies
-use Rattle.messages.specs.Replies.{IsReply}
-use Rattle.user_dedup.specs.declared.command.Command.{Command}
-use Rattle.user_dedup.specs.declared.command.Command.TheVariants as commands
-use Rattle.user_dedup.specs.Cloud.{user_view}
-use Rattle.user_dedup.specs.Dedup.{IsSound, Added, Outcome, only, put_outcome, answer_over}
-use Rattle.user_dedup.specs.Owning.{new_strings}
-use Rattle.user_dedup.specs.Spending.{full_for}
+use Rattle.server_reads.specs.CdBase.ids.UserId.{UserId}
+use Rattle.server_reads.specs.CdBase.ids.Fp.{Fp}
+use Rattle.server_reads.specs.CdBase.rooms.Room.{Room}
+use Rattle.server_reads.specs.CdBase.rooms.Room.TheVariants as names
+use Rattle.server_reads.specs.CdBase.shape.Shape.{Shape}
+use Rattle.server_reads.specs.CdEdges.Disk.{Cloud}
+use Rattle.server_reads.specs.ContainerLog.Laying.{laid}
+use Rattle.server_reads.specs.ContainerLog.States.{State, HasStaged}
+use Rattle.open_store.specs.HalfJournal.journal.Stage.TheVariants.{AtEnd}
+use Rattle.open_store.specs.JournalStart.rooms.UserRooms.{UserRooms}
+use Rattle.server_reads.specs.MessageFields.Shares.{AreShares}
+use Rattle.server_reads.specs.Messages.request.Request.{Request}
+use Rattle.server_reads.specs.Messages.request.Request.TheVariants as requests
+use Rattle.server_reads.specs.Messages.reply.Reply.{Reply}
+use Rattle.server_reads.specs.Messages.reply.Reply.TheVariants as replies
+use Rattle.server_reads.specs.Messages.Replies.{IsReply}
+use Rattle.server_reads.specs.UserDedup.command.Command.{Command}
+use Rattle.server_reads.specs.UserDedup.command.Command.TheVariants as commands
+use Rattle.server_reads.specs.UserDedup.Cloud.{user_view}
+use Rattle.server_reads.specs.UserDedup.Dedup.{IsSound, Added, Outcome, only, put_outcome, answer_over}
+use Rattle.server_reads.specs.UserDedup.Owning.{new_strings}
+use Rattle.server_reads.specs.UserDedup.Spending.{full_for}
 use Rattle.open_store.specs.CloudAreas.Standing.{Chain}
 use Rattle.server_reads.specs.CloudMemory.cloud.CloudMemory.{CloudMemory}
 use Rattle.server_reads.specs.CloudMemory.rooms.New.{New}
@@ -38,11 +38,11 @@ use Rattle.open_store.proofs.Held.{is_put}
 use Rattle.open_store.proofs.Keeping.{serves_on}
 use Rattle.server_reads.specs.Allowed.{Replies}
 use Rattle.server_commands.specs.Entering.{Stores, new_of, news_of}
-use Rattle.server_commands.specs.Executing.{IsReady, GrowsBehind, Executes}
+use Rattle.server_commands.specs.Executing.{IsStoreReady, GrowsBehind, Executes}
 use Rattle.server_commands.specs.Leaving.{StoresNothing}
 use Rattle.server_commands.specs.Picked.{Picked, with_shares}
-use Rattle.server_commands.specs.Serving.{serves, Served, IsGiven, Gives}
-use Rattle.server_commands.specs.Steps.{Calls, Leaves, Does, HasNewsStaged}
+use Rattle.server_commands.specs.Serving.{serves, IsServedByList, IsGiven, Gives}
+use Rattle.server_commands.specs.Steps.{Calls, IsLeftSettled, Does, HasNewsStaged}
 use Rattle.server_commands.proofs.Calls.{ok_result, no_calls, stays_still}
 use Rattle.server_commands.proofs.Contents.{one_kind}
 use Rattle.server_commands.proofs.Doing.{served_only, served_still, adding, stays_executes, adds_executes}
@@ -69,7 +69,7 @@ some_or_none content n some one none =
     let few : n ≤ 256 = one.fits in
     omega (arith, e, from_be_bytes-to_be_bytes_2 n (omega (arith, few)), from_be_bytes-to_be_bytes_2 0 (omega arith))
 
-module _ (rooms : Rooms) (m new : Memory) (user : UserId) (news : List New) (content : List ℕ) where
+module _ (rooms : UserRooms) (m new : Memory) (user : UserId) (news : List New) (content : List ℕ) where
   stores_not : (reply : Reply) (a : ℕ) (rest : List ℕ) → 131 ≢ a → 140 ≢ a → IsReply content reply → Stores rooms m new user news reply → content ≡ a ∷ rest → ⊥
   stores_not (replies.Stored count) a rest one two is of other = one (one_kind content 131 a _ rest is.spelled other)
   stores_not (replies.Full room used need limit) a rest one two is of other = two (one_kind content 140 a _ rest is.spelled other)
@@ -123,7 +123,7 @@ nothing_staged old new user sent news none p few =
     let bytes = p.staged.bytes ∙ ap (λ (l : List (List ℕ)). laid new.disk.shares.end (unplaced (memory_of old.memory).places l)) nil in
     p.same ∙ ap (with_shares old) (bytes ∙ sym none.shares.bytes)
 
-pub none_new : (Same : Type 0) (old new : OpenStore) (a : ℕ → Cloud) (f : ℕ) (user : UserId) (sent : List (List ℕ)) (news : List New) (content : List ℕ) → Same → IsReady old
+pub none_new : (Same : Type 0) (old new : OpenStore) (a : ℕ → Cloud) (f : ℕ) (user : UserId) (sent : List (List ℕ)) (news : List New) (content : List ℕ) → Same → IsStoreReady old
     → Picked old new user sent news → length news ≡ 0 → IsReply content (replies.Stored 0) → Executes Same old new a a f f (requests.Put user sent) content ok_result
 none_new Same old new a f user sent news content same ready p few content_is =
     let n = old.header.cloud.0 in let shape = old.header.shape in
@@ -158,7 +158,7 @@ shares_serve s bytes list c cloud serves =
     serves_on list c s (with_shares s bytes).disk cloud cloud serves
     (record { read = on.read; shares = record { area_is = on.shares.area_is; behind = on.shares.behind; agrees = on.shares.agrees }; recipes = on.recipes }) refl refl refl
 
-pub news_staged : (old x : OpenStore) (user : UserId) (sent : List (List ℕ)) (news : List New) → IsReady old → Picked old x user sent news → IsSettled x → EndsMeet x → HasNewsStaged x news
+pub news_staged : (old x : OpenStore) (user : UserId) (sent : List (List ℕ)) (news : List New) → IsStoreReady old → Picked old x user sent news → IsSettled x → EndsMeet x → HasNewsStaged x news
 news_staged old x user sent news ready p settled meet = record {
   settled = settled;
   at_end = subst (λ (s : OpenStore). s.disk.journal.stage ≡ old.disk.journal.stage) (sym p.same) refl ∙ ready.at_end;
@@ -173,7 +173,7 @@ unstaged_is : (s : OpenStore) (bytes : List ℕ) → NoneStaged s → unstaged (
 unstaged_is s bytes none = λ i. record s { disk = record s.disk { shares = record s.disk.shares { staged = sym none.shares.bytes i }; recipes = record s.disk.recipes { staged = sym none.recipes.bytes i } } }
 
 served_staged : {T E : Type 0} (old new : OpenStore) (c : Cloud) (bytes : List ℕ) (list : List Command) (request : Request) (content : List ℕ) (r : Result T E)
-    → OnOk r (Served (with_shares old bytes) new c list request content) → OnOk r (Served old new c list request content)
+    → OnOk r (IsServedByList (with_shares old bytes) new c list request content) → OnOk r (IsServedByList old new c list request content)
 served_staged old new c bytes list request content (Err e) s = tt
 served_staged old new c bytes list request content (Ok v) s = record { reply = s.reply; next = s.next }
 
@@ -192,7 +192,7 @@ full_then (Ok v) P Same old new bytes none f = λ p. let u = f p in (u.0, u.1 �
 module _ (user : UserId) (sent : List (List ℕ)) (news : List New) where
   -- what adding the Put leaves of a store that has its shares staged
   pub record Adds {T E : Type 0} (Same : Type 0) (x new : OpenStore) (a c : ℕ → Cloud) (f0 f1 : ℕ) (content : List ℕ) (r : Result T E) : Type 0 where
-    pub leaves : Leaves x new r
+    pub leaves : IsLeftSettled x new r
     pub does : (list : List Command) (chain : Chain) (strings : List (List ℕ)) → IsPut list chain x user news strings (a x.header.cloud.0)
         → strings ≡ new_strings (user_view x.header.shape list user).own sent
         → Does x new (a x.header.cloud.0) (c x.header.cloud.0) list (requests.Put user sent) content r
@@ -201,7 +201,7 @@ module _ (user : UserId) (sent : List (List ℕ)) (news : List New) where
     pub full : (room : Room) (used need limit : ℕ) → room ≢ names.Journal → OnOk r (IsReply content (replies.Full room used need limit) → Same × (new ≡ unstaged x))
     pub calls : Calls a c x.header.cloud.0 f0 f1 r
 
-  pub added : {T E : Type 0} (r : Result T E) (Same : Type 0) (old x new : OpenStore) (a c : ℕ → Cloud) (f0 f1 : ℕ) (content : List ℕ) → IsReady old → AreShares sent → user.0 < 2 ^ 32
+  pub added : {T E : Type 0} (r : Result T E) (Same : Type 0) (old x new : OpenStore) (a c : ℕ → Cloud) (f0 f1 : ℕ) (content : List ℕ) → IsStoreReady old → AreShares sent → user.0 < 2 ^ 32
       → Picked old x user sent news → 1 ≤ length news → Adds Same x new a c f0 f1 content r → Executes Same old new a c f0 f1 (requests.Put user sent) content r
   added r Same old x new a c f0 f1 content ready batch small p some adds =
       let n = old.header.cloud.0 in let shape = old.header.shape in let m = memory_of old.memory in
@@ -230,7 +230,7 @@ module _ (user : UserId) (sent : List (List ℕ)) (news : List New) where
 
 -- ---- what adding leaves
 
-pub leaves_added : (old new : OpenStore) → IsSettled new → NoneStaged new → new.header ≡ old.header → new.disk.journal.stage ≡ AtEnd → EndsMeet new → Leaves old new ok_result
+pub leaves_added : (old new : OpenStore) → IsSettled new → NoneStaged new → new.header ≡ old.header → new.disk.journal.stage ≡ AtEnd → EndsMeet new → IsLeftSettled old new ok_result
 leaves_added old new settled none header at_end meet = record {
   ready = record { settled = settled; at_end = at_end; none = none; meet = meet };
   settled = settled;
@@ -248,13 +248,13 @@ unmoved_meets old new meet u = record {
   recipes = ap (λ (l : State). l.end) u.recipes ∙ meet.recipes ∙ sym (ap (λ (m : CloudMemory). m.recipes_end) u.memory);
 }
 
-pub long_stores : (rooms : Rooms) (m new : Memory) (user : UserId) (news : List New) (content : List ℕ) (used need limit : ℕ) → 1 ≤ length news → new ≡ m
+pub long_stores : (rooms : UserRooms) (m new : Memory) (user : UserId) (news : List New) (content : List ℕ) (used need limit : ℕ) → 1 ≤ length news → new ≡ m
     → IsReply content (replies.Full names.Journal used need limit) → Replies content (Stores rooms m new user news)
 long_stores rooms m new user news content used need limit some same is = record { reply = replies.Full names.Journal used need limit; is = is; said = (some, same, λ other. absurd (other refl)) }
 
 -- ---- what a Put says by the memory
 
-pub none_stores : (rooms : Rooms) (old new : OpenStore) (user : UserId) (sent : List (List ℕ)) (news : List New) (content : List ℕ) → NoneStaged old → Picked old new user sent news → length news ≡ 0
+pub none_stores : (rooms : UserRooms) (old new : OpenStore) (user : UserId) (sent : List (List ℕ)) (news : List New) (content : List ℕ) → NoneStaged old → Picked old new user sent news → length news ≡ 0
     → IsReply content (replies.Stored 0) → Replies content (Stores rooms (memory_of old.memory) (memory_of new.memory) user (news_of (memory_of old.memory) user sent))
 none_stores rooms old new user sent news content none p few is =
     let m = memory_of old.memory in

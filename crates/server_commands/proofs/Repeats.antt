@@ -1,34 +1,34 @@
 -- A Commit that adds nothing, by what its exits leave.
 use Rattle.std.proofs.Common.{◌≡◌, ℕ, ◌<◌, List, length, Some, None, Err, refl, ap, ◌∙◌, arith}
-use Rattle.cd_base.specs.declared.ids.Fp.{Fp}
-use Rattle.cd_base.specs.declared.ids.Tag.{Tag}
-use Rattle.cd_base.specs.declared.ids.UserId.{UserId}
-use Rattle.cd_base.specs.declared.ids.Version.{Version}
-use Rattle.cd_edges.specs.Disk.{Cloud}
-use Rattle.file_index.specs.Files.{key_of}
-use Rattle.messages.specs.declared.request.Request.{Request}
-use Rattle.messages.specs.declared.request.Request.TheVariants as requests
-use Rattle.messages.specs.declared.reply.Reply.TheVariants as replies
-use Rattle.messages.specs.Replies.{IsReply, reply_bytes}
-use Rattle.recipe.specs.declared.recipe.Recipe.{Recipe}
-use Rattle.recipe.specs.Spelling.{IsRecipe, spelling}
-use Rattle.user_dedup.specs.declared.command.Command.{Command}
-use Rattle.user_dedup.specs.Cloud.{user_view}
-use Rattle.user_dedup.specs.Owning.{fps_in, first_lacking}
-use Rattle.user_dedup.specs.Pages.{entry_at}
-use Rattle.user_dedup.specs.Requests.{fps_of}
-use Rattle.user_dedup.specs.Spending.{full_for}
+use Rattle.server_reads.specs.CdBase.ids.Fp.{Fp}
+use Rattle.server_reads.specs.CdBase.ids.Tag.{Tag}
+use Rattle.server_reads.specs.CdBase.ids.UserId.{UserId}
+use Rattle.server_reads.specs.CdBase.ids.Version.{Version}
+use Rattle.server_reads.specs.CdEdges.Disk.{Cloud}
+use Rattle.server_reads.specs.FileIndex.Files.{key_of}
+use Rattle.server_reads.specs.Messages.request.Request.{Request}
+use Rattle.server_reads.specs.Messages.request.Request.TheVariants as requests
+use Rattle.server_reads.specs.Messages.reply.Reply.TheVariants as replies
+use Rattle.server_reads.specs.Messages.Replies.{IsReply, reply_bytes}
+use Rattle.server_reads.specs.Recipe.recipe.Recipe.{Recipe}
+use Rattle.server_reads.specs.Recipe.Spelling.{IsRecipe, spelling}
+use Rattle.server_reads.specs.UserDedup.command.Command.{Command}
+use Rattle.server_reads.specs.UserDedup.Cloud.{user_view}
+use Rattle.server_reads.specs.UserDedup.Owning.{fps_in, first_lacking}
+use Rattle.server_reads.specs.UserDedup.Pages.{entry_at}
+use Rattle.server_reads.specs.UserDedup.Requests.{fps_of}
+use Rattle.server_reads.specs.UserDedup.Spending.{full_for}
 use Rattle.server_reads.specs.CloudMemory.Memory.{Remembers}
 use Rattle.server_reads.specs.CloudMemory.Rooms.{memory_of}
 use Rattle.open_store.specs.declared.store.OpenStore.{OpenStore}
 use Rattle.open_store.specs.Store.{IsSettled, IsOpen, closed}
-use Rattle.server_reads.specs.declared.blobs.Stop.{Stop}
-use Rattle.server_reads.specs.declared.blobs.Stop.TheVariants as stops
+use Rattle.server_reads.specs.declared.blobs.BlobStop.{BlobStop}
+use Rattle.server_reads.specs.declared.blobs.BlobStop.TheVariants as stops
 use Rattle.server_reads.specs.Found.{IsFoundRecipe}
-use Rattle.server_reads.specs.Reading.{HasRead, IfRotten}
+use Rattle.server_reads.specs.Reading.{HasReadCloud, IfRotten}
 use Rattle.server_reads.proofs.Calling.{rotten_at}
-use Rattle.server_commands.specs.Executing.{IsReady, Executes}
-use Rattle.server_commands.specs.Steps.{OnlyReads, by_recipe}
+use Rattle.server_commands.specs.Executing.{IsStoreReady, Executes}
+use Rattle.server_commands.specs.Steps.{HasOnlyReadRecipes, by_recipe}
 use Rattle.server_commands.proofs.Calls.{ok_result, failed_result, ok_read, failed_read, calls_failed, calls_read, no_calls, stays_still}
 use Rattle.server_commands.proofs.Contents.{one_kind, rotten_said}
 use Rattle.server_commands.proofs.Commits.{answers_commit, fps_spelled, lacking_given, rotten_of_commit, rotten_enters, compared_never_rotten, compared_leaves, compared_gives}
@@ -41,11 +41,11 @@ module _ (user : UserId) (tag : Tag) (version : Version) where
   abbrev pub Owns : OpenStore → List ℕ → Type 0
   Owns s recipe = (list : List Command) → Remembers s.header.shape list (memory_of s.memory) → first_lacking (user_view s.header.shape list user).own (fps_of s.header.shape recipe) ≡ None
 
-  module _ (Same : Type 0) (old mid : OpenStore) (a b : ℕ → Cloud) (f0 f1 : ℕ) (recipe content : List ℕ) (o : OnlyReads old mid (a old.header.cloud.0) (b old.header.cloud.0)) (ready : IsReady old) where
+  module _ (Same : Type 0) (old mid : OpenStore) (a b : ℕ → Cloud) (f0 f1 : ℕ) (recipe content : List ℕ) (o : HasOnlyReadRecipes old mid (a old.header.cloud.0) (b old.header.cloud.0)) (ready : IsStoreReady old) where
     abbrev request : Request
     request = requests.Commit user tag version recipe
 
-    pub compared : (there bytes : List ℕ) → Owns old recipe → HasRead a b old.header.cloud.0 f0 f1 ok_read → ByLists user tag version old (a old.header.cloud.0) bytes ok_read → there ≡ bytes
+    pub compared : (there bytes : List ℕ) → Owns old recipe → HasReadCloud a b old.header.cloud.0 f0 f1 ok_read → ByLists user tag version old (a old.header.cloud.0) bytes ok_read → there ≡ bytes
         → IsReply content (by_recipe there recipe) → Executes Same old mid a b f0 f1 (requests.Commit user tag version recipe) content ok_result
     compared there bytes owns read lists front is =
         let n = old.header.cloud.0 in
@@ -64,7 +64,7 @@ module _ (user : UserId) (tag : Tag) (version : Version) where
         (λ answer leaves other. compared_leaves content there recipe (Same × (mid ≡ old)) is answer leaves other)
         (compared_gives old.header.shape user tag version there recipe content is)
 
-    pub unread : (new : OpenStore) → HasRead a b old.header.cloud.0 f0 f1 failed_read → new ≡ closed mid → IsSettled new → ¬ (IsOpen new)
+    pub unread : (new : OpenStore) → HasReadCloud a b old.header.cloud.0 f0 f1 failed_read → new ≡ closed mid → IsSettled new → ¬ (IsOpen new)
         → Executes Same old new a b f0 f1 (requests.Commit user tag version recipe) content failed_result
     unread new read is settled shut =
         let n = old.header.cloud.0 in
@@ -74,7 +74,7 @@ module _ (user : UserId) (tag : Tag) (version : Version) where
         (calls_failed a b n f0 f1 read)
         (λ list some. tt) (λ named found. tt) (λ answer leaves. tt) tt
 
-    pub rotten : (stop : Stop) (named found : Fp) (bytes : List ℕ) → stop ≡ stops.Rotten named found → HasRead {A = Unit {0}} a b old.header.cloud.0 f0 f1 (Err stop)
+    pub rotten : (stop : BlobStop) (named found : Fp) (bytes : List ℕ) → stop ≡ stops.Rotten named found → HasReadCloud {A = Unit {0}} a b old.header.cloud.0 f0 f1 (Err stop)
         → ByLists user tag version old (a old.header.cloud.0) bytes (Err stop)
         → IfRotten {A = Unit {0}} (Err stop) (IsFoundRecipe (a old.header.cloud.0) (memory_of old.memory) (key_of user.0 tag.0 version.0))
         → IsReply content (replies.Rotten named found) → Executes Same old mid a b f0 f1 (requests.Commit user tag version recipe) content ok_result
@@ -90,7 +90,7 @@ module _ (user : UserId) (tag : Tag) (version : Version) where
         (λ answer leaves other. rotten_enters content named found (Same × (mid ≡ old)) content_is answer leaves other)
         (record { reply = replies.Rotten named found; is = content_is; given = rotten_of_commit old.header.shape user tag version recipe named found })
 
-  pub lacking : (Same : Type 0) (old : OpenStore) (a : ℕ → Cloud) (f : ℕ) (r : Recipe) (content : List ℕ) (place : ℕ) → Same → IsReady old → IsRecipe old.header.shape (spelling r) r → place < length r.items
+  pub lacking : (Same : Type 0) (old : OpenStore) (a : ℕ → Cloud) (f : ℕ) (r : Recipe) (content : List ℕ) (place : ℕ) → Same → IsStoreReady old → IsRecipe old.header.shape (spelling r) r → place < length r.items
       → ((list : List Command) → Remembers old.header.shape list (memory_of old.memory) → first_lacking (user_view old.header.shape list user).own (fps_in r.items) ≡ Some place)
       → IsReply content (replies.Lacking place) → Executes Same old old a a f f (requests.Commit user tag version (spelling r)) content ok_result
   lacking Same old a f r content place same ready is within lacks content_is =

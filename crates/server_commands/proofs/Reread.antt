@@ -1,37 +1,37 @@
 -- A store whose entry was read, and what is done behind the read.
 use Rattle.std.proofs.Common.{◌≡◌, ℕ, List, Result, Ok, Err, refl, sym, ap, ◌∙◌, subst}
 use Rattle.std.specs.Prelude.{OnOk}
-use Rattle.cd_base.specs.declared.ids.Fp.{Fp}
-use Rattle.cd_edges.specs.declared.area.Area.TheVariants.{Journal, Shares, Recipes}
-use Rattle.cd_edges.specs.Disk.{Areas, Cloud}
-use Rattle.cd_edges.specs.Shelf.{Stays}
+use Rattle.server_reads.specs.CdBase.ids.Fp.{Fp}
+use Rattle.server_reads.specs.CdEdges.area.Area.TheVariants.{Journal, Shares, Recipes}
+use Rattle.server_reads.specs.CdEdges.Disk.{Areas, Cloud}
+use Rattle.server_reads.specs.CdEdges.Shelf.{Stays}
 use Rattle.open_store.specs.CloudAreas.Peers.{StandsForSome}
-use Rattle.container_log.specs.Caches.{Kept}
-use Rattle.container_log.specs.Kept.{KeepsBelow}
-use Rattle.messages.specs.declared.request.Request.{Request}
-use Rattle.user_dedup.specs.declared.command.Command.{Command}
+use Rattle.server_reads.specs.ContainerLog.Caches.{Kept}
+use Rattle.server_reads.specs.ContainerLog.Kept.{KeepsBelow}
+use Rattle.server_reads.specs.Messages.request.Request.{Request}
+use Rattle.server_reads.specs.UserDedup.command.Command.{Command}
 use Rattle.open_store.specs.declared.store.OpenStore.{OpenStore}
 use Rattle.open_store.specs.Adding.{NoneStaged, IsOneOf}
 use Rattle.open_store.specs.Store.{IsSettled, IsOpen, closed}
-use Rattle.server_reads.specs.declared.blobs.Stop.{Stop}
-use Rattle.server_reads.specs.declared.blobs.Stop.TheVariants as stops
+use Rattle.server_reads.specs.declared.blobs.BlobStop.{BlobStop}
+use Rattle.server_reads.specs.declared.blobs.BlobStop.TheVariants as stops
 use Rattle.server_reads.specs.Reading.{UnlessFailed}
-use Rattle.server_commands.specs.Executing.{IsReady, GrowsBehind, LeavesBoth}
-use Rattle.server_commands.specs.Serving.{Served, IsServedOrNot}
-use Rattle.server_commands.specs.Steps.{Leaves, Does, OnlyReads}
+use Rattle.server_commands.specs.Executing.{IsStoreReady, GrowsBehind, LeavesBoth}
+use Rattle.server_commands.specs.Serving.{IsServedByList, IsServedOrNot}
+use Rattle.server_commands.specs.Steps.{IsLeftSettled, Does, HasOnlyReadRecipes}
 use Rattle.server_commands.proofs.Calls.{failed_result, ok_result, since_read, stays_twice, grows_read}
-use Rattle.server_commands.proofs.Entries.{keeping, kept_ready}
+use Rattle.server_commands.proofs.EntryLaws.{keeping, kept_ready}
 
-pub ready_read : (old mid : OpenStore) (a b : Cloud) → OnlyReads old mid a b → IsReady old → IsReady mid
-ready_read old mid a b o ready = subst IsReady (sym o.same) (kept_ready old mid.disk.recipes.kept ready)
+pub ready_read : (old mid : OpenStore) (a b : Cloud) → HasOnlyReadRecipes old mid a b → IsStoreReady old → IsStoreReady mid
+ready_read old mid a b o ready = subst IsStoreReady (sym o.same) (kept_ready old mid.disk.recipes.kept ready)
 
-pub both_read : (old mid : OpenStore) (a b : Cloud) → OnlyReads old mid a b → Stays a b → LeavesBoth old mid a b
+pub both_read : (old mid : OpenStore) (a b : Cloud) → HasOnlyReadRecipes old mid a b → Stays a b → LeavesBoth old mid a b
 both_read old mid a b o stays = record { cloud = stays; memory = ap (λ (s : OpenStore). s.memory) o.same }
 
 -- ---- a command is added behind the read
 
 module _ (old : OpenStore) (kept : List Kept) (new : OpenStore) (a b c : Cloud) (stays : Stays a b) where
-  leaves_read : {T E : Type 0} (r : Result T E) → Leaves (keeping old kept) new r → Leaves old new r
+  leaves_read : {T E : Type 0} (r : Result T E) → IsLeftSettled (keeping old kept) new r → IsLeftSettled old new r
   leaves_read r l = record { ready = l.ready; settled = l.settled; none = l.none; shut = l.shut; header = l.header }
 
   both_then : LeavesBoth (keeping old kept) new b c → LeavesBoth old new a c
@@ -45,7 +45,7 @@ module _ (old : OpenStore) (kept : List Kept) (new : OpenStore) (a b c : Cloud) 
     stays = λ none. both_then (d.stays none);
   }
     where
-      by : {T E : Type 0} (r : Result T E) → OnOk r (Served (keeping old kept) new c list request content) → OnOk r (Served old new c list request content)
+      by : {T E : Type 0} (r : Result T E) → OnOk r (IsServedByList (keeping old kept) new c list request content) → OnOk r (IsServedByList old new c list request content)
       by (Err e) s = tt
       by (Ok v) s = record { reply = s.reply; next = s.next }
 
@@ -57,7 +57,7 @@ module _ (old : OpenStore) (kept : List Kept) (new : OpenStore) (a b c : Cloud) 
 
 -- ---- the read failed
 
-pub leaves_failed : (old mid new : OpenStore) (a b : Cloud) → OnlyReads old mid a b → IsReady old → new ≡ closed mid → IsSettled new → ¬ (IsOpen new) → Leaves old new failed_result
+pub leaves_failed : (old mid new : OpenStore) (a b : Cloud) → HasOnlyReadRecipes old mid a b → IsStoreReady old → new ≡ closed mid → IsSettled new → ¬ (IsOpen new) → IsLeftSettled old new failed_result
 leaves_failed old mid new a b o ready is settled shut =
     let m = ready_read old mid a b o ready in
     record {
@@ -68,15 +68,15 @@ leaves_failed old mid new a b o ready is settled shut =
       header = ap (λ (s : OpenStore). s.header) is ∙ ap (λ (s : OpenStore). s.header) o.same;
     }
 
-pub both_failed : (old mid new : OpenStore) (a b : Cloud) → OnlyReads old mid a b → new ≡ closed mid → Stays a b → LeavesBoth old new a b
+pub both_failed : (old mid new : OpenStore) (a b : Cloud) → HasOnlyReadRecipes old mid a b → new ≡ closed mid → Stays a b → LeavesBoth old new a b
 both_failed old mid new a b o is stays = record { cloud = stays; memory = ap (λ (s : OpenStore). s.memory) is ∙ ap (λ (s : OpenStore). s.memory) o.same }
 
 -- ---- something else was read
 
-pub leaves_rotten : (old mid : OpenStore) (a b : Cloud) → OnlyReads old mid a b → IsReady old → Leaves old mid ok_result
+pub leaves_rotten : (old mid : OpenStore) (a b : Cloud) → HasOnlyReadRecipes old mid a b → IsStoreReady old → IsLeftSettled old mid ok_result
 leaves_rotten old mid a b o ready =
     let m = ready_read old mid a b o ready in
     record { ready = m; settled = m.settled; none = m.none; shut = tt; header = ap (λ (s : OpenStore). s.header) o.same }
 
-pub counts_at : (stop : Stop) (named found : Fp) (P : Type 0) → stop ≡ stops.Rotten named found → UnlessFailed {A = Unit {0}} (Err stop) P → P
-counts_at stop named found P is counts = subst (λ (x : Stop). UnlessFailed {A = Unit {0}} (Err x) P) is counts
+pub counts_at : (stop : BlobStop) (named found : Fp) (P : Type 0) → stop ≡ stops.Rotten named found → UnlessFailed {A = Unit {0}} (Err stop) P → P
+counts_at stop named found P is counts = subst (λ (x : BlobStop). UnlessFailed {A = Unit {0}} (Err x) P) is counts

@@ -6,17 +6,17 @@ use Rattle.std.specs.Option.{option_or}
 use Rattle.std.specs.FinMap.{FinMap, get}
 use Rattle.std.proofs.lemmas.List.{length-map}
 use Rattle.std.proofs.lemmas.List.Elements.{All-nil, All-cons, All-head, All-tail}
-use Rattle.cd_base.specs.declared.ids.Fp.{Fp}
-use Rattle.cd_base.specs.declared.ids.UserId.{UserId}
-use Rattle.cd_base.specs.declared.place.Place.{Place}
-use Rattle.container_log.specs.Laying.{lengths}
-use Rattle.container_log.specs.Places.{place_of, end_after, end_of_laid}
-use Rattle.container_log.proofs.Least.{place_behind}
-use Rattle.container_log.proofs.Staged.{staged_end_of}
-use Rattle.message_fields.specs.Shares.{IsShare}
-use Rattle.share_index.specs.Order.{owner_cmp, owner_of}
-use Rattle.user_dedup.specs.Cloud.{fingerprint}
-use Rattle.user_dedup.specs.Owning.{is_among}
+use Rattle.server_reads.specs.CdBase.ids.Fp.{Fp}
+use Rattle.server_reads.specs.CdBase.ids.UserId.{UserId}
+use Rattle.server_reads.specs.CdBase.place.Place.{Place}
+use Rattle.server_reads.specs.ContainerLog.Laying.{lengths}
+use Rattle.server_reads.specs.ContainerLog.Places.{place_of, end_after, end_of_laid}
+use Rattle.server_reads.proofs.ContainerLog.Least.{place_behind}
+use Rattle.server_reads.proofs.ContainerLog.Staged.{staged_end_of}
+use Rattle.server_reads.specs.MessageFields.Shares.{IsShare}
+use Rattle.server_reads.specs.ShareIndex.Order.{owner_cmp, owner_of}
+use Rattle.server_reads.specs.UserDedup.Cloud.{fingerprint}
+use Rattle.server_reads.specs.UserDedup.Owning.{is_among}
 use Rattle.server_reads.specs.CloudMemory.rooms.New.{New}
 use Rattle.server_reads.specs.CloudMemory.Memory.{Memory}
 use Rattle.server_reads.specs.CloudMemory.News.{AreOf, AreApart, AreNewTo}

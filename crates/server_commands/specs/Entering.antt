@@ -1,26 +1,26 @@
 -- What a reply says of the server's memory, whatever the cloud has.
 use Rattle.std.specs.Prelude.{◌≡◌, ◌≢◌, ℕ, ◌≤◌, ◌||◌, List, [], ◌∷◌, ◌++◌, length, map, Option, Some, None, IsSome, is_some, if◌then◌else◌}
 use Rattle.std.specs.FinMap.{FinMap, get}
-use Rattle.cd_base.specs.declared.ids.Fp.{Fp}
-use Rattle.cd_base.specs.declared.ids.Tag.{Tag}
-use Rattle.cd_base.specs.declared.ids.UserId.{UserId}
-use Rattle.cd_base.specs.declared.ids.Version.{Version}
-use Rattle.cd_base.specs.declared.rooms.Room.TheVariants as names
-use Rattle.cd_base.specs.declared.shape.Shape.{Shape}
-use Rattle.container_log.specs.Places.{place_of}
-use Rattle.file_index.specs.declared.key.Entry.{Entry}
-use Rattle.file_index.specs.declared.key.FileKey.{FileKey}
-use Rattle.file_index.specs.Files.{key_of}
-use Rattle.journal_start.specs.declared.rooms.Rooms.{Rooms}
-use Rattle.journal_start.specs.declared.start.Header.{Header}
-use Rattle.messages.specs.declared.request.Request.{Request}
-use Rattle.messages.specs.declared.request.Request.TheVariants as requests
-use Rattle.messages.specs.declared.reply.Reply.{Reply}
-use Rattle.messages.specs.declared.reply.Reply.TheVariants as replies
-use Rattle.share_index.specs.Order.{owner_cmp, owner_of}
-use Rattle.user_dedup.specs.Cloud.{fingerprint}
-use Rattle.user_dedup.specs.Owning.{is_among}
-use Rattle.user_dedup.specs.Requests.{fps_of}
+use Rattle.server_reads.specs.CdBase.ids.Fp.{Fp}
+use Rattle.server_reads.specs.CdBase.ids.Tag.{Tag}
+use Rattle.server_reads.specs.CdBase.ids.UserId.{UserId}
+use Rattle.server_reads.specs.CdBase.ids.Version.{Version}
+use Rattle.server_reads.specs.CdBase.rooms.Room.TheVariants as names
+use Rattle.server_reads.specs.CdBase.shape.Shape.{Shape}
+use Rattle.server_reads.specs.ContainerLog.Places.{place_of}
+use Rattle.server_reads.specs.FileIndex.key.Entry.{Entry}
+use Rattle.server_reads.specs.FileIndex.key.FileKey.{FileKey}
+use Rattle.server_reads.specs.FileIndex.Files.{key_of}
+use Rattle.open_store.specs.JournalStart.rooms.UserRooms.{UserRooms}
+use Rattle.open_store.specs.JournalStart.start.Header.{Header}
+use Rattle.server_reads.specs.Messages.request.Request.{Request}
+use Rattle.server_reads.specs.Messages.request.Request.TheVariants as requests
+use Rattle.server_reads.specs.Messages.reply.Reply.{Reply}
+use Rattle.server_reads.specs.Messages.reply.Reply.TheVariants as replies
+use Rattle.server_reads.specs.ShareIndex.Order.{owner_cmp, owner_of}
+use Rattle.server_reads.specs.UserDedup.Cloud.{fingerprint}
+use Rattle.server_reads.specs.UserDedup.Owning.{is_among}
+use Rattle.server_reads.specs.UserDedup.Requests.{fps_of}
 use Rattle.server_reads.specs.CloudMemory.rooms.New.{New}
 use Rattle.server_reads.specs.CloudMemory.Memory.{Memory}
 use Rattle.server_reads.specs.CloudMemory.Rooms.{full_news, full_commit}
@@ -55,7 +55,7 @@ storing m user (n ∷ news) = with_put user (parts_of user m (n ∷ news)) m
 
 -- To a Put of which these shares are new: Stored counts them, and they are the user's now; they pass no room. Full comes where there are
 -- some, and names the first room that they pass, or the journal.
-abbrev pub Stores : Rooms → Memory → Memory → UserId → List New → Reply → Type 0
+abbrev pub Stores : UserRooms → Memory → Memory → UserId → List New → Reply → Type 0
 Stores rooms m new user news (replies.Stored count) =
     (count ≡ length news) × (new ≡ storing m user news) × (1 ≤ length news → full_news rooms user m news ≡ None)
 Stores rooms m new user news (replies.Full room used need limit) =
@@ -78,14 +78,14 @@ entering m user tag version fps recipe =
     }) m
 
 -- the version stands, where there is an entry, or is entered, and passes no room
-abbrev pub Committed : Rooms → Memory → Memory → UserId → Tag → Version → List Fp → List ℕ → Option Entry → Type 0
+abbrev pub Committed : UserRooms → Memory → Memory → UserId → Tag → Version → List Fp → List ℕ → Option Entry → Type 0
 Committed rooms m new user tag version fps recipe (Some entry) = new ≡ m
 Committed rooms m new user tag version fps recipe None =
     (new ≡ entering m user tag version fps recipe) × (full_commit rooms user m (length recipe) ≡ None)
 
 -- To a Commit of a recipe that names these fingerprints: Lacking names the place of the first one that isn't the user's. Else, where there is
 -- an entry, nothing changes. Where there is none, Committed enters the version, or Full names the first room that it passes, or the journal.
-abbrev pub Commits : Rooms → Memory → Memory → UserId → Tag → Version → List Fp → List ℕ → Reply → Type 0
+abbrev pub Commits : UserRooms → Memory → Memory → UserId → Tag → Version → List Fp → List ℕ → Reply → Type 0
 Commits rooms m new user tag version fps recipe (replies.Lacking place) = IsFirstUnowned m.owners user fps place × (new ≡ m)
 Commits rooms m new user tag version fps recipe replies.Committed =
     AreOwned m.owners user fps × Committed rooms m new user tag version fps recipe (get m.files (key_of user.0 tag.0 version.0))

@@ -1,23 +1,23 @@
 -- One request that may add a command, executed by an open store.
 use Rattle.std.specs.Prelude.{◌≡◌, ◌⊎◌, ℕ, List, None, Result, OnOk, OnErr}
-use Rattle.cd_base.specs.declared.ids.Fp.{Fp}
-use Rattle.cd_edges.specs.Disk.{Cloud}
-use Rattle.cd_edges.specs.Shelf.{IsCall, HasFailed, KeepsCounts, Stays}
-use Rattle.messages.specs.declared.request.Request.{Request}
-use Rattle.messages.specs.declared.reply.Reply.{Reply}
-use Rattle.messages.specs.declared.reply.Reply.TheVariants as replies
-use Rattle.messages.specs.Replies.{IsReply}
-use Rattle.user_dedup.specs.declared.command.Command.{Command}
+use Rattle.server_reads.specs.CdBase.ids.Fp.{Fp}
+use Rattle.server_reads.specs.CdEdges.Disk.{Cloud}
+use Rattle.server_reads.specs.CdEdges.Shelf.{IsCall, HasFailed, KeepsCounts, Stays}
+use Rattle.server_reads.specs.Messages.request.Request.{Request}
+use Rattle.server_reads.specs.Messages.reply.Reply.{Reply}
+use Rattle.server_reads.specs.Messages.reply.Reply.TheVariants as replies
+use Rattle.server_reads.specs.Messages.Replies.{IsReply}
+use Rattle.server_reads.specs.UserDedup.command.Command.{Command}
 use Rattle.open_store.specs.CloudAreas.Peers.{ImagesSince}
 use Rattle.server_reads.specs.CloudMemory.Rooms.{memory_of}
 use Rattle.open_store.specs.declared.store.OpenStore.{OpenStore}
 use Rattle.open_store.specs.Store.{IsOpen, IsSettled, EndsMeet, ServesSome}
 use Rattle.open_store.specs.Adding.{NoneStaged, KeepsOrGrows}
 use Rattle.server_commands.specs.Leaving.{LeavesAll, IsSteady, IsFound}
-use Rattle.server_commands.specs.Serving.{serves, Served, IsServedOrNot, Gives}
+use Rattle.server_commands.specs.Serving.{serves, IsServedByList, IsServedOrNot, Gives}
 
 -- What holds of an open store between two requests: nothing is staged, and both logs end where the memory says.
-pub record IsReady (s : OpenStore) : Type 0 where
+pub record IsStoreReady (s : OpenStore) : Type 0 where
   pub settled : IsSettled s
   pub at_end : IsOpen s
   pub none : NoneStaged s
@@ -42,14 +42,14 @@ pub record LeavesBoth (old new : OpenStore) (before after : Cloud) : Type 0 wher
 -- device was called.
 pub record Executes {T E : Type 0} (Same : Type 0) (old new : OpenStore) (before after : ℕ → Cloud) (faults_before faults_after : ℕ) (request : Request) (content : List ℕ) (result : Result T E) : Type 0 where
   -- what the store is then
-  pub ready : OnOk result (IsReady new)
+  pub ready : OnOk result (IsStoreReady new)
   pub settled : IsSettled new
   pub none : NoneStaged new
   pub shut : OnErr result (¬ IsOpen new)
   pub header : new.header ≡ old.header
   -- by each list that the store serves
   pub any_moment : ForServed old (before old.header.cloud.0) (λ list. ImagesSince (before old.header.cloud.0) (after old.header.cloud.0) old.header (IsServedOrNot old list request))
-  pub served : ForServed old (before old.header.cloud.0) (λ list. OnOk result (Served old new (after old.header.cloud.0) list request content))
+  pub served : ForServed old (before old.header.cloud.0) (λ list. OnOk result (IsServedByList old new (after old.header.cloud.0) list request content))
   pub stays : ForServed old (before old.header.cloud.0) (λ list. (serves old list request).adds ≡ None → LeavesBoth old new (before old.header.cloud.0) (after old.header.cloud.0))
   -- whatever the cloud has
   pub behind : Stays (before old.header.cloud.0) (after old.header.cloud.0) ⊎ GrowsBehind old (before old.header.cloud.0) (after old.header.cloud.0)

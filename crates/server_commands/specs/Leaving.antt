@@ -3,15 +3,15 @@
 use Rattle.std.specs.Prelude.{◌≡◌, ◌≢◌, None, IsSome, map}
 use Rattle.std.specs.FinMap.{get}
 use Rattle.std.specs.List.{Contains}
-use Rattle.cd_base.specs.declared.ids.Fp.{Fp}
-use Rattle.cd_base.specs.declared.rooms.Room.TheVariants as rooms
-use Rattle.cd_edges.specs.Disk.{Cloud}
-use Rattle.file_index.specs.Files.{key_of}
-use Rattle.messages.specs.declared.request.Request.{Request}
-use Rattle.messages.specs.declared.request.Request.TheVariants as requests
-use Rattle.messages.specs.declared.reply.Reply.{Reply}
-use Rattle.messages.specs.declared.reply.Reply.TheVariants as replies
-use Rattle.user_dedup.specs.Cloud.{fingerprint}
+use Rattle.server_reads.specs.CdBase.ids.Fp.{Fp}
+use Rattle.server_reads.specs.CdBase.rooms.Room.TheVariants as rooms
+use Rattle.server_reads.specs.CdEdges.Disk.{Cloud}
+use Rattle.server_reads.specs.FileIndex.Files.{key_of}
+use Rattle.server_reads.specs.Messages.request.Request.{Request}
+use Rattle.server_reads.specs.Messages.request.Request.TheVariants as requests
+use Rattle.server_reads.specs.Messages.reply.Reply.{Reply}
+use Rattle.server_reads.specs.Messages.reply.Reply.TheVariants as replies
+use Rattle.server_reads.specs.UserDedup.Cloud.{fingerprint}
 use Rattle.server_reads.specs.CloudMemory.Memory.{Memory}
 use Rattle.server_reads.specs.CloudMemory.Sharing.{AreOwned}
 use Rattle.server_reads.specs.Found.{IsFoundRecipe, IsFoundShare}

@@ -1,25 +1,25 @@
 -- What one request does to an open store by a list that it serves, and which replies it may give.
 use Rattle.std.specs.Prelude.{◌≡◌, ◌≢◌, ◌⊎◌, ℕ, List, [], ◌∷◌, ◌++◌, Some, option_to_list}
-use Rattle.cd_base.specs.declared.shape.Shape.{Shape}
-use Rattle.cd_edges.specs.Disk.{Cloud}
-use Rattle.messages.specs.declared.request.Request.{Request}
-use Rattle.messages.specs.declared.reply.Reply.{Reply}
-use Rattle.messages.specs.declared.reply.Reply.TheVariants as replies
-use Rattle.messages.specs.Answering.{IsReplyTo}
-use Rattle.messages.specs.Replies.{IsReply, reply_bytes}
-use Rattle.user_dedup.specs.declared.command.Command.{Command}
-use Rattle.user_dedup.specs.Dedup.{Outcome}
-use Rattle.user_dedup.specs.Exec.{items_of}
+use Rattle.server_reads.specs.CdBase.shape.Shape.{Shape}
+use Rattle.server_reads.specs.CdEdges.Disk.{Cloud}
+use Rattle.server_reads.specs.Messages.request.Request.{Request}
+use Rattle.server_reads.specs.Messages.reply.Reply.{Reply}
+use Rattle.server_reads.specs.Messages.reply.Reply.TheVariants as replies
+use Rattle.server_reads.specs.Messages.Answering.{IsReplyTo}
+use Rattle.server_reads.specs.Messages.Replies.{IsReply, reply_bytes}
+use Rattle.server_reads.specs.UserDedup.command.Command.{Command}
+use Rattle.server_reads.specs.UserDedup.Dedup.{Outcome}
+use Rattle.server_reads.specs.UserDedup.Exec.{items_of}
 use Rattle.open_store.specs.declared.store.OpenStore.{OpenStore}
 use Rattle.open_store.specs.Store.{ServesSome}
-use Rattle.user_dedup.specs.Served.{served_by}
+use Rattle.server_reads.specs.UserDedup.Served.{served_by}
 
 -- the reply by a list, and the command that it adds
 abbrev pub serves : OpenStore → List Command → Request → Outcome
 serves s = served_by s.header.rooms s.header.shape s.header.cloud.0
 
 -- The content is the reply that the list gives, and the store serves the list with what the request adds.
-pub record Served (old new : OpenStore) (cloud : Cloud) (list : List Command) (request : Request) (content : List ℕ) : Type 0 where
+pub record IsServedByList (old new : OpenStore) (cloud : Cloud) (list : List Command) (request : Request) (content : List ℕ) : Type 0 where
   pub reply : content ≡ reply_bytes (serves old list request).reply
   pub next : ServesSome (list ++ option_to_list (serves old list request).adds) new cloud
 

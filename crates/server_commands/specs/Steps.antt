@@ -1,25 +1,25 @@
 -- What the steps of a request leave. No public clause cites this module.
 use Rattle.std.specs.Prelude.{[], ◌∷◌, bytes_eq, if◌then◌else◌, ◌≡◌, ℕ, List, None, Some, Result, OnOk, OnErr}
-use Rattle.cd_base.specs.declared.ids.Tag.{Tag}
-use Rattle.cd_base.specs.declared.ids.UserId.{UserId}
-use Rattle.cd_base.specs.declared.ids.Version.{Version}
-use Rattle.cd_base.specs.declared.rooms.Room.TheVariants as rooms
-use Rattle.cd_base.specs.declared.shape.Shape.{Shape}
-use Rattle.cd_edges.specs.Disk.{Cloud}
-use Rattle.cd_edges.specs.Shelf.{IsCall, HasFailed, KeepsCounts}
-use Rattle.container_log.specs.States.{HasStaged, with_blob}
-use Rattle.file_index.specs.declared.key.FileKey.{FileKey}
-use Rattle.journal_start.specs.declared.start.Header.{Header}
-use Rattle.messages.specs.declared.request.Request.{Request}
-use Rattle.messages.specs.declared.request.Request.TheVariants as requests
-use Rattle.messages.specs.declared.reply.Reply.{Reply}
-use Rattle.messages.specs.declared.reply.Reply.TheVariants as replies
-use Rattle.user_dedup.specs.declared.command.Command.{Command}
-use Rattle.user_dedup.specs.declared.command.Command.TheVariants as commands
-use Rattle.user_dedup.specs.Dedup.{answer_over}
-use Rattle.user_dedup.specs.Requests.{HasRecipe, fps_of}
-use Rattle.user_dedup.specs.declared.file_list.FileEntry.{FileEntry}
-use Rattle.user_dedup.specs.Pages.{entry_at}
+use Rattle.server_reads.specs.CdBase.ids.Tag.{Tag}
+use Rattle.server_reads.specs.CdBase.ids.UserId.{UserId}
+use Rattle.server_reads.specs.CdBase.ids.Version.{Version}
+use Rattle.server_reads.specs.CdBase.rooms.Room.TheVariants as rooms
+use Rattle.server_reads.specs.CdBase.shape.Shape.{Shape}
+use Rattle.server_reads.specs.CdEdges.Disk.{Cloud}
+use Rattle.server_reads.specs.CdEdges.Shelf.{IsCall, HasFailed, KeepsCounts}
+use Rattle.server_reads.specs.ContainerLog.States.{HasStaged, with_blob}
+use Rattle.server_reads.specs.FileIndex.key.FileKey.{FileKey}
+use Rattle.open_store.specs.JournalStart.start.Header.{Header}
+use Rattle.server_reads.specs.Messages.request.Request.{Request}
+use Rattle.server_reads.specs.Messages.request.Request.TheVariants as requests
+use Rattle.server_reads.specs.Messages.reply.Reply.{Reply}
+use Rattle.server_reads.specs.Messages.reply.Reply.TheVariants as replies
+use Rattle.server_reads.specs.UserDedup.command.Command.{Command}
+use Rattle.server_reads.specs.UserDedup.command.Command.TheVariants as commands
+use Rattle.server_reads.specs.UserDedup.Dedup.{answer_over}
+use Rattle.server_reads.specs.UserDedup.Requests.{HasRecipe, fps_of}
+use Rattle.server_reads.specs.UserDedup.file_list.FileEntry.{FileEntry}
+use Rattle.server_reads.specs.UserDedup.Pages.{entry_at}
 use Rattle.open_store.specs.CloudAreas.Peers.{ImagesSince}
 use Rattle.open_store.specs.CloudAreas.Standing.{Chain}
 use Rattle.open_store.specs.declared.store.OpenStore.{OpenStore}
@@ -30,10 +30,10 @@ use Rattle.server_reads.specs.CloudMemory.News.{AreOf}
 use Rattle.server_reads.specs.CloudMemory.Steps.{without_entry}
 use Rattle.server_reads.specs.CloudMemory.Rooms.{memory_of}
 use Rattle.open_store.specs.Adding.{NoneStaged, unplaced}
-use Rattle.server_reads.specs.declared.blobs.Stop.{Stop}
+use Rattle.server_reads.specs.declared.blobs.BlobStop.{BlobStop}
 use Rattle.server_reads.specs.Reading.{IfRotten}
-use Rattle.server_commands.specs.Executing.{IsReady, LeavesBoth}
-use Rattle.server_commands.specs.Serving.{serves, Served, IsServedOrNot}
+use Rattle.server_commands.specs.Executing.{IsStoreReady, LeavesBoth}
+use Rattle.server_commands.specs.Serving.{serves, IsServedByList, IsServedOrNot}
 
 -- ---- calls of a device
 
@@ -46,8 +46,8 @@ pub record Calls {T E : Type 0} (old new : ℕ → Cloud) (number before now : �
 -- ---- the store
 
 -- It is settled with nothing staged; ready after Ok, and shut after Failed.
-pub record Leaves {T E : Type 0} (old new : OpenStore) (result : Result T E) : Type 0 where
-  pub ready : OnOk result (IsReady new)
+pub record IsLeftSettled {T E : Type 0} (old new : OpenStore) (result : Result T E) : Type 0 where
+  pub ready : OnOk result (IsStoreReady new)
   pub settled : IsSettled new
   pub none : NoneStaged new
   pub shut : OnErr result (¬ IsOpen new)
@@ -56,18 +56,18 @@ pub record Leaves {T E : Type 0} (old new : OpenStore) (result : Result T E) : T
 -- A request is served by a list that the store serves.
 pub record Does {T E : Type 0} (old new : OpenStore) (before after : Cloud) (list : List Command) (request : Request) (content : List ℕ) (result : Result T E) : Type 0 where
   pub any_moment : ImagesSince before after old.header (IsServedOrNot old list request)
-  pub served : OnOk result (Served old new after list request content)
+  pub served : OnOk result (IsServedByList old new after list request content)
   pub stays : (serves old list request).adds ≡ None → LeavesBoth old new before after
 
 -- ---- reading
 
 -- Of the store only the containers have changed that the log of the recipes keeps; it is what it was else, and serves what it served.
-pub record OnlyReads (old new : OpenStore) (before after : Cloud) : Type 0 where
+pub record HasOnlyReadRecipes (old new : OpenStore) (before after : Cloud) : Type 0 where
   pub same : new ≡ record old { disk = record old.disk { recipes = record old.disk.recipes { kept = new.disk.recipes.kept } } }
   pub serves : (list : List Command) (c : Chain) → Serves list c old before → Serves list c new after
 
 -- By a list the key has a file: after Ok the bytes are its recipe, and Rotten never comes.
-pub record ReadsFile (files : List FileEntry) (key : Tag × Version) (bytes : List ℕ) (result : Result (Unit {0}) Stop) : Type 0 where
+pub record ReadsFile (files : List FileEntry) (key : Tag × Version) (bytes : List ℕ) (result : Result (Unit {0}) BlobStop) : Type 0 where
   pub file : FileEntry
   pub here : entry_at files key ≡ Some file
   pub given : OnOk result (bytes ≡ file.recipe)

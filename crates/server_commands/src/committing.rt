@@ -2,19 +2,19 @@
 
 ghost use Rattle.std.specs.Prelude.{◌≡◌, ◌≢◌, ◌<◌, ◌≤◌, ℕ, List, length, Some, None, OnOk};
 ghost use Rattle.std.specs.FinMap.{get};
-ghost use Rattle.cd_base.specs.Limits.{recipe_limit};
-ghost use Rattle.cd_base.specs.declared.rooms.Room.{Room};
-ghost use Rattle.cd_base.specs.declared.rooms.Room.TheVariants as rooms;
-ghost use Rattle.cd_edges.specs.Disk.{Cloud};
-ghost use Rattle.file_index.specs.Files.{key_of};
-ghost use Rattle.messages.specs.declared.request.Request.TheVariants as requests;
-ghost use Rattle.messages.specs.declared.reply.Reply.TheVariants as replies;
-ghost use Rattle.messages.specs.Replies.{IsReply};
-ghost use Rattle.recipe.specs.Spelling.{IsRecipe, spelling};
-ghost use Rattle.user_dedup.specs.declared.command.Command.{Command};
-ghost use Rattle.user_dedup.specs.Cloud.{fingerprint, user_view};
-ghost use Rattle.user_dedup.specs.Owning.{fps_in, first_lacking};
-ghost use Rattle.user_dedup.specs.Requests.{fps_of};
+ghost use Rattle.server_reads.specs.CdBase.Limits.{recipe_limit};
+ghost use Rattle.server_reads.specs.CdBase.rooms.Room.{Room};
+ghost use Rattle.server_reads.specs.CdBase.rooms.Room.TheVariants as rooms;
+ghost use Rattle.server_reads.specs.CdEdges.Disk.{Cloud};
+ghost use Rattle.server_reads.specs.FileIndex.Files.{key_of};
+ghost use Rattle.server_reads.specs.Messages.request.Request.TheVariants as requests;
+ghost use Rattle.server_reads.specs.Messages.reply.Reply.TheVariants as replies;
+ghost use Rattle.server_reads.specs.Messages.Replies.{IsReply};
+ghost use Rattle.server_reads.specs.Recipe.Spelling.{IsRecipe, spelling};
+ghost use Rattle.server_reads.specs.UserDedup.command.Command.{Command};
+ghost use Rattle.server_reads.specs.UserDedup.Cloud.{fingerprint, user_view};
+ghost use Rattle.server_reads.specs.UserDedup.Owning.{fps_in, first_lacking};
+ghost use Rattle.server_reads.specs.UserDedup.Requests.{fps_of};
 ghost use Rattle.open_store.specs.CloudAreas.Standing.{Chain};
 ghost use Rattle.server_reads.specs.CloudMemory.Memory.{Remembers};
 ghost use Rattle.server_reads.specs.CloudMemory.Rooms.{memory_of};
@@ -23,19 +23,16 @@ ghost use Rattle.open_store.specs.Store.{Serves};
 ghost use Rattle.open_store.specs.Adding.{unstaged};
 ghost use Rattle.server_reads.specs.Allowed.{Replies};
 ghost use Rattle.server_commands.specs.Entering.{Commits, Enters};
-ghost use Rattle.server_commands.specs.Executing.{IsReady, GrowsBehind, Executes};
-ghost use Rattle.server_commands.specs.Steps.{Calls, Leaves, Does, HasRecipeStaged, IsOfNew, by_recipe, staging, IsAnsweredNew};
+ghost use Rattle.server_commands.specs.Executing.{IsStoreReady, GrowsBehind, Executes};
+ghost use Rattle.server_commands.specs.Steps.{Calls, IsLeftSettled, Does, HasRecipeStaged, IsOfNew, by_recipe, staging, IsAnsweredNew};
 
 use crate::reading::read_entry;
 use crate::refusing::refuse_long;
-use cd_base::{Fp, Tag, UserId, Version, sha256};
-use cd_edges::{Failed, Shelf};
-use file_index::Entry;
-use frames::ReplyBuf;
-use messages::{write_committed, write_exists, write_full, write_lacking, write_rotten};
 use open_store::{OpenStore, Unadded};
-use recipe::RecipeView;
-use server_reads::Stop;
+use server_reads::{
+    BlobStop, Entry, Failed, Fp, RecipeView, ReplyBuf, Shelf, Tag, UserId, Version, sha256,
+    write_committed, write_exists, write_full, write_lacking, write_rotten,
+};
 
 // The bytes of a Commit's body.
 const COMMIT_LEN: u32 = 89;
@@ -63,7 +60,7 @@ fn repeat<V: Shelf>(
     buffer: &mut [u8],
     reply: &mut ReplyBuf,
 ) -> Result<(), Failed>
-    requires ready { IsReady store.old }
+    requires ready { IsStoreReady store.old }
     requires there { get (memory_of store.old.memory).files (key_of user.0 tag.0 version.0) ≡ Some entry.now }
     requires owned { (list : List Command) → Remembers store.old.header.shape list (memory_of store.old.memory)
         → first_lacking (user_view store.old.header.shape list user).own
@@ -81,11 +78,11 @@ fn repeat<V: Shelf>(
             put_compared(there, recipe, reply);
             Ok(())
         }
-        Err(Stop::Failed) => {
+        Err(BlobStop::Failed) => {
             store.shut();
             Err(Failed)
         }
-        Err(Stop::Rotten { named, found }) => {
+        Err(BlobStop::Rotten { named, found }) => {
             write_rotten(reply, named, found);
             Ok(())
         }
@@ -94,7 +91,7 @@ fn repeat<V: Shelf>(
 
 // Stages a recipe where nothing is staged.
 fn stage(store: &mut OpenStore, recipe: &[u8])
-    requires ready { IsReady store.old }
+    requires ready { IsStoreReady store.old }
     requires few { length recipe.now ≤ recipe_limit }
     ensures staged { store.new ≡ staging store.old recipe.now }
     ensures has { HasRecipeStaged store.new recipe.now }
@@ -126,7 +123,7 @@ fn add_staged<V: Shelf>(
     requires some { 1 ≤ len }
     requires new { get (memory_of store.old.memory).files (key_of user.0 tag.0 version.0) ≡ None }
     requires owned { AreOwned (memory_of store.old.memory).owners user (fps_in recipe.now.items) }
-    ensures leaves { Leaves store.old store.new result }
+    ensures leaves { IsLeftSettled store.old store.new result }
     ensures does { (list : List Command) (c : Chain)
         → Serves list c store.old (V.cloud_at shelf.old store.old.header.cloud.0)
         → IsAnsweredNew store.old.header list user tag version (spelling recipe.now)
@@ -171,7 +168,7 @@ fn enter<V: Shelf>(
     recipe: &RecipeView<'_>,
     reply: &mut ReplyBuf,
 ) -> Result<(), Failed>
-    requires ready { IsReady store.old }
+    requires ready { IsStoreReady store.old }
     requires recipe { IsRecipe store.old.header.shape (spelling recipe.now) recipe.now }
     requires new { get (memory_of store.old.memory).files (key_of user.0 tag.0 version.0) ≡ None }
     requires owned { AreOwned (memory_of store.old.memory).owners user (fps_in recipe.now.items) }
@@ -221,7 +218,7 @@ pub fn commit<V: Shelf>(
     buffer: &mut [u8],
     reply: &mut ReplyBuf,
 ) -> Result<(), Failed>
-    requires ready { IsReady store.old }
+    requires ready { IsStoreReady store.old }
     requires recipe { IsRecipe store.old.header.shape (spelling recipe.now) recipe.now }
     requires buffer { recipe_limit ≤ length buffer.old }
     ensures does { Executes (shelf.new ≡ shelf.old) store.old store.new (V.cloud_at shelf.old) (V.cloud_at shelf.new)

@@ -2,30 +2,28 @@
 
 ghost use Rattle.std.specs.Prelude.{◌≡◌, ◌<◌, ◌≤◌, ◌^◌, List, length, IsSome, Some, OnOk};
 ghost use Rattle.std.specs.FinMap.{get};
-ghost use Rattle.cd_base.specs.Limits.{recipe_limit};
-ghost use Rattle.file_index.specs.Files.{key_of};
-ghost use Rattle.messages.specs.declared.request.Request.TheVariants as requests;
-ghost use Rattle.user_dedup.specs.declared.command.Command.{Command};
-ghost use Rattle.user_dedup.specs.declared.file_list.FileEntry.{FileEntry};
-ghost use Rattle.user_dedup.specs.Cloud.{user_view};
-ghost use Rattle.user_dedup.specs.Pages.{entry_at};
+ghost use Rattle.server_reads.specs.CdBase.Limits.{recipe_limit};
+ghost use Rattle.server_reads.specs.FileIndex.Files.{key_of};
+ghost use Rattle.server_reads.specs.Messages.request.Request.TheVariants as requests;
+ghost use Rattle.server_reads.specs.UserDedup.command.Command.{Command};
+ghost use Rattle.server_reads.specs.UserDedup.file_list.FileEntry.{FileEntry};
+ghost use Rattle.server_reads.specs.UserDedup.Cloud.{user_view};
+ghost use Rattle.server_reads.specs.UserDedup.Pages.{entry_at};
 ghost use Rattle.open_store.specs.CloudAreas.Standing.{Chain};
 ghost use Rattle.server_reads.specs.CloudMemory.Rooms.{memory_of};
 ghost use Rattle.open_store.specs.Store.{Serves};
 ghost use Rattle.server_reads.specs.Allowed.{Replies};
 ghost use Rattle.server_commands.specs.Entering.{Enters};
-ghost use Rattle.server_commands.specs.Executing.{IsReady, GrowsBehind, Executes};
-ghost use Rattle.server_commands.specs.Steps.{Calls, Leaves, Does, IsOfDelete, Forgets};
+ghost use Rattle.server_commands.specs.Executing.{IsStoreReady, GrowsBehind, Executes};
+ghost use Rattle.server_commands.specs.Steps.{Calls, IsLeftSettled, Does, IsOfDelete, Forgets};
 
 use crate::reading::read_entry;
 use crate::refusing::refuse_long;
-use cd_base::{Tag, UserId, Version};
-use cd_edges::{Failed, Shelf};
-use file_index::Entry;
-use frames::ReplyBuf;
-use messages::{write_deleted, write_missing, write_rotten};
 use open_store::{OpenStore, Unadded};
-use server_reads::Stop;
+use server_reads::{
+    BlobStop, Entry, Failed, ReplyBuf, Shelf, Tag, UserId, Version, write_deleted, write_missing,
+    write_rotten,
+};
 
 // The bytes of a Delete's body.
 const DELETE_LEN: u32 = 45;
@@ -40,10 +38,10 @@ fn forget<V: Shelf>(
     recipe: &[u8],
     reply: &mut ReplyBuf,
 ) -> Result<(), Failed>
-    requires ready { IsReady store.old }
+    requires ready { IsStoreReady store.old }
     requires recipe { length recipe.now < 2 ^ 32 }
     requires there { IsSome (get (memory_of store.old.memory).files (key_of user.0 tag.0 version.0)) }
-    ensures leaves { Leaves store.old store.new result }
+    ensures leaves { IsLeftSettled store.old store.new result }
     ensures does { (list : List Command) (c : Chain) (file : FileEntry)
         → Serves list c store.old (V.cloud_at shelf.old store.old.header.cloud.0)
         → entry_at (user_view store.old.header.shape list user).files (tag, version) ≡ Some file
@@ -83,7 +81,7 @@ fn delete_entry<V: Shelf>(
     buffer: &mut [u8],
     reply: &mut ReplyBuf,
 ) -> Result<(), Failed>
-    requires ready { IsReady store.old }
+    requires ready { IsStoreReady store.old }
     requires there { get (memory_of store.old.memory).files (key_of user.0 tag.0 version.0) ≡ Some entry.now }
     requires buffer { recipe_limit ≤ length buffer.old }
     ensures does { Executes (shelf.new ≡ shelf.old) store.old store.new (V.cloud_at shelf.old) (V.cloud_at shelf.new)
@@ -96,11 +94,11 @@ fn delete_entry<V: Shelf>(
             let (recipe, _) = buffer.split_at(entry.len as usize);
             forget(store, shelf, user, tag, version, recipe, reply)
         }
-        Err(Stop::Failed) => {
+        Err(BlobStop::Failed) => {
             store.shut();
             Err(Failed)
         }
-        Err(Stop::Rotten { named, found }) => {
+        Err(BlobStop::Rotten { named, found }) => {
             write_rotten(reply, named, found);
             Ok(())
         }
@@ -133,7 +131,7 @@ pub fn delete<V: Shelf>(
     buffer: &mut [u8],
     reply: &mut ReplyBuf,
 ) -> Result<(), Failed>
-    requires ready { IsReady store.old }
+    requires ready { IsStoreReady store.old }
     requires buffer { recipe_limit ≤ length buffer.old }
     ensures does { Executes (shelf.new ≡ shelf.old) store.old store.new (V.cloud_at shelf.old) (V.cloud_at shelf.new)
         (V.faults shelf.old) (V.faults shelf.new) (requests.Delete user tag.now version) reply.new result }

@@ -3,22 +3,20 @@
 ghost use Rattle.std.specs.Prelude.{◌≡◌, ◌≢◌, ◌↔◌, ◌<◌, ◌≤◌, ℕ, List, [], ◌∷◌, ◌++◌, length, take, map, slice_set, true};
 ghost use Rattle.std.specs.Prelude.{false, not, ◌||◌, bytes_eq, is_some, IsTrue, None, if◌then◌else◌};
 ghost use Rattle.std.specs.FinMap.{get};
-ghost use Rattle.container_log.specs.Places.{container_len};
-ghost use Rattle.container_log.specs.States.{HasStaged, need_of};
-ghost use Rattle.message_fields.specs.Shares.{IsShare, AreShares};
-ghost use Rattle.share_index.specs.Order.{owner_of};
-ghost use Rattle.user_dedup.specs.Cloud.{fingerprint};
-ghost use Rattle.user_dedup.specs.Owning.{is_among};
+ghost use Rattle.server_reads.specs.ContainerLog.Places.{container_len};
+ghost use Rattle.server_reads.specs.ContainerLog.States.{HasStaged, need_of};
+ghost use Rattle.server_reads.specs.MessageFields.Shares.{IsShare, AreShares};
+ghost use Rattle.server_reads.specs.ShareIndex.Order.{owner_of};
+ghost use Rattle.server_reads.specs.UserDedup.Cloud.{fingerprint};
+ghost use Rattle.server_reads.specs.UserDedup.Owning.{is_among};
 ghost use Rattle.server_reads.specs.CloudMemory.Rooms.{memory_of};
 ghost use Rattle.open_store.specs.Store.{IsOpen, IsSettled, EndsMeet};
-ghost use Rattle.server_commands.specs.Executing.{IsReady};
+ghost use Rattle.server_commands.specs.Executing.{IsStoreReady};
 ghost use Rattle.server_commands.specs.Entering.{new_of};
 ghost use Rattle.server_commands.specs.Picked.{fps_of, with_shares, Picked};
 
-use cd_base::{Fp, UserId, sha256};
-use message_fields::SharesView;
 use open_store::OpenStore;
-use server_reads::{CloudMemory, New};
+use server_reads::{CloudMemory, Fp, New, SharesView, UserId, sha256};
 
 // The first share and those behind it. It asks for one share at least.
 fn next_share<'a>(shares: &SharesView<'a>) -> (&'a [u8], SharesView<'a>)
@@ -111,7 +109,7 @@ pub(crate) fn collect(
     shares: &SharesView<'_>,
     news: &mut [New],
 ) -> usize
-    requires ready { IsReady store.old }
+    requires ready { IsStoreReady store.old }
     requires batch { AreShares shares.now }
     requires news { length news.old ≡ 256 }
     ensures within { result ≤ length shares.now }

@@ -1,33 +1,30 @@
 //! A Put.
 
 ghost use Rattle.std.specs.Prelude.{◌≡◌, ◌≢◌, ◌≤◌, ℕ, List, length, All, OnOk};
-ghost use Rattle.cd_base.specs.declared.rooms.Room.{Room};
-ghost use Rattle.cd_base.specs.declared.rooms.Room.TheVariants as rooms;
-ghost use Rattle.message_fields.specs.Shares.{AreShares};
-ghost use Rattle.messages.specs.declared.request.Request.TheVariants as requests;
-ghost use Rattle.messages.specs.declared.reply.Reply.TheVariants as replies;
-ghost use Rattle.messages.specs.Replies.{IsReply};
-ghost use Rattle.user_dedup.specs.declared.command.Command.{Command};
-ghost use Rattle.user_dedup.specs.Cloud.{user_view};
-ghost use Rattle.user_dedup.specs.Owning.{new_strings};
+ghost use Rattle.server_reads.specs.CdBase.rooms.Room.{Room};
+ghost use Rattle.server_reads.specs.CdBase.rooms.Room.TheVariants as rooms;
+ghost use Rattle.server_reads.specs.MessageFields.Shares.{AreShares};
+ghost use Rattle.server_reads.specs.Messages.request.Request.TheVariants as requests;
+ghost use Rattle.server_reads.specs.Messages.reply.Reply.TheVariants as replies;
+ghost use Rattle.server_reads.specs.Messages.Replies.{IsReply};
+ghost use Rattle.server_reads.specs.UserDedup.command.Command.{Command};
+ghost use Rattle.server_reads.specs.UserDedup.Cloud.{user_view};
+ghost use Rattle.server_reads.specs.UserDedup.Owning.{new_strings};
 ghost use Rattle.open_store.specs.CloudAreas.Standing.{Chain};
 ghost use Rattle.server_reads.specs.CloudMemory.News.{AreNewTo};
 ghost use Rattle.server_reads.specs.CloudMemory.Rooms.{memory_of};
 ghost use Rattle.open_store.specs.Adding.{IsPut, IsShareNew, unstaged};
 ghost use Rattle.server_reads.specs.Allowed.{Replies};
 ghost use Rattle.server_commands.specs.Entering.{Stores, Enters};
-ghost use Rattle.server_commands.specs.Executing.{IsReady, GrowsBehind, Executes};
-ghost use Rattle.server_commands.specs.Steps.{Calls, Leaves, Does, HasNewsStaged};
+ghost use Rattle.server_commands.specs.Executing.{IsStoreReady, GrowsBehind, Executes};
+ghost use Rattle.server_commands.specs.Steps.{Calls, IsLeftSettled, Does, HasNewsStaged};
 
 use crate::news::collect;
 use crate::refusing::refuse_long;
-use cd_base::{Fp, UserId};
-use cd_edges::{Failed, Shelf};
-use frames::ReplyBuf;
-use message_fields::SharesView;
-use messages::{write_full, write_stored};
 use open_store::{OpenStore, Unadded};
-use server_reads::New;
+use server_reads::{
+    Failed, Fp, New, ReplyBuf, SharesView, Shelf, UserId, write_full, write_stored,
+};
 
 // Adds the Put of these shares, which are new; those that have no place yet are staged.
 fn add_news<V: Shelf>(
@@ -42,7 +39,7 @@ fn add_news<V: Shelf>(
     requires few { length news.now ≤ 256 }
     requires lens { All IsShareNew news.now }
     requires new { AreNewTo (memory_of store.old.memory) user news.now }
-    ensures leaves { Leaves store.old store.new result }
+    ensures leaves { IsLeftSettled store.old store.new result }
     ensures does { (list : List Command) (c : Chain) (sent strings : List (List ℕ))
         → IsPut list c store.old user news.now strings (V.cloud_at shelf.old store.old.header.cloud.0)
         → strings ≡ new_strings (user_view store.old.header.shape list user).own sent
@@ -101,7 +98,7 @@ pub fn put<V: Shelf>(
     shares: &SharesView<'_>,
     reply: &mut ReplyBuf,
 ) -> Result<(), Failed>
-    requires ready { IsReady store.old }
+    requires ready { IsStoreReady store.old }
     requires batch { AreShares shares.now }
     ensures does { Executes (shelf.new ≡ shelf.old) store.old store.new (V.cloud_at shelf.old) (V.cloud_at shelf.new)
         (V.faults shelf.old) (V.faults shelf.new) (requests.Put user shares.now) reply.new result }

@@ -2,29 +2,26 @@
 
 ghost use Rattle.std.specs.Prelude.{◌≡◌, ◌⊎◌, ◌≤◌, ◌<◌, List, [], length, take, Some, OnOk, IsTrue};
 ghost use Rattle.std.specs.FinMap.{get};
-ghost use Rattle.cd_base.specs.Limits.{recipe_limit};
-ghost use Rattle.cd_base.specs.declared.ids.Tag.{Tag};
-ghost use Rattle.cd_base.specs.declared.ids.UserId.{UserId};
-ghost use Rattle.cd_base.specs.declared.ids.Version.{Version};
-ghost use Rattle.container_log.specs.Laying.{Placed, IsAt};
-ghost use Rattle.container_log.specs.States.{Agrees};
-ghost use Rattle.file_index.specs.declared.key.FileKey.{FileKey};
-ghost use Rattle.file_index.specs.Files.{key_of};
-ghost use Rattle.user_dedup.specs.declared.command.Command.{Command};
-ghost use Rattle.user_dedup.specs.Cloud.{fingerprint, user_view};
+ghost use Rattle.server_reads.specs.CdBase.Limits.{recipe_limit};
+ghost use Rattle.server_reads.specs.CdBase.ids.Tag.{Tag};
+ghost use Rattle.server_reads.specs.CdBase.ids.UserId.{UserId};
+ghost use Rattle.server_reads.specs.CdBase.ids.Version.{Version};
+ghost use Rattle.server_reads.specs.ContainerLog.Laying.{Placed, IsAt};
+ghost use Rattle.server_reads.specs.ContainerLog.States.{Agrees};
+ghost use Rattle.server_reads.specs.FileIndex.key.FileKey.{FileKey};
+ghost use Rattle.server_reads.specs.FileIndex.Files.{key_of};
+ghost use Rattle.server_reads.specs.UserDedup.command.Command.{Command};
+ghost use Rattle.server_reads.specs.UserDedup.Cloud.{fingerprint, user_view};
 ghost use Rattle.open_store.specs.CloudAreas.Standing.{Chain};
 ghost use Rattle.server_reads.specs.CloudMemory.Memory.{Memory};
 ghost use Rattle.server_reads.specs.CloudMemory.Rooms.{memory_of};
 ghost use Rattle.open_store.specs.Store.{IsSettled, Serves};
 ghost use Rattle.server_reads.specs.Found.{IsOther, IsFoundRecipe, ReadsLog};
-ghost use Rattle.server_reads.specs.Reading.{HasRead, IfRotten};
-ghost use Rattle.server_commands.specs.Steps.{OnlyReads, ReadsFile};
+ghost use Rattle.server_reads.specs.Reading.{HasReadCloud, IfRotten};
+ghost use Rattle.server_commands.specs.Steps.{HasOnlyReadRecipes, ReadsFile};
 
-use cd_base::CloudNo;
-use cd_edges::Shelf;
-use file_index::Entry;
 use open_store::{CloudDisk, OpenStore};
-use server_reads::{Stop, read_recipe};
+use server_reads::{BlobStop, CloudNo, Entry, Shelf, read_recipe};
 
 // The same as `read_entry`, by the disk alone.
 fn read_on_disk<V: Shelf>(
@@ -33,7 +30,7 @@ fn read_on_disk<V: Shelf>(
     cloud: CloudNo,
     entry: &Entry,
     buffer: &mut [u8],
-) -> Result<(), Stop>
+) -> Result<(), BlobStop>
     requires { recipe_limit ≤ length buffer.old }
     ensures fits { OnOk result ((1 ≤ entry.now.len) × (entry.now.len ≤ recipe_limit)) }
     ensures hashed { OnOk result (fingerprint (take entry.now.len buffer.new) ≡ entry.now.fp) }
@@ -55,7 +52,7 @@ fn read_on_disk<V: Shelf>(
     ensures log { ReadsLog disk.old.recipes disk.new.recipes (V.cloud_at shelf.old cloud.0)
         (V.cloud_at shelf.new cloud.0) }
     ensures same { disk.new ≡ record disk.old { recipes = disk.new.recipes } }
-    ensures reads { HasRead (V.cloud_at shelf.old) (V.cloud_at shelf.new) cloud.0 (V.faults shelf.old)
+    ensures reads { HasReadCloud (V.cloud_at shelf.old) (V.cloud_at shelf.new) cloud.0 (V.faults shelf.old)
         (V.faults shelf.new) result }
 {
     read_recipe(disk.recipes_mut(), shelf, cloud, entry, buffer)
@@ -68,7 +65,7 @@ pub(crate) fn read_entry<V: Shelf>(
     shelf: &mut V,
     entry: &Entry,
     buffer: &mut [u8],
-) -> Result<(), Stop>
+) -> Result<(), BlobStop>
     requires settled { IsSettled store.old }
     requires buffer { recipe_limit ≤ length buffer.old }
     ensures fits { OnOk result ((1 ≤ entry.now.len) × (entry.now.len ≤ recipe_limit)) }
@@ -80,9 +77,10 @@ pub(crate) fn read_entry<V: Shelf>(
         → get (memory_of store.old.memory).files (key_of user.0 tag.0 version.0) ≡ Some entry.now
         → ReadsFile (user_view store.old.header.shape list user).files (tag, version)
         (take entry.now.len buffer.new) result }
-    ensures store { OnlyReads store.old store.new (V.cloud_at shelf.old store.old.header.cloud.0)
+    ensures store { HasOnlyReadRecipes store.old store.new (V.cloud_at shelf.old store.old.header.cloud.0)
         (V.cloud_at shelf.new store.old.header.cloud.0) }
-    ensures reads { HasRead (V.cloud_at shelf.old) (V.cloud_at shelf.new) store.old.header.cloud.0 (V.faults shelf.old)
+    ensures reads { HasReadCloud (V.cloud_at shelf.old) (V.cloud_at shelf.new) store.old.header.cloud.0
+        (V.faults shelf.old)
         (V.faults shelf.new) result }
 {
     let cloud = store.header.cloud;

@@ -1,14 +1,12 @@
 //! The reply where the journal has no room for a record.
 
 ghost use Rattle.std.specs.Prelude.{◌+◌};
-ghost use Rattle.cd_base.specs.declared.rooms.Room.TheVariants as rooms;
-ghost use Rattle.messages.specs.declared.reply.Reply.TheVariants as replies;
-ghost use Rattle.messages.specs.Replies.{IsReply};
+ghost use Rattle.server_reads.specs.CdBase.rooms.Room.TheVariants as rooms;
+ghost use Rattle.server_reads.specs.Messages.reply.Reply.TheVariants as replies;
+ghost use Rattle.server_reads.specs.Messages.Replies.{IsReply};
 
-use cd_base::Room;
-use frames::ReplyBuf;
-use messages::write_full;
 use open_store::OpenStore;
+use server_reads::{ReplyBuf, Room, write_full};
 
 /// Full of the journal: a record whose body has so many bytes doesn't fit even behind a checkpoint. It never comes where the
 /// store serves a list.

@@ -8,28 +8,28 @@ use Rattle.std.proofs.lemmas.Option.{slice_get_within, get_or_from_slice_get}
 use Rattle.std.proofs.lemmas.List.Elements.{All-nil, All-push, All-contains, Contains-get_or}
 use Rattle.std.proofs.lemmas.Grind.{flat_map-append}
 use Rattle.std.specs.Int.{w16, w32, to_be_bytes}
-use Rattle.cd_base.specs.declared.ids.Fp.{Fp}
-use Rattle.cd_base.specs.declared.ids.UserId.{UserId}
+use Rattle.cloud_memory.specs.CdBase.ids.Fp.{Fp}
+use Rattle.cloud_memory.specs.CdBase.ids.UserId.{UserId}
 use Rattle.cd_edges.specs.declared.area.Area.{Area}
 use Rattle.cd_edges.specs.declared.area.Area.TheVariants.{Shares}
 use Rattle.cd_edges.specs.Disk.{Cloud, Areas, reads}
-use Rattle.container_log.specs.Laying.{Placed, IsAt}
-use Rattle.container_log.specs.States.{State, Agrees}
-use Rattle.message_fields.specs.Shares.{IsShare, share_bytes}
-use Rattle.message_fields.specs.Fingerprints.{IsBatch}
+use Rattle.cloud_memory.specs.ContainerLog.Laying.{Placed, IsAt}
+use Rattle.cloud_memory.specs.ContainerLog.States.{State, Agrees}
+use Rattle.messages.specs.MessageFields.Shares.{IsShare, share_bytes}
+use Rattle.messages.specs.MessageFields.Fingerprints.{IsBatch}
 use Rattle.messages.specs.declared.reply.Reply.TheVariants as replies
 use Rattle.messages.specs.Replies.{reply_bytes}
-use Rattle.user_dedup.specs.Owning.{first_lacking, FindsLacking}
-use Rattle.user_dedup.proofs.Owned.{finds}
-use Rattle.cd_base.specs.declared.place.Place.{Place}
-use Rattle.user_dedup.specs.declared.command.Command.{Command}
-use Rattle.user_dedup.specs.Cloud.{fingerprint, user_view, held_string}
-use Rattle.cd_base.specs.declared.shape.Shape.{Shape}
+use Rattle.cloud_memory.specs.UserDedup.Owning.{first_lacking, FindsLacking}
+use Rattle.cloud_memory.proofs.UserDedup.Owned.{finds}
+use Rattle.cloud_memory.specs.CdBase.place.Place.{Place}
+use Rattle.cloud_memory.specs.UserDedup.command.Command.{Command}
+use Rattle.cloud_memory.specs.UserDedup.Cloud.{fingerprint, user_view, held_string}
+use Rattle.cloud_memory.specs.CdBase.shape.Shape.{Shape}
 use Rattle.cloud_memory.specs.Memory.{Memory}
-use Rattle.server_reads.specs.declared.blobs.Stop.TheVariants as stops
+use Rattle.server_reads.specs.declared.blobs.BlobStop.TheVariants as stops
 use Rattle.server_reads.specs.Found.{IsOther, IsFoundShare, ReadsLog}
-use Rattle.server_reads.specs.Reading.{IfRotten, HasRead}
-use Rattle.server_reads.specs.Steps.{Keeps, OnlyRead, SentOne, Sent, SentAll}
+use Rattle.server_reads.specs.Reading.{IfRotten, HasReadCloud}
+use Rattle.server_reads.specs.Steps.{KeepsRemembered, OnlyRead, SentOne, HasSentShares, SentAll}
 use Rattle.server_reads.proofs.Marks.{one_more}
 use Rattle.server_reads.proofs.Held.{held_at}
 use Rattle.server_reads.proofs.Logs.{log_still, log_twice}
@@ -41,7 +41,7 @@ strings_for list fps = map (λ (fp : Fp). unwrap_or (held_string list fp) []) fp
 
 -- a told cloud keeps the list in which the user owns each
 abbrev pub WhenHeld : (a : Cloud) (m : Memory) (all : List Fp) (P : List Command → Type 0) → Type 0
-WhenHeld a m all P = IsTrue a.told → (shape : Shape) (cloud : ℕ) (list : List Command) (user : UserId) → Keeps (reads a.now) shape cloud list m
+WhenHeld a m all P = IsTrue a.told → (shape : Shape) (cloud : ℕ) (list : List Command) (user : UserId) → KeepsRemembered (reads a.now) shape cloud list m
     → All (Contains (user_view shape list user).own) all → P list
 
 -- what a log keeps is what the told cloud's area has
@@ -52,7 +52,7 @@ WhenAgreed a log P = IsTrue a.told → Agrees log (a.now log.area).read → P
 pub record Along (a b : ℕ → Cloud) (number before mid : ℕ) (log0 log : State) (m : Memory) (all : List Fp) (n : ℕ) (old out : List ℕ) : Type 0 where
   pub only : OnlyRead a b number before mid
   pub log_is : ReadsLog log0 log (a number) (b number)
-  pub sent : Sent (take n all) old out
+  pub sent : HasSentShares (take n all) old out
   pub held : WhenAgreed (a number) log0 (WhenHeld (a number) m all (λ list. out ≡ old ++ flat_map share_bytes (strings_for list (take n all))))
   pub few : length out ≤ length old + n * 8212
 
@@ -72,7 +72,7 @@ one_behind : (old out out' : List ℕ) (ss : List (List ℕ)) (s : List ℕ) →
 one_behind old out out' ss s first next =
     next ∙ ap (λ l. l ++ share_bytes s) first ∙ append_assoc old (flat_map share_bytes ss) (share_bytes s) ∙ ap (λ l. old ++ l) (sym (flat_push ss s))
 
-sent_more : (fps : List Fp) (fp : Fp) (old out out' : List ℕ) → Sent fps old out → SentOne fp out out' → Sent (fps ++ fp ∷ []) old out'
+sent_more : (fps : List Fp) (fp : Fp) (old out out' : List ℕ) → HasSentShares fps old out → SentOne fp out out' → HasSentShares (fps ++ fp ∷ []) old out'
 sent_more fps fp old out out' sent one = record {
   shares = sent.shares ++ one.share ∷ [];
   bytes = one_behind old out out' sent.shares one.share sent.bytes one.bytes;
@@ -124,13 +124,13 @@ sent_one fp old out share len bytes long some few named = record { share = share
 pub more : (a b c : ℕ → Cloud) (number before mid now : ℕ) (log0 log log' : State) (m : Memory) (all : List Fp) (n : ℕ) (old out out' : List ℕ) (fp : Fp) (at : Option Place)
     → log0.area ≡ Shares → slice_get all n ≡ Some fp → Contains all fp → IsPlaceOf m fp at
     → Along a b number before mid log0 log m all n old out
-    → HasRead b c number mid now ok_answer → ReadsLog log log' (b number) (c number) → SentOne fp out out'
+    → HasReadCloud b c number mid now ok_answer → ReadsLog log log' (b number) (c number) → SentOne fp out out'
     → (IsTrue (b number).told → Agrees log ((b number).now log.area).read → AtStep at fp ((b number).now log.area).read (λ blob. out' ≡ out ++ share_bytes blob.blob))
     → Along a c number before now log0 log' m all (n + 1) old out'
 more a b c number before mid now log0 log log' m all n old out out' fp at area get among place along read log_same one step = record {
   only = only_then a b c number before mid now along.only (ok_read b c number mid now read);
   log_is = log_twice log0 log log' (a number) (b number) (c number) along.only.call.told along.log_is log_same;
-  sent = subst (λ l. Sent l old out') (sym (one_more all n fp get)) (sent_more (take n all) fp old out out' along.sent one);
+  sent = subst (λ l. HasSentShares l old out') (sym (one_more all n fp get)) (sent_more (take n all) fp old out out' along.sent one);
   held = λ t agreed told shape cloud list user k own.
       let kept = along.log_is.agrees t agreed in
       let h = held_by_step a b number before mid log0 log m all n fp at (λ s. out' ≡ out ++ share_bytes s) along.only along.log_is area among place (λ is_told. step is_told kept) told shape cloud list user k own in
@@ -181,7 +181,7 @@ pub shares_spelled : (strings : List (List ℕ)) (head out : List ℕ) (n : ℕ)
 shares_spelled strings head out n out_is head_is n_is =
     out_is ∙ ap (λ (h : List ℕ). h ++ flat_map share_bytes strings) (head_is ∙ ap (λ (k : ℕ). 137 ∷ to_be_bytes w16 k) n_is)
 
-pub shares_kind : (fps : List Fp) (head out : List ℕ) (n : ℕ) → Sent fps head out → head ≡ 137 ∷ to_be_bytes w16 n → n ≡ length fps → IsBatch fps → SentAll fps out
+pub shares_kind : (fps : List Fp) (head out : List ℕ) (n : ℕ) → HasSentShares fps head out → head ≡ 137 ∷ to_be_bytes w16 n → n ≡ length fps → IsBatch fps → SentAll fps out
 shares_kind fps head out n sent head_is n_is batch =
     let same : length sent.shares ≡ length fps = sym (length-map sent.shares fingerprint) ∙ ap length sent.named in
     let some : 1 ≤ length fps = batch.0 in

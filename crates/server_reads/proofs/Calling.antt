@@ -3,22 +3,22 @@ use Rattle.std.proofs.Common.{◌≡◌, ◌⊎◌, inl, inr, ℕ, ◌+◌, ◌<
 use Rattle.std.specs.Prelude.{◌≢◌}
 use Rattle.std.proofs.lemmas.Bool.{cases_eq}
 use Rattle.std.proofs.lemmas.List.{ext_get_or}
-use Rattle.cd_base.specs.declared.ids.Fp.{Fp}
+use Rattle.cloud_memory.specs.CdBase.ids.Fp.{Fp}
 use Rattle.cd_edges.specs.Disk.{Cloud}
 use Rattle.cd_edges.specs.Shelf.{IsCall, HasFailed, KeepsCounts, Stays, ReadsFrom}
 use Rattle.cd_edges.proofs.Calls.{called_twice, failed_after}
-use Rattle.server_reads.specs.declared.blobs.Stop.{Stop}
-use Rattle.server_reads.specs.declared.blobs.Stop.TheVariants as stops
+use Rattle.server_reads.specs.declared.blobs.BlobStop.{BlobStop}
+use Rattle.server_reads.specs.declared.blobs.BlobStop.TheVariants as stops
 use Rattle.messages.specs.declared.reply.Reply.TheVariants as replies
 use Rattle.messages.specs.Replies.{IsReply}
-use Rattle.user_dedup.specs.Cloud.{fingerprint}
+use Rattle.cloud_memory.specs.UserDedup.Cloud.{fingerprint}
 use Rattle.server_reads.specs.Found.{IsOther}
-use Rattle.server_reads.specs.Reading.{IfRotten, OnFailed, UnlessFailed, HasRead}
+use Rattle.server_reads.specs.Reading.{IfRotten, OnFailed, UnlessFailed, HasReadCloud}
 use Rattle.server_reads.specs.Steps.{OnlyRead}
 
 -- what a step answers
 abbrev pub Answer : Type 0
-Answer = Result (Unit {0}) Stop
+Answer = Result (Unit {0}) BlobStop
 
 -- that nothing stopped it
 abbrev pub ok_answer : Answer
@@ -40,8 +40,8 @@ nothing_read a number now = record {
   counts = record { cloud = refl; total = refl };
 }
 
-pub read_then : (a b c : ℕ → Cloud) (number before mid now : ℕ) (result : Answer) → OnlyRead a b number before mid → HasRead b c number mid now result
-    → HasRead a c number before now result
+pub read_then : (a b c : ℕ → Cloud) (number before mid now : ℕ) (result : Answer) → OnlyRead a b number before mid → HasReadCloud b c number mid now result
+    → HasReadCloud a c number before now result
 read_then a b c number before mid now result first second = record {
   stays = record { armed = second.stays.armed ∙ first.stays.armed; past = second.stays.past ∙ first.stays.past; now = second.stays.now ∙ first.stays.now };
   call = called_twice a b c number before mid now first.call second.call;
@@ -62,7 +62,7 @@ read_then a b c number before mid now result first second = record {
     counted (Err stops.Failed) k = tt
     counted (Err (stops.Rotten named found)) k = both k
 
-pub ok_read : (a b : ℕ → Cloud) (number before now : ℕ) → HasRead a b number before now ok_answer → OnlyRead a b number before now
+pub ok_read : (a b : ℕ → Cloud) (number before now : ℕ) → HasReadCloud a b number before now ok_answer → OnlyRead a b number before now
 ok_read a b number before now r = record { stays = r.stays; call = r.call; counts = r.counts }
 
 pub only_then : (a b c : ℕ → Cloud) (number before mid now : ℕ) → OnlyRead a b number before mid → OnlyRead b c number mid now → OnlyRead a c number before now
@@ -72,7 +72,7 @@ only_then a b c number before mid now first second = record {
   counts = record { cloud = second.counts.cloud ∙ first.counts.cloud; total = second.counts.total ∙ first.counts.total };
 }
 
-pub only_ok : (a b : ℕ → Cloud) (number before now : ℕ) → OnlyRead a b number before now → HasRead a b number before now ok_answer
+pub only_ok : (a b : ℕ → Cloud) (number before now : ℕ) → OnlyRead a b number before now → HasReadCloud a b number before now ok_answer
 only_ok a b number before now r = record { stays = r.stays; call = r.call; failed = tt; counts = r.counts }
 
 -- ---- a comparison behind a call
@@ -90,8 +90,8 @@ pub not_rotten : (r : Answer) (P : Fp → Fp → Type 0) → r ≡ Ok tt → IfR
 not_rotten r P e = let Q : Answer → Type 0 = λ x. IfRotten x P in subst Q (sym e) tt
 
 -- what is said of a stop that is Rotten
-pub rotten_at : (stop : Stop) (named found : Fp) (P : Fp → Fp → Type 0) → stop ≡ stops.Rotten named found → IfRotten {A = Unit {0}} (Err stop) P → P named found
-rotten_at stop named found P e h = let Q : Stop → Type 0 = λ x. IfRotten {A = Unit {0}} (Err x) P in subst Q e h
+pub rotten_at : (stop : BlobStop) (named found : Fp) (P : Fp → Fp → Type 0) → stop ≡ stops.Rotten named found → IfRotten {A = Unit {0}} (Err stop) P → P named found
+rotten_at stop named found P e h = let Q : BlobStop → Type 0 = λ x. IfRotten {A = Unit {0}} (Err x) P in subst Q e h
 
 pub when_ok : (r : Answer) (P : Type 0) → P → OnOk r P
 when_ok (Ok x) P p = p
@@ -102,7 +102,7 @@ ok_both (Ok x) P Q R p q f = f p q
 ok_both (Err e) P Q R p q f = tt
 
 pub compared : (a b : ℕ → Cloud) (number before now : ℕ) (r : Answer) (fp found : Fp) → IfErr r (λ stop. stop ≡ stops.Rotten fp found)
-    → Stays (a number) (b number) → IsCall a b number before now → KeepsCounts (a number) (b number) before now → HasRead a b number before now r
+    → Stays (a number) (b number) → IsCall a b number before now → KeepsCounts (a number) (b number) before now → HasReadCloud a b number before now r
 compared a b number before now r fp found e stays call counts = record { stays = stays; call = call; failed = fails r e; counts = counted r }
   where
     fails : (r : Answer) → IfErr r (λ stop. stop ≡ stops.Rotten fp found) → OnFailed r (HasFailed (a number) (b number) before now)

@@ -4,29 +4,29 @@ use Rattle.std.specs.Prelude.{is_some, option_map, unwrap_or}
 use Rattle.std.specs.List.{Contains}
 use Rattle.std.specs.FinMap.{get}
 use Rattle.std.proofs.lemmas.List.Elements.{All-contains}
-use Rattle.cd_base.specs.declared.ids.Fp.{Fp}
-use Rattle.cd_base.specs.declared.ids.Tag.{Tag}
-use Rattle.cd_base.specs.declared.ids.UserId.{UserId}
-use Rattle.cd_base.specs.declared.ids.Version.{Version}
-use Rattle.cd_base.specs.declared.place.Place.{Place}
-use Rattle.cd_base.specs.declared.shape.Shape.{Shape}
+use Rattle.cloud_memory.specs.CdBase.ids.Fp.{Fp}
+use Rattle.cloud_memory.specs.CdBase.ids.Tag.{Tag}
+use Rattle.cloud_memory.specs.CdBase.ids.UserId.{UserId}
+use Rattle.cloud_memory.specs.CdBase.ids.Version.{Version}
+use Rattle.cloud_memory.specs.CdBase.place.Place.{Place}
+use Rattle.cloud_memory.specs.CdBase.shape.Shape.{Shape}
 use Rattle.cd_edges.specs.declared.area.Area.TheVariants.{Shares}
 use Rattle.cd_edges.specs.Disk.{Image}
-use Rattle.container_log.specs.Laying.{IsAt}
-use Rattle.file_index.specs.declared.key.Entry.{Entry}
-use Rattle.file_index.specs.Files.{key_of}
-use Rattle.message_fields.specs.Shares.{IsShare}
-use Rattle.user_dedup.specs.declared.command.Command.{Command}
-use Rattle.user_dedup.specs.declared.file_list.FileEntry.{FileEntry}
-use Rattle.user_dedup.specs.Cloud.{fingerprint, user_view, strings_in, held_string, held_bytes}
-use Rattle.user_dedup.specs.Pages.{entry_at}
-use Rattle.user_dedup.specs.Dedup.{IsSound}
-use Rattle.user_dedup.proofs.Owned.{contains_here, contains_later, contains_nothing, contains_cases}
-use Rattle.user_dedup.proofs.Views.{held_is, owned_is_held}
-use Rattle.user_dedup.proofs.Sound.{found_entry}
+use Rattle.cloud_memory.specs.ContainerLog.Laying.{IsAt}
+use Rattle.cloud_memory.specs.FileIndex.key.Entry.{Entry}
+use Rattle.cloud_memory.specs.FileIndex.Files.{key_of}
+use Rattle.messages.specs.MessageFields.Shares.{IsShare}
+use Rattle.cloud_memory.specs.UserDedup.command.Command.{Command}
+use Rattle.cloud_memory.specs.UserDedup.file_list.FileEntry.{FileEntry}
+use Rattle.cloud_memory.specs.UserDedup.Cloud.{fingerprint, user_view, strings_in, held_string, held_bytes}
+use Rattle.cloud_memory.specs.UserDedup.Pages.{entry_at}
+use Rattle.cloud_memory.specs.UserDedup.Dedup.{IsSound}
+use Rattle.cloud_memory.proofs.UserDedup.Owned.{contains_here, contains_later, contains_nothing, contains_cases}
+use Rattle.cloud_memory.proofs.UserDedup.Views.{held_is, owned_is_held}
+use Rattle.cloud_memory.proofs.UserDedup.Sound.{found_entry}
 use Rattle.cloud_memory.specs.Memory.{Memory, Remembers, Stand, summary, summary_of}
 use Rattle.server_reads.specs.Found.{EntryStands}
-use Rattle.server_reads.specs.Steps.{Keeps}
+use Rattle.server_reads.specs.Steps.{KeepsRemembered}
 use Rattle.server_reads.proofs.Sound.{strings_fit, recipes_fit}
 
 -- ---- shares
@@ -53,7 +53,7 @@ named_among (x ∷ strings) s c =
       | inr later ↦ contains_later (fingerprint x) (map fingerprint strings) (fingerprint s) (named_among strings s later)
     ]
 
-pub held_at : (image : Image) (shape : Shape) (number : ℕ) (list : List Command) (m : Memory) (user : UserId) (fp : Fp) → Keeps image shape number list m
+pub held_at : (image : Image) (shape : Shape) (number : ℕ) (list : List Command) (m : Memory) (user : UserId) (fp : Fp) → KeepsRemembered image shape number list m
     → Contains (user_view shape list user).own fp → HeldAt image list m fp
 held_at image shape number list m user fp k c = by_place (get m.places fp.0) refl
   where

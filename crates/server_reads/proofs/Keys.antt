@@ -3,16 +3,16 @@ use Rattle.std.proofs.Common.{◌≡◌, ℕ, ◌≤◌, Bool, true, false, cond
 use Rattle.std.specs.Prelude.{filter, slice_get}
 use Rattle.std.proofs.lemmas.List.{take_all}
 use Rattle.std.proofs.Math.Seq.{take-append_seam}
-use Rattle.cd_base.specs.declared.ids.Tag.{Tag}
-use Rattle.cd_base.specs.declared.ids.UserId.{UserId}
-use Rattle.cd_base.specs.declared.ids.Version.{Version}
-use Rattle.cd_base.specs.declared.shape.Shape.{Shape}
-use Rattle.message_fields.specs.Keys.{is_above, IsKey, AreAbove, AreKeys}
-use Rattle.user_dedup.specs.declared.command.Command.{Command}
-use Rattle.user_dedup.specs.declared.file_list.FileEntry.{FileEntry}
-use Rattle.user_dedup.specs.Cloud.{user_view}
-use Rattle.user_dedup.specs.Pages.{sorted_keys}
-use Rattle.user_dedup.specs.Pages.{key_of as file_key}
+use Rattle.cloud_memory.specs.CdBase.ids.Tag.{Tag}
+use Rattle.cloud_memory.specs.CdBase.ids.UserId.{UserId}
+use Rattle.cloud_memory.specs.CdBase.ids.Version.{Version}
+use Rattle.cloud_memory.specs.CdBase.shape.Shape.{Shape}
+use Rattle.messages.specs.MessageFields.Keys.{is_above, IsKey, AreAbove, AreKeys}
+use Rattle.cloud_memory.specs.UserDedup.command.Command.{Command}
+use Rattle.cloud_memory.specs.UserDedup.file_list.FileEntry.{FileEntry}
+use Rattle.cloud_memory.specs.UserDedup.Cloud.{user_view}
+use Rattle.cloud_memory.specs.UserDedup.Pages.{sorted_keys}
+use Rattle.cloud_memory.specs.UserDedup.Pages.{key_of as file_key}
 use Rattle.cloud_memory.specs.Memory.{Memory, Remembers, keys_above}
 use Rattle.server_reads.proofs.Rising.{keys_behind}
 

@@ -11,3 +11,9 @@ pub mod Rotting
 pub mod Sound
 pub mod Spelled
 pub mod Unowned
+pub mod UserDedup
+pub mod Messages
+pub mod ContainerLog
+pub mod RecipeLaws
+pub mod CdEdges
+pub mod CdBase

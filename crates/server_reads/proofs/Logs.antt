@@ -2,7 +2,7 @@
 use Rattle.std.proofs.Common.{◌≡◌, IsTrue, refl, sym, ap, ◌∙◌, subst}
 use Rattle.cd_edges.specs.Disk.{Cloud, Areas}
 use Rattle.cd_edges.specs.Shelf.{Stays}
-use Rattle.container_log.specs.States.{State, Agrees}
+use Rattle.cloud_memory.specs.ContainerLog.States.{State, Agrees}
 use Rattle.server_reads.specs.Found.{ReadsLog}
 
 -- a log that a call leaves, over areas that stay

@@ -4,12 +4,12 @@ use Rattle.std.specs.Prelude.{All, slice_get}
 use Rattle.std.proofs.lemmas.List.{take_more, drop_all, length-map}
 use Rattle.std.proofs.lemmas.List.Elements.{All-nil, All-cons}
 use Rattle.std.proofs.lemmas.Option.{slice_get_within, get_or_from_slice_get}
-use Rattle.cd_base.specs.declared.ids.Fp.{Fp}
-use Rattle.cd_base.specs.declared.ids.UserId.{UserId}
-use Rattle.user_dedup.specs.Owning.{is_among, lacking_from}
+use Rattle.cloud_memory.specs.CdBase.ids.Fp.{Fp}
+use Rattle.cloud_memory.specs.CdBase.ids.UserId.{UserId}
+use Rattle.cloud_memory.specs.UserDedup.Owning.{is_among, lacking_from}
 use Rattle.cloud_memory.specs.Memory.{Memory}
 use Rattle.std.specs.Int.{w16, to_be_bytes}
-use Rattle.message_fields.specs.Fingerprints.{IsBatch}
+use Rattle.messages.specs.MessageFields.Fingerprints.{IsBatch}
 use Rattle.messages.specs.declared.reply.Reply.TheVariants as replies
 use Rattle.messages.specs.Replies.{reply_bytes}
 use Rattle.server_reads.specs.Allowed.{Replies, KnownReply}

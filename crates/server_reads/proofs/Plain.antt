@@ -1,14 +1,14 @@
 -- Each reply that may come is one for its request.
 use Rattle.std.proofs.Common.{◌≡◌, ℕ, List, length, Option, ap, sym, ◌∙◌}
 use Rattle.std.proofs.lemmas.List.{length-map}
-use Rattle.cd_base.specs.declared.ids.Fp.{Fp}
-use Rattle.cd_base.specs.declared.ids.Tag.{Tag}
-use Rattle.cd_base.specs.declared.ids.UserId.{UserId}
-use Rattle.cd_base.specs.declared.ids.Version.{Version}
+use Rattle.cloud_memory.specs.CdBase.ids.Fp.{Fp}
+use Rattle.cloud_memory.specs.CdBase.ids.Tag.{Tag}
+use Rattle.cloud_memory.specs.CdBase.ids.UserId.{UserId}
+use Rattle.cloud_memory.specs.CdBase.ids.Version.{Version}
 use Rattle.messages.specs.declared.request.Request.TheVariants as requests
 use Rattle.messages.specs.declared.reply.Reply.{Reply}
 use Rattle.messages.specs.declared.reply.Reply.TheVariants as replies
-use Rattle.user_dedup.specs.Cloud.{fingerprint}
+use Rattle.cloud_memory.specs.UserDedup.Cloud.{fingerprint}
 use Rattle.server_reads.specs.Allowed.{KnownReply, EntriesReply, SharesReply, RecipeReply, IsPlain}
 
 pub known_plain : (user : UserId) (fps : List Fp) (reply : Reply) → KnownReply fps reply → IsPlain (requests.Query user fps) reply

@@ -9,15 +9,15 @@ use Rattle.std.specs.Cmp.{IsTotalOrder}
 use Rattle.std.specs.Cmp.Rules.{comparing}
 use Rattle.std.specs.Cmp.Lexicographic.{slice_cmp}
 use Rattle.std.proofs.lemmas.Cmp.{tied_itself}
-use Rattle.cd_base.specs.declared.ids.Tag.{Tag}
-use Rattle.cd_base.specs.declared.ids.Version.{Version}
-use Rattle.message_fields.specs.Keys.{is_above, AreAbove}
-use Rattle.message_fields.specs.Keys.{key_cmp as cmp_keys}
-use Rattle.user_dedup.specs.declared.file_list.FileEntry.{FileEntry}
-use Rattle.user_dedup.specs.Pages.{sorted_keys}
-use Rattle.user_dedup.specs.Pages.{key_of as file_key}
-use Rattle.user_dedup.proofs.Owned.{contains_here, contains_later, contains_nothing, contains_cases}
-use Rattle.user_dedup.proofs.Pages.{sorted_above}
+use Rattle.cloud_memory.specs.CdBase.ids.Tag.{Tag}
+use Rattle.cloud_memory.specs.CdBase.ids.Version.{Version}
+use Rattle.messages.specs.MessageFields.Keys.{is_above, AreAbove}
+use Rattle.messages.specs.MessageFields.Keys.{key_cmp as cmp_keys}
+use Rattle.cloud_memory.specs.UserDedup.file_list.FileEntry.{FileEntry}
+use Rattle.cloud_memory.specs.UserDedup.Pages.{sorted_keys}
+use Rattle.cloud_memory.specs.UserDedup.Pages.{key_of as file_key}
+use Rattle.cloud_memory.proofs.UserDedup.Owned.{contains_here, contains_later, contains_nothing, contains_cases}
+use Rattle.cloud_memory.proofs.UserDedup.Pages.{sorted_above}
 use Rattle.cloud_memory.specs.Memory.{keys_above}
 
 abbrev Key : Type 0

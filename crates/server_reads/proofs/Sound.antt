@@ -5,28 +5,28 @@ use Rattle.std.specs.List.{Contains, flat_map}
 use Rattle.std.proofs.lemmas.Bool.{cases_eq}
 use Rattle.std.proofs.lemmas.List.Elements.{All-nil, All-append, All-contains, Contains-get_or, Contains-push_cases}
 use Rattle.std.proofs.lemmas.Grind.{flat_map-append}
-use Rattle.cd_base.specs.declared.ids.UserId.{UserId}
-use Rattle.cd_base.specs.declared.shape.Shape.{Shape}
-use Rattle.message_fields.specs.Shares.{IsShare}
-use Rattle.recipe.specs.declared.recipe.Recipe.{Recipe}
-use Rattle.recipe.specs.Spelling.{IsRecipe}
-use Rattle.recipe.proofs.Written.{longest}
+use Rattle.cloud_memory.specs.CdBase.ids.UserId.{UserId}
+use Rattle.cloud_memory.specs.CdBase.shape.Shape.{Shape}
+use Rattle.messages.specs.MessageFields.Shares.{IsShare}
+use Rattle.cloud_memory.specs.Recipe.recipe.Recipe.{Recipe}
+use Rattle.cloud_memory.specs.Recipe.Spelling.{IsRecipe}
+use Rattle.cloud_memory.proofs.Recipe.Written.{longest}
 use Rattle.messages.specs.declared.request.Request.{Request}
 use Rattle.messages.specs.declared.request.Request.TheVariants as requests
 use Rattle.messages.specs.Requests.{FitsRequest}
-use Rattle.user_dedup.specs.declared.command.Command.{Command}
-use Rattle.user_dedup.specs.declared.command.Command.TheVariants as commands
-use Rattle.user_dedup.specs.declared.file_list.FileEntry.{FileEntry}
-use Rattle.user_dedup.specs.Cloud.{user_of, view_after, user_view, strings_of}
-use Rattle.user_dedup.specs.Owning.{first_lacking, new_strings}
-use Rattle.user_dedup.specs.Pages.{entry_at}
-use Rattle.user_dedup.specs.Requests.{fps_of, HasRecipe}
-use Rattle.user_dedup.specs.Dedup.{answer_over, IsSound, Begun, Added}
-use Rattle.user_dedup.proofs.Owned.{contains_nothing}
-use Rattle.user_dedup.proofs.New.{are_new}
-use Rattle.user_dedup.proofs.Views.{own_adds, others_stay}
-use Rattle.user_dedup.proofs.Deleting.{entries_left}
-use Rattle.user_dedup.proofs.Sound.{put_adds, commit_adds, deletes_from}
+use Rattle.cloud_memory.specs.UserDedup.command.Command.{Command}
+use Rattle.cloud_memory.specs.UserDedup.command.Command.TheVariants as commands
+use Rattle.cloud_memory.specs.UserDedup.file_list.FileEntry.{FileEntry}
+use Rattle.cloud_memory.specs.UserDedup.Cloud.{user_of, view_after, user_view, strings_of}
+use Rattle.cloud_memory.specs.UserDedup.Owning.{first_lacking, new_strings}
+use Rattle.cloud_memory.specs.UserDedup.Pages.{entry_at}
+use Rattle.cloud_memory.specs.UserDedup.Requests.{fps_of, HasRecipe}
+use Rattle.cloud_memory.specs.UserDedup.Dedup.{answer_over, IsSound, Begun, Added}
+use Rattle.cloud_memory.proofs.UserDedup.Owned.{contains_nothing}
+use Rattle.cloud_memory.proofs.UserDedup.New.{are_new}
+use Rattle.cloud_memory.proofs.UserDedup.Views.{own_adds, others_stay}
+use Rattle.cloud_memory.proofs.UserDedup.Deleting.{entries_left}
+use Rattle.cloud_memory.proofs.UserDedup.Sound.{put_adds, commit_adds, deletes_from}
 
 all_from : {A : Type 0} (P : A → Type 0) (xs : List A) → ((x : A) → Contains xs x → P x) → All P xs
 all_from P xs f k d l = f (get_or xs k d) (Contains-get_or xs k d l)

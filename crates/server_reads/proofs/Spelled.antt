@@ -2,12 +2,12 @@
 use Rattle.std.proofs.Common.{◌≡◌, ℕ, List, [], ◌++◌, map, drop, Result, Ok, sym, ap, ◌∙◌, subst, arith}
 use Rattle.std.specs.Int.{w16, from_be_bytes}
 use Rattle.std.proofs.lemmas.Nat.{from_be_bytes-to_be_bytes_2}
-use Rattle.cd_base.specs.declared.ids.Fp.{Fp}
-use Rattle.message_fields.specs.Shares.{shares_bytes, shares_at, AreShares}
-use Rattle.message_fields.proofs.ShareLaws.{lawful_shares}
+use Rattle.cloud_memory.specs.CdBase.ids.Fp.{Fp}
+use Rattle.messages.specs.MessageFields.Shares.{shares_bytes, shares_at, AreShares}
+use Rattle.messages.proofs.MessageFields.ShareLaws.{lawful_shares}
 use Rattle.messages.specs.declared.reply.Reply.TheVariants as replies
 use Rattle.messages.specs.Replies.{IsReply}
-use Rattle.user_dedup.specs.Cloud.{fingerprint}
+use Rattle.cloud_memory.specs.UserDedup.Cloud.{fingerprint}
 use Rattle.server_reads.specs.Steps.{SentAll}
 use Rattle.server_reads.proofs.Calling.{kinds}
 

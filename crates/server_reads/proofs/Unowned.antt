@@ -1,12 +1,12 @@
 -- What a memory has of a user's fingerprints, and what a list says of them.
 use Rattle.std.proofs.Common.{◌≡◌, ℕ, suc, ◌+◌, Bool, true, false, cond, List, [], ◌∷◌, Some, None, IsTrue, refl, sym, ap, ◌∙◌, add-one}
 use Rattle.std.specs.Prelude.{◌↔◌, is_some}
-use Rattle.cd_base.specs.declared.ids.Fp.{Fp}
-use Rattle.cd_base.specs.declared.ids.UserId.{UserId}
-use Rattle.cd_base.specs.declared.shape.Shape.{Shape}
-use Rattle.user_dedup.specs.declared.command.Command.{Command}
-use Rattle.user_dedup.specs.Cloud.{user_view}
-use Rattle.user_dedup.specs.Owning.{is_among, flag, flags, lacking_from, first_lacking}
+use Rattle.cloud_memory.specs.CdBase.ids.Fp.{Fp}
+use Rattle.cloud_memory.specs.CdBase.ids.UserId.{UserId}
+use Rattle.cloud_memory.specs.CdBase.shape.Shape.{Shape}
+use Rattle.cloud_memory.specs.UserDedup.command.Command.{Command}
+use Rattle.cloud_memory.specs.UserDedup.Cloud.{user_view}
+use Rattle.cloud_memory.specs.UserDedup.Owning.{is_among, flag, flags, lacking_from, first_lacking}
 use Rattle.cloud_memory.specs.Memory.{Memory, Remembers, uses_of}
 use Rattle.server_reads.specs.Owned.{is_owned, owned_flags, unowned_from, first_unowned}
 

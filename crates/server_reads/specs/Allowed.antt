@@ -1,16 +1,16 @@
 -- Which replies come, whatever is known of the memory and of the disk.
 use Rattle.std.specs.Prelude.{◌≡◌, ◌≢◌, ℕ, ◌<◌, List, length, map, Option}
 use Rattle.std.specs.List.{Contains}
-use Rattle.cd_base.specs.declared.ids.Fp.{Fp}
-use Rattle.cd_base.specs.declared.ids.Tag.{Tag}
-use Rattle.cd_base.specs.declared.ids.Version.{Version}
-use Rattle.message_fields.specs.Keys.{AreAbove}
+use Rattle.cloud_memory.specs.CdBase.ids.Fp.{Fp}
+use Rattle.cloud_memory.specs.CdBase.ids.Tag.{Tag}
+use Rattle.cloud_memory.specs.CdBase.ids.Version.{Version}
+use Rattle.messages.specs.MessageFields.Keys.{AreAbove}
 use Rattle.messages.specs.declared.request.Request.{Request}
 use Rattle.messages.specs.declared.reply.Reply.{Reply}
 use Rattle.messages.specs.declared.reply.Reply.TheVariants as replies
 use Rattle.messages.specs.Answering.{IsReplyTo}
 use Rattle.messages.specs.Replies.{IsReply}
-use Rattle.user_dedup.specs.Cloud.{fingerprint}
+use Rattle.cloud_memory.specs.UserDedup.Cloud.{fingerprint}
 
 -- The content is a reply of which this is said.
 pub record Replies (content : List ℕ) (P : Reply → Type 0) : Type 0 where

@@ -1,21 +1,21 @@
 -- What is found where a server's memory says that something lies, and what reading leaves of a log.
 use Rattle.std.specs.Prelude.{◌≡◌, ◌≢◌, ◌⊎◌, ℕ, ◌+◌, ◌<◌, ◌≤◌, List, [], length, take, drop, Some, None, IsTrue}
 use Rattle.std.specs.FinMap.{get}
-use Rattle.cd_base.specs.Limits.{recipe_limit}
-use Rattle.cd_base.specs.declared.ids.Fp.{Fp}
-use Rattle.cd_base.specs.declared.ids.Tag.{Tag}
-use Rattle.cd_base.specs.declared.ids.Version.{Version}
+use Rattle.cloud_memory.specs.CdBase.Limits.{recipe_limit}
+use Rattle.cloud_memory.specs.CdBase.ids.Fp.{Fp}
+use Rattle.cloud_memory.specs.CdBase.ids.Tag.{Tag}
+use Rattle.cloud_memory.specs.CdBase.ids.Version.{Version}
 use Rattle.cd_edges.specs.declared.area.Area.TheVariants.{Shares, Recipes}
 use Rattle.cd_edges.specs.Disk.{Cloud, reads}
-use Rattle.container_log.specs.Laying.{IsAt}
-use Rattle.container_log.specs.States.{State, Agrees}
-use Rattle.file_index.specs.declared.key.Entry.{Entry}
-use Rattle.file_index.specs.declared.key.FileKey.{FileKey}
-use Rattle.message_fields.specs.Shares.{share_limit}
-use Rattle.cd_base.specs.declared.place.Place.{Place}
-use Rattle.user_dedup.specs.declared.file_list.FileEntry.{FileEntry}
-use Rattle.user_dedup.specs.Cloud.{fingerprint}
-use Rattle.user_dedup.specs.Pages.{entry_at}
+use Rattle.cloud_memory.specs.ContainerLog.Laying.{IsAt}
+use Rattle.cloud_memory.specs.ContainerLog.States.{State, Agrees}
+use Rattle.cloud_memory.specs.FileIndex.key.Entry.{Entry}
+use Rattle.cloud_memory.specs.FileIndex.key.FileKey.{FileKey}
+use Rattle.messages.specs.MessageFields.Shares.{share_limit}
+use Rattle.cloud_memory.specs.CdBase.place.Place.{Place}
+use Rattle.cloud_memory.specs.UserDedup.file_list.FileEntry.{FileEntry}
+use Rattle.cloud_memory.specs.UserDedup.Cloud.{fingerprint}
+use Rattle.cloud_memory.specs.UserDedup.Pages.{entry_at}
 use Rattle.cloud_memory.specs.Memory.{Memory}
 
 -- the fingerprint of what an area has from a place on, as many bytes as there are up to so many

@@ -1,6 +1,16 @@
 pub mod Allowed
+pub mod CdBase
+pub mod CdEdges
 pub mod CloudMemory
+pub mod ContainerLog
+pub mod FileIndex
 pub mod Found
+pub mod Frames
+pub mod MessageFields
+pub mod Messages
 pub mod Owned
 pub mod Reading
+pub mod Recipe
+pub mod ShareIndex
 pub mod Steps
+pub mod UserDedup

@@ -1,9 +1,9 @@
 -- Which fingerprints are a user's, as a memory has it.
 use Rattle.std.specs.Prelude.{ℕ, suc, Bool, List, [], ◌∷◌, map, Option, Some, None, is_some, if◌then◌else◌}
 use Rattle.std.specs.FinMap.{get}
-use Rattle.cd_base.specs.declared.ids.Fp.{Fp}
-use Rattle.cd_base.specs.declared.ids.UserId.{UserId}
-use Rattle.share_index.specs.Order.{owner_of}
+use Rattle.cloud_memory.specs.CdBase.ids.Fp.{Fp}
+use Rattle.cloud_memory.specs.CdBase.ids.UserId.{UserId}
+use Rattle.cloud_memory.specs.ShareIndex.Order.{owner_of}
 use Rattle.cloud_memory.specs.Memory.{Memory}
 
 -- the memory has the user as an owner of the fingerprint

@@ -1,23 +1,24 @@
 -- What the steps of a reply leave. No public clause cites this module.
 use Rattle.std.specs.Prelude.{◌≡◌, ℕ, List, ◌++◌, map, All}
 use Rattle.std.specs.List.{flat_map}
-use Rattle.cd_base.specs.declared.ids.Fp.{Fp}
-use Rattle.cd_base.specs.declared.shape.Shape.{Shape}
+use Rattle.cloud_memory.specs.CdBase.ids.Fp.{Fp}
+use Rattle.cloud_memory.specs.CdBase.shape.Shape.{Shape}
 use Rattle.cd_edges.specs.declared.area.Area.TheVariants.{Shares, Recipes}
 use Rattle.cd_edges.specs.Disk.{Cloud, Image}
 use Rattle.cd_edges.specs.Shelf.{IsCall, KeepsCounts, Stays}
-use Rattle.message_fields.specs.Shares.{IsShare, share_bytes}
+use Rattle.messages.specs.MessageFields.Shares.{IsShare, share_bytes}
 use Rattle.messages.specs.declared.reply.Reply.TheVariants as replies
 use Rattle.messages.specs.Replies.{IsReply}
-use Rattle.user_dedup.specs.declared.command.Command.{Command}
-use Rattle.user_dedup.specs.Cloud.{fingerprint}
-use Rattle.user_dedup.specs.Dedup.{IsSound}
+use Rattle.cloud_memory.specs.UserDedup.command.Command.{Command}
+use Rattle.cloud_memory.specs.UserDedup.Cloud.{fingerprint}
+use Rattle.cloud_memory.specs.UserDedup.Dedup.{IsSound}
 use Rattle.cloud_memory.specs.Memory.{Memory, Remembers, Stand}
 
 -- ---- a list
 
 -- The areas have what a sound list holds where the memory says, and the memory remembers the list.
-pub record Keeps (image : Image) (shape : Shape) (number : ℕ) (list : List Command) (m : Memory) : Type 0 where
+pub record KeepsRemembered (image : Image) (shape : Shape) (number : ℕ) (list : List Command)
+    (m : Memory) : Type 0 where
   pub sound : IsSound shape number list
   pub remembers : Remembers shape list m
   pub stands : Stand shape (image Shares) (image Recipes) list m
@@ -40,7 +41,7 @@ pub record SentOne (fp : Fp) (old new : List ℕ) : Type 0 where
   pub named : fingerprint share ≡ fp
 
 -- The bytes end in shares of these fingerprints.
-pub record Sent (fps : List Fp) (old new : List ℕ) : Type 0 where
+pub record HasSentShares (fps : List Fp) (old new : List ℕ) : Type 0 where
   pub shares : List (List ℕ)
   pub bytes : new ≡ old ++ flat_map share_bytes shares
   pub ranges : All IsShare shares

@@ -1,23 +1,22 @@
 //! Blobs, read and compared with their fingerprints.
 
 ghost use Rattle.std.specs.Prelude.{◌≡◌, ◌↔◌, List, ℕ, [], length, IsTrue, OnOk, OnErr, IfOk, IfErr, Ok};
-ghost use Rattle.cd_base.specs.declared.ids.Fp.{Fp};
+ghost use Rattle.cloud_memory.specs.CdBase.ids.Fp.{Fp};
 ghost use Rattle.cd_edges.specs.Disk.{Cloud};
 ghost use Rattle.cd_edges.specs.Shelf.{IsCall, HasFailed, KeepsCounts, Stays};
-ghost use Rattle.container_log.specs.Laying.{Placed, IsAt};
-ghost use Rattle.container_log.specs.States.{Agrees};
-ghost use Rattle.user_dedup.specs.Cloud.{fingerprint};
+ghost use Rattle.cloud_memory.specs.ContainerLog.Laying.{Placed, IsAt};
+ghost use Rattle.cloud_memory.specs.ContainerLog.States.{Agrees};
+ghost use Rattle.cloud_memory.specs.UserDedup.Cloud.{fingerprint};
 ghost use Rattle.server_reads.specs.Found.{IsOther, ReadsLog};
-ghost use Rattle.server_reads.specs.declared.blobs.Stop.TheVariants as stops;
-ghost use Rattle.server_reads.specs.Reading.{HasRead, IfRotten};
+ghost use Rattle.server_reads.specs.declared.blobs.BlobStop.TheVariants as stops;
+ghost use Rattle.server_reads.specs.Reading.{HasReadCloud, IfRotten};
 
-use cd_base::{CloudNo, Fp, sha256};
 use cd_edges::{Failed, Shelf};
-use container_log::Log;
+use cloud_memory::{CloudNo, Fp, Log, sha256};
 
 /// Why a blob isn't given.
 #[derive(Clone, Copy)]
-pub enum Stop {
+pub enum BlobStop {
     /// The device failed.
     Failed,
     /// What lies there is another: the fingerprint that was named, and that of what was found.
@@ -25,7 +24,7 @@ pub enum Stop {
 }
 
 // Compares the bytes that were found with the length and the fingerprint that were named.
-fn compare(there: &[u8], len: usize, fp: &Fp) -> Result<(), Stop>
+fn compare(there: &[u8], len: usize, fp: &Fp) -> Result<(), BlobStop>
     ensures ok { OnOk result (length there.now ≡ len) }
     ensures hashed { OnOk result (fingerprint there.now ≡ fp.now) }
     ensures err { IfErr result (λ stop. stop ≡ stops.Rotten fp.now (fingerprint there.now)) }
@@ -35,7 +34,7 @@ fn compare(there: &[u8], len: usize, fp: &Fp) -> Result<(), Stop>
     if there.len() == len && found == *fp {
         Ok(())
     } else {
-        Err(Stop::Rotten { named: *fp, found })
+        Err(BlobStop::Rotten { named: *fp, found })
     }
 }
 
@@ -82,7 +81,7 @@ fn read_device<V: Shelf>(
     at: u64,
     fp: &Fp,
     out: &mut [u8],
-) -> Result<(), Stop>
+) -> Result<(), BlobStop>
     ensures hashed { OnOk result (fingerprint out.new ≡ fp.now) }
     ensures named { IfRotten result (λ named found. named ≡ fp.now) }
     ensures found { IsTrue (V.cloud_at shelf.old cloud.0).told
@@ -95,7 +94,7 @@ fn read_device<V: Shelf>(
         → length b.blob ≡ length out.old → fingerprint b.blob ≡ fp.now
         → IsAt ((V.cloud_at shelf.old cloud.0).now log.old.area).read b → OnOk result (out.new ≡ b.blob) }
     ensures log { log.new ≡ log.old }
-    ensures reads { HasRead (V.cloud_at shelf.old) (V.cloud_at shelf.new) cloud.0
+    ensures reads { HasReadCloud (V.cloud_at shelf.old) (V.cloud_at shelf.new) cloud.0
         (V.faults shelf.old) (V.faults shelf.new) result }
 {
     let len = out.len();
@@ -104,7 +103,7 @@ fn read_device<V: Shelf>(
             let (there, _) = out.split_at(count);
             compare(there, len, fp)
         }
-        Err(Failed) => Err(Stop::Failed),
+        Err(Failed) => Err(BlobStop::Failed),
     }
 }
 
@@ -118,7 +117,7 @@ pub fn read_blob<V: Shelf>(
     at: u64,
     fp: &Fp,
     out: &mut [u8],
-) -> Result<(), Stop>
+) -> Result<(), BlobStop>
     ensures hashed { OnOk result (fingerprint out.new ≡ fp.now) }
     ensures named { IfRotten result (λ named found. named ≡ fp.now) }
     ensures found { IsTrue (V.cloud_at shelf.old cloud.0).told
@@ -132,7 +131,7 @@ pub fn read_blob<V: Shelf>(
         → (b : Placed) → b.place ≡ at → length b.blob ≡ length out.old → fingerprint b.blob ≡ fp.now
         → IsAt ((V.cloud_at shelf.old cloud.0).now log.old.area).read b → OnOk result (out.new ≡ b.blob) }
     ensures log { ReadsLog log.old log.new (V.cloud_at shelf.old cloud.0) (V.cloud_at shelf.new cloud.0) }
-    ensures reads { HasRead (V.cloud_at shelf.old) (V.cloud_at shelf.new) cloud.0
+    ensures reads { HasReadCloud (V.cloud_at shelf.old) (V.cloud_at shelf.new) cloud.0
         (V.faults shelf.old) (V.faults shelf.new) result }
 {
     match read_through(log, shelf, cloud, at, fp, out) {
@@ -141,15 +140,15 @@ pub fn read_blob<V: Shelf>(
             Ok(()) => Ok(()),
             Err(stop) => Err(stop),
         },
-        Err(Failed) => Err(Stop::Failed),
+        Err(Failed) => Err(BlobStop::Failed),
     }
 }
 
 /// Nothing is found where something was named: what is found has the fingerprint of no bytes.
-pub(crate) fn nothing_at(fp: &Fp) -> Stop
+pub(crate) fn nothing_at(fp: &Fp) -> BlobStop
     ensures { result ≡ stops.Rotten fp.now (fingerprint []) }
 {
-    Stop::Rotten {
+    BlobStop::Rotten {
         named: *fp,
         found: sha256(&[]),
     }

@@ -1,35 +1,31 @@
 //! The recipes of entries, and the reply to GetRecipe.
 
 ghost use Rattle.std.specs.Prelude.{◌≡◌, ◌⊎◌, ℕ, ◌≤◌, ◌<◌, List, [], length, take, IsTrue, IsOk, IsErr, OnOk, OnErr};
-ghost use Rattle.cd_base.specs.Limits.{recipe_limit};
-ghost use Rattle.cd_base.specs.declared.ids.Fp.{Fp};
-ghost use Rattle.cd_base.specs.declared.shape.Shape.{Shape};
+ghost use Rattle.cloud_memory.specs.CdBase.Limits.{recipe_limit};
+ghost use Rattle.cloud_memory.specs.CdBase.ids.Fp.{Fp};
+ghost use Rattle.cloud_memory.specs.CdBase.shape.Shape.{Shape};
 ghost use Rattle.cd_edges.specs.declared.area.Area.TheVariants as areas;
 ghost use Rattle.cd_edges.specs.Disk.{Cloud, reads};
 ghost use Rattle.cd_edges.specs.Shelf.{IsCall, HasFailed, KeepsCounts, Stays};
-ghost use Rattle.container_log.specs.Laying.{Placed, IsAt};
-ghost use Rattle.container_log.specs.States.{Agrees};
-ghost use Rattle.file_index.specs.Files.{key_of};
+ghost use Rattle.cloud_memory.specs.ContainerLog.Laying.{Placed, IsAt};
+ghost use Rattle.cloud_memory.specs.ContainerLog.States.{Agrees};
+ghost use Rattle.cloud_memory.specs.FileIndex.Files.{key_of};
 ghost use Rattle.messages.specs.declared.request.Request.TheVariants as requests;
 ghost use Rattle.messages.specs.declared.reply.Reply.TheVariants as replies;
 ghost use Rattle.messages.specs.Replies.{reply_bytes, IsReply};
-ghost use Rattle.user_dedup.specs.declared.command.Command.{Command};
-ghost use Rattle.user_dedup.specs.Cloud.{fingerprint};
-ghost use Rattle.user_dedup.specs.Dedup.{answer_over, IsSound};
+ghost use Rattle.cloud_memory.specs.UserDedup.command.Command.{Command};
+ghost use Rattle.cloud_memory.specs.UserDedup.Cloud.{fingerprint};
+ghost use Rattle.cloud_memory.specs.UserDedup.Dedup.{answer_over, IsSound};
 ghost use Rattle.cloud_memory.specs.Memory.{Remembers, Stand};
 ghost use Rattle.cloud_memory.specs.Rooms.{memory_of};
 ghost use Rattle.server_reads.specs.Allowed.{Replies, RecipeReply};
 ghost use Rattle.server_reads.specs.Found.{IsOther, IsNamed, HasNone, IsFoundRecipe, ReadsLog};
-ghost use Rattle.server_reads.specs.Reading.{HasRead, IfRotten};
+ghost use Rattle.server_reads.specs.Reading.{HasReadCloud, IfRotten};
 
-use crate::blobs::{Stop, nothing_at, read_blob};
-use cd_base::{CloudNo, RECIPE_LIMIT, Tag, UserId, Version};
+use crate::blobs::{BlobStop, nothing_at, read_blob};
 use cd_edges::{Failed, Shelf};
-use cloud_memory::CloudMemory;
-use container_log::Log;
-use file_index::Entry;
-use frames::ReplyBuf;
-use messages::{write_missing, write_recipe, write_rotten};
+use cloud_memory::{CloudMemory, CloudNo, Entry, Log, RECIPE_LIMIT, Tag, UserId, Version};
+use messages::{ReplyBuf, write_missing, write_recipe, write_rotten};
 
 // The same as `read_recipe`, of an entry that is no longer than the buffer.
 fn read_front<V: Shelf>(
@@ -38,7 +34,7 @@ fn read_front<V: Shelf>(
     cloud: CloudNo,
     entry: &Entry,
     buffer: &mut [u8],
-) -> Result<(), Stop>
+) -> Result<(), BlobStop>
     requires { entry.now.len ≤ length buffer.old }
     ensures hashed { OnOk result (fingerprint (take entry.now.len buffer.new) ≡ entry.now.fp) }
     ensures named { IfRotten result (λ named found. named ≡ entry.now.fp) }
@@ -54,7 +50,7 @@ fn read_front<V: Shelf>(
         → IsAt ((V.cloud_at shelf.old cloud.0).now log.old.area).read b
         → OnOk result (take entry.now.len buffer.new ≡ b.blob) }
     ensures log { ReadsLog log.old log.new (V.cloud_at shelf.old cloud.0) (V.cloud_at shelf.new cloud.0) }
-    ensures reads { HasRead (V.cloud_at shelf.old) (V.cloud_at shelf.new) cloud.0 (V.faults shelf.old)
+    ensures reads { HasReadCloud (V.cloud_at shelf.old) (V.cloud_at shelf.new) cloud.0 (V.faults shelf.old)
         (V.faults shelf.new) result }
 {
     let (recipe, _) = buffer.split_at_mut(entry.len as usize);
@@ -79,7 +75,7 @@ pub fn read_recipe<V: Shelf>(
     cloud: CloudNo,
     entry: &Entry,
     buffer: &mut [u8],
-) -> Result<(), Stop>
+) -> Result<(), BlobStop>
     requires { recipe_limit ≤ length buffer.old }
     ensures fits { OnOk result ((1 ≤ entry.now.len) × (entry.now.len ≤ recipe_limit)) }
     ensures hashed { OnOk result (fingerprint (take entry.now.len buffer.new) ≡ entry.now.fp) }
@@ -100,7 +96,7 @@ pub fn read_recipe<V: Shelf>(
         → IsAt ((V.cloud_at shelf.old cloud.0).now log.old.area).read b
         → OnOk result (take entry.now.len buffer.new ≡ b.blob) }
     ensures log { ReadsLog log.old log.new (V.cloud_at shelf.old cloud.0) (V.cloud_at shelf.new cloud.0) }
-    ensures reads { HasRead (V.cloud_at shelf.old) (V.cloud_at shelf.new) cloud.0 (V.faults shelf.old)
+    ensures reads { HasReadCloud (V.cloud_at shelf.old) (V.cloud_at shelf.new) cloud.0 (V.faults shelf.old)
         (V.faults shelf.new) result }
 {
     if 1 <= entry.len && entry.len <= RECIPE_LIMIT {
@@ -174,8 +170,8 @@ pub fn recipe<V: Shelf>(
                 write_recipe(reply, recipe);
                 Ok(())
             }
-            Err(Stop::Failed) => Err(Failed),
-            Err(Stop::Rotten { named, found }) => {
+            Err(BlobStop::Failed) => Err(Failed),
+            Err(BlobStop::Rotten { named, found }) => {
                 write_rotten(reply, named, found);
                 Ok(())
             }

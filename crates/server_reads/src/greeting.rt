@@ -3,12 +3,11 @@
 ghost use Rattle.std.specs.Prelude.{◌≡◌, List};
 ghost use Rattle.messages.specs.declared.request.Request.TheVariants as requests;
 ghost use Rattle.messages.specs.Replies.{reply_bytes};
-ghost use Rattle.user_dedup.specs.declared.command.Command.{Command};
-ghost use Rattle.user_dedup.specs.Dedup.{answer_over};
+ghost use Rattle.cloud_memory.specs.UserDedup.command.Command.{Command};
+ghost use Rattle.cloud_memory.specs.UserDedup.Dedup.{answer_over};
 
-use cd_base::{CloudNo, Shape};
-use frames::ReplyBuf;
-use messages::write_hello;
+use cloud_memory::{CloudNo, Shape};
+use messages::{ReplyBuf, write_hello};
 
 /// The reply to Hello becomes the content: the shape of the store, the number of the cloud, and the format 1.
 pub fn hello(shape: Shape, cloud: CloudNo, reply: &mut ReplyBuf)

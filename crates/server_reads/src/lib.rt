@@ -13,10 +13,19 @@ mod listing;
 mod owning;
 mod sending;
 
-pub use blobs::{Stop, read_blob};
-pub use cloud_memory::{CloudMemory, New};
+pub use blobs::{BlobStop, read_blob};
+pub use cd_edges::{Area, Failed, Ports, Shelf, Sink, Source, write_all};
+pub use cloud_memory::{
+    Bytes, CloudMemory, CloudNo, Entry, Fp, Link, Log, Lost, New, NoMemory, Place, RECIPE_LIMIT,
+    RecipeView, Room, Shape, Tag, UserId, Version, sha256,
+};
 pub use fetching::{read_recipe, recipe};
 pub use greeting::hello;
 pub use listing::entries;
+pub use messages::{
+    FpsView, ReplyBuf, RequestView, SharesView, write_committed, write_damaged, write_deleted,
+    write_exists, write_fault, write_full, write_lacking, write_malformed, write_missing,
+    write_rotten, write_stored,
+};
 pub use owning::known;
 pub use sending::shares;

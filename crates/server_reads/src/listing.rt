@@ -1,22 +1,19 @@
 //! The reply to List.
 
 ghost use Rattle.std.specs.Prelude.{◌≡◌, ℕ, ◌≤◌, List, length, take, slice_get, IsTrue, IfSome};
-ghost use Rattle.cd_base.specs.declared.shape.Shape.{Shape};
-ghost use Rattle.message_fields.specs.Keys.{is_above, IsKey, AreKeys, key_limit};
+ghost use Rattle.cloud_memory.specs.CdBase.shape.Shape.{Shape};
+ghost use Rattle.messages.specs.MessageFields.Keys.{is_above, IsKey, AreKeys, key_limit};
 ghost use Rattle.messages.specs.declared.request.Request.TheVariants as requests;
 ghost use Rattle.messages.specs.Replies.{reply_bytes};
-ghost use Rattle.user_dedup.specs.declared.command.Command.{Command};
-ghost use Rattle.user_dedup.specs.Cloud.{user_view};
-ghost use Rattle.user_dedup.specs.Dedup.{answer_over};
+ghost use Rattle.cloud_memory.specs.UserDedup.command.Command.{Command};
+ghost use Rattle.cloud_memory.specs.UserDedup.Cloud.{user_view};
+ghost use Rattle.cloud_memory.specs.UserDedup.Dedup.{answer_over};
 ghost use Rattle.cloud_memory.specs.Memory.{Remembers, keys_above};
 ghost use Rattle.cloud_memory.specs.Rooms.{memory_of};
 ghost use Rattle.server_reads.specs.Allowed.{Replies, EntriesReply};
 
-use cd_base::{Tag, UserId, Version};
-use cloud_memory::CloudMemory;
-use frames::ReplyBuf;
-use message_fields::{KEY_LIMIT, is_key_above};
-use messages::write_entries;
+use cloud_memory::{CloudMemory, Tag, UserId, Version};
+use messages::{KEY_LIMIT, ReplyBuf, is_key_above, write_entries};
 
 // The user's least key above the last one.
 fn next_key(

@@ -1,26 +1,23 @@
 //! What the memory says of fingerprints.
 
 ghost use Rattle.std.specs.Prelude.{◌≡◌, ℕ, ◌+◌, ◌≤◌, ◌<◌, List, ◌∷◌, [], ◌++◌, length, slice_get, Some, IfSome};
-ghost use Rattle.cd_base.specs.declared.shape.Shape.{Shape};
-ghost use Rattle.frames.specs.Frames.{frame_limit};
-ghost use Rattle.message_fields.specs.Fingerprints.{IsBatch};
+ghost use Rattle.cloud_memory.specs.CdBase.shape.Shape.{Shape};
+ghost use Rattle.messages.specs.Frames.Frames.{frame_limit};
+ghost use Rattle.messages.specs.MessageFields.Fingerprints.{IsBatch};
 ghost use Rattle.messages.specs.declared.request.Request.TheVariants as requests;
 ghost use Rattle.messages.specs.declared.reply.Reply.TheVariants as replies;
 ghost use Rattle.messages.specs.Replies.{reply_bytes};
-ghost use Rattle.user_dedup.specs.declared.command.Command.{Command};
-ghost use Rattle.user_dedup.specs.Cloud.{user_view};
-ghost use Rattle.user_dedup.specs.Owning.{first_lacking};
-ghost use Rattle.user_dedup.specs.Dedup.{answer_over};
+ghost use Rattle.cloud_memory.specs.UserDedup.command.Command.{Command};
+ghost use Rattle.cloud_memory.specs.UserDedup.Cloud.{user_view};
+ghost use Rattle.cloud_memory.specs.UserDedup.Owning.{first_lacking};
+ghost use Rattle.cloud_memory.specs.UserDedup.Dedup.{answer_over};
 ghost use Rattle.cloud_memory.specs.Memory.{Remembers};
 ghost use Rattle.cloud_memory.specs.Rooms.{memory_of};
 ghost use Rattle.server_reads.specs.Allowed.{Replies, KnownReply};
 ghost use Rattle.server_reads.specs.Owned.{owned_flag, owned_flags, first_unowned};
 
-use cd_base::{Fp, UserId};
-use cloud_memory::CloudMemory;
-use frames::ReplyBuf;
-use message_fields::FpsView;
-use messages::begin_known;
+use cloud_memory::{CloudMemory, Fp, UserId};
+use messages::{FpsView, ReplyBuf, begin_known};
 
 /// The fingerprint at a place, counted from 0. It asks for a place that there is.
 pub(crate) fn fp_at(fps: &FpsView<'_>, place: usize) -> Fp

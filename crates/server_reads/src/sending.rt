@@ -3,41 +3,39 @@
 ghost use Rattle.std.specs.Prelude.{◌≡◌, ◌⊎◌, ℕ, ◌+◌, ◌*◌, ◌≤◌, ◌<◌, List, [], ◌++◌, length, map, unwrap_or, All};
 ghost use Rattle.std.specs.Prelude.{IsTrue, IsOk, OnOk, OnErr, Some, None};
 ghost use Rattle.std.specs.List.{Contains, flat_map};
-ghost use Rattle.cd_base.specs.declared.ids.Fp.{Fp};
-ghost use Rattle.cd_base.specs.declared.ids.UserId.{UserId};
-ghost use Rattle.cd_base.specs.declared.shape.Shape.{Shape};
+ghost use Rattle.cloud_memory.specs.CdBase.ids.Fp.{Fp};
+ghost use Rattle.cloud_memory.specs.CdBase.ids.UserId.{UserId};
+ghost use Rattle.cloud_memory.specs.CdBase.shape.Shape.{Shape};
 ghost use Rattle.cd_edges.specs.declared.area.Area.TheVariants as areas;
 ghost use Rattle.cd_edges.specs.Disk.{Cloud, reads};
 ghost use Rattle.cd_edges.specs.Shelf.{IsCall, HasFailed, KeepsCounts, Stays};
-ghost use Rattle.container_log.specs.Laying.{Placed, IsAt};
-ghost use Rattle.container_log.specs.States.{Agrees};
-ghost use Rattle.frames.specs.Frames.{frame_limit};
-ghost use Rattle.message_fields.specs.Fingerprints.{IsBatch};
-ghost use Rattle.message_fields.specs.Shares.{IsShare, share_bytes, share_limit};
+ghost use Rattle.cloud_memory.specs.ContainerLog.Laying.{Placed, IsAt};
+ghost use Rattle.cloud_memory.specs.ContainerLog.States.{Agrees};
+ghost use Rattle.messages.specs.Frames.Frames.{frame_limit};
+ghost use Rattle.messages.specs.MessageFields.Fingerprints.{IsBatch};
+ghost use Rattle.messages.specs.MessageFields.Shares.{IsShare, share_bytes, share_limit};
 ghost use Rattle.messages.specs.declared.request.Request.TheVariants as requests;
 ghost use Rattle.messages.specs.declared.reply.Reply.TheVariants as replies;
 ghost use Rattle.messages.specs.Replies.{reply_bytes, IsReply};
-ghost use Rattle.cd_base.specs.declared.place.Place.{Place};
-ghost use Rattle.user_dedup.specs.declared.command.Command.{Command};
-ghost use Rattle.user_dedup.specs.Cloud.{fingerprint, user_view, held_string};
-ghost use Rattle.user_dedup.specs.Dedup.{answer_over, IsSound};
+ghost use Rattle.cloud_memory.specs.CdBase.place.Place.{Place};
+ghost use Rattle.cloud_memory.specs.UserDedup.command.Command.{Command};
+ghost use Rattle.cloud_memory.specs.UserDedup.Cloud.{fingerprint, user_view, held_string};
+ghost use Rattle.cloud_memory.specs.UserDedup.Dedup.{answer_over, IsSound};
 ghost use Rattle.cloud_memory.specs.Memory.{Remembers, Stand};
 ghost use Rattle.cloud_memory.specs.Rooms.{memory_of};
 ghost use Rattle.server_reads.specs.Allowed.{Replies, SharesReply};
 ghost use Rattle.server_reads.specs.Found.{IsOther, IsFoundShare, ReadsLog};
 ghost use Rattle.server_reads.specs.Owned.{first_unowned};
-ghost use Rattle.server_reads.specs.Reading.{HasRead, IfRotten};
-ghost use Rattle.server_reads.specs.Steps.{Keeps, SentOne, Sent, SentAll};
+ghost use Rattle.server_reads.specs.Reading.{HasReadCloud, IfRotten};
+ghost use Rattle.server_reads.specs.Steps.{KeepsRemembered, SentOne, HasSentShares, SentAll};
 
-use crate::blobs::{Stop, nothing_at, read_blob};
+use crate::blobs::{BlobStop, nothing_at, read_blob};
 use crate::owning::{first_foreign, fp_at};
-use cd_base::{CloudNo, Fp, Place, UserId};
 use cd_edges::{Failed, Shelf};
-use cloud_memory::CloudMemory;
-use container_log::Log;
-use frames::ReplyBuf;
-use message_fields::{FpsView, SHARE_LIMIT};
-use messages::{append_share, begin_shares, write_not_yours, write_rotten};
+use cloud_memory::{CloudMemory, CloudNo, Fp, Log, Place, UserId};
+use messages::{
+    FpsView, ReplyBuf, SHARE_LIMIT, append_share, begin_shares, write_not_yours, write_rotten,
+};
 
 // Puts the share of this length and fingerprint that lies at a place. Rotten comes where another lies there.
 fn put_from<V: Shelf>(
@@ -48,7 +46,7 @@ fn put_from<V: Shelf>(
     fp: &Fp,
     buffer: &mut [u8],
     reply: &mut ReplyBuf,
-) -> Result<(), Stop>
+) -> Result<(), BlobStop>
     requires some { 1 ≤ place.len }
     requires few { place.len ≤ share_limit }
     requires buffer { share_limit ≤ length buffer.old }
@@ -67,7 +65,7 @@ fn put_from<V: Shelf>(
         → IsAt ((V.cloud_at shelf.old cloud.0).now log.old.area).read b
         → OnOk result (reply.new ≡ reply.old ++ share_bytes b.blob) }
     ensures log { ReadsLog log.old log.new (V.cloud_at shelf.old cloud.0) (V.cloud_at shelf.new cloud.0) }
-    ensures reads { HasRead (V.cloud_at shelf.old) (V.cloud_at shelf.new) cloud.0 (V.faults shelf.old)
+    ensures reads { HasReadCloud (V.cloud_at shelf.old) (V.cloud_at shelf.new) cloud.0 (V.faults shelf.old)
         (V.faults shelf.new) result }
 {
     let (share, _) = buffer.split_at_mut(place.len as usize);
@@ -89,7 +87,7 @@ fn put_share<V: Shelf>(
     fp: &Fp,
     buffer: &mut [u8],
     reply: &mut ReplyBuf,
-) -> Result<(), Stop>
+) -> Result<(), BlobStop>
     requires buffer { share_limit ≤ length buffer.old }
     requires room { length reply.old + (share_limit + 4) ≤ frame_limit }
     ensures ok { OnOk result (SentOne fp.now reply.old reply.new) }
@@ -111,7 +109,7 @@ fn put_share<V: Shelf>(
         → fingerprint b.blob ≡ fp.now → IsAt ((V.cloud_at shelf.old cloud.0).now log.old.area).read b
         → OnOk result (reply.new ≡ reply.old ++ share_bytes b.blob) }
     ensures log { ReadsLog log.old log.new (V.cloud_at shelf.old cloud.0) (V.cloud_at shelf.new cloud.0) }
-    ensures reads { HasRead (V.cloud_at shelf.old) (V.cloud_at shelf.new) cloud.0 (V.faults shelf.old)
+    ensures reads { HasReadCloud (V.cloud_at shelf.old) (V.cloud_at shelf.new) cloud.0 (V.faults shelf.old)
         (V.faults shelf.new) result }
 {
     match place {
@@ -138,26 +136,28 @@ fn put_each<V: Shelf>(
     fps: &FpsView<'_>,
     buffer: &mut [u8],
     reply: &mut ReplyBuf,
-) -> Result<(), Stop>
+) -> Result<(), BlobStop>
     requires area { log.old.area ≡ areas.Shares }
     requires buffer { share_limit ≤ length buffer.old }
     requires room { length reply.old + length fps.now * (share_limit + 4) ≤ frame_limit }
-    ensures ok { OnOk result (Sent fps.now reply.old reply.new) }
+    ensures ok { OnOk result (HasSentShares fps.now reply.old reply.new) }
     ensures rotten { IfRotten result (λ named found. Contains fps.now named
         × IsFoundShare (V.cloud_at shelf.old cloud.0) (memory_of memory.now) named found) }
     ensures whole { IsTrue (V.cloud_at shelf.old cloud.0).told → (shape : Shape) (number : ℕ) (list : List Command)
-        → (user : UserId) → Keeps (reads (V.cloud_at shelf.old cloud.0).now) shape number list (memory_of memory.now)
+        → (user : UserId) → KeepsRemembered (reads (V.cloud_at shelf.old cloud.0).now) shape number list
+        (memory_of memory.now)
         → All (Contains (user_view shape list user).own) fps.now
         → IfRotten result (λ named found. ⊥) }
     ensures held { IsTrue (V.cloud_at shelf.old cloud.0).told
         → Agrees log.old ((V.cloud_at shelf.old cloud.0).now log.old.area).read
         → (shape : Shape) (number : ℕ) (list : List Command)
-        → (user : UserId) → Keeps (reads (V.cloud_at shelf.old cloud.0).now) shape number list (memory_of memory.now)
+        → (user : UserId) → KeepsRemembered (reads (V.cloud_at shelf.old cloud.0).now) shape number list
+        (memory_of memory.now)
         → All (Contains (user_view shape list user).own) fps.now
         → OnOk result (reply.new ≡ reply.old ++ flat_map share_bytes
         (map (λ fp. unwrap_or (held_string list fp) []) fps.now)) }
     ensures log { ReadsLog log.old log.new (V.cloud_at shelf.old cloud.0) (V.cloud_at shelf.new cloud.0) }
-    ensures reads { HasRead (V.cloud_at shelf.old) (V.cloud_at shelf.new) cloud.0 (V.faults shelf.old)
+    ensures reads { HasReadCloud (V.cloud_at shelf.old) (V.cloud_at shelf.new) cloud.0 (V.faults shelf.old)
         (V.faults shelf.new) result }
 {
     for place in 0..fps.len() {
@@ -180,7 +180,7 @@ fn put_shares<V: Shelf>(
     fps: &FpsView<'_>,
     buffer: &mut [u8],
     reply: &mut ReplyBuf,
-) -> Result<(), Stop>
+) -> Result<(), BlobStop>
     requires batch { IsBatch fps.now }
     requires area { log.old.area ≡ areas.Shares }
     requires buffer { share_limit ≤ length buffer.old }
@@ -188,18 +188,20 @@ fn put_shares<V: Shelf>(
     ensures rotten { IfRotten result (λ named found. Contains fps.now named
         × IsFoundShare (V.cloud_at shelf.old cloud.0) (memory_of memory.now) named found) }
     ensures whole { IsTrue (V.cloud_at shelf.old cloud.0).told → (shape : Shape) (number : ℕ) (list : List Command)
-        → (user : UserId) → Keeps (reads (V.cloud_at shelf.old cloud.0).now) shape number list (memory_of memory.now)
+        → (user : UserId) → KeepsRemembered (reads (V.cloud_at shelf.old cloud.0).now) shape number list
+        (memory_of memory.now)
         → All (Contains (user_view shape list user).own) fps.now
         → IfRotten result (λ named found. ⊥) }
     ensures held { IsTrue (V.cloud_at shelf.old cloud.0).told
         → Agrees log.old ((V.cloud_at shelf.old cloud.0).now log.old.area).read
         → (shape : Shape) (number : ℕ) (list : List Command)
-        → (user : UserId) → Keeps (reads (V.cloud_at shelf.old cloud.0).now) shape number list (memory_of memory.now)
+        → (user : UserId) → KeepsRemembered (reads (V.cloud_at shelf.old cloud.0).now) shape number list
+        (memory_of memory.now)
         → All (Contains (user_view shape list user).own) fps.now
         → OnOk result (reply.new ≡ reply_bytes
         (replies.Shares (map (λ fp. unwrap_or (held_string list fp) []) fps.now))) }
     ensures log { ReadsLog log.old log.new (V.cloud_at shelf.old cloud.0) (V.cloud_at shelf.new cloud.0) }
-    ensures reads { HasRead (V.cloud_at shelf.old) (V.cloud_at shelf.new) cloud.0 (V.faults shelf.old)
+    ensures reads { HasReadCloud (V.cloud_at shelf.old) (V.cloud_at shelf.new) cloud.0 (V.faults shelf.old)
         (V.faults shelf.new) result }
 {
     begin_shares(reply, fps.len());
@@ -269,8 +271,8 @@ pub fn shares<V: Shelf>(
         }
         None => match put_shares(memory, log, shelf, cloud, fps, buffer, reply) {
             Ok(()) => Ok(()),
-            Err(Stop::Failed) => Err(Failed),
-            Err(Stop::Rotten { named, found }) => {
+            Err(BlobStop::Failed) => Err(Failed),
+            Err(BlobStop::Rotten { named, found }) => {
                 write_rotten(reply, named, found);
                 Ok(())
             }

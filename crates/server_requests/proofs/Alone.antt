@@ -1,22 +1,22 @@
 -- Requests that an open store answers by its memory alone.
 use Rattle.std.proofs.Common.{◌≡◌, ℕ, List, refl}
-use Rattle.cd_base.specs.declared.ids.Fp.{Fp}
-use Rattle.cd_edges.specs.Disk.{Cloud}
-use Rattle.messages.specs.declared.request.Request.{Request}
-use Rattle.messages.specs.Replies.{reply_bytes}
-use Rattle.user_dedup.specs.declared.command.Command.{Command}
-use Rattle.user_dedup.specs.Dedup.{only}
-use Rattle.server_reads.specs.CloudMemory.Memory.{Remembers}
-use Rattle.server_reads.specs.CloudMemory.Rooms.{memory_of}
+use Rattle.server_commands.specs.CdBase.ids.Fp.{Fp}
+use Rattle.server_commands.specs.CdEdges.Disk.{Cloud}
+use Rattle.server_commands.specs.Messages.request.Request.{Request}
+use Rattle.server_commands.specs.Messages.Replies.{reply_bytes}
+use Rattle.server_commands.specs.UserDedup.command.Command.{Command}
+use Rattle.server_commands.specs.UserDedup.Dedup.{only}
+use Rattle.server_commands.specs.ServerReads.CloudMemory.Memory.{Remembers}
+use Rattle.server_commands.specs.ServerReads.CloudMemory.Rooms.{memory_of}
 use Rattle.server_commands.specs.OpenStore.store.OpenStore.{OpenStore}
-use Rattle.server_commands.specs.Executing.{IsReady, Executes}
+use Rattle.server_commands.specs.Executing.{IsStoreReady, Executes}
 use Rattle.server_commands.specs.Leaving.{IsFound}
 use Rattle.server_commands.specs.Serving.{serves, Gives}
 use Rattle.server_commands.proofs.Calls.{ok_result, no_calls, stays_still}
 use Rattle.server_commands.proofs.Doing.{served_still, stays_executes}
 use Rattle.server_requests.proofs.Readings.{answer_of}
 
-pub was_told : (Same : Type 0) (s : OpenStore) (a : ℕ → Cloud) (f : ℕ) (request : Request) (content : List ℕ) → Same → IsReady s
+pub was_told : (Same : Type 0) (s : OpenStore) (a : ℕ → Cloud) (f : ℕ) (request : Request) (content : List ℕ) → Same → IsStoreReady s
     → ((list : List Command) → serves s list request ≡ only (answer_of s list request))
     → ((list : List Command) → Remembers s.header.shape list (memory_of s.memory) → content ≡ reply_bytes (answer_of s list request))
     → ((named found : Fp) → IsFound (a s.header.cloud.0) (memory_of s.memory) request named found)

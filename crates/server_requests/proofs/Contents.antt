@@ -1,21 +1,21 @@
 -- What is said of contents.
 use Rattle.std.proofs.Common.{◌≡◌, ℕ, List, map, Result, Ok, Err, refl, arith}
 use Rattle.std.specs.Prelude.{OnOk}
-use Rattle.cd_base.specs.declared.ids.Fp.{Fp}
-use Rattle.cd_base.specs.declared.shape.Shape.{Shape}
-use Rattle.file_index.specs.declared.key.FileKey.{FileKey}
-use Rattle.journal_start.specs.declared.start.Header.{Header}
-use Rattle.journal_start.specs.Ranges.{IsHeader}
-use Rattle.messages.specs.declared.request.Request.{Request}
-use Rattle.messages.specs.declared.request.Request.TheVariants as requests
-use Rattle.messages.specs.declared.reply.Reply.{Reply}
-use Rattle.messages.specs.declared.reply.Reply.TheVariants as replies
-use Rattle.messages.specs.Replies.{IsReply, reply_bytes}
-use Rattle.user_dedup.specs.Cloud.{fingerprint}
-use Rattle.user_dedup.specs.Exec.{items_of}
-use Rattle.server_reads.specs.CloudMemory.Memory.{Memory}
-use Rattle.server_reads.specs.Allowed.{Replies, IsPlain}
-use Rattle.server_reads.specs.Found.{IsNamed}
+use Rattle.server_commands.specs.CdBase.ids.Fp.{Fp}
+use Rattle.server_commands.specs.CdBase.shape.Shape.{Shape}
+use Rattle.server_commands.specs.FileIndex.key.FileKey.{FileKey}
+use Rattle.server_commands.specs.JournalStart.start.Header.{Header}
+use Rattle.server_commands.specs.JournalStart.Ranges.{IsHeader}
+use Rattle.server_commands.specs.Messages.request.Request.{Request}
+use Rattle.server_commands.specs.Messages.request.Request.TheVariants as requests
+use Rattle.server_commands.specs.Messages.reply.Reply.{Reply}
+use Rattle.server_commands.specs.Messages.reply.Reply.TheVariants as replies
+use Rattle.server_commands.specs.Messages.Replies.{IsReply, reply_bytes}
+use Rattle.server_commands.specs.UserDedup.Cloud.{fingerprint}
+use Rattle.server_commands.specs.UserDedup.Exec.{items_of}
+use Rattle.server_commands.specs.ServerReads.CloudMemory.Memory.{Memory}
+use Rattle.server_commands.specs.ServerReads.Allowed.{Replies, IsPlain}
+use Rattle.server_commands.specs.ServerReads.Found.{IsNamed}
 use Rattle.server_commands.specs.Leaving.{FindsNone, FindsForeign}
 use Rattle.server_commands.specs.Serving.{Gives}
 use Rattle.server_requests.specs.Hashed.{AreAsked, IsOfEntry}

@@ -4,3 +4,9 @@ pub mod OfOpenStore
 pub mod Places
 pub mod Readings
 pub mod ServerReads
+pub mod UserDedup
+pub mod Messages
+pub mod JournalStart
+pub mod Recipe
+pub mod CdEdges
+pub mod CdBase

@@ -2,17 +2,17 @@
 use Rattle.std.proofs.Common.{◌≡◌, ℕ, ◌+◌, ◌-◌, ◌<◌, ◌≤◌, ◌^◌, List, ◌++◌, length, Result, Ok, Err, arith, ap, ◌∙◌, length-append}
 use Rattle.std.specs.Prelude.{IfOk, MatchResult}
 use Rattle.std.specs.Int.{w32, w64, to_be_bytes}
-use Rattle.cd_base.specs.Reading.{AreBytes}
-use Rattle.cd_base.specs.declared.shape.Shape.{Shape}
-use Rattle.message_fields.specs.Keys.{key_bytes}
-use Rattle.messages.specs.declared.request.Request.{Request}
-use Rattle.messages.specs.declared.request.Request.TheVariants as requests
-use Rattle.messages.specs.Requests.{FitsRequest, IsRequest}
-use Rattle.messages.specs.RequestReading.{request_at}
-use Rattle.recipe.specs.Reading.{recipe_left, recipe_at, placed}
-use Rattle.user_dedup.specs.Requests.{HasRecipe, whole_read}
-use Rattle.user_dedup.proofs.Asked.{asked_law}
-use Rattle.server_requests.specs.declared.asked.Asked.{Asked}
+use Rattle.server_commands.specs.CdBase.Reading.{AreBytes}
+use Rattle.server_commands.specs.CdBase.shape.Shape.{Shape}
+use Rattle.server_commands.specs.MessageFields.Keys.{key_bytes}
+use Rattle.server_commands.specs.Messages.request.Request.{Request}
+use Rattle.server_commands.specs.Messages.request.Request.TheVariants as requests
+use Rattle.server_commands.specs.Messages.Requests.{FitsRequest, IsRequest}
+use Rattle.server_commands.specs.Messages.RequestReading.{request_at}
+use Rattle.server_commands.specs.Recipe.Reading.{recipe_left, recipe_at, placed}
+use Rattle.server_commands.specs.UserDedup.Requests.{HasRecipe, whole_read}
+use Rattle.server_commands.proofs.UserDedup.Asked.{asked_law}
+use Rattle.server_requests.specs.declared.asked.StoreRequest.{StoreRequest}
 use Rattle.server_requests.specs.Asking.{request_of, recipe_in}
 
 placed_within : {A : Type 0} (bytes : List ℕ) (r : Result A ℕ) (at : ℕ) → placed bytes r ≡ Err at → at ≤ length bytes
@@ -40,9 +40,9 @@ behind_front content (requests.List user after) is few = omega arith
 behind_front content (requests.Delete user tag version) is few = omega arith
 
 -- what is asked has each field in its range
-pub ranged : (shape : Shape) (content : List ℕ) (q : Request) (r : Result Asked ℕ) → AreBytes content → request_at content ≡ Ok q
-    → MatchResult r (λ (asked : Asked). whole_read shape (Ok q) ≡ Ok (request_of asked)) (λ (at : ℕ). whole_read shape (Ok q) ≡ Err at)
-    → IfOk r (λ (asked : Asked). FitsRequest (request_of asked) × HasRecipe shape (request_of asked))
+pub ranged : (shape : Shape) (content : List ℕ) (q : Request) (r : Result StoreRequest ℕ) → AreBytes content → request_at content ≡ Ok q
+    → MatchResult r (λ (asked : StoreRequest). whole_read shape (Ok q) ≡ Ok (request_of asked)) (λ (at : ℕ). whole_read shape (Ok q) ≡ Err at)
+    → IfOk r (λ (asked : StoreRequest). FitsRequest (request_of asked) × HasRecipe shape (request_of asked))
 ranged shape content q (Err at) known is e = tt
 ranged shape content q (Ok asked) known is e =
     let all = (asked_law shape content (request_of asked) known).0 (ap (whole_read shape) is ∙ e) in

@@ -1,27 +1,27 @@
 -- What an open store leaves that was read through one of its logs.
 use Rattle.std.proofs.Common.{◌≡◌, ℕ, List, [], Result, Ok, Err, refl, sym, ap, ◌∙◌, subst}
 use Rattle.std.specs.Prelude.{OnOk}
-use Rattle.cd_base.specs.declared.ids.Fp.{Fp}
-use Rattle.cd_edges.specs.Disk.{Cloud}
-use Rattle.cd_edges.specs.Shelf.{IsCall, HasFailed, KeepsCounts, Stays}
-use Rattle.container_log.specs.States.{State, HasStaged}
-use Rattle.half_journal.specs.States as journals
-use Rattle.messages.specs.declared.request.Request.{Request}
-use Rattle.messages.specs.declared.reply.Reply.{Reply}
-use Rattle.messages.specs.declared.reply.Reply.TheVariants as replies
-use Rattle.messages.specs.Replies.{IsReply, reply_bytes}
-use Rattle.user_dedup.specs.declared.command.Command.{Command}
-use Rattle.user_dedup.specs.Dedup.{only, answer_over}
+use Rattle.server_commands.specs.CdBase.ids.Fp.{Fp}
+use Rattle.server_commands.specs.CdEdges.Disk.{Cloud}
+use Rattle.server_commands.specs.CdEdges.Shelf.{IsCall, HasFailed, KeepsCounts, Stays}
+use Rattle.server_commands.specs.ContainerLog.States.{State, HasStaged}
+use Rattle.server_commands.specs.HalfJournal.States as journals
+use Rattle.server_commands.specs.Messages.request.Request.{Request}
+use Rattle.server_commands.specs.Messages.reply.Reply.{Reply}
+use Rattle.server_commands.specs.Messages.reply.Reply.TheVariants as replies
+use Rattle.server_commands.specs.Messages.Replies.{IsReply, reply_bytes}
+use Rattle.server_commands.specs.UserDedup.command.Command.{Command}
+use Rattle.server_commands.specs.UserDedup.Dedup.{only, answer_over}
 use Rattle.server_commands.specs.CloudAreas.Standing.{Chain}
 use Rattle.server_commands.specs.CloudDisk.Disk.{Disk, IsReadThrough}
-use Rattle.server_reads.specs.CloudMemory.Rooms.{memory_of}
+use Rattle.server_commands.specs.ServerReads.CloudMemory.Rooms.{memory_of}
 use Rattle.server_commands.specs.OpenStore.store.OpenStore.{OpenStore}
 use Rattle.server_commands.specs.OpenStore.Store.{IsSettled, IsOpen, Serves, ServesSome, closed}
 use Rattle.server_commands.specs.OpenStore.Adding.{NoneStaged}
 use Rattle.server_commands.proofs.OfOpenStore.Keeping.{reads_serve, reads_settled, reads_meet}
-use Rattle.server_reads.specs.Found.{ReadsLog}
-use Rattle.server_reads.proofs.Logs.{log_still}
-use Rattle.server_commands.specs.Executing.{IsReady, Executes}
+use Rattle.server_commands.specs.ServerReads.Found.{ReadsLog}
+use Rattle.server_commands.proofs.ServerReads.Logs.{log_still}
+use Rattle.server_commands.specs.Executing.{IsStoreReady, Executes}
 use Rattle.server_commands.specs.Leaving.{LeavesAll, IsFound}
 use Rattle.server_commands.specs.Serving.{serves, Gives}
 use Rattle.server_commands.proofs.Calls.{ok_result, failed_result}
@@ -60,10 +60,10 @@ staged_still : (old new : State) → new ≡ record old { kept = new.kept } → 
 staged_still old new same none = subst (λ (s : State). HasStaged s []) (sym same) (record { fit = none.fit; bytes = none.bytes })
 
 module _ (old : OpenStore) (disk : Disk) (a b : Cloud) (reads : ReadsDisk old.disk disk a b) where
-  pub ready_after : IsReady old → IsReady (with_disk old disk)
+  pub ready_after : IsStoreReady old → IsStoreReady (with_disk old disk)
   ready_after ready = record {
     settled = reads_settled old (with_disk old disk) ready.settled refl reads.journal reads.shares.rest reads.recipes.rest;
-    at_end = ap (λ (j : journals.State). j.stage) reads.journal ∙ ready.at_end;
+    at_end = ap (λ (j : journals.JournalState). j.stage) reads.journal ∙ ready.at_end;
     none = record {
       shares = staged_still old.disk.shares disk.shares reads.shares.rest ready.none.shares;
       recipes = staged_still old.disk.recipes disk.recipes reads.recipes.rest ready.none.recipes;
@@ -89,7 +89,7 @@ module _ (old : OpenStore) (disk : Disk) (a b : Cloud) (reads : ReadsDisk old.di
 abbrev pub answer_of : OpenStore → List Command → Request → Reply
 answer_of s list request = (answer_over s.header.shape s.header.cloud.0 list request).reply
 
-module _ (Same : Type 0) (old : OpenStore) (disk : Disk) (a b : ℕ → Cloud) (f0 f1 : ℕ) (request : Request) (content : List ℕ) (ready : IsReady old)
+module _ (Same : Type 0) (old : OpenStore) (disk : Disk) (a b : ℕ → Cloud) (f0 f1 : ℕ) (request : Request) (content : List ℕ) (ready : IsStoreReady old)
     (reads : ReadsDisk old.disk disk (a old.header.cloud.0) (b old.header.cloud.0)) (stays : Stays (a old.header.cloud.0) (b old.header.cloud.0)) (call : IsCall a b old.header.cloud.0 f0 f1) where
   pub was_read : KeepsCounts (a old.header.cloud.0) (b old.header.cloud.0) f0 f1 → ((list : List Command) → serves old list request ≡ only (answer_of old list request))
       → ((list : List Command) (c : Chain) → Serves list c old (a old.header.cloud.0) → content ≡ reply_bytes (answer_of old list request))

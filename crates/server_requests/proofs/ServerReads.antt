@@ -1,2 +1,2 @@
 -- What server_reads has proved, for callers.
-pub use Rattle.server_reads.proofs.Sound
+pub use Rattle.server_commands.proofs.ServerReads.Sound

@@ -1,14 +1,14 @@
 -- What is asked, as a request.
 use Rattle.std.specs.Prelude.{ℕ, List, []}
-use Rattle.cd_base.specs.declared.shape.Shape.{Shape}
-use Rattle.messages.specs.declared.request.Request.{Request}
-use Rattle.messages.specs.declared.request.Request.TheVariants as requests
-use Rattle.recipe.specs.Spelling.{Fits, spelling}
-use Rattle.server_requests.specs.declared.asked.Asked.{Asked}
-use Rattle.server_requests.specs.declared.asked.Asked.TheVariants as asks
+use Rattle.server_commands.specs.CdBase.shape.Shape.{Shape}
+use Rattle.server_commands.specs.Messages.request.Request.{Request}
+use Rattle.server_commands.specs.Messages.request.Request.TheVariants as requests
+use Rattle.server_commands.specs.Recipe.Spelling.{Fits, spelling}
+use Rattle.server_requests.specs.declared.asked.StoreRequest.{StoreRequest}
+use Rattle.server_requests.specs.declared.asked.StoreRequest.TheVariants as asks
 
 -- the request that is asked; a Commit's recipe is the spelling of the one that was read
-abbrev pub request_of : Asked → Request
+abbrev pub request_of : StoreRequest → Request
 request_of asks.Hello = requests.Hello
 request_of (asks.Query user fps) = requests.Query user fps
 request_of (asks.Put user shares) = requests.Put user shares
@@ -19,7 +19,7 @@ request_of (asks.List user after) = requests.List user after
 request_of (asks.Delete user tag version) = requests.Delete user tag version
 
 -- a Commit's recipe keeps the rules of this shape
-abbrev pub IsOfShape : Shape → Asked → Type 0
+abbrev pub IsOfShape : Shape → StoreRequest → Type 0
 IsOfShape shape asks.Hello = Unit {0}
 IsOfShape shape (asks.Query user fps) = Unit {0}
 IsOfShape shape (asks.Put user shares) = Unit {0}

@@ -1,15 +1,15 @@
 -- What is given has the fingerprint that was asked for, whatever the cloud has and is told of.
 use Rattle.std.specs.Prelude.{◌≡◌, List, map}
-use Rattle.cd_base.specs.declared.ids.Fp.{Fp}
-use Rattle.file_index.specs.declared.key.FileKey.{FileKey}
-use Rattle.file_index.specs.Files.{key_of}
-use Rattle.messages.specs.declared.request.Request.{Request}
-use Rattle.messages.specs.declared.request.Request.TheVariants as requests
-use Rattle.messages.specs.declared.reply.Reply.{Reply}
-use Rattle.messages.specs.declared.reply.Reply.TheVariants as replies
-use Rattle.user_dedup.specs.Cloud.{fingerprint}
-use Rattle.server_reads.specs.CloudMemory.Memory.{Memory}
-use Rattle.server_reads.specs.Found.{IsNamed}
+use Rattle.server_commands.specs.CdBase.ids.Fp.{Fp}
+use Rattle.server_commands.specs.FileIndex.key.FileKey.{FileKey}
+use Rattle.server_commands.specs.FileIndex.Files.{key_of}
+use Rattle.server_commands.specs.Messages.request.Request.{Request}
+use Rattle.server_commands.specs.Messages.request.Request.TheVariants as requests
+use Rattle.server_commands.specs.Messages.reply.Reply.{Reply}
+use Rattle.server_commands.specs.Messages.reply.Reply.TheVariants as replies
+use Rattle.server_commands.specs.UserDedup.Cloud.{fingerprint}
+use Rattle.server_commands.specs.ServerReads.CloudMemory.Memory.{Memory}
+use Rattle.server_commands.specs.ServerReads.Found.{IsNamed}
 
 -- shares have these fingerprints
 abbrev pub AreAsked : List Fp → Reply → Type 0

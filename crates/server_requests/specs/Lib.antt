@@ -1,5 +1,16 @@
 pub mod Asking
+pub mod CdBase
+pub mod CdEdges
+pub mod ContainerLog
+pub mod FileIndex
+pub mod Frames
+pub mod HalfJournal
 pub mod Hashed
+pub mod JournalStart
+pub mod MessageFields
+pub mod Messages
 pub mod OpenStore
 pub mod Reading
+pub mod Recipe
 pub mod ServerCommands
+pub mod UserDedup

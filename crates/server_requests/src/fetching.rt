@@ -1,32 +1,31 @@
 //! The reply to GetRecipe.
 
 ghost use Rattle.std.specs.Prelude.{◌≡◌, ℕ, ◌≤◌, List, length, IsTrue, OnOk, OnErr};
-ghost use Rattle.cd_base.specs.Limits.{recipe_limit};
-ghost use Rattle.cd_base.specs.declared.shape.Shape.{Shape};
-ghost use Rattle.cd_edges.specs.declared.area.Area.TheVariants as areas;
-ghost use Rattle.cd_edges.specs.Disk.{reads};
-ghost use Rattle.cd_edges.specs.Shelf.{IsCall, HasFailed, KeepsCounts, Stays};
-ghost use Rattle.container_log.specs.States.{Agrees};
-ghost use Rattle.file_index.specs.Files.{key_of};
-ghost use Rattle.messages.specs.declared.request.Request.TheVariants as requests;
-ghost use Rattle.messages.specs.declared.reply.Reply.{Reply};
-ghost use Rattle.messages.specs.declared.reply.Reply.TheVariants as replies;
-ghost use Rattle.messages.specs.Replies.{reply_bytes, IsReply};
-ghost use Rattle.user_dedup.specs.declared.command.Command.{Command};
-ghost use Rattle.user_dedup.specs.Dedup.{answer_over, IsSound};
-ghost use Rattle.server_reads.specs.CloudMemory.Memory.{Remembers, Stand};
-ghost use Rattle.server_reads.specs.CloudMemory.Rooms.{memory_of};
-ghost use Rattle.server_reads.specs.Allowed.{Replies, RecipeReply};
-ghost use Rattle.server_reads.specs.Found.{IsNamed, HasNone, IsFoundRecipe};
-ghost use Rattle.server_commands.specs.Executing.{IsReady, Executes};
+ghost use Rattle.server_commands.specs.CdBase.Limits.{recipe_limit};
+ghost use Rattle.server_commands.specs.CdBase.shape.Shape.{Shape};
+ghost use Rattle.server_commands.specs.CdEdges.area.Area.TheVariants as areas;
+ghost use Rattle.server_commands.specs.CdEdges.Disk.{reads};
+ghost use Rattle.server_commands.specs.CdEdges.Shelf.{IsCall, HasFailed, KeepsCounts, Stays};
+ghost use Rattle.server_commands.specs.ContainerLog.States.{Agrees};
+ghost use Rattle.server_commands.specs.FileIndex.Files.{key_of};
+ghost use Rattle.server_commands.specs.Messages.request.Request.TheVariants as requests;
+ghost use Rattle.server_commands.specs.Messages.reply.Reply.{Reply};
+ghost use Rattle.server_commands.specs.Messages.reply.Reply.TheVariants as replies;
+ghost use Rattle.server_commands.specs.Messages.Replies.{reply_bytes, IsReply};
+ghost use Rattle.server_commands.specs.UserDedup.command.Command.{Command};
+ghost use Rattle.server_commands.specs.UserDedup.Dedup.{answer_over, IsSound};
+ghost use Rattle.server_commands.specs.ServerReads.CloudMemory.Memory.{Remembers, Stand};
+ghost use Rattle.server_commands.specs.ServerReads.CloudMemory.Rooms.{memory_of};
+ghost use Rattle.server_commands.specs.ServerReads.Allowed.{Replies, RecipeReply};
+ghost use Rattle.server_commands.specs.ServerReads.Found.{IsNamed, HasNone, IsFoundRecipe};
+ghost use Rattle.server_commands.specs.Executing.{IsStoreReady, Executes};
 ghost use Rattle.server_requests.specs.Hashed.{IsHashed};
 ghost use Rattle.server_requests.specs.Reading.{ReadsDisk};
 
-use cd_base::{CloudNo, Tag, UserId, Version};
-use cd_edges::{Failed, Shelf};
-use frames::ReplyBuf;
-use server_commands::{CloudDisk, OpenStore};
-use server_reads::{CloudMemory, recipe};
+use server_commands::{
+    CloudDisk, CloudMemory, CloudNo, Failed, OpenStore, ReplyBuf, Shelf, Tag, UserId, Version,
+    recipe,
+};
 
 // The same as `recipe`, by the disk.
 fn recipe_on_disk<V: Shelf>(
@@ -92,7 +91,7 @@ pub(crate) fn send_recipe<V: Shelf>(
     buffer: &mut [u8],
     reply: &mut ReplyBuf,
 ) -> Result<(), Failed>
-    requires ready { IsReady store.old }
+    requires ready { IsStoreReady store.old }
     requires buffer { recipe_limit ≤ length buffer.old }
     ensures does { Executes (shelf.new ≡ shelf.old) store.old store.new (V.cloud_at shelf.old) (V.cloud_at shelf.new)
         (V.faults shelf.old) (V.faults shelf.new) (requests.GetRecipe user tag.now version) reply.new result }

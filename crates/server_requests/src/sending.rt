@@ -1,35 +1,32 @@
 //! The reply to GetShares.
 
 ghost use Rattle.std.specs.Prelude.{◌≡◌, ℕ, ◌≤◌, List, length, map, IsTrue, OnOk, OnErr};
-ghost use Rattle.cd_base.specs.Limits.{recipe_limit};
-ghost use Rattle.cd_base.specs.declared.shape.Shape.{Shape};
-ghost use Rattle.cd_edges.specs.declared.area.Area.TheVariants as areas;
-ghost use Rattle.cd_edges.specs.Disk.{reads};
-ghost use Rattle.cd_edges.specs.Shelf.{IsCall, HasFailed, KeepsCounts, Stays};
-ghost use Rattle.container_log.specs.States.{Agrees};
-ghost use Rattle.message_fields.specs.Fingerprints.{IsBatch};
-ghost use Rattle.message_fields.specs.Shares.{share_limit};
-ghost use Rattle.messages.specs.declared.request.Request.TheVariants as requests;
-ghost use Rattle.messages.specs.declared.reply.Reply.{Reply};
-ghost use Rattle.messages.specs.declared.reply.Reply.TheVariants as replies;
-ghost use Rattle.messages.specs.Replies.{reply_bytes, IsReply};
-ghost use Rattle.user_dedup.specs.declared.command.Command.{Command};
-ghost use Rattle.user_dedup.specs.Cloud.{fingerprint};
-ghost use Rattle.user_dedup.specs.Dedup.{answer_over, IsSound};
-ghost use Rattle.server_reads.specs.CloudMemory.Memory.{Remembers, Stand};
-ghost use Rattle.server_reads.specs.CloudMemory.Rooms.{memory_of};
-ghost use Rattle.server_reads.specs.Allowed.{Replies, SharesReply};
-ghost use Rattle.server_reads.specs.Found.{IsFoundShare};
-ghost use Rattle.server_commands.specs.Executing.{IsReady, Executes};
+ghost use Rattle.server_commands.specs.CdBase.Limits.{recipe_limit};
+ghost use Rattle.server_commands.specs.CdBase.shape.Shape.{Shape};
+ghost use Rattle.server_commands.specs.CdEdges.area.Area.TheVariants as areas;
+ghost use Rattle.server_commands.specs.CdEdges.Disk.{reads};
+ghost use Rattle.server_commands.specs.CdEdges.Shelf.{IsCall, HasFailed, KeepsCounts, Stays};
+ghost use Rattle.server_commands.specs.ContainerLog.States.{Agrees};
+ghost use Rattle.server_commands.specs.MessageFields.Fingerprints.{IsBatch};
+ghost use Rattle.server_commands.specs.MessageFields.Shares.{share_limit};
+ghost use Rattle.server_commands.specs.Messages.request.Request.TheVariants as requests;
+ghost use Rattle.server_commands.specs.Messages.reply.Reply.{Reply};
+ghost use Rattle.server_commands.specs.Messages.reply.Reply.TheVariants as replies;
+ghost use Rattle.server_commands.specs.Messages.Replies.{reply_bytes, IsReply};
+ghost use Rattle.server_commands.specs.UserDedup.command.Command.{Command};
+ghost use Rattle.server_commands.specs.UserDedup.Cloud.{fingerprint};
+ghost use Rattle.server_commands.specs.UserDedup.Dedup.{answer_over, IsSound};
+ghost use Rattle.server_commands.specs.ServerReads.CloudMemory.Memory.{Remembers, Stand};
+ghost use Rattle.server_commands.specs.ServerReads.CloudMemory.Rooms.{memory_of};
+ghost use Rattle.server_commands.specs.ServerReads.Allowed.{Replies, SharesReply};
+ghost use Rattle.server_commands.specs.ServerReads.Found.{IsFoundShare};
+ghost use Rattle.server_commands.specs.Executing.{IsStoreReady, Executes};
 ghost use Rattle.server_requests.specs.Hashed.{IsHashed};
 ghost use Rattle.server_requests.specs.Reading.{ReadsDisk};
 
-use cd_base::{CloudNo, UserId};
-use cd_edges::{Failed, Shelf};
-use frames::ReplyBuf;
-use message_fields::FpsView;
-use server_commands::{CloudDisk, OpenStore};
-use server_reads::{CloudMemory, shares};
+use server_commands::{
+    CloudDisk, CloudMemory, CloudNo, Failed, FpsView, OpenStore, ReplyBuf, Shelf, UserId, shares,
+};
 
 // The same as `shares`, by the disk.
 fn shares_on_disk<V: Shelf>(
@@ -91,7 +88,7 @@ pub(crate) fn send_shares<V: Shelf>(
     buffer: &mut [u8],
     reply: &mut ReplyBuf,
 ) -> Result<(), Failed>
-    requires ready { IsReady store.old }
+    requires ready { IsStoreReady store.old }
     requires batch { IsBatch fps.now }
     requires buffer { recipe_limit ≤ length buffer.old }
     ensures does { Executes (shelf.new ≡ shelf.old) store.old store.new (V.cloud_at shelf.old) (V.cloud_at shelf.new)

@@ -1,24 +1,23 @@
 //! Requests, executed.
 
 ghost use Rattle.std.specs.Prelude.{◌≡◌, ◌≤◌, length, IsOk, OnOk};
-ghost use Rattle.cd_base.specs.Limits.{recipe_limit};
-ghost use Rattle.messages.specs.declared.reply.Reply.{Reply};
-ghost use Rattle.messages.specs.Requests.{FitsRequest};
-ghost use Rattle.messages.specs.Replies.{IsReply};
-ghost use Rattle.server_reads.specs.CloudMemory.Rooms.{memory_of};
-ghost use Rattle.server_reads.specs.Allowed.{Replies};
+ghost use Rattle.server_commands.specs.CdBase.Limits.{recipe_limit};
+ghost use Rattle.server_commands.specs.Messages.reply.Reply.{Reply};
+ghost use Rattle.server_commands.specs.Messages.Requests.{FitsRequest};
+ghost use Rattle.server_commands.specs.Messages.Replies.{IsReply};
+ghost use Rattle.server_commands.specs.ServerReads.CloudMemory.Rooms.{memory_of};
+ghost use Rattle.server_commands.specs.ServerReads.Allowed.{Replies};
 ghost use Rattle.server_commands.specs.Entering.{Enters};
-ghost use Rattle.server_commands.specs.Executing.{IsReady, Executes};
+ghost use Rattle.server_commands.specs.Executing.{IsStoreReady, Executes};
 ghost use Rattle.server_requests.specs.Asking.{IsOfShape, request_of, IsForMemory};
 ghost use Rattle.server_requests.specs.Hashed.{IsHashed};
 
-use crate::Asked;
+use crate::StoreRequest;
 use crate::fetching::send_recipe;
 use crate::sending::send_shares;
-use cd_edges::{Failed, Shelf};
-use frames::ReplyBuf;
-use server_commands::{OpenStore, commit, delete, put};
-use server_reads::{entries, hello, known};
+use server_commands::{
+    Failed, OpenStore, ReplyBuf, Shelf, commit, delete, entries, hello, known, put,
+};
 
 /// Executes a request by an open store. The reply becomes the content.
 ///
@@ -36,17 +35,18 @@ use server_reads::{entries, hello, known};
 /// Failed comes only where the cloud's count of faults rose. The store is shut then, nothing is known of the content, and the
 /// cloud stands for the list without the command or with it.
 ///
-/// It asks for a store that is ready, for a request that `Asked::read` read for the store's shape, and for a buffer of
+/// It asks for a store that is ready, for a request that `StoreRequest::read` read for the store's shape, and for a
+/// buffer of
 /// 1,180,190 bytes at least, the most that a recipe has. It takes no memory but for the containers that the logs keep, and
 /// goes on without where there is none for them.
 pub fn dispatch<V: Shelf>(
     store: &mut OpenStore,
     shelf: &mut V,
-    asked: &Asked<'_>,
+    asked: &StoreRequest<'_>,
     buffer: &mut [u8],
     reply: &mut ReplyBuf,
 ) -> Result<(), Failed>
-    requires ready { IsReady store.old }
+    requires ready { IsStoreReady store.old }
     requires fits { FitsRequest (request_of asked.now) }
     requires recipe { IsOfShape store.old.header.shape asked.now }
     requires buffer { recipe_limit ≤ length buffer.old }
@@ -60,30 +60,32 @@ pub fn dispatch<V: Shelf>(
         → (shelf.new ≡ shelf.old) × (store.new ≡ store.old) × IsOk result }
 {
     match asked {
-        Asked::Hello => {
+        StoreRequest::Hello => {
             hello(store.header.shape, store.header.cloud, reply);
             Ok(())
         }
-        Asked::Query { user, fps } => {
+        StoreRequest::Query { user, fps } => {
             known(&store.memory, *user, fps, reply);
             Ok(())
         }
-        Asked::Put { user, shares } => put(store, shelf, *user, shares, reply),
-        Asked::Commit {
+        StoreRequest::Put { user, shares } => put(store, shelf, *user, shares, reply),
+        StoreRequest::Commit {
             user,
             tag,
             version,
             recipe,
         } => commit(store, shelf, *user, tag, *version, recipe, buffer, reply),
-        Asked::GetRecipe { user, tag, version } => {
+        StoreRequest::GetRecipe { user, tag, version } => {
             send_recipe(store, shelf, *user, tag, *version, buffer, reply)
         }
-        Asked::GetShares { user, fps } => send_shares(store, shelf, *user, fps, buffer, reply),
-        Asked::List { user, after } => {
+        StoreRequest::GetShares { user, fps } => send_shares(
+            store, shelf, *user, fps, buffer, reply,
+        ),
+        StoreRequest::List { user, after } => {
             entries(&store.memory, *user, *after, reply);
             Ok(())
         }
-        Asked::Delete { user, tag, version } => {
+        StoreRequest::Delete { user, tag, version } => {
             delete(store, shelf, *user, tag, *version, buffer, reply)
         }
     }

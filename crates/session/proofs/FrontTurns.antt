@@ -4,7 +4,7 @@ use Rattle.std.proofs.lemmas.Bool.{cases_lt}
 use Rattle.std.proofs.lemmas.List.{length-append, length-take, length-drop, take-append-drop, get_or-append-add}
 use Rattle.std.proofs.Math.Seq.{take-append-add, drop-append-add, get_or-append_right}
 use Rattle.session.specs.Front.{Moved}
-use Rattle.cd_edges.specs.Held.{Follows}
+use Rattle.transcript.specs.CdEdges.Held.{Follows}
 use Rattle.session.specs.Lines.{line_length, script_limit, room_after, next_line, after_line}
 use Rattle.session.proofs.Turns.{len_le, found_ahead, goes_on, end_behind, answers_room, answers_script, answers_line, place, next_is}
 

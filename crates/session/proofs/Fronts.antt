@@ -5,12 +5,12 @@ use Rattle.std.specs.List.{position_or_len, slice_get}
 use Rattle.std.specs.Str.{bytes_eq}
 use Rattle.std.proofs.lemmas.List.{append-nil, append_cancel_right, length-append}
 use Rattle.std.proofs.lemmas.List.Elements.{All-append, All-from_recursion}
-use Rattle.cd_base.specs.declared.ids.UserId.{UserId}
-use Rattle.cd_base.specs.declared.ids.Version.{Version}
-use Rattle.cd_base.specs.declared.shape.Shape.{Shape}
-use Rattle.grammar.specs.Words.{cut, word_at, is_blank}
-use Rattle.grammar.specs.Hexadecimal.{hex, unhex}
-use Rattle.grammar.proofs.HexadecimalLaws.{unhex_takes, hex_append}
+use Rattle.journal_start.specs.CdBase.ids.UserId.{UserId}
+use Rattle.journal_start.specs.CdBase.ids.Version.{Version}
+use Rattle.journal_start.specs.CdBase.shape.Shape.{Shape}
+use Rattle.journal_start.specs.Grammar.Words.{cut, word_at, is_blank}
+use Rattle.journal_start.specs.Grammar.Hexadecimal.{hex, unhex}
+use Rattle.journal_start.proofs.Grammar.HexadecimalLaws.{unhex_takes, hex_append}
 use Rattle.transcript.specs.Words.{bytes_text}
 use Rattle.session.specs.Front.{Begins, IsUploading, Names}
 use Rattle.session.specs.Spelling.{AreBytes, Fits, IsLine, spelling, file_limit}

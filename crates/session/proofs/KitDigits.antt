@@ -8,8 +8,8 @@ use Rattle.std.proofs.lemmas.List.{take_all, take-take, drop-take, take-append-d
 use Rattle.hex.specs.Hex.{decode_pairs, decode_sized, digit_or_error, hex_digit_value, ◌>>=◌}
 use Rattle.hex.specs.declared.error.FromHexError.{FromHexError}
 use Rattle.hex.proofs.Pairs.{decode_sized-pairs}
-use Rattle.grammar.specs.Words.{onto}
-use Rattle.grammar.specs.Hexadecimal.{hex, unhex, unhex_digit, pair_value}
+use Rattle.journal_start.specs.Grammar.Words.{onto}
+use Rattle.journal_start.specs.Grammar.Hexadecimal.{hex, unhex, unhex_digit, pair_value}
 use Rattle.session.specs.Front.{not_upper}
 
 -- no letter from A to F is in a text

@@ -1,7 +1,12 @@
+pub mod CdBase
+pub mod CdEdges
 pub mod Fault
-pub mod Spelling
-pub mod Reading
 pub mod Front
+pub mod Grammar
+pub mod JournalStart
 pub mod Lines
+pub mod Reading
 pub mod Scripts
+pub mod Spelling
 pub mod Texts
+pub mod Transcript

@@ -2,20 +2,20 @@
 use Rattle.std.specs.Prelude.{ℕ, ◌≡◌, ◌-◌, ◌/◌, Bool, true, ◌&&◌, not, List, [], ◌∷◌, length, Option, Some, None, Result, Ok, Err, nat_lt, nat_le, ◌==◌, if◌then◌else◌, slice_get, codes}
 use Rattle.std.specs.List.{find, list_all, slice_split}
 use Rattle.std.specs.Str.{bytes_eq}
-use Rattle.cd_base.specs.declared.shape.Shape.{Shape}
+use Rattle.journal_start.specs.CdBase.shape.Shape.{Shape}
 use Rattle.journal_start.specs.Ranges.{usual_rooms, most_shares, most_recipes, most_owners, most_files}
-use Rattle.journal_start.specs.declared.rooms.Rooms.{Rooms}
-use Rattle.grammar.specs.Readers.{◌>>=◌, ◌▷◌, ◌▷▷◌, whole}
-use Rattle.grammar.specs.Words.{word_at, field_at, keep, onto}
-use Rattle.grammar.specs.Numerals.{number, capped}
-use Rattle.grammar.specs.Hexadecimal.{unhex}
+use Rattle.journal_start.specs.declared.rooms.UserRooms.{UserRooms}
+use Rattle.journal_start.specs.Grammar.Readers.{◌>>=◌, ◌▷◌, ◌▷▷◌, whole}
+use Rattle.journal_start.specs.Grammar.Words.{word_at, field_at, keep, onto}
+use Rattle.journal_start.specs.Grammar.Numerals.{number, capped}
+use Rattle.journal_start.specs.Grammar.Hexadecimal.{unhex}
 use Rattle.session.specs.Fault.{Fault}
 use Rattle.session.specs.Spelling.{file_limit, upload_limit}
 use Rattle.transcript.specs.ShapeOf.{shape_of}
 use Rattle.session.specs.declared.event.Event.{Event}
 use Rattle.session.specs.declared.event.Event.TheVariants as events
-use Rattle.session.specs.declared.kinds.Command.{Command}
-use Rattle.session.specs.declared.kinds.Command.TheVariants as commands
+use Rattle.session.specs.declared.kinds.FirstWord.{FirstWord}
+use Rattle.session.specs.declared.kinds.FirstWord.TheVariants as commands
 use Rattle.session.specs.declared.reading.ScriptErr.{ScriptErr}
 use Rattle.session.specs.declared.reading.ScriptErr.TheVariants as errors
 
@@ -102,7 +102,7 @@ others shape target text = keep (lacks target) (clouds shape text)
 -- ---- the lines after the first
 
 -- the first words of lines
-abbrev pub name : Command → List ℕ
+abbrev pub name : FirstWord → List ℕ
 name commands.Upload = codes "upload"
 name commands.Step = codes "step"
 name commands.Lose = codes "lose"
@@ -116,20 +116,20 @@ name commands.Replace = codes "replace"
 name commands.Rebuild = codes "rebuild"
 name commands.Delete = codes "delete"
 
-abbrev pub all_commands : List Command
+abbrev pub all_commands : List FirstWord
 all_commands =
     commands.Upload ∷ commands.Step ∷ commands.Lose ∷ commands.Drop ∷ commands.Finish ∷ commands.Get ∷ commands.List ∷ commands.Arm
     ∷ commands.Restart ∷ commands.Replace ∷ commands.Rebuild ∷ commands.Delete ∷ []
 
-abbrev pub named_command : List ℕ → Option Command
+abbrev pub named_command : List ℕ → Option FirstWord
 named_command text = find (λ c. bytes_eq text (name c)) all_commands
 
 -- no upload comes behind the last one that is allowed
-abbrev pub is_allowed : ℕ → Command → Bool
+abbrev pub is_allowed : ℕ → FirstWord → Bool
 is_allowed jobs commands.Upload = nat_lt jobs upload_limit
 is_allowed jobs c = true
 
-unfoldable pub command : ℕ → List ℕ → Option Command
+unfoldable pub command : ℕ → List ℕ → Option FirstWord
 command jobs text = keep (is_allowed jobs) (named_command text)
 
 abbrev pub make_upload : ℕ × (List ℕ × (ℕ × List ℕ)) → Event
@@ -203,7 +203,7 @@ read_as make (Ok x) = Ok (make x)
 read_as make (Err left) = Err left
 
 -- what follows the first word
-abbrev pub fields_at : Shape → ℕ → Command → List ℕ → Result Event ℕ
+abbrev pub fields_at : Shape → ℕ → FirstWord → List ℕ → Result Event ℕ
 fields_at shape jobs commands.Upload bytes = upload_at bytes
 fields_at shape jobs commands.Step bytes = read_as make_step (lane_at shape jobs bytes)
 fields_at shape jobs commands.Lose bytes = read_as make_lose (lane_at shape jobs bytes)
@@ -240,7 +240,7 @@ needed n text = shape_with n (number 0 255 text)
 unfoldable pub shape_at : List ℕ → Result (Shape × List ℕ) ℕ
 shape_at bytes = field_at (capped 255) bytes >>= λ n. field_at (needed n.0) n.1
 
-abbrev pub make_rooms : ℕ × (ℕ × (ℕ × (ℕ × ℕ))) → Rooms
+abbrev pub make_rooms : ℕ × (ℕ × (ℕ × (ℕ × ℕ))) → UserRooms
 make_rooms x = record { users = x.0; shares = x.1.0; recipes = x.1.1.0; owners = x.1.1.1.0; files = x.1.1.1.1 }
 
 -- what each of so many users holds, where all of them together hold no more than the most
@@ -249,16 +249,16 @@ each_room most users = number 0 (most / users)
 
 -- Each number has a range of its own, which how many users there are bounds: so the first that breaks it is wrong at its
 -- place.
-unfoldable pub named_rooms_at : List ℕ → Result Rooms ℕ
+unfoldable pub named_rooms_at : List ℕ → Result UserRooms ℕ
 named_rooms_at = whole make_rooms (field_at (number 1 256) ▷▷ λ users. field_at (each_room most_shares users) ▷ field_at (each_room most_recipes users)
     ▷ field_at (each_room most_owners users) ▷ field_at (each_room most_files users))
 
 -- the usual rooms where none are named
-abbrev pub rooms_at : List ℕ → Result Rooms ℕ
+abbrev pub rooms_at : List ℕ → Result UserRooms ℕ
 rooms_at [] = Ok usual_rooms
 rooms_at (b ∷ bytes) = named_rooms_at (b ∷ bytes)
 
-unfoldable pub header_left : List ℕ → Result (Shape × Rooms) ℕ
+unfoldable pub header_left : List ℕ → Result (Shape × UserRooms) ℕ
 header_left line = do
   name ← word_at (literal (codes "cdstore")) line
   form ← field_at (literal (codes "1")) name.1
@@ -267,5 +267,5 @@ header_left line = do
   Ok (shape.0, rooms)
 
 -- what the first line says
-unfoldable pub header_at : List ℕ → Result (Shape × Rooms) Fault
+unfoldable pub header_at : List ℕ → Result (Shape × UserRooms) Fault
 header_at line = placed line (header_left line)

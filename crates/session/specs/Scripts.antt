@@ -1,7 +1,7 @@
 -- A script as a first line and the lines behind it.
 use Rattle.std.specs.Prelude.{◌≡◌, ℕ, ◌+◌, List, [], ◌∷◌, length, Option, Some, None, Result, Ok, Err}
-use Rattle.cd_base.specs.declared.shape.Shape.{Shape}
-use Rattle.journal_start.specs.declared.rooms.Rooms.{Rooms}
+use Rattle.journal_start.specs.CdBase.shape.Shape.{Shape}
+use Rattle.journal_start.specs.declared.rooms.UserRooms.{UserRooms}
 use Rattle.session.specs.Fault.{Fault}
 use Rattle.session.specs.Lines.{next_line, after_line}
 use Rattle.session.specs.Reading.{header_at, event_at}
@@ -34,40 +34,41 @@ AreLines shape jobs [] = Unit {0}
 AreLines shape jobs (event ∷ events) = Fits shape jobs event × IsTyped event × AreLines shape (jobs_after jobs event) events
 
 -- a place in a script: how many uploads and how many of its bytes came before, and the bytes that are left
-pub record Place : Type 0 where
+pub record ScriptPlace : Type 0 where
   pub jobs : ℕ
   pub taken : ℕ
   pub rest : List ℕ
 
 -- the place behind a line
-abbrev pub behind : Place → List ℕ → Event → Place
+abbrev pub behind : ScriptPlace → List ℕ → Event → ScriptPlace
 behind place line event = record { jobs = jobs_after place.jobs event; taken = place.taken + length line + 1; rest = after_line place.rest }
 
 -- the next line says this
-pub record Says (shape : Shape) (place : Place) (event : Event) (next : Place) : Type 0 where
+pub record Says (shape : Shape) (place : ScriptPlace) (event : Event) (next : ScriptPlace) : Type 0 where
   pub line : List ℕ
   pub here : next_line place.taken place.rest ≡ Ok (Some line)
   pub says : event_at shape place.jobs line ≡ Ok event
   pub next_is : next ≡ behind place line event
 
 -- the next lines say this, one after another
-abbrev pub Leads : Shape → Place → List Event → Place → Type 0
+abbrev pub Leads : Shape → ScriptPlace → List Event → ScriptPlace → Type 0
 Leads shape place [] last = last ≡ place
-Leads shape place (event ∷ events) last = (next : Place) × Says shape place event next × Leads shape next events last
+Leads shape place (event ∷ events) last = (next : ScriptPlace) × Says shape place event next
+    × Leads shape next events last
 
 -- the script begins with this first line
-pub record Begins (script : List ℕ) (shape : Shape) (rooms : Rooms) (place : Place) : Type 0 where
+pub record Begins (script : List ℕ) (shape : Shape) (rooms : UserRooms) (place : ScriptPlace) : Type 0 where
   pub line : List ℕ
   pub here : next_line 0 script ≡ Ok (Some line)
   pub says : header_at line ≡ Ok (shape, rooms)
   pub next_is : place ≡ record { jobs = 0; taken = length line + 1; rest = after_line script }
 
 -- so many lines of the script were read, and it goes on at this place
-abbrev pub Reaches : List ℕ → Shape → Rooms → List Event → Place → Type 0
-Reaches script shape rooms events place = (first : Place) × Begins script shape rooms first × Leads shape first events place
+abbrev pub Reaches : List ℕ → Shape → UserRooms → List Event → ScriptPlace → Type 0
+Reaches script shape rooms events place = (first : ScriptPlace) × Begins script shape rooms first × Leads shape first events place
 
 -- the script ends here
-abbrev pub IsEnd : Place → Type 0
+abbrev pub IsEnd : ScriptPlace → Type 0
 IsEnd place = next_line place.taken place.rest ≡ Ok None
 
 -- how a line fails that was read so
@@ -77,7 +78,7 @@ FailsIn shape jobs (Ok None) found = ⊥
 FailsIn shape jobs (Ok (Some line)) found = event_at shape jobs line ≡ Err found
 
 -- the next line is wrong at this place of it
-abbrev pub IsWrong : Shape → Place → Fault → Type 0
+abbrev pub IsWrong : Shape → ScriptPlace → Fault → Type 0
 IsWrong shape place fault = FailsIn shape place.jobs (next_line place.taken place.rest) fault
 
 abbrev pub FailsFirst : Result (Option (List ℕ)) Fault → Fault → Type 0

@@ -1,12 +1,11 @@
 //! The front of a long line, of which the digits are held as the bytes that they spell.
 
 ghost use Rattle.std.specs.Prelude.{◌≡◌, ◌*◌, ◌++◌, ◌≤◌, [], length, take, Some, IfOk, OnErr, IsTrue, false};
-ghost use Rattle.grammar.specs.Hexadecimal.{hex, unhex};
+ghost use Rattle.journal_start.specs.Grammar.Hexadecimal.{hex, unhex};
 ghost use Rattle.session.specs.Front.{Begins, IsUploading, not_upper};
 ghost use Rattle.session.specs.Spelling.{AreBytes};
 
-use cd_base::{Bytes, NoMemory};
-use grammar::{after, before, encode};
+use journal_start::{Bytes, NoMemory, after, before, encode};
 use memchr::memrchr;
 use std::alloc::Global;
 use std::marker::Model;
@@ -28,7 +27,7 @@ pub struct Front {
 
 impl Model for Front {
     ghost use Rattle.std.specs.Prelude.{ℕ, List, ◌++◌};
-    ghost use Rattle.grammar.specs.Hexadecimal.{hex};
+    ghost use Rattle.journal_start.specs.Grammar.Hexadecimal.{hex};
     ghost use Rattle.session.specs.Front.{Begins};
     ghost use Rattle.session.specs.Spelling.{AreBytes};
 

@@ -1,15 +1,17 @@
 //! The kinds of words that only scripts have.
 
 ghost use Rattle.std.specs.Prelude.{◌≡◌, ◌≢◌, IfOk, IfErr, length, if◌then◌else◌, ◌==◌, nat_le};
-ghost use Rattle.grammar.specs.Readers.{Gives};
-ghost use Rattle.grammar.specs.Words.{word_at, field_at, keep};
+ghost use Rattle.journal_start.specs.Grammar.Readers.{Gives};
+ghost use Rattle.journal_start.specs.Grammar.Words.{word_at, field_at, keep};
 ghost use Rattle.session.specs.Reading.{literal, path, contents, listed, rises, cloud, clouds, sources, lacks, others};
 ghost use Rattle.session.specs.Reading.{named_command, is_allowed, command};
-ghost use Rattle.cd_base.specs.Numbers.{numbers_of};
+ghost use Rattle.journal_start.specs.CdBase.Numbers.{numbers_of};
 
 use crate::limits::UPLOAD_LIMIT;
-use cd_base::{Bytes, CloudNo, Clouds, FILE_LIMIT, NoMemory, Shape, is_path};
-use grammar::{Stop, after, before, cut_word, decode, len_to, number_of, u64_field};
+use journal_start::{
+    Bytes, CloudNo, Clouds, FILE_LIMIT, NoMemory, Shape, Stop, after, before, cut_word, decode,
+    is_path, len_to, number_of, u64_field,
+};
 use std::alloc::Global;
 
 #[tactic(auto, unfolding(crate::specs::Reading::literal))]
@@ -265,7 +267,7 @@ pub fn others_field(
 
 /// The first word of a line.
 #[derive(Clone, Copy, Debug, PartialEq, Eq)]
-pub enum Command {
+pub enum FirstWord {
     Upload,
     Step,
     Lose,
@@ -281,60 +283,60 @@ pub enum Command {
 }
 
 // The command of a name.
-fn named_by(word: &[u8]) -> Option<Command>
+fn named_by(word: &[u8]) -> Option<FirstWord>
     ensures { result ≡ named_command word.now }
 {
     if word == b"upload".as_slice() {
-        Some(Command::Upload)
+        Some(FirstWord::Upload)
     } else if word == b"step".as_slice() {
-        Some(Command::Step)
+        Some(FirstWord::Step)
     } else if word == b"lose".as_slice() {
-        Some(Command::Lose)
+        Some(FirstWord::Lose)
     } else if word == b"drop".as_slice() {
-        Some(Command::Drop)
+        Some(FirstWord::Drop)
     } else if word == b"finish".as_slice() {
-        Some(Command::Finish)
+        Some(FirstWord::Finish)
     } else if word == b"get".as_slice() {
-        Some(Command::Get)
+        Some(FirstWord::Get)
     } else if word == b"list".as_slice() {
-        Some(Command::List)
+        Some(FirstWord::List)
     } else if word == b"arm".as_slice() {
-        Some(Command::Arm)
+        Some(FirstWord::Arm)
     } else if word == b"restart".as_slice() {
-        Some(Command::Restart)
+        Some(FirstWord::Restart)
     } else if word == b"replace".as_slice() {
-        Some(Command::Replace)
+        Some(FirstWord::Replace)
     } else if word == b"rebuild".as_slice() {
-        Some(Command::Rebuild)
+        Some(FirstWord::Rebuild)
     } else if word == b"delete".as_slice() {
-        Some(Command::Delete)
+        Some(FirstWord::Delete)
     } else {
         None
     }
 }
 
 // Whether a command may come where so many uploads came before.
-fn may_come(command: Command, jobs: u32) -> bool
+fn may_come(command: FirstWord, jobs: u32) -> bool
     ensures { result ≡ is_allowed jobs command }
 {
     match command {
-        Command::Upload => jobs < UPLOAD_LIMIT,
-        Command::Step => true,
-        Command::Lose => true,
-        Command::Drop => true,
-        Command::Finish => true,
-        Command::Get => true,
-        Command::List => true,
-        Command::Arm => true,
-        Command::Restart => true,
-        Command::Replace => true,
-        Command::Rebuild => true,
-        Command::Delete => true,
+        FirstWord::Upload => jobs < UPLOAD_LIMIT,
+        FirstWord::Step => true,
+        FirstWord::Lose => true,
+        FirstWord::Drop => true,
+        FirstWord::Finish => true,
+        FirstWord::Get => true,
+        FirstWord::List => true,
+        FirstWord::Arm => true,
+        FirstWord::Restart => true,
+        FirstWord::Replace => true,
+        FirstWord::Rebuild => true,
+        FirstWord::Delete => true,
     }
 }
 
 #[tactic(auto, unfolding(crate::specs::Reading::command))]
-fn command_of(word: &[u8], jobs: u32) -> Option<Command>
+fn command_of(word: &[u8], jobs: u32) -> Option<FirstWord>
     ensures { result ≡ command jobs word.now }
 {
     match named_by(word) {
@@ -351,7 +353,7 @@ fn command_of(word: &[u8], jobs: u32) -> Option<Command>
 
 /// The first word of a line, where so many uploads came before it, and what follows it.
 #[tactic(auto, unfolding(grammar::specs::Words::word_at))]
-pub fn first_word(line: &[u8], jobs: u32) -> Result<(Command, &[u8]), Stop>
+pub fn first_word(line: &[u8], jobs: u32) -> Result<(FirstWord, &[u8]), Stop>
     ensures { Gives (λ x. (x.0, x.1.now)) result (word_at (command jobs) line.now) }
 {
     let (word, rest) = cut_word(line);

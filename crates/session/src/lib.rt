@@ -13,8 +13,15 @@ mod reading;
 
 pub use event::Event;
 pub use header::shape_field;
+pub use journal_start::{
+    Bytes, CloudNo, Clouds, Fp, NoMemory, Shape, Stop, Tag, UserId, UserRooms, Version, after,
+    before, cut_word, encode, is_path, len_to, number_of, u32_field, u64_field,
+};
 pub use kinds::{cloud_field, literal_field};
 pub use laws::law_of_scripts;
 pub use lines::{LineErr, LineReader};
 pub use reading::{ScriptErr, read_header, read_line};
-pub use transcript::{Line, News, Refusal, SkipWord, TargetWhy, write_line};
+pub use transcript::{
+    Answer, Ending, Failed, Line, News, Refusal, Shelf, SkipWord, TargetWhy, Word, put_first,
+    write_ending, write_line,
+};

@@ -2,7 +2,7 @@
 
 ghost use Rattle.std.specs.Prelude.{◌≡◌, ◌≢◌, ◌++◌, ◌+◌, ◌<◌, ◌≤◌, IfOk, IfErr, IfSome, IsTrue};
 ghost use Rattle.journal_start.specs.Ranges.{AreRooms};
-ghost use Rattle.grammar.specs.Hexadecimal.{hex};
+ghost use Rattle.journal_start.specs.Grammar.Hexadecimal.{hex};
 ghost use Rattle.session.specs.Front.{Names};
 ghost use Rattle.session.specs.Reading.{Reads, header_at, event_at};
 ghost use Rattle.session.specs.Spelling.{AreBytes, file_limit};
@@ -10,9 +10,7 @@ ghost use Rattle.session.specs.Spelling.{AreBytes, file_limit};
 use crate::Event;
 use crate::front::{Front, spell};
 use crate::reading::{ScriptErr, read_header, read_line};
-use cd_base::{Bytes, FILE_LIMIT, NoMemory, Shape, UserId, Version};
-use grammar::decode;
-use journal_start::Rooms;
+use journal_start::{Bytes, FILE_LIMIT, NoMemory, Shape, UserId, UserRooms, Version, decode};
 use std::alloc::Global;
 
 // Of which version of which file of which user a line is the upload.
@@ -24,7 +22,7 @@ struct Name {
 }
 
 /// What a line says as a script's first one. It takes no memory.
-pub fn header_behind(front: &Front, tail: &[u8]) -> Result<(Shape, Rooms), ScriptErr>
+pub fn header_behind(front: &Front, tail: &[u8]) -> Result<(Shape, UserRooms), ScriptErr>
     ensures reads { Reads result (header_at (front.now ++ tail.now)) }
     ensures memory { IfErr result (λ e. e ≢ ScriptErr.NoMemory) }
     ensures allowed { IfOk result (λ header. AreRooms header.1) }

@@ -1,10 +1,10 @@
 //! Reading a line of a script.
 
 ghost use Rattle.std.specs.Prelude.{◌≡◌, ◌≢◌, ◌↔◌, ◌-◌, length, Ok, IfOk, IfErr, slice_get};
-ghost use Rattle.cd_base.specs.declared.shape.Shape.{Shape};
-ghost use Rattle.journal_start.specs.declared.rooms.Rooms.{Rooms};
+ghost use Rattle.journal_start.specs.CdBase.shape.Shape.{Shape};
+ghost use Rattle.journal_start.specs.declared.rooms.UserRooms.{UserRooms};
 ghost use Rattle.journal_start.specs.Ranges.{AreRooms};
-ghost use Rattle.grammar.specs.Readers.{Gives};
+ghost use Rattle.journal_start.specs.Grammar.Readers.{Gives};
 ghost use Rattle.session.specs.Reading.{Reads, header_at, event_at, event_left, fields_at, upload_at, lane_at, job_at};
 ghost use Rattle.session.specs.Reading.{cloud_at, get_at, list_at, arm_at, rebuild_at, delete_at};
 ghost use Rattle.session.specs.Spelling.{Fits, IsLine, IsHeader};
@@ -13,11 +13,9 @@ ghost use Rattle.session.specs.declared.event.Event.{Event};
 use crate::Event;
 use crate::header::header_of;
 use crate::kinds::{
-    Command, cloud_field, contents_field, first_word, others_field, path_field, sources_field,
+    FirstWord, cloud_field, contents_field, first_word, others_field, path_field, sources_field,
 };
-use cd_base::{CloudNo, Shape, UserId, Version};
-use grammar::{Stop, u32_field, u64_field};
-use journal_start::Rooms;
+use journal_start::{CloudNo, Shape, Stop, UserId, UserRooms, Version, u32_field, u64_field};
 use std::alloc::Global;
 
 /// Why a line was not read.
@@ -195,42 +193,42 @@ fn fields_of(
     alloc: Global,
     shape: Shape,
     jobs: u32,
-    command: Command,
+    command: FirstWord,
     bytes: &[u8],
 ) -> Result<Event, Stop>
     ensures { Gives (λ x. x) result (fields_at shape jobs command bytes.now) }
 {
     match command {
-        Command::Upload => upload_of(alloc, bytes),
-        Command::Step => {
+        FirstWord::Upload => upload_of(alloc, bytes),
+        FirstWord::Step => {
             let (job, lane) = lane_of(shape, jobs, bytes)?;
             Ok(Event::Step { job, lane })
         }
-        Command::Lose => {
+        FirstWord::Lose => {
             let (job, lane) = lane_of(shape, jobs, bytes)?;
             Ok(Event::Lose { job, lane })
         }
-        Command::Drop => {
+        FirstWord::Drop => {
             let (job, lane) = lane_of(shape, jobs, bytes)?;
             Ok(Event::Drop { job, lane })
         }
-        Command::Finish => {
+        FirstWord::Finish => {
             let job = job_of(jobs, bytes)?;
             Ok(Event::Finish { job })
         }
-        Command::Get => get_of(alloc, shape, bytes),
-        Command::List => list_of(shape, bytes),
-        Command::Arm => arm_of(shape, bytes),
-        Command::Restart => {
+        FirstWord::Get => get_of(alloc, shape, bytes),
+        FirstWord::List => list_of(shape, bytes),
+        FirstWord::Arm => arm_of(shape, bytes),
+        FirstWord::Restart => {
             let cloud = cloud_of(shape, bytes)?;
             Ok(Event::Restart { cloud })
         }
-        Command::Replace => {
+        FirstWord::Replace => {
             let cloud = cloud_of(shape, bytes)?;
             Ok(Event::Replace { cloud })
         }
-        Command::Rebuild => rebuild_of(alloc, shape, bytes),
-        Command::Delete => delete_of(alloc, shape, bytes),
+        FirstWord::Rebuild => rebuild_of(alloc, shape, bytes),
+        FirstWord::Delete => delete_of(alloc, shape, bytes),
     }
 }
 
@@ -248,12 +246,12 @@ fn event_of(alloc: Global, shape: Shape, jobs: u32, line: &[u8]) -> Result<Event
 /// the rooms the first that is out of its range, or with which all users together hold too much. It takes no memory, and
 /// `NoMemory` is no answer.
 #[tactic(auto, unfolding(crate::specs::Reading::header_at))]
-pub fn read_header(line: &[u8]) -> Result<(Shape, Rooms), ScriptErr>
+pub fn read_header(line: &[u8]) -> Result<(Shape, UserRooms), ScriptErr>
     ensures reads { Reads result (header_at line.now) }
     ensures memory { IfErr result (λ e. e ≢ ScriptErr.NoMemory) }
     ensures allowed { IfOk result (λ header. AreRooms header.1) }
     // A line is read as what it is a spelling of, and no other line is read.
-    ensures grammar { (shape : Shape) (rooms : Rooms)
+    ensures grammar { (shape : Shape) (rooms : UserRooms)
         → (header_at line.now ≡ Ok (shape, rooms)) ↔ IsHeader line.now (shape, rooms) }
 {
     match header_of(line) {

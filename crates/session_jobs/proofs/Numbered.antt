@@ -2,8 +2,8 @@
 use Rattle.std.proofs.Common.{◌≡◌, ℕ, ◌-◌, ◌<◌, Bool, List, [], length, sym, ap, ◌∙◌, subst, arith}
 use Rattle.std.specs.Prelude.{◌↔◌, IsTrue, All, slice_index_or}
 use Rattle.std.proofs.lemmas.List.{get_or_default}
-use Rattle.upload_job.specs.Lane.{Done}
-use Rattle.upload_job.specs.Lanes.{LaneView}
+use Rattle.lane_steps.specs.UploadJob.Lane.{Done}
+use Rattle.lane_steps.specs.UploadJob.Lanes.{LaneView}
 use Rattle.session.specs.Spelling.{IsJob}
 use Rattle.session_jobs.specs.Jobs.{job_lanes}
 

@@ -1,7 +1,7 @@
 -- The jobs of a session by their numbers, as lists of lanes.
 use Rattle.std.specs.Prelude.{ℕ, ◌-◌, List, [], All, slice_index_or, slice_set}
-use Rattle.cd_base.specs.declared.shape.Shape.{Shape}
-use Rattle.upload_job.specs.Lanes.{LaneView}
+use Rattle.lane_steps.specs.CdBase.shape.Shape.{Shape}
+use Rattle.lane_steps.specs.UploadJob.Lanes.{LaneView}
 use Rattle.lane_steps.specs.Reached.{IsReached}
 
 -- the lanes of the job of this number, counted from 1

@@ -1,12 +1,10 @@
 //! The jobs of a session.
 
-use cd_base::{Bytes, CloudNo, NoMemory};
-use frames::ReplyBuf;
-use lane_steps::{StepErr, finish_lane, step_lane};
+use lane_steps::{
+    Bytes, CloudNo, Job, LaneNews, Link, NoMemory, ReplyBuf, StepErr, finish_lane, step_lane,
+};
 use std::alloc::Global;
 use std::marker::Model;
-use upload_job::{Job, LaneNews};
-use user_dedup::Link;
 
 /// The jobs of a session, which are counted from 1 in the order of their uploads. Contracts see the list of their lanes.
 #[derive(Debug, Drop)]
@@ -16,7 +14,7 @@ pub struct Jobs {
 
 impl Model for Jobs {
     ghost use Rattle.std.specs.Prelude.{List};
-    ghost use Rattle.upload_job.specs.Lanes.{LaneView};
+    ghost use Rattle.lane_steps.specs.UploadJob.Lanes.{LaneView};
 
     ghost Value = { List (List LaneView) };
 
@@ -25,12 +23,12 @@ impl Model for Jobs {
 
 impl Jobs {
     ghost use Rattle.std.specs.Prelude.{◌≡◌, ◌<◌, ◌≤◌, List, [], ◌∷◌, ◌++◌, length, OnOk, OnErr, IfOk, IsTrue, ◌↔◌, All};
-    ghost use Rattle.user_dedup.specs.Link.{LeavesOthers};
+    ghost use Rattle.lane_steps.specs.UserDedup.Link.{LeavesOthers};
     ghost use Rattle.session.specs.Spelling.{IsJob};
-    ghost use Rattle.upload_job.specs.Lanes.{LaneView, request_at, IsAsked};
+    ghost use Rattle.lane_steps.specs.UploadJob.Lanes.{LaneView, request_at, IsAsked};
     ghost use Rattle.lane_steps.specs.Reached.{IsReached};
     ghost use Rattle.lane_steps.specs.Steps.{LaneSteps, Finishes, IsFound};
-    ghost use Rattle.upload_job.specs.Lane.{Done};
+    ghost use Rattle.lane_steps.specs.UploadJob.Lane.{Done};
     ghost use Rattle.session_jobs.specs.Jobs.{job_lanes, with_job};
 
     /// No jobs. It takes no memory.

@@ -4,3 +4,4 @@
 mod jobs;
 
 pub use jobs::Jobs;
+pub use lane_steps::{StepErr, law_of_lane_requests};

@@ -2,21 +2,21 @@
 use Rattle.std.proofs.Common.{◌≡◌, ℕ, true, List, [], sym, ◌∙◌, subst, inl, inr, ◌⊎◌}
 use Rattle.std.specs.List.{Contains}
 use Rattle.std.proofs.lemmas.Bool.{false≢true}
-use Rattle.cd_edges.specs.declared.area.Area.TheVariants.{Journal}
-use Rattle.cd_edges.specs.Disk.{Cloud, Image, reads}
-use Rattle.journal_start.specs.declared.start.Header.{Header}
-use Rattle.journal_halves.specs.Beginnings.{IsUnbegun}
-use Rattle.journal_halves.specs.Halves.{is_half_begun}
-use Rattle.journal_halves.specs.Journals.{Where, HasChain}
-use Rattle.journal_halves.proofs.Current.{begun_half}
-use Rattle.cloud_areas.specs.Standing.{StandsFor, where_of}
-use Rattle.user_dedup.specs.declared.command.Command.{Command}
-use Rattle.upload_job.specs.Upload.{FileVersion}
-use Rattle.kept_files.specs.Kept.{Keeps, key_of}
-use Rattle.kept_files.proofs.Giving.{kept_is_given}
-use Rattle.local_link.specs.Calls.{header_of}
+use Rattle.session_model.specs.CdEdges.area.Area.TheVariants.{Journal}
+use Rattle.session_model.specs.CdEdges.Disk.{Cloud, Image, reads}
+use Rattle.session_model.specs.JournalStart.start.Header.{Header}
+use Rattle.read_command.specs.JournalHalves.Beginnings.{IsUnbegun}
+use Rattle.read_command.specs.JournalHalves.Halves.{is_half_begun}
+use Rattle.read_command.specs.JournalHalves.Journals.{Where, HasChain}
+use Rattle.read_command.proofs.JournalHalves.Current.{begun_half}
+use Rattle.read_command.specs.CloudAreas.Standing.{StandsFor, where_of}
+use Rattle.lane_steps.specs.UserDedup.command.Command.{Command}
+use Rattle.lane_steps.specs.UploadJob.Upload.{FileVersion}
+use Rattle.read_command.specs.KeptFiles.Kept.{Keeps, key_of}
+use Rattle.read_command.proofs.KeptFiles.Giving.{kept_is_given}
+use Rattle.read_command.specs.LocalLink.Calls.{header_of}
 use Rattle.read_command.specs.Disks.{IsReadable}
-use Rattle.rebuild.proofs.Cut.{is_in}
+use Rattle.session_model.proofs.RebuildLaws.Cut.{is_in}
 use Rattle.session_model.specs.Headline.{Session, Clashes, DisksStand, IsRun}
 use Rattle.session_model.proofs.Acknowledged.{disks_keep, named_some, still_known}
 use Rattle.session_model.proofs.Ranged.{IsRanged, chosen_below}

@@ -6,25 +6,25 @@ use Rattle.std.proofs.lemmas.Bool.{cases_eq, cases_lt}
 use Rattle.std.proofs.lemmas.List.{length-map}
 use Rattle.std.proofs.lemmas.List.FromFn.{length-range_with_len}
 use Rattle.std.proofs.lemmas.List.Elements.{Contains-append_left, Contains-append_right, Contains-append_cases}
-use Rattle.cd_base.specs.declared.shape.Shape.{Shape}
-use Rattle.cd_edges.specs.Causes.{Rose}
-use Rattle.cd_edges.specs.Disk.{Cloud}
-use Rattle.messages.specs.declared.request.Request.{Request}
-use Rattle.user_dedup.specs.Exec.{Peer}
-use Rattle.user_dedup.proofs.Owned.{contains_cases, contains_here, contains_later, contains_nothing}
-use Rattle.upload_job.specs.declared.news.LaneNews.{LaneNews}
-use Rattle.upload_job.specs.Upload.{FileVersion, work_of}
-use Rattle.upload_job.specs.Lane.{LaneState, Done, Refused}
-use Rattle.upload_job.specs.Lanes.{LaneView, begun, with_state}
-use Rattle.upload_job.specs.Lanes as lanes
-use Rattle.lane_steps.specs.Runs.{Turn, Progress, LaneRun, Tell, lane_at, starting}
+use Rattle.lane_steps.specs.CdBase.shape.Shape.{Shape}
+use Rattle.session_model.specs.CdEdges.Causes.{Rose}
+use Rattle.session_model.specs.CdEdges.Disk.{Cloud}
+use Rattle.lane_steps.specs.Messages.request.Request.{Request}
+use Rattle.lane_steps.specs.UserDedup.Exec.{Peer}
+use Rattle.lane_steps.proofs.UserDedup.Owned.{contains_cases, contains_here, contains_later, contains_nothing}
+use Rattle.lane_steps.specs.UploadJob.news.LaneNews.{LaneNews}
+use Rattle.lane_steps.specs.UploadJob.Upload.{FileVersion, work_of}
+use Rattle.lane_steps.specs.UploadJob.Lane.{LaneState, Done, Refused}
+use Rattle.lane_steps.specs.UploadJob.Lanes.{LaneView, begun, with_state}
+use Rattle.lane_steps.specs.UploadJob.Lanes as lanes
+use Rattle.lane_steps.specs.Runs.{LaneTurn, Progress, LaneRun, Tell, lane_at, starting}
 use Rattle.lane_steps.proofs.Views.{lane_with, length_with}
-use Rattle.rebuild.proofs.Lacking.{Covers, covered}
-use Rattle.session.specs.declared.event.Event.{Event}
-use Rattle.session.specs.declared.event.Event.TheVariants as events
-use Rattle.transcript.specs.declared.line.Line.{Line}
-use Rattle.transcript.specs.declared.line.Line.TheVariants as lines
-use Rattle.session_model.specs.Vault.{Setting, JobState, Vault, Executes, lanes_at, lanes_of, with_lanes, with_lanes_at, new_job, opening}
+use Rattle.session_model.proofs.RebuildLaws.Lacking.{Covers, covered}
+use Rattle.session_model.specs.Session.event.Event.{Event}
+use Rattle.session_model.specs.Session.event.Event.TheVariants as events
+use Rattle.session_model.specs.Transcript.line.Line.{Line}
+use Rattle.session_model.specs.Transcript.line.Line.TheVariants as lines
+use Rattle.session_model.specs.Vault.{Setting, JobState, Vault, HasVaultExecuted, lanes_at, lanes_of, with_lanes, with_lanes_at, new_job, opening}
 use Rattle.session_model.specs.Steps.{Moment, DropStep, FinishLanes, LaneStep, VStep, all_done, is_done, step_line, stored_line, version_of}
 use Rattle.session_model.specs.Run.{Answered, Turns, script_of}
 use Rattle.session_model.specs.Kept.{upload_of, uploads}

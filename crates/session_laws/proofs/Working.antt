@@ -4,24 +4,24 @@ use Rattle.std.specs.Prelude.{IsTrue, ◌||◌, ◌==◌}
 use Rattle.std.specs.Bool.{MatchBool}
 use Rattle.std.specs.List.{Contains, list_all}
 use Rattle.std.proofs.lemmas.Option.{same_Some}
-use Rattle.cd_edges.specs.Causes.{Rose}
-use Rattle.cd_base.specs.declared.shape.Shape.{Shape}
-use Rattle.messages.specs.declared.request.Request.{Request}
-use Rattle.messages.specs.declared.reply.Reply.{Reply}
-use Rattle.messages.specs.declared.reply.Reply.TheVariants as replies
-use Rattle.user_dedup.specs.declared.command.Command.{Command}
-use Rattle.user_dedup.specs.Dedup.{FullRoom}
-use Rattle.user_dedup.specs.Exec.{Peer, Answers, Exec, ExecTold, ExecUntold}
-use Rattle.user_dedup.specs.Spending.{full_for}
-use Rattle.user_dedup.proofs.Owned.{contains_here, contains_later}
-use Rattle.upload_job.specs.declared.news.LaneNews.{LaneNews}
-use Rattle.upload_job.specs.declared.news.LaneNews.TheVariants as lane_news
-use Rattle.upload_job.specs.Upload.{Work}
-use Rattle.upload_job.specs.Lane.{LaneState, Asking, Sending, Committing, Done, Refused, lane_after, lane_request, news_of, onward}
-use Rattle.lane_steps.specs.Runs.{Turn, Progress, LaneRun, Tell, is_lacking, progress_after, stops_at}
-use Rattle.rebuild.proofs.Lacking.{Covers, Stands, onward_brought, owned_at, past_all, turn_stands, turn_whole}
-use Rattle.rebuild.proofs.Turning.{Answered, expected, fault_rose}
-use Rattle.session_model.specs.Vault.{Setting, Executes, served_at}
+use Rattle.session_model.specs.CdEdges.Causes.{Rose}
+use Rattle.lane_steps.specs.CdBase.shape.Shape.{Shape}
+use Rattle.lane_steps.specs.Messages.request.Request.{Request}
+use Rattle.lane_steps.specs.Messages.reply.Reply.{Reply}
+use Rattle.lane_steps.specs.Messages.reply.Reply.TheVariants as replies
+use Rattle.lane_steps.specs.UserDedup.command.Command.{Command}
+use Rattle.lane_steps.specs.UserDedup.Dedup.{FullRoom}
+use Rattle.lane_steps.specs.UserDedup.Exec.{Peer, Answers, Exec, ExecTold, ExecUntold}
+use Rattle.lane_steps.specs.UserDedup.Spending.{full_for}
+use Rattle.lane_steps.proofs.UserDedup.Owned.{contains_here, contains_later}
+use Rattle.lane_steps.specs.UploadJob.news.LaneNews.{LaneNews}
+use Rattle.lane_steps.specs.UploadJob.news.LaneNews.TheVariants as lane_news
+use Rattle.lane_steps.specs.UploadJob.Upload.{Work}
+use Rattle.lane_steps.specs.UploadJob.Lane.{LaneState, Asking, Sending, Committing, Done, Refused, lane_after, lane_request, news_of, onward}
+use Rattle.lane_steps.specs.Runs.{LaneTurn, Progress, LaneRun, Tell, is_lacking, progress_after, stops_at}
+use Rattle.session_model.proofs.RebuildLaws.Lacking.{Covers, Stands, onward_brought, owned_at, past_all, turn_stands, turn_whole}
+use Rattle.session_model.proofs.RebuildLaws.Turning.{Answered, expected, fault_rose}
+use Rattle.session_model.specs.Vault.{Setting, HasVaultExecuted, served_at}
 use Rattle.session_model.specs.Steps.{step_line}
 use Rattle.session_model.proofs.Counts.{keeps_executes, keeps_run}
 use Rattle.session_model.proofs.Faults.{rose_on, then_rose}
@@ -195,7 +195,7 @@ module _ (s : Setting) (c : ℕ) (told : IsTrue (s.told c)) (job : ℕ) where
       by_lack true e lacked = turn_stands s.shape p.lane.work c (full_for s.shape s.rooms) p.lane.state old mid request reply asks (work.brought e) a
       by_lack false e lacked = lack_stands s.shape p.lane.work c (full_for s.shape s.rooms) p.lane.state reply mid is lacked
 
-  pub run_done : (p last : Progress) (old new : ℕ → Peer) (turns : List (Turn (ℕ → Peer))) (tells : List LaneNews) → IsAtWork s c p (old c) → LaneRun (Executes s c) p old turns last new → Tell p.lane turns tells
+  pub run_done : (p last : Progress) (old new : ℕ → Peer) (turns : List (LaneTurn (ℕ → Peer))) (tells : List LaneNews) → IsAtWork s c p (old c) → LaneRun (HasVaultExecuted s c) p old turns last new → Tell p.lane turns tells
       → ¬ Rose (old c).faults (new c).faults → ((news : LaneNews) → Contains tells news → IsFree job c news) → last.lane.state ≡ Done
   run_done p last old new [] tells work run tell still free = elim run.0 [
     | inl stopped ↦ (let f : false ≡ true = sym work.on ∙ stopped in cc)

@@ -1,12 +1,12 @@
 -- Disks that a crash may leave of clouds of a session, and what they give.
 use Rattle.std.specs.Prelude.{◌≡◌, ℕ, IsTrue, List, Ok}
 use Rattle.std.specs.List.{Contains}
-use Rattle.cd_edges.specs.Disk.{Cloud, IsImage, reads}
-use Rattle.reed_solomon.specs.Dispersal.{AreChoice}
-use Rattle.user_dedup.specs.declared.command.Command.{Command}
-use Rattle.upload_job.specs.Upload.{FileVersion}
-use Rattle.kept_files.specs.Kept.{key_of}
-use Rattle.restore_job.specs.Restored.{restored_file}
+use Rattle.session_model.specs.CdEdges.Disk.{Cloud, IsImage, reads}
+use Rattle.session_model.specs.ReedSolomon.Dispersal.{AreChoice}
+use Rattle.lane_steps.specs.UserDedup.command.Command.{Command}
+use Rattle.lane_steps.specs.UploadJob.Upload.{FileVersion}
+use Rattle.read_command.specs.KeptFiles.Kept.{key_of}
+use Rattle.session_model.specs.RestoreJob.Restored.{restored_file}
 use Rattle.read_command.specs.Disks.{AreReadable}
 use Rattle.session_model.specs.Headline.{Session, StillKept}
 

@@ -1,13 +1,13 @@
 -- A finish that nothing hinders stores its job's version.
 use Rattle.std.specs.Prelude.{◌≡◌, ◌≢◌, ℕ, ◌<◌, IsTrue, true, List, ◌∷◌, ◌++◌}
 use Rattle.std.specs.List.{Contains}
-use Rattle.cd_edges.specs.Causes.{Rose}
-use Rattle.upload_job.specs.Lane.{Refused}
-use Rattle.upload_job.specs.Lanes.{LaneView}
-use Rattle.session.specs.declared.event.Event.TheVariants as events
-use Rattle.transcript.specs.declared.line.Line.{Line}
-use Rattle.transcript.specs.declared.line.Line.TheVariants as lines
-use Rattle.transcript.specs.declared.news.News.TheVariants as news
+use Rattle.session_model.specs.CdEdges.Causes.{Rose}
+use Rattle.lane_steps.specs.UploadJob.Lane.{Refused}
+use Rattle.lane_steps.specs.UploadJob.Lanes.{LaneView}
+use Rattle.session_model.specs.Session.event.Event.TheVariants as events
+use Rattle.session_model.specs.Transcript.line.Line.{Line}
+use Rattle.session_model.specs.Transcript.line.Line.TheVariants as lines
+use Rattle.session_model.specs.Transcript.news.News.TheVariants as news
 use Rattle.session_model.specs.Vault.{Setting, lanes_of}
 use Rattle.session_model.specs.Run.{Answered}
 use Rattle.session_model.specs.Headline.{Session}

@@ -1,8 +1,8 @@
 //! The laws. The calls do nothing.
 
 ghost use Rattle.std.specs.Prelude.{ℕ, List};
-ghost use Rattle.cd_edges.specs.Disk.{Cloud};
-ghost use Rattle.upload_job.specs.Upload.{FileVersion};
+ghost use Rattle.session_model.specs.CdEdges.Disk.{Cloud};
+ghost use Rattle.lane_steps.specs.UploadJob.Upload.{FileVersion};
 ghost use Rattle.session_model.specs.Headline.{Session, Clashes, DisksStand, IsRun};
 ghost use Rattle.session_laws.specs.Left.{AreLeft, GiveFile};
 ghost use Rattle.session_laws.specs.Stored.{StoresAll};

@@ -5,23 +5,23 @@ use Rattle.std.specs.Prelude.{IsTrue, slice_get, bytes_eq, Result, Ok, Err}
 use Rattle.std.specs.List.{Contains}
 use Rattle.std.proofs.lemmas.List.Elements.{Contains-append_cases, Contains-append_left, Contains-append_right}
 use Rattle.std.proofs.lemmas.Slice.Eq.{bytes_eq-Decides}
-use Rattle.cd_base.specs.declared.shape.Shape.{Shape}
-use Rattle.cd_edges.specs.Causes.{Rose}
-use Rattle.cd_edges.specs.Disk.{Cloud}
-use Rattle.caont_rs.specs.Package.{share}
-use Rattle.file_recipe.specs.FileRecipe.{secrets}
-use Rattle.reed_solomon.specs.Dispersal.{AreChoice}
-use Rattle.user_dedup.specs.declared.command.Command.{Command}
-use Rattle.user_dedup.specs.Cloud.{fingerprint}
-use Rattle.user_dedup.specs.Exec.{Peer, MaySettleAs, Stays, Settles}
-use Rattle.user_dedup.proofs.Owned.{contains_cases, contains_nothing, contains_here, contains_later}
-use Rattle.upload_job.specs.Upload.{FileVersion}
-use Rattle.restore_job.specs.declared.error.RestoreErr.{RestoreErr}
-use Rattle.restore_job.specs.declared.error.RestoreErr.TheVariants as restore_errors
-use Rattle.restore_job.specs.Asking.{is_loss, is_lost}
-use Rattle.restore_job.specs.Restored.{Unrestored, recipe_in}
-use Rattle.restore_job.specs.Restored
-use Rattle.restore_job.specs.Reading.{Ends}
+use Rattle.session.specs.CdBase.shape.Shape.{Shape}
+use Rattle.session.specs.CdEdges.Causes.{Rose}
+use Rattle.session.specs.CdEdges.Disk.{Cloud}
+use Rattle.subset_restore.specs.CaontRs.Package.{share}
+use Rattle.rebuild.specs.FileRecipe.FileRecipe.{secrets}
+use Rattle.rebuild.specs.ReedSolomon.Dispersal.{AreChoice}
+use Rattle.subset_restore.specs.UserDedup.command.Command.{Command}
+use Rattle.subset_restore.specs.UserDedup.Cloud.{fingerprint}
+use Rattle.subset_restore.specs.UserDedup.Exec.{Peer, MaySettleAs, KeepsPeer, Settles}
+use Rattle.subset_restore.proofs.UserDedup.Owned.{contains_cases, contains_nothing, contains_here, contains_later}
+use Rattle.rebuild.specs.UploadJob.Upload.{FileVersion}
+use Rattle.subset_restore.specs.RestoreJob.error.RestoreErr.{RestoreErr}
+use Rattle.subset_restore.specs.RestoreJob.error.RestoreErr.TheVariants as restore_errors
+use Rattle.subset_restore.specs.RestoreJob.Asking.{is_loss, is_lost}
+use Rattle.subset_restore.specs.RestoreJob.Restored.{Unrestored, recipe_in}
+use Rattle.subset_restore.specs.RestoreJob.Restored
+use Rattle.subset_restore.specs.RestoreJob.Reading.{Ends}
 use Rattle.subset_restore.specs.Subsets.{subsets, IsSubset}
 use Rattle.subset_restore.specs.Ends.{Sought, outcome_of}
 use Rattle.subset_restore.specs.Going.{sought}
@@ -39,11 +39,11 @@ use Rattle.rebuild.specs.Kept.{Refills as Came}
 use Rattle.rebuild.proofs.Bringing.{skip_for}
 use Rattle.session.specs.declared.event.Event.{Event}
 use Rattle.session.specs.declared.event.Event.TheVariants as events
-use Rattle.transcript.specs.declared.line.SkipWord.TheVariants as words
-use Rattle.transcript.specs.declared.line.Line.{Line}
-use Rattle.transcript.specs.declared.line.Line.TheVariants as lines
-use Rattle.transcript.specs.declared.refusal.Refusal.{Refusal}
-use Rattle.transcript.specs.declared.refusal.Refusal.TheVariants as refusals
+use Rattle.session.specs.Transcript.line.SkipWord.TheVariants as words
+use Rattle.session.specs.Transcript.line.Line.{Line}
+use Rattle.session.specs.Transcript.line.Line.TheVariants as lines
+use Rattle.session.specs.Transcript.refusal.Refusal.{Refusal}
+use Rattle.session.specs.Transcript.refusal.Refusal.TheVariants as refusals
 use Rattle.session_model.specs.Vault.{Setting, Vault, served_at, opening}
 use Rattle.session_model.specs.Steps.{Moment, cloud_no, IsGetLine, NoneFrom, ComesBy, GetStep, skip_line, AreRebuildLines, AllTold, RebuildStep, VStep}
 use Rattle.session_model.specs.Run.{Answered, Turns, script_of, moments_of}
@@ -164,7 +164,7 @@ module _ (clouds : ℕ → Cloud) (run : Session) (is : IsRun clouds run) (apart
   KeepsThere c v p = (list : List Command) → MaySettleAs p list → Keeps run.setting.shape c list v.user v.path v.number v.file
 
   -- a cloud that was read
-  read_keeps : (cloud : ℕ) (v : FileVersion) (p q : Peer) → Stays p q ⊎ Settles p q → KeepsThere cloud v p → Keeps run.setting.shape cloud q.list v.user v.path v.number v.file
+  read_keeps : (cloud : ℕ) (v : FileVersion) (p q : Peer) → KeepsPeer p q ⊎ Settles p q → KeepsThere cloud v p → Keeps run.setting.shape cloud q.list v.user v.path v.number v.file
   read_keeps cloud v p q (inl stays) keeps = keeps q.list (stays_in p q stays q.list (inl refl))
   read_keeps cloud v p q (inr settles) keeps = keeps q.list (settles_in p q settles q.list (inl refl))
 
@@ -363,7 +363,7 @@ module _ (clouds : ℕ → Cloud) (run : Session) (is : IsRun clouds run) (apart
       lacking_refuses run.setting.shape (λ c. (a.after.peers c).list) v.user (key_of run.setting.shape v.path v.number) subset cloud has
       (p (a.after.peers cloud).list (may_settle (g.mid.peers cloud) (a.after.peers cloud) (g.step.read.read cloud).0))
     where
-      may_settle : (p q : Peer) → Stays p q ⊎ Settles p q → MaySettleAs p q.list
+      may_settle : (p q : Peer) → KeepsPeer p q ⊎ Settles p q → MaySettleAs p q.list
       may_settle p q (inl stays) = stays_in p q stays q.list (inl refl)
       may_settle p q (inr settles) = settles_in p q settles q.list (inl refl)
 

@@ -2,14 +2,14 @@
 use Rattle.std.proofs.Common.{◌≡◌, ℕ, Bool, true, false, Result, Ok, Err, sym, ap, ◌∙◌, subst, refl}
 use Rattle.std.specs.Bool.{MatchBool}
 use Rattle.std.specs.List.{Contains}
-use Rattle.cd_edges.specs.Disk.{Cloud}
-use Rattle.half_journal.specs.declared.errors.OpenErr.{OpenErr}
-use Rattle.half_journal.specs.declared.errors.OpenErr.TheVariants as errors
-use Rattle.user_dedup.specs.Exec.{Peer}
+use Rattle.session.specs.CdEdges.Disk.{Cloud}
+use Rattle.local_link.specs.HalfJournal.errors.OpenErr.{OpenErr}
+use Rattle.local_link.specs.HalfJournal.errors.OpenErr.TheVariants as errors
+use Rattle.subset_restore.specs.UserDedup.Exec.{Peer}
 use Rattle.local_link.specs.CloudServer.Serving.{ReopensAs}
 use Rattle.session.specs.declared.event.Event.{Event}
 use Rattle.session.specs.declared.event.Event.TheVariants as events
-use Rattle.transcript.specs.declared.line.Line.{Line}
+use Rattle.session.specs.Transcript.line.Line.{Line}
 use Rattle.session_model.specs.Vault.{Setting}
 use Rattle.session_model.specs.Steps.{cloud_no, ReopensUntold, RestartStep}
 use Rattle.session_model.specs.Headline.{Session, IsRun, script_in}

@@ -4,23 +4,23 @@ use Rattle.std.specs.Prelude.{IsSomeAnd, option_to_list}
 use Rattle.std.specs.List.{Contains}
 use Rattle.std.proofs.lemmas.List.Elements.{Contains-append_left}
 use Rattle.std.proofs.lemmas.Grind.{flat_map-append}
-use Rattle.cd_base.specs.Limits.{IsPath}
-use Rattle.cd_base.specs.declared.shape.Shape.{Shape}
-use Rattle.caont_rs.specs.Package.{share}
-use Rattle.file_recipe.specs.FileRecipe.{secrets}
-use Rattle.messages.specs.declared.request.Request.{Request}
-use Rattle.messages.specs.declared.request.Request.TheVariants as requests
-use Rattle.messages.specs.declared.reply.Reply.{Reply}
-use Rattle.messages.specs.declared.reply.Reply.TheVariants as replies
-use Rattle.user_dedup.specs.declared.command.Command.{Command}
-use Rattle.user_dedup.specs.Cloud.{fingerprint, strings_of}
-use Rattle.user_dedup.specs.Dedup.{Outcome, FullRoom, put_outcome, answer_over, room_for, by_room}
-use Rattle.user_dedup.specs.Exec.{Peer, MaySettleAs, ExecTold, served}
-use Rattle.user_dedup.specs.Cloud.{strings_in}
-use Rattle.upload_job.specs.declared.news.LaneNews.TheVariants as lane_news
-use Rattle.upload_job.specs.Upload.{FileVersion, Work, work_of}
-use Rattle.upload_job.specs.Lane.{LaneState, Asking, Sending, Committing, Done, Refused, unflagged, lane_request, news_of}
-use Rattle.upload_job.specs.Lanes.{LaneView}
+use Rattle.session.specs.CdBase.Limits.{IsPath}
+use Rattle.session.specs.CdBase.shape.Shape.{Shape}
+use Rattle.subset_restore.specs.CaontRs.Package.{share}
+use Rattle.rebuild.specs.FileRecipe.FileRecipe.{secrets}
+use Rattle.rebuild.specs.Messages.request.Request.{Request}
+use Rattle.rebuild.specs.Messages.request.Request.TheVariants as requests
+use Rattle.rebuild.specs.Messages.reply.Reply.{Reply}
+use Rattle.rebuild.specs.Messages.reply.Reply.TheVariants as replies
+use Rattle.subset_restore.specs.UserDedup.command.Command.{Command}
+use Rattle.subset_restore.specs.UserDedup.Cloud.{fingerprint, strings_of}
+use Rattle.subset_restore.specs.UserDedup.Dedup.{Outcome, FullRoom, put_outcome, answer_over, room_for, by_room}
+use Rattle.subset_restore.specs.UserDedup.Exec.{Peer, MaySettleAs, ExecTold, served}
+use Rattle.subset_restore.specs.UserDedup.Cloud.{strings_in}
+use Rattle.rebuild.specs.UploadJob.news.LaneNews.TheVariants as lane_news
+use Rattle.rebuild.specs.UploadJob.Upload.{FileVersion, Work, work_of}
+use Rattle.rebuild.specs.UploadJob.Lane.{LaneState, Asking, Sending, Committing, Done, Refused, unflagged, lane_request, news_of}
+use Rattle.rebuild.specs.UploadJob.Lanes.{LaneView}
 use Rattle.rebuild.specs.KeptFiles.Kept.{Keeps}
 use Rattle.rebuild.proofs.KeptFiles.Keeping.{committed_keeps}
 

@@ -5,26 +5,26 @@ use Rattle.std.specs.Bool.{MatchBool}
 use Rattle.std.specs.List.{Contains}
 use Rattle.std.proofs.lemmas.Bool.{cases_eq}
 use Rattle.std.proofs.lemmas.List.Elements.{Contains-append_cases, Contains-append_right}
-use Rattle.cd_base.specs.declared.ids.Tag.{Tag}
-use Rattle.cd_base.specs.declared.ids.UserId.{UserId}
-use Rattle.cd_base.specs.declared.ids.Version.{Version}
-use Rattle.cd_edges.specs.Causes.{Rose}
-use Rattle.cd_edges.specs.Disk.{Cloud}
-use Rattle.half_journal.specs.declared.errors.OpenErr.{OpenErr}
-use Rattle.half_journal.specs.declared.errors.OpenErr.TheVariants as errors
-use Rattle.messages.specs.declared.request.Request.{Request}
-use Rattle.messages.specs.declared.reply.Reply.{Reply}
-use Rattle.user_dedup.specs.Exec.{Peer}
-use Rattle.user_dedup.proofs.Owned.{contains_cases, contains_nothing, contains_here}
+use Rattle.session.specs.CdBase.ids.Tag.{Tag}
+use Rattle.session.specs.CdBase.ids.UserId.{UserId}
+use Rattle.session.specs.CdBase.ids.Version.{Version}
+use Rattle.session.specs.CdEdges.Causes.{Rose}
+use Rattle.session.specs.CdEdges.Disk.{Cloud}
+use Rattle.local_link.specs.HalfJournal.errors.OpenErr.{OpenErr}
+use Rattle.local_link.specs.HalfJournal.errors.OpenErr.TheVariants as errors
+use Rattle.rebuild.specs.Messages.request.Request.{Request}
+use Rattle.rebuild.specs.Messages.reply.Reply.{Reply}
+use Rattle.subset_restore.specs.UserDedup.Exec.{Peer}
+use Rattle.subset_restore.proofs.UserDedup.Owned.{contains_cases, contains_nothing, contains_here}
 use Rattle.local_link.specs.CloudServer.Serving.{ReopensAs}
-use Rattle.upload_job.specs.Lanes as lanes
-use Rattle.rebuild.specs.LaneSteps.Runs.{Turn, Progress, LaneRun, progress_after}
+use Rattle.rebuild.specs.UploadJob.Lanes as lanes
+use Rattle.rebuild.specs.LaneSteps.Runs.{LaneTurn, Progress, LaneRun, progress_after}
 use Rattle.session.specs.declared.event.Event.{Event}
 use Rattle.session.specs.declared.event.Event.TheVariants as events
-use Rattle.transcript.specs.declared.refusal.Refusal.{Refusal}
-use Rattle.transcript.specs.declared.line.Line.{Line}
-use Rattle.transcript.specs.declared.line.Line.TheVariants as lines
-use Rattle.session_model.specs.Vault.{Setting, Vault, Executes, OneGoes, lanes_of, opening, with_peer, ExecutesAll}
+use Rattle.session.specs.Transcript.refusal.Refusal.{Refusal}
+use Rattle.session.specs.Transcript.line.Line.{Line}
+use Rattle.session.specs.Transcript.line.Line.TheVariants as lines
+use Rattle.session_model.specs.Vault.{Setting, Vault, HasVaultExecuted, OneGoes, lanes_of, opening, with_peer, ExecutesAll}
 use Rattle.session_model.specs.Steps.{Moment, Execution, moment_of, turn_moment, target_moments, LaneStep, DropStep, FinishLanes, ListRun, IsReplaceLine, ReopensUntold, RestartStep, VStep}
 use Rattle.session_model.specs.Run.{Answered, Turns}
 use Rattle.session_model.specs.Headline.{Session, Begun, ComesTo, IsPartOf, IsRun}
@@ -81,13 +81,13 @@ module _ (f : ℕ) (small : f < 2 ^ 64) where
       | inr ne ↦ keeps_same (old c) (new c) (x.others c ne)
     ]
 
-    pub keeps_executes : (cloud : ℕ) (old new : ℕ → Peer) (request : Request) (reply : Reply) → Executes s cloud old request reply new → Keeps (old c) (new c)
+    pub keeps_executes : (cloud : ℕ) (old new : ℕ → Peer) (request : Request) (reply : Reply) → HasVaultExecuted s cloud old request reply new → Keeps (old c) (new c)
     keeps_executes cloud old new request reply x = elim (cases_eq c cloud) [
       | inl same ↦ subst (λ (n : ℕ). Keeps (old n) (new n)) (sym same) (keeps_up (old cloud).faults (new cloud).faults x.does.counts.faults)
       | inr ne ↦ keeps_same (old c) (new c) (x.others c ne)
     ]
 
-    pub keeps_run : (cloud : ℕ) (p : Progress) (old : ℕ → Peer) (turns : List (Turn (ℕ → Peer))) (last : Progress) (new : ℕ → Peer) → LaneRun (Executes s cloud) p old turns last new → Keeps (old c) (new c)
+    pub keeps_run : (cloud : ℕ) (p : Progress) (old : ℕ → Peer) (turns : List (LaneTurn (ℕ → Peer))) (last : Progress) (new : ℕ → Peer) → LaneRun (HasVaultExecuted s cloud) p old turns last new → Keeps (old c) (new c)
     keeps_run cloud p old [] last new run le = keeps_same (old c) (new c) (ap (λ (g : ℕ → Peer). g c) run.2) le
     keeps_run cloud p old (t ∷ turns) last new run le =
         keeps_run cloud (progress_after p t.reply) run.3.0 turns last new run.3.2 (keeps_executes cloud old run.3.0 t.request t.reply run.3.1 le)
@@ -104,7 +104,7 @@ module _ (f : ℕ) (small : f < 2 ^ 64) where
     keeps_drop job cloud None old answers moments new x = keeps_same (old.peers c) (new.peers c) (ap (λ (v : Vault). v.peers c) x.2)
     keeps_drop job cloud (Some request) old answers moments new x = keeps_executes cloud old.peers new.peers request x.0 x.1
 
-    keeps_list : (user : UserId) (cloud : ℕ) (above : Option (Tag × Version)) (old : ℕ → Peer) (turns : List (Turn (ℕ → Peer))) (listed : Result (List (Tag × Version)) Refusal) (new : ℕ → Peer)
+    keeps_list : (user : UserId) (cloud : ℕ) (above : Option (Tag × Version)) (old : ℕ → Peer) (turns : List (LaneTurn (ℕ → Peer))) (listed : Result (List (Tag × Version)) Refusal) (new : ℕ → Peer)
         → ListRun s user cloud above old turns listed new → Keeps (old c) (new c)
     keeps_list user cloud above old [] listed new run le = absurd run
     keeps_list user cloud above old (t ∷ turns) listed new run le =
@@ -162,7 +162,7 @@ module _ (f : ℕ) (small : f < 2 ^ 64) where
       | inr none ↦ absurd (contains_nothing m none)
     ]
 
-    keeps_turn : (cloud : ℕ) (p : Progress) (old : ℕ → Peer) (turns : List (Turn (ℕ → Peer))) (last : Progress) (new : ℕ → Peer) → LaneRun (Executes s cloud) p old turns last new
+    keeps_turn : (cloud : ℕ) (p : Progress) (old : ℕ → Peer) (turns : List (LaneTurn (ℕ → Peer))) (last : Progress) (new : ℕ → Peer) → LaneRun (HasVaultExecuted s cloud) p old turns last new
         → (m : Moment) → Contains (map (moment_of cloud) turns) m → Keeps (old c) (m.peers c)
     keeps_turn cloud p old [] last new run m has le = absurd (contains_nothing m has)
     keeps_turn cloud p old (t ∷ turns) last new run m has le = elim (contains_cases (moment_of cloud t) (map (moment_of cloud) turns) m has) [
@@ -188,19 +188,19 @@ module _ (f : ℕ) (small : f < 2 ^ 64) where
     keeps_drop_at job cloud None old answers moments new x = keeps_alone old.peers None moments x.1
     keeps_drop_at job cloud (Some request) old answers moments new x = keeps_alone old.peers _ moments x.2
 
-    keeps_list_at : (user : UserId) (cloud : ℕ) (above : Option (Tag × Version)) (old : ℕ → Peer) (turns : List (Turn (ℕ → Peer))) (listed : Result (List (Tag × Version)) Refusal) (new : ℕ → Peer)
+    keeps_list_at : (user : UserId) (cloud : ℕ) (above : Option (Tag × Version)) (old : ℕ → Peer) (turns : List (LaneTurn (ℕ → Peer))) (listed : Result (List (Tag × Version)) Refusal) (new : ℕ → Peer)
         → ListRun s user cloud above old turns listed new → (m : Moment) → Contains (map (moment_of cloud) turns) m → Keeps (old c) (m.peers c)
     keeps_list_at user cloud above old [] listed new run m has le = absurd run
     keeps_list_at user cloud above old (t ∷ turns) listed new run m has le = elim (contains_cases (moment_of cloud t) (map (moment_of cloud) turns) m has) [
       | inl same ↦ keeps_same (old c) (m.peers c) (ap (λ (n : Moment). n.peers c) (sym same) ∙ ap (λ (g : ℕ → Peer). g c) run.0) le
       | inr later ↦ let mid = keeps_executes cloud old run.2.0 t.request t.reply run.2.1 le in elim run.2.2 [
-        | inl x ↦ absurd (contains_nothing m (subst (λ (l : List (Turn (ℕ → Peer))). Contains (map (moment_of cloud) l) m) x.1 later))
+        | inl x ↦ absurd (contains_nothing m (subst (λ (l : List (LaneTurn (ℕ → Peer))). Contains (map (moment_of cloud) l) m) x.1 later))
         | inr x ↦ keeps_list_at user cloud (slice_get x.0 (length x.0 - 1)) run.2.0 turns x.1 new x.5 m later mid
       ]
     ]
 
     -- the target of a rebuild
-    keeps_target : (old : ℕ → Peer) (p : Peer) (turns : List (Turn Peer)) (end : Peer) → ExecutesAll s c p turns end → (m : Moment) → Contains (target_moments old c turns end) m → Keeps p (m.peers c)
+    keeps_target : (old : ℕ → Peer) (p : Peer) (turns : List (LaneTurn Peer)) (end : Peer) → ExecutesAll s c p turns end → (m : Moment) → Contains (target_moments old c turns end) m → Keeps p (m.peers c)
     keeps_target old p [] end x m has le = elim (contains_cases (record { peers = with_peer old c end; event = None }) [] m has) [
       | inl same ↦ keeps_same p (m.peers c) (ap (λ (n : Moment). n.peers c) (sym same) ∙ with_here old c end ∙ x) le
       | inr none ↦ absurd (contains_nothing m none)
@@ -210,7 +210,7 @@ module _ (f : ℕ) (small : f < 2 ^ 64) where
       | inr later ↦ keeps_target old x.1.0 turns end x.1.2 m later (keeps_up p.faults x.1.0.faults x.1.1.counts.faults le)
     ]
 
-    keeps_rebuild : (old : ℕ → Peer) (target : ℕ) (turns : List (Turn Peer)) (new : ℕ → Peer) → ExecutesAll s target (old target) turns (new target)
+    keeps_rebuild : (old : ℕ → Peer) (target : ℕ) (turns : List (LaneTurn Peer)) (new : ℕ → Peer) → ExecutesAll s target (old target) turns (new target)
         → (m : Moment) → Contains (target_moments old target turns (new target)) m → Keeps (old c) (m.peers c)
     keeps_rebuild old target turns new x m has = elim (cases_eq c target) [
       | inl same ↦ keeps_target old (old c) turns (new c) (subst (λ (n : ℕ). ExecutesAll s n (old n) turns (new n)) (sym same) x) m

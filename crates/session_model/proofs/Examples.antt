@@ -1,28 +1,28 @@
 -- Cases that compute, for whoever doubts a definition.
 use Rattle.std.proofs.Common.{◌≡◌, ℕ, zero, suc, ◌+◌, ◌<◌, true, false, List, [], ◌∷◌, length, get_or, Some, None, refl, ap, subst, inl, inr, arith}
 use Rattle.std.specs.Prelude.{◌≢◌, IsTrue, All, slice_get, Ok, Err}
-use Rattle.cd_base.specs.declared.ids.Tag.{Tag}
-use Rattle.cd_base.specs.declared.ids.UserId.{UserId}
-use Rattle.cd_base.specs.declared.ids.Version.{Version}
-use Rattle.cd_base.specs.declared.shape.Shape.{Shape}
-use Rattle.cd_edges.specs.Disk.{Cloud}
-use Rattle.messages.specs.declared.request.Request.TheVariants as requests
-use Rattle.messages.specs.declared.reply.Reply.TheVariants as replies
-use Rattle.user_dedup.proofs.Owned.{contains_here}
-use Rattle.upload_job.specs.Upload.{FileVersion}
-use Rattle.upload_job.specs.Lane.{LaneState, Committing, Done, Refused}
-use Rattle.upload_job.specs.Lanes.{LaneView}
+use Rattle.session.specs.CdBase.ids.Tag.{Tag}
+use Rattle.session.specs.CdBase.ids.UserId.{UserId}
+use Rattle.session.specs.CdBase.ids.Version.{Version}
+use Rattle.session.specs.CdBase.shape.Shape.{Shape}
+use Rattle.session.specs.CdEdges.Disk.{Cloud}
+use Rattle.rebuild.specs.Messages.request.Request.TheVariants as requests
+use Rattle.rebuild.specs.Messages.reply.Reply.TheVariants as replies
+use Rattle.subset_restore.proofs.UserDedup.Owned.{contains_here}
+use Rattle.rebuild.specs.UploadJob.Upload.{FileVersion}
+use Rattle.rebuild.specs.UploadJob.Lane.{LaneState, Committing, Done, Refused}
+use Rattle.rebuild.specs.UploadJob.Lanes.{LaneView}
 use Rattle.rebuild.specs.LaneSteps.Runs.{starting, progress_after, no_lane}
 use Rattle.session.specs.Scripts.{jobs_of}
 use Rattle.session.specs.declared.event.Event.{Event}
 use Rattle.session.specs.declared.event.Event.TheVariants as events
 use Rattle.rebuild.specs.declared.error.SkipWhy.TheVariants as whys
 use Rattle.rebuild.specs.declared.error.RebuildErr.TheVariants as rebuild_errors
-use Rattle.transcript.specs.declared.line.SkipWord.TheVariants as words
-use Rattle.transcript.specs.declared.line.Line.{Line}
-use Rattle.transcript.specs.declared.line.Line.TheVariants as lines
-use Rattle.transcript.specs.declared.news.News.TheVariants as news
-use Rattle.transcript.specs.declared.refusal.Refusal.TheVariants as refusals
+use Rattle.session.specs.Transcript.line.SkipWord.TheVariants as words
+use Rattle.session.specs.Transcript.line.Line.{Line}
+use Rattle.session.specs.Transcript.line.Line.TheVariants as lines
+use Rattle.session.specs.Transcript.news.News.TheVariants as news
+use Rattle.session.specs.Transcript.refusal.Refusal.TheVariants as refusals
 use Rattle.session_model.specs.Vault.{Setting, Vault, new_job, opening}
 use Rattle.session_model.specs.Steps.{Moment, quiet, cloud_no, version_of, lose_lines, all_done, stored_line, LaneStep, EndsListing, IsReplaceLine, AreRebuildLines, VStep}
 use Rattle.session_model.specs.Run.{Answered}

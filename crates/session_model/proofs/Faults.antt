@@ -6,37 +6,37 @@ use Rattle.std.specs.List.{Contains, range_with_len}
 use Rattle.std.proofs.lemmas.Bool.{cases_lt}
 use Rattle.std.proofs.lemmas.List.Elements.{Contains-append_cases}
 use Rattle.std.proofs.lemmas.Option.{same_Some}
-use Rattle.cd_base.specs.declared.ids.CloudNo.{CloudNo}
-use Rattle.cd_base.specs.declared.ids.Tag.{Tag}
-use Rattle.cd_base.specs.declared.ids.UserId.{UserId}
-use Rattle.cd_base.specs.declared.ids.Version.{Version}
-use Rattle.cd_edges.specs.Causes.{Rose}
-use Rattle.cd_edges.specs.Disk.{Cloud}
-use Rattle.half_journal.specs.declared.errors.OpenErr.{OpenErr}
-use Rattle.half_journal.specs.declared.errors.OpenErr.TheVariants as errors
-use Rattle.messages.specs.declared.request.Request.{Request}
-use Rattle.messages.specs.declared.request.Request.TheVariants as requests
-use Rattle.messages.specs.declared.reply.Reply.{Reply}
-use Rattle.messages.specs.declared.reply.Reply.TheVariants as replies
-use Rattle.user_dedup.specs.declared.command.Command.{Command}
-use Rattle.user_dedup.specs.declared.command.Command.TheVariants as commands
-use Rattle.user_dedup.specs.declared.file_list.FileEntry.{FileEntry}
-use Rattle.user_dedup.specs.Cloud.{user_view}
-use Rattle.user_dedup.specs.Dedup.{FullRoom, delete_outcome, by_room, unless_full}
-use Rattle.user_dedup.specs.Pages.{page_of, entry_at}
-use Rattle.user_dedup.specs.Exec.{Peer, ExecTold, ExecUntold}
-use Rattle.user_dedup.proofs.Owned.{contains_cases, contains_nothing}
-use Rattle.user_dedup.specs.Spending.{full_for}
+use Rattle.session.specs.CdBase.ids.CloudNo.{CloudNo}
+use Rattle.session.specs.CdBase.ids.Tag.{Tag}
+use Rattle.session.specs.CdBase.ids.UserId.{UserId}
+use Rattle.session.specs.CdBase.ids.Version.{Version}
+use Rattle.session.specs.CdEdges.Causes.{Rose}
+use Rattle.session.specs.CdEdges.Disk.{Cloud}
+use Rattle.local_link.specs.HalfJournal.errors.OpenErr.{OpenErr}
+use Rattle.local_link.specs.HalfJournal.errors.OpenErr.TheVariants as errors
+use Rattle.rebuild.specs.Messages.request.Request.{Request}
+use Rattle.rebuild.specs.Messages.request.Request.TheVariants as requests
+use Rattle.rebuild.specs.Messages.reply.Reply.{Reply}
+use Rattle.rebuild.specs.Messages.reply.Reply.TheVariants as replies
+use Rattle.subset_restore.specs.UserDedup.command.Command.{Command}
+use Rattle.subset_restore.specs.UserDedup.command.Command.TheVariants as commands
+use Rattle.subset_restore.specs.UserDedup.file_list.FileEntry.{FileEntry}
+use Rattle.subset_restore.specs.UserDedup.Cloud.{user_view}
+use Rattle.subset_restore.specs.UserDedup.Dedup.{FullRoom, delete_outcome, by_room, unless_full}
+use Rattle.subset_restore.specs.UserDedup.Pages.{page_of, entry_at}
+use Rattle.subset_restore.specs.UserDedup.Exec.{Peer, ExecTold, ExecUntold}
+use Rattle.subset_restore.proofs.UserDedup.Owned.{contains_cases, contains_nothing}
+use Rattle.subset_restore.specs.UserDedup.Spending.{full_for}
 use Rattle.local_link.specs.CloudServer.Serving.{ReopensAs}
-use Rattle.upload_job.specs.declared.news.LaneNews.{LaneNews}
-use Rattle.upload_job.specs.declared.news.LaneNews.TheVariants as lane_news
-use Rattle.upload_job.specs.Lane.{lane_request}
-use Rattle.upload_job.specs.Lanes.{LaneView}
-use Rattle.upload_job.specs.Lanes as lanes
-use Rattle.rebuild.specs.LaneSteps.Runs.{Turn, Progress, LaneRun, Tell, lane_at, progress_after, starting}
-use Rattle.restore_job.specs.Refusals.{Causes}
-use Rattle.restore_job.specs.declared.error.RestoreErr.{RestoreErr}
-use Rattle.restore_job.specs.declared.error.RestoreErr.TheVariants as restore_errors
+use Rattle.rebuild.specs.UploadJob.news.LaneNews.{LaneNews}
+use Rattle.rebuild.specs.UploadJob.news.LaneNews.TheVariants as lane_news
+use Rattle.rebuild.specs.UploadJob.Lane.{lane_request}
+use Rattle.rebuild.specs.UploadJob.Lanes.{LaneView}
+use Rattle.rebuild.specs.UploadJob.Lanes as lanes
+use Rattle.rebuild.specs.LaneSteps.Runs.{LaneTurn, Progress, LaneRun, Tell, lane_at, progress_after, starting}
+use Rattle.subset_restore.specs.RestoreJob.Refusals.{Causes}
+use Rattle.subset_restore.specs.RestoreJob.error.RestoreErr.{RestoreErr}
+use Rattle.subset_restore.specs.RestoreJob.error.RestoreErr.TheVariants as restore_errors
 use Rattle.rebuild.specs.declared.error.RebuildErr.{RebuildErr}
 use Rattle.rebuild.specs.declared.error.RebuildErr.TheVariants as rebuild_errors
 use Rattle.rebuild.specs.declared.skips.Rebuilt.{Rebuilt}
@@ -48,13 +48,13 @@ use Rattle.subset_restore.specs.Refusals.{refusal_of}
 use Rattle.rebuild.specs.KeptFiles.Kept.{key_of}
 use Rattle.session.specs.declared.event.Event.{Event}
 use Rattle.session.specs.declared.event.Event.TheVariants as events
-use Rattle.transcript.specs.declared.news.News.TheVariants as news
-use Rattle.transcript.specs.declared.refusal.Refusal.{Refusal}
-use Rattle.transcript.specs.declared.refusal.Refusal.TheVariants as refusals
-use Rattle.transcript.specs.declared.refusal.TargetWhy.TheVariants as target_whys
-use Rattle.transcript.specs.declared.line.Line.{Line}
-use Rattle.transcript.specs.declared.line.Line.TheVariants as lines
-use Rattle.session_model.specs.Vault.{Setting, Vault, Executes, served_at, lanes_of, opening}
+use Rattle.session.specs.Transcript.news.News.TheVariants as news
+use Rattle.session.specs.Transcript.refusal.Refusal.{Refusal}
+use Rattle.session.specs.Transcript.refusal.Refusal.TheVariants as refusals
+use Rattle.session.specs.Transcript.refusal.TargetWhy.TheVariants as target_whys
+use Rattle.session.specs.Transcript.line.Line.{Line}
+use Rattle.session.specs.Transcript.line.Line.TheVariants as lines
+use Rattle.session_model.specs.Vault.{Setting, Vault, HasVaultExecuted, served_at, lanes_of, opening}
 use Rattle.session_model.specs.Steps.{Moment, cloud_no, step_line, stored_line, LaneStep, DropStep, FinishLanes, IsGetLine, GetStep, behind_page, EndsListing, ListRun, entry_line, list_lines, told_so, IsRestartLine, RestartStep, ReopensUntold, IsReplaceLine, skip_line, IsDeleteLine, DeleteStep, rebuild_refusal, AreRebuildLines, RebuildStep, lose_lines, asked_by, VStep}
 use Rattle.session_model.specs.Run.{Answered, Turns}
 use Rattle.session_model.specs.Headline.{Session, IsRun}
@@ -148,7 +148,7 @@ module _ (event : Event) (c : ℕ) where
   module _ (s : Setting) where
     -- a request of a lane that is answered so
     lane_rose : (lane : LaneView) (cloud : ℕ) (old : ℕ → Peer) (request : Request) (reply : Reply) (new : ℕ → Peer) → lane_request lane.work lane.state ≡ Some request
-        → Executes s cloud old request reply new → reply ≡ replies.Fault → Rose (old cloud).faults (new cloud).faults
+        → HasVaultExecuted s cloud old request reply new → reply ≡ replies.Fault → Rose (old cloud).faults (new cloud).faults
     lane_rose lane cloud old request reply new asks x is =
         fault_rose s.shape cloud (full_for s.shape s.rooms) (s.told cloud) lane.work lane.state request reply (old cloud) (new cloud) asks x.does is
 
@@ -170,7 +170,7 @@ module _ (event : Event) (c : ℕ) where
           | inr stored ↦ absurd (stored_says job views x.2 line stored says)
         ]
 
-    run_says : (job cloud : ℕ) (p : Progress) (old : ℕ → Peer) (turns : List (Turn (ℕ → Peer))) (last : Progress) (new : ℕ → Peer) → LaneRun (Executes s cloud) p old turns last new
+    run_says : (job cloud : ℕ) (p : Progress) (old : ℕ → Peer) (turns : List (LaneTurn (ℕ → Peer))) (last : Progress) (new : ℕ → Peer) → LaneRun (HasVaultExecuted s cloud) p old turns last new
         → (told : List LaneNews) → Tell p.lane turns told → (line : Line) → Contains (map (step_line job cloud) told) line → Says line → Rose (old c).faults (new c).faults
     run_says job cloud p old [] last new run told tell line has says = absurd (contains_nothing line (subst (λ (l : List LaneNews). Contains (map (step_line job cloud) l) line) tell has))
     run_says job cloud p old (t ∷ turns) last new run told tell line has says =
@@ -204,7 +204,7 @@ module _ (event : Event) (c : ℕ) where
     -- ---- a listing
 
     list_rose : (user : UserId) (above : Option (Tag × Version)) (cloud : ℕ) (old : ℕ → Peer) (reply : Reply) (new : ℕ → Peer)
-        → Executes s cloud old (requests.List user above) reply new → reply ≡ replies.Fault → Rose (old cloud).faults (new cloud).faults
+        → HasVaultExecuted s cloud old (requests.List user above) reply new → reply ≡ replies.Fault → Rose (old cloud).faults (new cloud).faults
     list_rose user above cloud old reply new x is = by_told (s.told cloud) x.does.does
       where
         by_told : (b : Bool) → MatchBool b (ExecTold (served_at s cloud) (old cloud) (requests.List user above) reply (new cloud)) (ExecUntold s.shape (old cloud) (requests.List user above) reply (new cloud))
@@ -233,14 +233,14 @@ module _ (event : Event) (c : ℕ) where
     refused_says cloud (replies.Malformed at) why ends says = absurd (let f : None ≡ Some ends.0 = ends.1 in cc)
     refused_says cloud replies.NoMemory why ends says = absurd (subst (λ (r : Refusal). Says (lines.Refused r)) (same_Err ends.2 ∙ sym (same_Some (refusals.NoMemory (cloud_no cloud)) ends.0 ends.1)) says)
 
-    listing_says : (user : UserId) (cloud : ℕ) (above : Option (Tag × Version)) (old : ℕ → Peer) (turns : List (Turn (ℕ → Peer))) (why : Refusal) (new : ℕ → Peer)
+    listing_says : (user : UserId) (cloud : ℕ) (above : Option (Tag × Version)) (old : ℕ → Peer) (turns : List (LaneTurn (ℕ → Peer))) (why : Refusal) (new : ℕ → Peer)
         → ListRun s user cloud above old turns (Err why) new → Says (lines.Refused why) → Rose (old c).faults (new c).faults
     listing_says user cloud above old [] why new run says = absurd run
     listing_says user cloud above old (t ∷ turns) why new run says = elim run.2.2 [
       | inl x ↦ (let y = refused_says cloud t.reply why x.0 says in
           subst (λ (g : ℕ → Peer). Rose (old c).faults (g c).faults) (sym x.2)
           (subst (λ (n : ℕ). Rose (old n).faults (run.2.0 n).faults) y.1
-          (list_rose user above cloud old t.reply run.2.0 (subst (λ (r : Request). Executes s cloud old r t.reply run.2.0) run.1 run.2.1) y.0)))
+          (list_rose user above cloud old t.reply run.2.0 (subst (λ (r : Request). HasVaultExecuted s cloud old r t.reply run.2.0) run.1 run.2.1) y.0)))
       | inr x ↦ by_rest (slice_get x.0 (length x.0 - 1)) x.0 x.1 x.4 (λ w more says. listing_says user cloud (slice_get x.0 (length x.0 - 1)) run.2.0 turns w new more says) x.5
     ]
       where
@@ -252,7 +252,7 @@ module _ (event : Event) (c : ℕ) where
             then_rose (old c).faults (run.2.0 c).faults (new c).faults (λ f small. keeps_executes f small s c cloud old run.2.0 t.request t.reply run.2.1)
             (again w more (subst (λ (r : Refusal). Says (lines.Refused r)) (same_Err e) says))
 
-    list_says : (user : UserId) (cloud : ℕ) (old : ℕ → Peer) (turns : List (Turn (ℕ → Peer))) (listed : Result (List (Tag × Version)) Refusal) (new : ℕ → Peer) (answers : List Line)
+    list_says : (user : UserId) (cloud : ℕ) (old : ℕ → Peer) (turns : List (LaneTurn (ℕ → Peer))) (listed : Result (List (Tag × Version)) Refusal) (new : ℕ → Peer) (answers : List Line)
         → ListRun s user cloud None old turns listed new → answers ≡ list_lines user cloud listed → (line : Line) → Contains answers line → Says line → Rose (old c).faults (new c).faults
     list_says user cloud old turns (Ok entries) new answers run is line has says =
         elim (contains_cases (lines.Entries user (cloud_no cloud) (length entries)) (map entry_line entries) line (subst (λ (l : List Line). Contains l line) is has)) [
@@ -340,7 +340,7 @@ module _ (event : Event) (c : ℕ) where
         by_full (Some f) e = cc
 
     delete_rose : (user : UserId) (tag : Tag) (version : Version) (cloud : ℕ) (old : ℕ → Peer) (reply : Reply) (new : ℕ → Peer)
-        → Executes s cloud old (requests.Delete user tag version) reply new → reply ≡ replies.Fault → Rose (old cloud).faults (new cloud).faults
+        → HasVaultExecuted s cloud old (requests.Delete user tag version) reply new → reply ≡ replies.Fault → Rose (old cloud).faults (new cloud).faults
     delete_rose user tag version cloud old reply new x is = by_told (s.told cloud) x.does.does
       where
         by_told : (b : Bool) → MatchBool b (ExecTold (served_at s cloud) (old cloud) (requests.Delete user tag version) reply (new cloud)) (ExecUntold s.shape (old cloud) (requests.Delete user tag version) reply (new cloud))

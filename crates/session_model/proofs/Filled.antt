@@ -4,25 +4,25 @@ use Rattle.std.specs.Prelude.{MatchOption}
 use Rattle.std.specs.List.{Contains}
 use Rattle.std.proofs.lemmas.List.Elements.{Contains-append_left}
 use Rattle.std.proofs.lemmas.Option.{same_Some}
-use Rattle.cd_base.specs.declared.ids.Fp.{Fp}
-use Rattle.cd_base.specs.declared.ids.Tag.{Tag}
-use Rattle.cd_base.specs.declared.ids.UserId.{UserId}
-use Rattle.cd_base.specs.declared.ids.Version.{Version}
-use Rattle.cd_base.specs.declared.shape.Shape.{Shape}
-use Rattle.messages.specs.declared.request.Request.{Request}
-use Rattle.messages.specs.declared.reply.Reply.{Reply}
-use Rattle.messages.specs.declared.reply.Reply.TheVariants as replies
-use Rattle.user_dedup.specs.declared.command.Command.{Command}
-use Rattle.user_dedup.specs.Dedup.{FullRoom, Outcome}
-use Rattle.user_dedup.specs.Exec.{Peer, Exec, served}
-use Rattle.user_dedup.proofs.Owned.{contains_here, contains_later}
-use Rattle.upload_job.specs.Upload.{FileVersion}
-use Rattle.upload_job.specs.Lane.{LaneState, Asking, Sending, Committing, Done, Refused}
-use Rattle.rebuild.specs.LaneSteps.Runs.{Turn, Progress, LaneRun, progress_after}
-use Rattle.restore_job.specs.Restored.{Unrestored, given_by, missing, restored_file}
+use Rattle.session.specs.CdBase.ids.Fp.{Fp}
+use Rattle.session.specs.CdBase.ids.Tag.{Tag}
+use Rattle.session.specs.CdBase.ids.UserId.{UserId}
+use Rattle.session.specs.CdBase.ids.Version.{Version}
+use Rattle.session.specs.CdBase.shape.Shape.{Shape}
+use Rattle.rebuild.specs.Messages.request.Request.{Request}
+use Rattle.rebuild.specs.Messages.reply.Reply.{Reply}
+use Rattle.rebuild.specs.Messages.reply.Reply.TheVariants as replies
+use Rattle.subset_restore.specs.UserDedup.command.Command.{Command}
+use Rattle.subset_restore.specs.UserDedup.Dedup.{FullRoom, Outcome}
+use Rattle.subset_restore.specs.UserDedup.Exec.{Peer, Exec, served}
+use Rattle.subset_restore.proofs.UserDedup.Owned.{contains_here, contains_later}
+use Rattle.rebuild.specs.UploadJob.Upload.{FileVersion}
+use Rattle.rebuild.specs.UploadJob.Lane.{LaneState, Asking, Sending, Committing, Done, Refused}
+use Rattle.rebuild.specs.LaneSteps.Runs.{LaneTurn, Progress, LaneRun, progress_after}
+use Rattle.subset_restore.specs.RestoreJob.Restored.{Unrestored, given_by, missing, restored_file}
 use Rattle.rebuild.specs.declared.error.SkipWhy.{SkipWhy}
 use Rattle.rebuild.specs.Found.{Finding, findings, first_of, keys_in, name_judged, name_opened, recipes_differ, unless_skipped, version_named, version_under}
-use Rattle.rebuild.specs.Rebuilding.{Progressed, lane_of, last_said, BringsOne, BringsAll, IsFront}
+use Rattle.rebuild.specs.Rebuilding.{Progressed, lane_of, last_said, BringsOne, BringsAll, IsFrontOfList}
 use Rattle.rebuild.specs.Turns.{EndsLane, LaneEnded, LaneGoes, OwnLanes}
 use Rattle.rebuild.proofs.Bringing.{found_is}
 use Rattle.rebuild.proofs.Telling.{ends_behind, ends_one, lanes_none, lanes_on, lanes_one, last_on}
@@ -56,33 +56,33 @@ under_user shape lists from user key v e =
 abbrev pub AreOf : UserId → List Finding → Type 0
 AreOf user found = (f : Finding) → Contains found f → (v : FileVersion) → f.found ≡ Ok v → v.user ≡ user
 
-pub found_of_user : (shape : Shape) (lists : ℕ → List Command) (from : List ℕ) (user : UserId) (found : List Finding) → IsFront found (findings shape lists from user) → AreOf user found
+pub found_of_user : (shape : Shape) (lists : ℕ → List Command) (from : List ℕ) (user : UserId) (found : List Finding) → IsFrontOfList found (findings shape lists from user) → AreOf user found
 found_of_user shape lists from user found front f has v is =
     under_user shape lists from user f.key v
     (sym (found_is shape lists from user (keys_in shape (lists (first_of from)) user) f (subst (λ (l : List Finding). Contains l f) (sym front.split) (Contains-append_left found front.rest f has))) ∙ is)
 
 -- ---- the lanes
 
-run_goes : (Goes : Peer → Request → Reply → Peer → Type 0) (p last : Progress) (old new : Peer) (turns : List (Turn Peer)) → LaneRun Goes p old turns last new → LaneGoes p turns
+run_goes : (Goes : Peer → Request → Reply → Peer → Type 0) (p last : Progress) (old new : Peer) (turns : List (LaneTurn Peer)) → LaneRun Goes p old turns last new → LaneGoes p turns
 run_goes Goes p last old new [] run = tt
 run_goes Goes p last old new (t ∷ turns) run = (run.0, run.2, run_goes Goes (progress_after p t.reply) last run.3.0 new turns run.3.2)
 
-run_ends : (Goes : Peer → Request → Reply → Peer → Type 0) (p last : Progress) (old new : Peer) (turns : List (Turn Peer)) → LaneRun Goes p old turns last new → LaneEnded p turns
+run_ends : (Goes : Peer → Request → Reply → Peer → Type 0) (p last : Progress) (old new : Peer) (turns : List (LaneTurn Peer)) → LaneRun Goes p old turns last new → LaneEnded p turns
 run_ends Goes p last old new [] run = run.0
 run_ends Goes p last old new (t ∷ turns) run = run_ends Goes (progress_after p t.reply) last run.3.0 new turns run.3.2
 
 module _ (shape : Shape) (user : UserId) (target : ℕ) (serve : List Command → Request → Outcome) where
-  one_own : (key : Tag × Version) (found : Result FileVersion SkipWhy) (r next : Progressed) (old mid : Peer) (turns : List (Turn Peer)) → ((v : FileVersion) → found ≡ Ok v → v.user ≡ user)
+  one_own : (key : Tag × Version) (found : Result FileVersion SkipWhy) (r next : Progressed) (old mid : Peer) (turns : List (LaneTurn Peer)) → ((v : FileVersion) → found ≡ Ok v → v.user ≡ user)
       → BringsOne shape target serve key found r old turns next mid → OwnLanes shape user target turns
   one_own key (Err why) r next old mid turns own b = subst (OwnLanes shape user target) (sym b.1) (lanes_none shape user target)
   one_own key (Ok v) r next old mid turns own b = lanes_one shape user target v turns (own v refl) (run_goes (Exec shape true serve) (lane_of shape target v) b.0 old mid turns b.2)
 
-  rest_own : (fs : List Finding) (next last : Progressed) (mid new : Peer) (rest : List (Turn Peer)) (o : Option Reply) → (BringsAll shape target serve fs next mid rest last new → OwnLanes shape user target rest)
+  rest_own : (fs : List Finding) (next last : Progressed) (mid new : Peer) (rest : List (LaneTurn Peer)) (o : Option Reply) → (BringsAll shape target serve fs next mid rest last new → OwnLanes shape user target rest)
       → MatchOption o (BringsAll shape target serve fs next mid rest last new) (λ said. (rest ≡ []) × (last ≡ next) × (new ≡ mid)) → OwnLanes shape user target rest
   rest_own fs next last mid new rest None again m = again m
   rest_own fs next last mid new rest (Some said) again m = subst (OwnLanes shape user target) (sym m.0) (lanes_none shape user target)
 
-  pub brings_own : (fs : List Finding) (r last : Progressed) (old new : Peer) (turns : List (Turn Peer)) → AreOf user fs → BringsAll shape target serve fs r old turns last new → OwnLanes shape user target turns
+  pub brings_own : (fs : List Finding) (r last : Progressed) (old new : Peer) (turns : List (LaneTurn Peer)) → AreOf user fs → BringsAll shape target serve fs r old turns last new → OwnLanes shape user target turns
   brings_own [] r last old new turns own b = subst (OwnLanes shape user target) (sym b.1) (lanes_none shape user target)
   brings_own (f ∷ fs) r last old new turns own b =
       subst (OwnLanes shape user target) (sym b.5)
@@ -92,7 +92,7 @@ module _ (shape : Shape) (user : UserId) (target : ℕ) (serve : List Command �
 -- ---- the lane that stopped it
 
 module _ (shape : Shape) (user : UserId) (target : ℕ) (serve : List Command → Request → Outcome) where
-  one_ends : (key : Tag × Version) (found : Result FileVersion SkipWhy) (r next : Progressed) (old mid : Peer) (turns : List (Turn Peer)) (said : Reply) → ((v : FileVersion) → found ≡ Ok v → v.user ≡ user)
+  one_ends : (key : Tag × Version) (found : Result FileVersion SkipWhy) (r next : Progressed) (old mid : Peer) (turns : List (LaneTurn Peer)) (said : Reply) → ((v : FileVersion) → found ≡ Ok v → v.user ≡ user)
       → BringsOne shape target serve key found r old turns next mid → next.stop ≡ Some said → EndsLane shape user target turns
   one_ends key (Err why) r next old mid turns said own b stop = absurd (let f : None ≡ Some said = sym (ap (λ (p : Progressed). p.stop) b.0) ∙ stop in cc)
   one_ends key (Ok v) r next old mid turns said own b stop =
@@ -100,7 +100,7 @@ module _ (shape : Shape) (user : UserId) (target : ℕ) (serve : List Command �
       (run_ends (Exec shape true serve) (lane_of shape target v) b.0 old mid turns b.2)
 
   -- a rebuild that this reply stopped ended so with a lane
-  pub stop_ends : (fs : List Finding) (r last : Progressed) (old new : Peer) (turns : List (Turn Peer)) (said : Reply) → AreOf user fs → r.stop ≡ None → BringsAll shape target serve fs r old turns last new → last.stop ≡ Some said
+  pub stop_ends : (fs : List Finding) (r last : Progressed) (old new : Peer) (turns : List (LaneTurn Peer)) (said : Reply) → AreOf user fs → r.stop ≡ None → BringsAll shape target serve fs r old turns last new → last.stop ≡ Some said
       → EndsLane shape user target turns
   stop_ends [] r last old new turns said own none b stop = absurd (let f : None ≡ Some said = sym none ∙ (sym (ap (λ (p : Progressed). p.stop) b.0) ∙ stop) in cc)
   stop_ends (f ∷ fs) r last old new turns said own none b stop =
@@ -111,19 +111,19 @@ module _ (shape : Shape) (user : UserId) (target : ℕ) (serve : List Command �
           → (b.0.stop ≡ None → BringsAll shape target serve fs b.0 b.1 b.3 last new → EndsLane shape user target b.3) → EndsLane shape user target (b.2 ++ b.3)
       by_next None e m again = ends_behind shape user target b.2 b.3 (again e m)
       by_next (Some s) e m again =
-          subst (λ (l : List (Turn Peer)). EndsLane shape user target (b.2 ++ l)) (sym m.0)
+          subst (λ (l : List (LaneTurn Peer)). EndsLane shape user target (b.2 ++ l)) (sym m.0)
           (subst (EndsLane shape user target) (sym (append-nil b.2)) (one_ends f.key f.found r b.0 old b.1 b.2 said (own f (contains_here f fs)) b.4 (ap (λ (p : Progressed). p.stop) (sym m.1) ∙ stop)))
 
 -- ---- the reply that stopped it
 
 -- the last reply of some turns, which a told target gives to a lane
-pub record SaidSo (turns : List (Turn Peer)) (said : Reply) : Type 0 where
+pub record SaidSo (turns : List (LaneTurn Peer)) (said : Reply) : Type 0 where
   pub last : last_said turns ≡ Some said
   pub state : LaneState
   pub given : Answered state said ⊎ (said ≡ replies.Fault)
 
 module _ (shape : Shape) (target : ℕ) (full : List Command → Command → Option FullRoom) where
-  run_given : (p last : Progress) (old new : Peer) (turns : List (Turn Peer)) (said : Reply) → LaneRun (Exec shape true (served shape target full)) p old turns last new → last_said turns ≡ Some said
+  run_given : (p last : Progress) (old new : Peer) (turns : List (LaneTurn Peer)) (said : Reply) → LaneRun (Exec shape true (served shape target full)) p old turns last new → last_said turns ≡ Some said
       → (state : LaneState) × (Answered state said ⊎ (said ≡ replies.Fault))
   run_given p last old new [] said run e = absurd cc
   run_given p last old new (t ∷ []) said run e =
@@ -131,7 +131,7 @@ module _ (shape : Shape) (target : ℕ) (full : List Command → Command → Opt
       (p.lane.state, subst (λ (x : Reply). Answered p.lane.state x ⊎ (x ≡ replies.Fault)) same (expected shape target full p.lane.work p.lane.state t.request t.reply old run.3.0 run.2 run.3.1))
   run_given p last old new (t ∷ u ∷ turns) said run e = run_given (progress_after p t.reply) last run.3.0 new (u ∷ turns) said run.3.2 e
 
-  one_stop : (key : Tag × Version) (found : Result FileVersion SkipWhy) (r next : Progressed) (old mid : Peer) (turns : List (Turn Peer)) (said : Reply) → BringsOne shape target (served shape target full) key found r old turns next mid
+  one_stop : (key : Tag × Version) (found : Result FileVersion SkipWhy) (r next : Progressed) (old mid : Peer) (turns : List (LaneTurn Peer)) (said : Reply) → BringsOne shape target (served shape target full) key found r old turns next mid
       → next.stop ≡ Some said → SaidSo turns said
   one_stop key (Err why) r next old mid turns said b stop = absurd (let f : None ≡ Some said = sym (ap (λ (p : Progressed). p.stop) b.0) ∙ stop in cc)
   one_stop key (Ok v) r next old mid turns said b stop =
@@ -140,37 +140,37 @@ module _ (shape : Shape) (target : ℕ) (full : List Command → Command → Opt
       let given = run_given (lane_of shape target v) b.0 old mid turns said b.2 last in
       record { last = last; state = given.0; given = given.1 }
 
-  said_behind : (us vs : List (Turn Peer)) (said : Reply) → SaidSo vs said → SaidSo (us ++ vs) said
+  said_behind : (us vs : List (LaneTurn Peer)) (said : Reply) → SaidSo vs said → SaidSo (us ++ vs) said
   said_behind us vs said x = record { last = last_on us vs said x.last; state = x.state; given = x.given }
 
   -- a rebuild that this reply stopped
-  pub stop_said : (fs : List Finding) (r last : Progressed) (old new : Peer) (turns : List (Turn Peer)) (said : Reply) → r.stop ≡ None → BringsAll shape target (served shape target full) fs r old turns last new → last.stop ≡ Some said
+  pub stop_said : (fs : List Finding) (r last : Progressed) (old new : Peer) (turns : List (LaneTurn Peer)) (said : Reply) → r.stop ≡ None → BringsAll shape target (served shape target full) fs r old turns last new → last.stop ≡ Some said
       → SaidSo turns said
   stop_said [] r last old new turns said none b stop = absurd (let f : None ≡ Some said = sym none ∙ (sym (ap (λ (p : Progressed). p.stop) b.0) ∙ stop) in cc)
   stop_said (f ∷ fs) r last old new turns said none b stop =
-      subst (λ (l : List (Turn Peer)). SaidSo l said) (sym b.5) (by_next b.0.stop refl b.6 (λ e m. stop_said fs b.0 last b.1 new b.3 said e m stop))
+      subst (λ (l : List (LaneTurn Peer)). SaidSo l said) (sym b.5) (by_next b.0.stop refl b.6 (λ e m. stop_said fs b.0 last b.1 new b.3 said e m stop))
     where
       by_next : (o : Option Reply) → b.0.stop ≡ o → MatchOption o (BringsAll shape target (served shape target full) fs b.0 b.1 b.3 last new) (λ s. (b.3 ≡ []) × (last ≡ b.0) × (new ≡ b.1))
           → (b.0.stop ≡ None → BringsAll shape target (served shape target full) fs b.0 b.1 b.3 last new → SaidSo b.3 said) → SaidSo (b.2 ++ b.3) said
       by_next None e m again = said_behind b.2 b.3 said (again e m)
       by_next (Some s) e m again =
-          subst (λ (l : List (Turn Peer)). SaidSo (b.2 ++ l) said) (sym m.0)
-          (subst (λ (l : List (Turn Peer)). SaidSo l said) (sym (append-nil b.2)) (one_stop f.key f.found r b.0 old b.1 b.2 said b.4 (ap (λ (p : Progressed). p.stop) (sym m.1) ∙ stop)))
+          subst (λ (l : List (LaneTurn Peer)). SaidSo (b.2 ++ l) said) (sym m.0)
+          (subst (λ (l : List (LaneTurn Peer)). SaidSo l said) (sym (append-nil b.2)) (one_stop f.key f.found r b.0 old b.1 b.2 said b.4 (ap (λ (p : Progressed). p.stop) (sym m.1) ∙ stop)))
 
 -- it is no reply that no told target gives
-pub not_damaged : (turns : List (Turn Peer)) (place byte : ℕ) → SaidSo turns (replies.Damaged place byte) → ⊥
+pub not_damaged : (turns : List (LaneTurn Peer)) (place byte : ℕ) → SaidSo turns (replies.Damaged place byte) → ⊥
 not_damaged turns place byte x = elim x.given [
   | inl answered ↦ never_damaged place byte x.state answered
   | inr fault ↦ (let f : replies.Damaged place byte ≡ replies.Fault = fault in cc)
 ]
 
-pub not_rotten : (turns : List (Turn Peer)) (named hash : Fp) → SaidSo turns (replies.Rotten named hash) → ⊥
+pub not_rotten : (turns : List (LaneTurn Peer)) (named hash : Fp) → SaidSo turns (replies.Rotten named hash) → ⊥
 not_rotten turns named hash x = elim x.given [
   | inl answered ↦ never_rotten named hash x.state answered
   | inr fault ↦ (let f : replies.Rotten named hash ≡ replies.Fault = fault in cc)
 ]
 
-pub not_short : (turns : List (Turn Peer)) → SaidSo turns replies.NoMemory → ⊥
+pub not_short : (turns : List (LaneTurn Peer)) → SaidSo turns replies.NoMemory → ⊥
 not_short turns x = elim x.given [
   | inl answered ↦ never_short x.state answered
   | inr fault ↦ (let f : replies.NoMemory ≡ replies.Fault = fault in cc)

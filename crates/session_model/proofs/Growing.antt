@@ -5,42 +5,42 @@ use Rattle.std.specs.List.{Contains}
 use Rattle.std.proofs.lemmas.List.Elements.{All-nil, All-cons, Contains-append_cases, Contains-append_right}
 use Rattle.std.specs.Bool.{MatchBool}
 use Rattle.std.proofs.lemmas.Bool.{cases_eq}
-use Rattle.cd_base.specs.declared.ids.Tag.{Tag}
-use Rattle.cd_base.specs.declared.ids.UserId.{UserId}
-use Rattle.cd_base.specs.declared.ids.Version.{Version}
-use Rattle.cd_base.specs.declared.shape.Shape.{Shape}
-use Rattle.caont_rs.specs.Package.{tag}
-use Rattle.half_journal.specs.declared.errors.OpenErr.{OpenErr}
-use Rattle.half_journal.specs.declared.errors.OpenErr.TheVariants as errors
-use Rattle.messages.specs.declared.request.Request.{Request}
-use Rattle.messages.specs.declared.request.Request.TheVariants as requests
-use Rattle.messages.specs.declared.reply.Reply.{Reply}
-use Rattle.user_dedup.specs.declared.command.Command.{Command}
-use Rattle.user_dedup.specs.declared.command.Command.TheVariants as commands
-use Rattle.user_dedup.specs.declared.file_list.FileEntry.{FileEntry}
-use Rattle.user_dedup.specs.Cloud.{user_view}
-use Rattle.user_dedup.specs.Dedup.{Outcome, FullRoom, Ends as TakesOut, delete_outcome, by_room, unless_full}
-use Rattle.user_dedup.specs.Pages.{entry_at}
-use Rattle.user_dedup.proofs.Growing.{Each, GrowsBy, IfCommand, AddsBy, AsksNoDelete, IsNoDelete, adds_no_delete, ends_none, grows_then}
-use Rattle.user_dedup.specs.Exec.{Peer, MaySettleAs, Settles, Stays, IsCut, Exec, ExecTold, ExecUntold}
+use Rattle.session.specs.CdBase.ids.Tag.{Tag}
+use Rattle.session.specs.CdBase.ids.UserId.{UserId}
+use Rattle.session.specs.CdBase.ids.Version.{Version}
+use Rattle.session.specs.CdBase.shape.Shape.{Shape}
+use Rattle.subset_restore.specs.CaontRs.Package.{tag}
+use Rattle.local_link.specs.HalfJournal.errors.OpenErr.{OpenErr}
+use Rattle.local_link.specs.HalfJournal.errors.OpenErr.TheVariants as errors
+use Rattle.rebuild.specs.Messages.request.Request.{Request}
+use Rattle.rebuild.specs.Messages.request.Request.TheVariants as requests
+use Rattle.rebuild.specs.Messages.reply.Reply.{Reply}
+use Rattle.subset_restore.specs.UserDedup.command.Command.{Command}
+use Rattle.subset_restore.specs.UserDedup.command.Command.TheVariants as commands
+use Rattle.subset_restore.specs.UserDedup.file_list.FileEntry.{FileEntry}
+use Rattle.subset_restore.specs.UserDedup.Cloud.{user_view}
+use Rattle.subset_restore.specs.UserDedup.Dedup.{Outcome, FullRoom, Ends as TakesOut, delete_outcome, by_room, unless_full}
+use Rattle.subset_restore.specs.UserDedup.Pages.{entry_at}
+use Rattle.subset_restore.proofs.UserDedup.Growing.{Each, GrowsBy, IfCommand, AddsBy, AsksNoDelete, IsNoDelete, adds_no_delete, ends_none, grows_then}
+use Rattle.subset_restore.specs.UserDedup.Exec.{Peer, MaySettleAs, Settles, KeepsPeer, IsCut, Exec, ExecTold, ExecUntold}
 use Rattle.local_link.specs.CloudServer.Serving.{ReopensAs}
-use Rattle.upload_job.specs.Upload.{FileVersion}
+use Rattle.rebuild.specs.UploadJob.Upload.{FileVersion}
 use Rattle.rebuild.specs.KeptFiles.Kept.{Keeps, key_of, AreHarmless}
 use Rattle.rebuild.proofs.KeptFiles.Keeping.{keeps_still}
-use Rattle.upload_job.specs.Lanes as lanes
-use Rattle.rebuild.specs.LaneSteps.Runs.{Turn, Progress, LaneRun, lane_at, progress_after}
+use Rattle.rebuild.specs.UploadJob.Lanes as lanes
+use Rattle.rebuild.specs.LaneSteps.Runs.{LaneTurn, Progress, LaneRun, lane_at, progress_after}
 use Rattle.rebuild.specs.declared.error.SkipWhy.{SkipWhy}
 use Rattle.rebuild.specs.Found.{Finding}
 use Rattle.rebuild.specs.Rebuilding.{Progressed, lane_of, BringsOne, BringsAll}
 use Rattle.rebuild.proofs.Lanes.{lane_asks_no_delete}
 use Rattle.rebuild.proofs.Telling.{own_no_delete}
-use Rattle.user_dedup.specs.Spending.{full_for}
+use Rattle.subset_restore.specs.UserDedup.Spending.{full_for}
 use Rattle.session.specs.declared.event.Event.{Event}
 use Rattle.session.specs.declared.event.Event.TheVariants as events
-use Rattle.transcript.specs.declared.refusal.Refusal.{Refusal}
-use Rattle.transcript.specs.declared.line.Line.{Line}
-use Rattle.session_model.specs.Vault.{Setting, Vault, Executes, OneGoes, served_at, lanes_of, with_peer, ExecutesAll}
-use Rattle.user_dedup.proofs.Owned.{contains_cases, contains_nothing, contains_here, contains_later}
+use Rattle.session.specs.Transcript.refusal.Refusal.{Refusal}
+use Rattle.session.specs.Transcript.line.Line.{Line}
+use Rattle.session_model.specs.Vault.{Setting, Vault, HasVaultExecuted, OneGoes, served_at, lanes_of, with_peer, ExecutesAll}
+use Rattle.subset_restore.proofs.UserDedup.Owned.{contains_cases, contains_nothing, contains_here, contains_later}
 use Rattle.session_model.specs.Steps.{Moment, Execution, moment_of, turn_moment, target_moments, LaneStep, DropStep, FinishLanes, ListRun, ReopensUntold, VStep}
 use Rattle.session_model.specs.Kept.{Ends, paths_of}
 use Rattle.session_model.specs.Headline.{Begun, ComesTo, IsPartOf, event_of}
@@ -67,7 +67,7 @@ nothing_pending : (p : Peer) (list : List Command) → p.pending ≡ None → Ma
 nothing_pending p list is (inl same) = same
 nothing_pending p list is (inr some) = absurd (subst (λ (o : Option Command). IsSomeAnd o (λ command. list ≡ p.list ++ command ∷ [])) is some)
 
-pub stays_in : (p q : Peer) → Stays p q → (list : List Command) → MaySettleAs q list → MaySettleAs p list
+pub stays_in : (p q : Peer) → KeepsPeer p q → (list : List Command) → MaySettleAs q list → MaySettleAs p list
 stays_in p q stays list (inl same) = inl (same ∙ stays.list)
 stays_in p q stays list (inr some) =
     inr (subst (λ (l : List Command). IsSomeAnd p.pending (λ command. list ≡ l ++ command ∷ [])) stays.list
@@ -106,7 +106,7 @@ module _ (P : Command → Type 0) where
       (a.before, (added, nothing_pending q list a.pending settles ∙ a.list, each_of (serve a.before request).adds (adds a.before)), a.settled)
   told_as serve p q request reply adds (inr f) list settles = failed f.left settles
     where
-      failed : Stays p q ⊎ IsCut serve p request q → MaySettleAs q list → (before : List Command) × GrowsBy P before list × MaySettleAs p before
+      failed : KeepsPeer p q ⊎ IsCut serve p request q → MaySettleAs q list → (before : List Command) × GrowsBy P before list × MaySettleAs p before
       failed (inl stays) settles = (list, just list list refl, stays_in p q stays list settles)
       failed (inr cut) (inl same) = (q.list, just q.list list same, cut.list)
       failed (inr cut) (inr some) =
@@ -154,8 +154,8 @@ abbrev pub TagsApart : Shape → FileVersion → Event → Type 0
 TagsApart shape v event = (path : List ℕ) → Contains (paths_of event) path → tag shape path ≡ tag shape v.path → path ≡ v.path
 
 -- none of the turns asks a Delete
-abbrev pub AskNoDelete : {S : Type 0} → List (Turn S) → Type 0
-AskNoDelete {S} turns = (t : Turn S) → Contains turns t → AsksNoDelete t.request
+abbrev pub AskNoDelete : {S : Type 0} → List (LaneTurn S) → Type 0
+AskNoDelete {S} turns = (t : LaneTurn S) → Contains turns t → AsksNoDelete t.request
 
 module _ (s : Setting) (c : ℕ) where
   -- what a cloud adds for a request that is no Delete
@@ -166,19 +166,19 @@ module _ (s : Setting) (c : ℕ) where
   grows_brings : (p : Peer) (request : Request) (reply : Reply) (q : Peer) → AsksNoDelete request → Exec s.shape true (served_at s c) p request reply q → Grows p q
   grows_brings p request reply q asks x = grows_told (served_at s c) p q request reply (adds_at request asks) x.does
 
-  pub grows_lane_run : (p : Progress) (old : Peer) (turns : List (Turn Peer)) (last : Progress) (new : Peer) → LaneRun (Exec s.shape true (served_at s c)) p old turns last new → Grows old new
+  pub grows_lane_run : (p : Progress) (old : Peer) (turns : List (LaneTurn Peer)) (last : Progress) (new : Peer) → LaneRun (Exec s.shape true (served_at s c)) p old turns last new → Grows old new
   grows_lane_run p old [] last new run = grows_same old new run.2
   grows_lane_run p old (t ∷ turns) last new run =
       let mid : Peer = run.3.0 in
       grows_on old mid new (grows_brings old t.request t.reply mid (lane_asks_no_delete p.lane.work p.lane.state t.request run.2) run.3.1)
       (grows_lane_run (progress_after p t.reply) mid turns last new run.3.2)
 
-  grows_found : (key : Tag × Version) (found : Result FileVersion SkipWhy) (r : Progressed) (old : Peer) (turns : List (Turn Peer)) (after : Progressed) (new : Peer)
+  grows_found : (key : Tag × Version) (found : Result FileVersion SkipWhy) (r : Progressed) (old : Peer) (turns : List (LaneTurn Peer)) (after : Progressed) (new : Peer)
       → BringsOne s.shape c (served_at s c) key found r old turns after new → Grows old new
   grows_found key (Err why) r old turns after new x = grows_same old new x.2
   grows_found key (Ok v) r old turns after new x = grows_lane_run (lane_of s.shape c v) old turns x.0 new x.2
 
-  pub grows_brought : (fs : List Finding) (r : Progressed) (old : Peer) (turns : List (Turn Peer)) (after : Progressed) (new : Peer) → BringsAll s.shape c (served_at s c) fs r old turns after new → Grows old new
+  pub grows_brought : (fs : List Finding) (r : Progressed) (old : Peer) (turns : List (LaneTurn Peer)) (after : Progressed) (new : Peer) → BringsAll s.shape c (served_at s c) fs r old turns after new → Grows old new
   grows_brought [] r old turns after new x = grows_same old new x.2
   grows_brought (f ∷ fs) r old turns after new x =
       grows_on old x.1 new (grows_found f.key f.found r old x.2 x.0 x.1 x.4) (behind x.0.stop (λ b. grows_brought fs x.0 x.1 x.3 after new b) x.6)
@@ -189,7 +189,7 @@ module _ (s : Setting) (c : ℕ) where
       behind (Some said) again m = grows_same x.1 new m.2
 
 module _ (s : Setting) (c : ℕ) (told : IsTrue (s.told c)) where
-  pub grows_executes : (cloud : ℕ) (old new : ℕ → Peer) (request : Request) (reply : Reply) → AsksNoDelete request → Executes s cloud old request reply new → Grows (old c) (new c)
+  pub grows_executes : (cloud : ℕ) (old new : ℕ → Peer) (request : Request) (reply : Reply) → AsksNoDelete request → HasVaultExecuted s cloud old request reply new → Grows (old c) (new c)
   grows_executes cloud old new request reply asks x = elim (cases_eq c cloud) [
     | inl same ↦ subst (λ (n : ℕ). Grows (old n) (new n)) (sym same) (grows_told (served_at s cloud) (old cloud) (new cloud) request reply (adds_at s cloud request asks)
         (subst (λ (b : Bool). MatchBool b (ExecTold (served_at s cloud) (old cloud) request reply (new cloud)) (ExecUntold s.shape (old cloud) request reply (new cloud)))
@@ -203,7 +203,7 @@ module _ (s : Setting) (c : ℕ) (told : IsTrue (s.told c)) where
     | inr ne ↦ grows_same (old c) (new c) (x.others c ne)
   ]
 
-  pub grows_run : (cloud : ℕ) (p : Progress) (old : ℕ → Peer) (turns : List (Turn (ℕ → Peer))) (last : Progress) (new : ℕ → Peer) → LaneRun (Executes s cloud) p old turns last new → Grows (old c) (new c)
+  pub grows_run : (cloud : ℕ) (p : Progress) (old : ℕ → Peer) (turns : List (LaneTurn (ℕ → Peer))) (last : Progress) (new : ℕ → Peer) → LaneRun (HasVaultExecuted s cloud) p old turns last new → Grows (old c) (new c)
   grows_run cloud p old [] last new run = grows_same (old c) (new c) (ap (λ (f : ℕ → Peer). f c) run.2)
   grows_run cloud p old (t ∷ turns) last new run =
       grows_on (old c) (run.3.0 c) (new c) (grows_executes cloud old run.3.0 t.request t.reply (lane_asks_no_delete p.lane.work p.lane.state t.request run.2) run.3.1) (grows_run cloud (progress_after p t.reply) run.3.0 turns last new run.3.2)
@@ -227,7 +227,7 @@ module _ (s : Setting) (c : ℕ) (told : IsTrue (s.told c)) where
   grows_drop job cloud None old answers moments new asks x = grows_same (old.peers c) (new.peers c) (ap (λ (v : Vault). v.peers c) x.2)
   grows_drop job cloud (Some request) old answers moments new asks x = grows_executes cloud old.peers new.peers request x.0 (asks_lane job cloud old request asks) x.1
 
-  grows_list : (user : UserId) (cloud : ℕ) (above : Option (Tag × Version)) (old : ℕ → Peer) (turns : List (Turn (ℕ → Peer))) (listed : Result (List (Tag × Version)) Refusal) (new : ℕ → Peer)
+  grows_list : (user : UserId) (cloud : ℕ) (above : Option (Tag × Version)) (old : ℕ → Peer) (turns : List (LaneTurn (ℕ → Peer))) (listed : Result (List (Tag × Version)) Refusal) (new : ℕ → Peer)
       → ListRun s user cloud above old turns listed new → Grows (old c) (new c)
   grows_list user cloud above old [] listed new run = absurd run
   grows_list user cloud above old (t ∷ turns) listed new run =
@@ -241,13 +241,13 @@ module _ (s : Setting) (c : ℕ) (told : IsTrue (s.told c)) where
   grows_exec p request reply q asks x =
       grows_told (served_at s c) p q request reply (adds_at s c request asks) (subst (λ (b : Bool). MatchBool b (ExecTold (served_at s c) p request reply q) (ExecUntold s.shape p request reply q)) told x.does)
 
-  pub grows_all : (p : Peer) (turns : List (Turn Peer)) (q : Peer) → AskNoDelete turns → ExecutesAll s c p turns q → Grows p q
+  pub grows_all : (p : Peer) (turns : List (LaneTurn Peer)) (q : Peer) → AskNoDelete turns → ExecutesAll s c p turns q → Grows p q
   grows_all p [] q asks x = grows_same p q x
   grows_all p (t ∷ turns) q asks x =
       grows_on p x.1.0 q (grows_exec p t.request t.reply x.1.0 (asks t (contains_here t turns)) x.1.1)
       (grows_all x.1.0 turns q (λ u has. asks u (contains_later t turns u has)) x.1.2)
 
-  grows_read : (p q : Peer) → Stays p q ⊎ Settles p q → Grows p q
+  grows_read : (p q : Peer) → KeepsPeer p q ⊎ Settles p q → Grows p q
   grows_read p q (inl stays) = grows_in p q (stays_in p q stays)
   grows_read p q (inr settles) = grows_in p q (settles_in p q settles)
 
@@ -273,7 +273,7 @@ module _ (s : Setting) (c : ℕ) (told : IsTrue (s.told c)) where
       by_entry (Some entry) = by_full entry (full_for s.shape s.rooms list (commands.Delete user t version))
 
   grows_deleted : (owner : UserId) (key : Tag × Version) (cloud : ℕ) (user : UserId) (t : Tag) (version : Version) (old new : ℕ → Peer) (reply : Reply)
-      → (c ≡ cloud → Spares owner key (commands.Delete user t version)) → Executes s cloud old (requests.Delete user t version) reply new → GrowsBut owner key (old c) (new c)
+      → (c ≡ cloud → Spares owner key (commands.Delete user t version)) → HasVaultExecuted s cloud old (requests.Delete user t version) reply new → GrowsBut owner key (old c) (new c)
   grows_deleted owner key cloud user t version old new reply spares x = elim (cases_eq c cloud) [
     | inl same ↦ subst (λ (n : ℕ). GrowsBut owner key (old n) (new n)) (sym same)
         (told_as (Spares owner key) (served_at s cloud) (old cloud) (new cloud) (requests.Delete user t version) reply
@@ -297,7 +297,7 @@ module _ (s : Setting) (c : ℕ) (told : IsTrue (s.told c)) where
   grows_step v old (events.Finish job) answers moments new x apart lasts = but v old new (grows_finish job _ old x.0 moments new x.1)
   grows_step v old (events.Get user path version clouds) answers moments new x apart lasts = but v old new (grows_in (old.peers c) (new.peers c) (by_read (x.1.read.read c).0))
     where
-      by_read : Stays (old.peers c) (new.peers c) ⊎ Settles (old.peers c) (new.peers c) → (list : List Command) → MaySettleAs (new.peers c) list → MaySettleAs (old.peers c) list
+      by_read : KeepsPeer (old.peers c) (new.peers c) ⊎ Settles (old.peers c) (new.peers c) → (list : List Command) → MaySettleAs (new.peers c) list → MaySettleAs (old.peers c) list
       by_read (inl stays) = stays_in (old.peers c) (new.peers c) stays
       by_read (inr settles) = settles_in (old.peers c) (new.peers c) settles
   grows_step v old (events.Arm cloud calls keep) answers moments new x apart lasts =
@@ -317,7 +317,7 @@ module _ (s : Setting) (c : ℕ) (told : IsTrue (s.told c)) where
 
   -- ---- at each moment of a line
 
-  grows_turn : (cloud : ℕ) (p : Progress) (old : ℕ → Peer) (turns : List (Turn (ℕ → Peer))) (last : Progress) (new : ℕ → Peer) → LaneRun (Executes s cloud) p old turns last new
+  grows_turn : (cloud : ℕ) (p : Progress) (old : ℕ → Peer) (turns : List (LaneTurn (ℕ → Peer))) (last : Progress) (new : ℕ → Peer) → LaneRun (HasVaultExecuted s cloud) p old turns last new
       → (m : Moment) → Contains (map (moment_of cloud) turns) m → Grows (old c) (m.peers c)
   grows_turn cloud p old [] last new run m has = absurd (contains_nothing m has)
   grows_turn cloud p old (t ∷ turns) last new run m has = elim (contains_cases (moment_of cloud t) (map (moment_of cloud) turns) m has) [
@@ -349,19 +349,19 @@ module _ (s : Setting) (c : ℕ) (told : IsTrue (s.told c)) where
   grows_drop_at job cloud None old answers moments new x = grows_alone old.peers None moments x.1
   grows_drop_at job cloud (Some request) old answers moments new x = grows_alone old.peers _ moments x.2
 
-  grows_list_at : (user : UserId) (cloud : ℕ) (above : Option (Tag × Version)) (old : ℕ → Peer) (turns : List (Turn (ℕ → Peer))) (listed : Result (List (Tag × Version)) Refusal) (new : ℕ → Peer)
+  grows_list_at : (user : UserId) (cloud : ℕ) (above : Option (Tag × Version)) (old : ℕ → Peer) (turns : List (LaneTurn (ℕ → Peer))) (listed : Result (List (Tag × Version)) Refusal) (new : ℕ → Peer)
       → ListRun s user cloud above old turns listed new → (m : Moment) → Contains (map (moment_of cloud) turns) m → Grows (old c) (m.peers c)
   grows_list_at user cloud above old [] listed new run m has = absurd run
   grows_list_at user cloud above old (t ∷ turns) listed new run m has = elim (contains_cases (moment_of cloud t) (map (moment_of cloud) turns) m has) [
     | inl same ↦ grows_same (old c) (m.peers c) (ap (λ (n : Moment). n.peers c) (sym same) ∙ ap (λ (f : ℕ → Peer). f c) run.0)
     | inr later ↦ grows_on (old c) (run.2.0 c) (m.peers c) (grows_executes cloud old run.2.0 t.request t.reply (subst AsksNoDelete (sym run.1) tt) run.2.1) (elim run.2.2 [
-      | inl x ↦ absurd (contains_nothing m (subst (λ (l : List (Turn (ℕ → Peer))). Contains (map (moment_of cloud) l) m) x.1 later))
+      | inl x ↦ absurd (contains_nothing m (subst (λ (l : List (LaneTurn (ℕ → Peer))). Contains (map (moment_of cloud) l) m) x.1 later))
       | inr x ↦ grows_list_at user cloud (slice_get x.0 (length x.0 - 1)) run.2.0 turns x.1 new x.5 m later
     ])
   ]
 
   -- the target of a rebuild
-  grows_target : (old : ℕ → Peer) (p : Peer) (turns : List (Turn Peer)) (end : Peer) → AskNoDelete turns → ExecutesAll s c p turns end → (m : Moment) → Contains (target_moments old c turns end) m → Grows p (m.peers c)
+  grows_target : (old : ℕ → Peer) (p : Peer) (turns : List (LaneTurn Peer)) (end : Peer) → AskNoDelete turns → ExecutesAll s c p turns end → (m : Moment) → Contains (target_moments old c turns end) m → Grows p (m.peers c)
   grows_target old p [] end asks x m has = elim (contains_cases (record { peers = with_peer old c end; event = None }) [] m has) [
     | inl same ↦ grows_same p (m.peers c) (ap (λ (n : Moment). n.peers c) (sym same) ∙ with_here old c end ∙ x)
     | inr none ↦ absurd (contains_nothing m none)
@@ -372,7 +372,7 @@ module _ (s : Setting) (c : ℕ) (told : IsTrue (s.told c)) where
         (grows_target old x.1.0 turns end (λ u among. asks u (contains_later t turns u among)) x.1.2 m later)
   ]
 
-  grows_rebuild : (old : ℕ → Peer) (target : ℕ) (turns : List (Turn Peer)) (new : ℕ → Peer) → AskNoDelete turns → ExecutesAll s target (old target) turns (new target)
+  grows_rebuild : (old : ℕ → Peer) (target : ℕ) (turns : List (LaneTurn Peer)) (new : ℕ → Peer) → AskNoDelete turns → ExecutesAll s target (old target) turns (new target)
       → (m : Moment) → Contains (target_moments old target turns (new target)) m → Grows (old c) (m.peers c)
   grows_rebuild old target turns new asks x m has = elim (cases_eq c target) [
     | inl same ↦ grows_target old (old c) turns (new c) asks (subst (λ (n : ℕ). ExecutesAll s n (old n) turns (new n)) (sym same) x) m

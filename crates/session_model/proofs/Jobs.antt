@@ -2,15 +2,15 @@
 use Rattle.std.proofs.Common.{◌≡◌, ℕ, zero, suc, ◌+◌, ◌-◌, List, [], ◌∷◌, ◌++◌, map, Option, Some, None, refl, sym, ap, ◌∙◌, subst, arith, append-nil, append_assoc}
 use Rattle.std.specs.Prelude.{slice_get}
 use Rattle.std.specs.List.{range_with_len}
-use Rattle.messages.specs.declared.request.Request.{Request}
-use Rattle.cd_base.specs.declared.shape.Shape.{Shape}
-use Rattle.upload_job.specs.Upload.{FileVersion, work_of}
-use Rattle.upload_job.specs.Lane.{LaneState, lane_request}
-use Rattle.upload_job.specs.Lanes.{LaneView, begun, lanes_begun, with_state}
-use Rattle.upload_job.specs.Lanes as lanes
+use Rattle.rebuild.specs.Messages.request.Request.{Request}
+use Rattle.session.specs.CdBase.shape.Shape.{Shape}
+use Rattle.rebuild.specs.UploadJob.Upload.{FileVersion, work_of}
+use Rattle.rebuild.specs.UploadJob.Lane.{LaneState, lane_request}
+use Rattle.rebuild.specs.UploadJob.Lanes.{LaneView, begun, lanes_begun, with_state}
+use Rattle.rebuild.specs.UploadJob.Lanes as lanes
 use Rattle.session.specs.declared.event.Event.{Event}
 use Rattle.session.specs.declared.event.Event.TheVariants as events
-use Rattle.transcript.specs.declared.line.Line.{Line}
+use Rattle.session.specs.Transcript.line.Line.{Line}
 use Rattle.session_model.specs.Vault.{Setting, JobState, Vault, new_job, lanes_at, with_lanes_at, lanes_of, with_lanes}
 use Rattle.rebuild.specs.LaneSteps.Runs.{lane_at}
 use Rattle.session_model.specs.Steps.{Moment, version_of, LaneStep, DropStep, FinishLanes, VStep}

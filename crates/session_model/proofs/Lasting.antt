@@ -4,23 +4,23 @@ use Rattle.std.specs.Prelude.{slice_get, MatchOption}
 use Rattle.std.specs.List.{Contains}
 use Rattle.std.proofs.lemmas.Bool.{cases_eq}
 use Rattle.std.proofs.lemmas.List.Elements.{Contains-append_cases, Contains-append_left, Contains-append_right}
-use Rattle.cd_base.specs.declared.ids.Tag.{Tag}
-use Rattle.cd_base.specs.declared.ids.UserId.{UserId}
-use Rattle.cd_base.specs.declared.ids.Version.{Version}
-use Rattle.cd_edges.specs.Disk.{Cloud}
-use Rattle.messages.specs.declared.request.Request.{Request}
-use Rattle.messages.specs.declared.reply.Reply.{Reply}
-use Rattle.user_dedup.specs.Exec.{Peer, Exec}
-use Rattle.user_dedup.proofs.Owned.{contains_cases, contains_nothing, contains_here, contains_later}
+use Rattle.session.specs.CdBase.ids.Tag.{Tag}
+use Rattle.session.specs.CdBase.ids.UserId.{UserId}
+use Rattle.session.specs.CdBase.ids.Version.{Version}
+use Rattle.session.specs.CdEdges.Disk.{Cloud}
+use Rattle.rebuild.specs.Messages.request.Request.{Request}
+use Rattle.rebuild.specs.Messages.reply.Reply.{Reply}
+use Rattle.subset_restore.specs.UserDedup.Exec.{Peer, Exec}
+use Rattle.subset_restore.proofs.UserDedup.Owned.{contains_cases, contains_nothing, contains_here, contains_later}
 use Rattle.local_link.specs.Calls.{Armed}
-use Rattle.restore_job.specs.Asking.{MayRead}
-use Rattle.upload_job.specs.Lanes as lanes
-use Rattle.rebuild.specs.LaneSteps.Runs.{Turn, Progress, LaneRun, progress_after}
+use Rattle.subset_restore.specs.RestoreJob.Asking.{MayRead}
+use Rattle.rebuild.specs.UploadJob.Lanes as lanes
+use Rattle.rebuild.specs.LaneSteps.Runs.{LaneTurn, Progress, LaneRun, progress_after}
 use Rattle.session.specs.declared.event.Event.{Event}
 use Rattle.session.specs.declared.event.Event.TheVariants as events
-use Rattle.transcript.specs.declared.refusal.Refusal.{Refusal}
-use Rattle.transcript.specs.declared.line.Line.{Line}
-use Rattle.session_model.specs.Vault.{Setting, Vault, Executes, OneGoes, served_at, lanes_of, opening, with_peer, ExecutesAll}
+use Rattle.session.specs.Transcript.refusal.Refusal.{Refusal}
+use Rattle.session.specs.Transcript.line.Line.{Line}
+use Rattle.session_model.specs.Vault.{Setting, Vault, HasVaultExecuted, OneGoes, served_at, lanes_of, opening, with_peer, ExecutesAll}
 use Rattle.session_model.specs.Steps.{Moment, Execution, cloud_no, moment_of, turn_moment, target_moments, LaneStep, DropStep, FinishLanes, ListRun, ReplaceStep, RestartStep, VStep}
 use Rattle.session_model.specs.Run.{Answered, Turns, script_of}
 use Rattle.session_model.specs.Headline.{Session, Begun, ComesTo, IsPartOf, IsRun, event_of, script_in}
@@ -49,13 +49,13 @@ module _ (s : Setting) (c : ℕ) (Keeps : Peer → Peer → Type 0) (Allowed : E
     | inr ne ↦ lasts.same (old c) (new c) (x.others c ne)
   ]
 
-  keeps_executes : (cloud : ℕ) (old new : ℕ → Peer) (request : Request) (reply : Reply) → Executes s cloud old request reply new → Keeps (old c) (new c)
+  keeps_executes : (cloud : ℕ) (old new : ℕ → Peer) (request : Request) (reply : Reply) → HasVaultExecuted s cloud old request reply new → Keeps (old c) (new c)
   keeps_executes cloud old new request reply x = elim (cases_eq c cloud) [
     | inl same ↦ lasts.executes (old c) (new c) request reply (subst (λ (n : ℕ). Exec s.shape (s.told n) (served_at s n) (old n) request reply (new n)) (sym same) x.does)
     | inr ne ↦ lasts.same (old c) (new c) (x.others c ne)
   ]
 
-  keeps_run : (cloud : ℕ) (p : Progress) (old : ℕ → Peer) (turns : List (Turn (ℕ → Peer))) (last : Progress) (new : ℕ → Peer) → LaneRun (Executes s cloud) p old turns last new → Keeps (old c) (new c)
+  keeps_run : (cloud : ℕ) (p : Progress) (old : ℕ → Peer) (turns : List (LaneTurn (ℕ → Peer))) (last : Progress) (new : ℕ → Peer) → LaneRun (HasVaultExecuted s cloud) p old turns last new → Keeps (old c) (new c)
   keeps_run cloud p old [] last new run = keeps_here old new run.2
   keeps_run cloud p old (t ∷ turns) last new run =
       lasts.on (old c) (run.3.0 c) (new c) (keeps_executes cloud old run.3.0 t.request t.reply run.3.1)
@@ -74,7 +74,7 @@ module _ (s : Setting) (c : ℕ) (Keeps : Peer → Peer → Type 0) (Allowed : E
   keeps_drop job cloud None old answers moments new x = keeps_vault old new x.2
   keeps_drop job cloud (Some request) old answers moments new x = keeps_executes cloud old.peers new.peers request x.0 x.1
 
-  keeps_list : (user : UserId) (cloud : ℕ) (above : Option (Tag × Version)) (old : ℕ → Peer) (turns : List (Turn (ℕ → Peer))) (listed : Result (List (Tag × Version)) Refusal) (new : ℕ → Peer)
+  keeps_list : (user : UserId) (cloud : ℕ) (above : Option (Tag × Version)) (old : ℕ → Peer) (turns : List (LaneTurn (ℕ → Peer))) (listed : Result (List (Tag × Version)) Refusal) (new : ℕ → Peer)
       → ListRun s user cloud above old turns listed new → Keeps (old c) (new c)
   keeps_list user cloud above old [] listed new run = absurd run
   keeps_list user cloud above old (t ∷ turns) listed new run =
@@ -84,7 +84,7 @@ module _ (s : Setting) (c : ℕ) (Keeps : Peer → Peer → Type 0) (Allowed : E
       ])
 
   -- the target of a rebuild
-  keeps_all : (p : Peer) (turns : List (Turn Peer)) (end : Peer) → ExecutesAll s c p turns end → Keeps p end
+  keeps_all : (p : Peer) (turns : List (LaneTurn Peer)) (end : Peer) → ExecutesAll s c p turns end → Keeps p end
   keeps_all p [] end x = lasts.same p end x
   keeps_all p (t ∷ turns) end x = lasts.on p x.1.0 end (lasts.executes p x.1.0 t.request t.reply x.1.1) (keeps_all x.1.0 turns end x.1.2)
 
@@ -122,7 +122,7 @@ module _ (s : Setting) (c : ℕ) (Keeps : Peer → Peer → Type 0) (Allowed : E
     | inr none ↦ absurd (contains_nothing m none)
   ]
 
-  keeps_turn : (cloud : ℕ) (p : Progress) (old : ℕ → Peer) (turns : List (Turn (ℕ → Peer))) (last : Progress) (new : ℕ → Peer) → LaneRun (Executes s cloud) p old turns last new
+  keeps_turn : (cloud : ℕ) (p : Progress) (old : ℕ → Peer) (turns : List (LaneTurn (ℕ → Peer))) (last : Progress) (new : ℕ → Peer) → LaneRun (HasVaultExecuted s cloud) p old turns last new
       → (m : Moment) → Contains (map (moment_of cloud) turns) m → Keeps (old c) (m.peers c)
   keeps_turn cloud p old [] last new run m has = absurd (contains_nothing m has)
   keeps_turn cloud p old (t ∷ turns) last new run m has = elim (contains_cases (moment_of cloud t) (map (moment_of cloud) turns) m has) [
@@ -149,18 +149,18 @@ module _ (s : Setting) (c : ℕ) (Keeps : Peer → Peer → Type 0) (Allowed : E
   keeps_drop_at job cloud None old answers moments new x = keeps_alone old.peers None moments x.1
   keeps_drop_at job cloud (Some request) old answers moments new x = keeps_alone old.peers _ moments x.2
 
-  keeps_list_at : (user : UserId) (cloud : ℕ) (above : Option (Tag × Version)) (old : ℕ → Peer) (turns : List (Turn (ℕ → Peer))) (listed : Result (List (Tag × Version)) Refusal) (new : ℕ → Peer)
+  keeps_list_at : (user : UserId) (cloud : ℕ) (above : Option (Tag × Version)) (old : ℕ → Peer) (turns : List (LaneTurn (ℕ → Peer))) (listed : Result (List (Tag × Version)) Refusal) (new : ℕ → Peer)
       → ListRun s user cloud above old turns listed new → (m : Moment) → Contains (map (moment_of cloud) turns) m → Keeps (old c) (m.peers c)
   keeps_list_at user cloud above old [] listed new run m has = absurd run
   keeps_list_at user cloud above old (t ∷ turns) listed new run m has = elim (contains_cases (moment_of cloud t) (map (moment_of cloud) turns) m has) [
     | inl same ↦ keeps_here old m.peers (ap (λ (n : Moment). n.peers) (sym same) ∙ run.0)
     | inr later ↦ lasts.on (old c) (run.2.0 c) (m.peers c) (keeps_executes cloud old run.2.0 t.request t.reply run.2.1) (elim run.2.2 [
-      | inl x ↦ absurd (contains_nothing m (subst (λ (l : List (Turn (ℕ → Peer))). Contains (map (moment_of cloud) l) m) x.1 later))
+      | inl x ↦ absurd (contains_nothing m (subst (λ (l : List (LaneTurn (ℕ → Peer))). Contains (map (moment_of cloud) l) m) x.1 later))
       | inr x ↦ keeps_list_at user cloud (slice_get x.0 (length x.0 - 1)) run.2.0 turns x.1 new x.5 m later
     ])
   ]
 
-  keeps_target : (old : ℕ → Peer) (p : Peer) (turns : List (Turn Peer)) (end : Peer) → ExecutesAll s c p turns end → (m : Moment) → Contains (target_moments old c turns end) m → Keeps p (m.peers c)
+  keeps_target : (old : ℕ → Peer) (p : Peer) (turns : List (LaneTurn Peer)) (end : Peer) → ExecutesAll s c p turns end → (m : Moment) → Contains (target_moments old c turns end) m → Keeps p (m.peers c)
   keeps_target old p [] end x m has = elim (contains_cases (record { peers = with_peer old c end; event = None }) [] m has) [
     | inl same ↦ lasts.same p (m.peers c) (ap (λ (n : Moment). n.peers c) (sym same) ∙ with_here old c end ∙ x)
     | inr none ↦ absurd (contains_nothing m none)
@@ -170,7 +170,7 @@ module _ (s : Setting) (c : ℕ) (Keeps : Peer → Peer → Type 0) (Allowed : E
     | inr later ↦ lasts.on p x.1.0 (m.peers c) (lasts.executes p x.1.0 t.request t.reply x.1.1) (keeps_target old x.1.0 turns end x.1.2 m later)
   ]
 
-  keeps_rebuild : (old : ℕ → Peer) (target : ℕ) (turns : List (Turn Peer)) (new : ℕ → Peer) → ExecutesAll s target (old target) turns (new target)
+  keeps_rebuild : (old : ℕ → Peer) (target : ℕ) (turns : List (LaneTurn Peer)) (new : ℕ → Peer) → ExecutesAll s target (old target) turns (new target)
       → (m : Moment) → Contains (target_moments old target turns (new target)) m → Keeps (old c) (m.peers c)
   keeps_rebuild old target turns new x m has = elim (cases_eq c target) [
     | inl same ↦ keeps_target old (old c) turns (new c) (subst (λ (n : ℕ). ExecutesAll s n (old n) turns (new n)) (sym same) x) m

@@ -22,3 +22,8 @@ mod Settled
 pub mod Stopped
 pub mod Unmoved
 pub mod With
+pub mod RestoreJob
+pub mod UserDedup
+pub mod CdEdges
+pub mod RebuildLaws
+pub mod SubsetRestore

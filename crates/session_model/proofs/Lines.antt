@@ -4,31 +4,31 @@ use Rattle.std.specs.Prelude.{IsTrue, slice_get, not, Result, Ok, Err}
 use Rattle.std.specs.Bool.{MatchBool}
 use Rattle.std.specs.List.{Contains}
 use Rattle.std.proofs.lemmas.List.Elements.{Contains-append_cases, Contains-append_left, Contains-append_right}
-use Rattle.cd_base.specs.declared.ids.Tag.{Tag}
-use Rattle.cd_base.specs.declared.ids.UserId.{UserId}
-use Rattle.cd_base.specs.declared.ids.Version.{Version}
-use Rattle.cd_base.specs.declared.shape.Shape.{Shape}
-use Rattle.caont_rs.specs.Package.{share}
-use Rattle.file_recipe.specs.FileRecipe.{secrets}
-use Rattle.half_journal.specs.declared.errors.OpenErr.{OpenErr}
-use Rattle.half_journal.specs.declared.errors.OpenErr.TheVariants as errors
-use Rattle.messages.specs.declared.request.Request.{Request}
-use Rattle.messages.specs.declared.reply.Reply.{Reply}
-use Rattle.messages.specs.declared.reply.Reply.TheVariants as replies
-use Rattle.user_dedup.specs.declared.command.Command.{Command}
-use Rattle.user_dedup.specs.Cloud.{fingerprint}
-use Rattle.user_dedup.specs.Exec.{Peer, MaySettleAs, ExecTold, ExecUntold}
-use Rattle.user_dedup.proofs.Owned.{contains_cases, contains_nothing, contains_here, contains_later}
-use Rattle.user_dedup.specs.Spending.{full_for}
-use Rattle.user_dedup.specs.Cloud.{strings_in}
-use Rattle.upload_job.specs.declared.news.LaneNews.{LaneNews}
-use Rattle.upload_job.specs.declared.news.LaneNews.TheVariants as lane_news
-use Rattle.upload_job.specs.Upload.{FileVersion, work_of}
-use Rattle.upload_job.specs.Lane.{lane_request, news_of}
-use Rattle.upload_job.specs.Lanes.{LaneView}
-use Rattle.upload_job.specs.Lanes as lanes
-use Rattle.rebuild.specs.LaneSteps.Runs.{Turn, Progress, LaneRun, Tell, starting, request_of, progress_after, lane_at}
-use Rattle.restore_job.specs.declared.error.RestoreErr.{RestoreErr}
+use Rattle.session.specs.CdBase.ids.Tag.{Tag}
+use Rattle.session.specs.CdBase.ids.UserId.{UserId}
+use Rattle.session.specs.CdBase.ids.Version.{Version}
+use Rattle.session.specs.CdBase.shape.Shape.{Shape}
+use Rattle.subset_restore.specs.CaontRs.Package.{share}
+use Rattle.rebuild.specs.FileRecipe.FileRecipe.{secrets}
+use Rattle.local_link.specs.HalfJournal.errors.OpenErr.{OpenErr}
+use Rattle.local_link.specs.HalfJournal.errors.OpenErr.TheVariants as errors
+use Rattle.rebuild.specs.Messages.request.Request.{Request}
+use Rattle.rebuild.specs.Messages.reply.Reply.{Reply}
+use Rattle.rebuild.specs.Messages.reply.Reply.TheVariants as replies
+use Rattle.subset_restore.specs.UserDedup.command.Command.{Command}
+use Rattle.subset_restore.specs.UserDedup.Cloud.{fingerprint}
+use Rattle.subset_restore.specs.UserDedup.Exec.{Peer, MaySettleAs, ExecTold, ExecUntold}
+use Rattle.subset_restore.proofs.UserDedup.Owned.{contains_cases, contains_nothing, contains_here, contains_later}
+use Rattle.subset_restore.specs.UserDedup.Spending.{full_for}
+use Rattle.subset_restore.specs.UserDedup.Cloud.{strings_in}
+use Rattle.rebuild.specs.UploadJob.news.LaneNews.{LaneNews}
+use Rattle.rebuild.specs.UploadJob.news.LaneNews.TheVariants as lane_news
+use Rattle.rebuild.specs.UploadJob.Upload.{FileVersion, work_of}
+use Rattle.rebuild.specs.UploadJob.Lane.{lane_request, news_of}
+use Rattle.rebuild.specs.UploadJob.Lanes.{LaneView}
+use Rattle.rebuild.specs.UploadJob.Lanes as lanes
+use Rattle.rebuild.specs.LaneSteps.Runs.{LaneTurn, Progress, LaneRun, Tell, starting, request_of, progress_after, lane_at}
+use Rattle.subset_restore.specs.RestoreJob.error.RestoreErr.{RestoreErr}
 use Rattle.rebuild.specs.declared.error.RebuildErr.{RebuildErr}
 use Rattle.rebuild.specs.declared.skips.Skip.{Skip}
 use Rattle.rebuild.specs.declared.skips.Rebuilt.{Rebuilt}
@@ -36,11 +36,11 @@ use Rattle.rebuild.specs.KeptFiles.Kept.{Keeps, key_of}
 use Rattle.rebuild.proofs.KeptFiles.Keeping.{keeps_still, harmless_all}
 use Rattle.session.specs.declared.event.Event.{Event}
 use Rattle.session.specs.declared.event.Event.TheVariants as events
-use Rattle.transcript.specs.declared.refusal.Refusal.{Refusal}
-use Rattle.transcript.specs.declared.line.Line.{Line}
-use Rattle.transcript.specs.declared.line.Line.TheVariants as lines
-use Rattle.transcript.specs.declared.news.News.TheVariants as news
-use Rattle.session_model.specs.Vault.{Setting, Vault, Executes, served_at, lanes_of}
+use Rattle.session.specs.Transcript.refusal.Refusal.{Refusal}
+use Rattle.session.specs.Transcript.line.Line.{Line}
+use Rattle.session.specs.Transcript.line.Line.TheVariants as lines
+use Rattle.session.specs.Transcript.news.News.TheVariants as news
+use Rattle.session_model.specs.Vault.{Setting, Vault, HasVaultExecuted, served_at, lanes_of}
 use Rattle.session_model.specs.Steps.{Moment, moment_of, as_told, cloud_no, step_line, lose_lines, stored_line, all_done, LaneStep, DropStep, FinishLanes, IsGetLine, entry_line, list_lines, IsRestartLine, RestartStep, IsReplaceLine, skip_word, skip_line, AreRebuildLines, IsDeleteLine, VStep}
 use Rattle.session_model.proofs.Growing.{Grows, grows_run, grows_finish}
 use Rattle.session_model.proofs.Jobs.{AreOf, Brings, job_of, work_at, asks_at, lane_moved}
@@ -146,7 +146,7 @@ sees_first Known c old moments new (inr x) sees string has =
     sees.here x.0 (subst (λ (l : List Moment). Contains l x.0) (sym x.2) (contains_here x.0 x.1)) string (subst (λ (f : ℕ → Peer). Contains (strings_in (f c).list) string) (sym x.3) has)
 
 -- a lane without a request has no turns
-no_turns : {S : Type 0} (Does : S → Request → Reply → S → Type 0) (lane : LaneView) (old : S) (turns : List (Turn S)) (last : Progress) (new : S) (tells : List LaneNews) → request_of lane ≡ None
+no_turns : {S : Type 0} (Does : S → Request → Reply → S → Type 0) (lane : LaneView) (old : S) (turns : List (LaneTurn S)) (last : Progress) (new : S) (tells : List LaneNews) → request_of lane ≡ None
     → LaneRun Does (starting lane) old turns last new → Tell lane turns tells → Contains tells lane_news.Committed → ⊥
 no_turns Does lane old [] last new tells asks run tell has = contains_nothing _ (subst (λ (l : List LaneNews). Contains l lane_news.Committed) tell has)
 no_turns Does lane old (t ∷ turns) last new tells asks run tell has = let f : None ≡ Some t.request = sym asks ∙ run.2 in cc
@@ -173,12 +173,12 @@ module _ (s : Setting) (c : ℕ) (told : IsTrue (s.told c)) (v : FileVersion) (g
       (keeps_still s.shape c x.0 x.1.0 v.user v.path v.number v.file (harmless_all v.user (key_of s.shape v.path v.number) x.1.0 x.1.2) (keeps x.0 x.2))
 
   commit_exec : (lane : LaneView) (request : Request) (old new : ℕ → Peer) (reply : Reply) → lane.work ≡ work_of s.shape v c → lane_request lane.work lane.state ≡ Some request
-      → Executes s c old request reply new → news_of lane.state reply ≡ Some lane_news.Committed → ((string : List ℕ) → Contains (strings_in (new c).list) string → Known string) → KeepsAll (new c)
+      → HasVaultExecuted s c old request reply new → news_of lane.state reply ≡ Some lane_news.Committed → ((string : List ℕ) → Contains (strings_in (new c).list) string → Known string) → KeepsAll (new c)
   commit_exec lane request old new reply work asks x told_is ok =
       executed_keeps s.shape c (full_for s.shape s.rooms) v good Known apart lane request (old c) (new c) reply work asks
       (subst (λ (b : Bool). MatchBool b (ExecTold (served_at s c) (old c) request reply (new c)) (ExecUntold s.shape (old c) request reply (new c))) told x.does.does) told_is ok
 
-  commit_run : (p : Progress) (old : ℕ → Peer) (turns : List (Turn (ℕ → Peer))) (last : Progress) (new : ℕ → Peer) (tells : List LaneNews) → LaneRun (Executes s c) p old turns last new → Tell p.lane turns tells
+  commit_run : (p : Progress) (old : ℕ → Peer) (turns : List (LaneTurn (ℕ → Peer))) (last : Progress) (new : ℕ → Peer) (tells : List LaneNews) → LaneRun (HasVaultExecuted s c) p old turns last new → Tell p.lane turns tells
       → p.lane.work ≡ work_of s.shape v c → Contains tells lane_news.Committed → Sees Known c (map (moment_of c) turns) new → KeepsAll (new c)
   commit_run p old [] last new tells run tell work has sees = absurd (contains_nothing lane_news.Committed (subst (λ (l : List LaneNews). Contains l lane_news.Committed) tell has))
   commit_run p old (t ∷ turns) last new tells run tell work has sees =
@@ -191,7 +191,7 @@ module _ (s : Setting) (c : ℕ) (told : IsTrue (s.told c)) (v : FileVersion) (g
             (record { here = λ m among. sees.here m (contains_later (moment_of c t) (map (moment_of c) turns) m among); behind = sees.behind })
       ]
     where
-      ok_mid : (turns : List (Turn (ℕ → Peer))) → LaneRun (Executes s c) (progress_after p t.reply) run.3.0 turns last new
+      ok_mid : (turns : List (LaneTurn (ℕ → Peer))) → LaneRun (HasVaultExecuted s c) (progress_after p t.reply) run.3.0 turns last new
           → ((m : Moment) → Contains (map (moment_of c) turns) m → (string : List ℕ) → Contains (strings_in (m.peers c).list) string → Known string)
           → ((string : List ℕ) → Contains (strings_in (new c).list) string → Known string) → (string : List ℕ) → Contains (strings_in (run.3.0 c).list) string → Known string
       ok_mid [] r here behind string has = behind string (subst (λ (f : ℕ → Peer). Contains (strings_in (f c).list) string) (sym r.2) has)
@@ -214,7 +214,7 @@ module _ (s : Setting) (c : ℕ) (told : IsTrue (s.told c)) (v : FileVersion) (g
       where
         committed : IsThat job cloud x.1 j c → KeepsAll (new.peers c)
         committed is =
-            let P : ℕ → Type 0 = λ n. Executes s n old.peers request x.0 new.peers → lanes.request_at (lanes_of old.jobs job) n ≡ Some request → news_of (lane_at (lanes_of old.jobs job) n).state x.0 ≡ Some x.1 → KeepsAll (new.peers c) in
+            let P : ℕ → Type 0 = λ n. HasVaultExecuted s n old.peers request x.0 new.peers → lanes.request_at (lanes_of old.jobs job) n ≡ Some request → news_of (lane_at (lanes_of old.jobs job) n).state x.0 ≡ Some x.1 → KeepsAll (new.peers c) in
             subst P (sym is.cloud_is) (λ does asked tells.
             commit_exec (lane_at (lanes_of old.jobs job) c) request old.peers new.peers x.0
             (work_at s.shape v 0 (lanes_of old.jobs job) c request (lanes_are old job b is.job_is) asked ∙ ap (work_of s.shape v) (let e : 0 + c ≡ c = omega arith in e))
@@ -235,21 +235,21 @@ module _ (s : Setting) (c : ℕ) (told : IsTrue (s.told c)) (v : FileVersion) (g
         committed : (x : LaneNews) → Contains f.2 x → IsThat job cloud x j c → KeepsAll (new.peers c)
         committed x among is =
             let tells = subst (Contains f.2) is.told_is among in
-            let P : ℕ → Type 0 = λ n. LaneRun (Executes s n) (starting (lane_at (lanes_of old.jobs job) n)) old.peers f.0 f.1 f.3.peers → Tell (lane_at (lanes_of old.jobs job) n) f.0 f.2
+            let P : ℕ → Type 0 = λ n. LaneRun (HasVaultExecuted s n) (starting (lane_at (lanes_of old.jobs job) n)) old.peers f.0 f.1 f.3.peers → Tell (lane_at (lanes_of old.jobs job) n) f.0 f.2
             → Sees Known c (map (moment_of n) f.0) f.3.peers → KeepsAll (f.3.peers c) in
             keeps_on (f.3.peers c) (new.peers c)
             (subst P (sym is.cloud_is) (λ run tell seen. by_lane run tell seen tells) f.7 f.8
             (record { here = λ m among. sees.here m (subst (λ (l : List Moment). Contains l m) (sym f.12) (Contains-append_left (map (moment_of cloud) f.0) f.6 m among)); behind = behind_mid }))
             (grows_finish s c told job clouds f.3 f.5 f.6 new f.13)
           where
-            by_lane : LaneRun (Executes s c) (starting (lane_at (lanes_of old.jobs job) c)) old.peers f.0 f.1 f.3.peers → Tell (lane_at (lanes_of old.jobs job) c) f.0 f.2 → Sees Known c (map (moment_of c) f.0) f.3.peers
+            by_lane : LaneRun (HasVaultExecuted s c) (starting (lane_at (lanes_of old.jobs job) c)) old.peers f.0 f.1 f.3.peers → Tell (lane_at (lanes_of old.jobs job) c) f.0 f.2 → Sees Known c (map (moment_of c) f.0) f.3.peers
                 → Contains f.2 lane_news.Committed → KeepsAll (f.3.peers c)
             by_lane run tell seen tells = by_request (request_of (lane_at (lanes_of old.jobs job) c)) refl
               where
                 by_request : (r : Option Request) → request_of (lane_at (lanes_of old.jobs job) c) ≡ r → KeepsAll (f.3.peers c)
                 by_request (Some r) asks = commit_run (starting (lane_at (lanes_of old.jobs job) c)) old.peers f.0 f.1 f.3.peers f.2 run tell
                     (work_here s.shape v (lanes_of old.jobs job) c r (lanes_are old job b is.job_is) asks) tells seen
-                by_request None asks = absurd (no_turns (Executes s c) (lane_at (lanes_of old.jobs job) c) old.peers f.0 f.1 f.3.peers f.2 asks run tell tells)
+                by_request None asks = absurd (no_turns (HasVaultExecuted s c) (lane_at (lanes_of old.jobs job) c) old.peers f.0 f.1 f.3.peers f.2 asks run tell tells)
 
         found : Contains (map (step_line job cloud) f.2 ++ stored_line job (lanes_of old.jobs job) f.4) (lines.Step j (cloud_no c) news.Committed) ⊎ Contains f.5 (lines.Step j (cloud_no c) news.Committed)
             → (Contains f.5 (lines.Step j (cloud_no c) news.Committed) → KeepsAll (new.peers c)) → KeepsAll (new.peers c)

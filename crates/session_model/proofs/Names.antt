@@ -4,13 +4,13 @@ use Rattle.std.specs.Prelude.{bytes_eq}
 use Rattle.std.specs.List.{Contains, flat_map}
 use Rattle.std.proofs.lemmas.List.Elements.{Contains-append_cases, Contains-append_left, Contains-append_right}
 use Rattle.std.proofs.lemmas.Slice.Eq.{bytes_eq-Decides}
-use Rattle.cd_base.specs.Limits.{IsPath}
-use Rattle.cd_base.specs.declared.shape.Shape.{Shape}
-use Rattle.caont_rs.specs.Package.{padded, package_of}
-use Rattle.caont_rs.specs.Opening.{text_in}
-use Rattle.caont_rs.proofs.Opened.{text_of_package, names_apart}
-use Rattle.user_dedup.proofs.Owned.{contains_cases, contains_nothing, contains_here}
-use Rattle.upload_job.specs.Upload.{FileVersion}
+use Rattle.session.specs.CdBase.Limits.{IsPath}
+use Rattle.session.specs.CdBase.shape.Shape.{Shape}
+use Rattle.subset_restore.specs.CaontRs.Package.{padded, package_of}
+use Rattle.subset_restore.specs.CaontRs.Opening.{text_in}
+use Rattle.subset_restore.proofs.CaontRs.Opened.{text_of_package, names_apart}
+use Rattle.subset_restore.proofs.UserDedup.Owned.{contains_cases, contains_nothing, contains_here}
+use Rattle.rebuild.specs.UploadJob.Upload.{FileVersion}
 use Rattle.session.specs.Scripts.{AreLines}
 use Rattle.session.specs.Spelling.{Fits}
 use Rattle.session.specs.declared.event.Event.{Event}

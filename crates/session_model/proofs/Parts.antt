@@ -5,24 +5,24 @@ use Rattle.std.specs.Bool.{MatchBool}
 use Rattle.std.specs.List.{Contains, range_with_len}
 use Rattle.std.specs.Prelude.{Err}
 use Rattle.std.proofs.lemmas.Bool.{cases_eq, ne_eqb}
-use Rattle.cd_base.specs.declared.ids.UserId.{UserId}
-use Rattle.cd_base.specs.declared.ids.Version.{Version}
-use Rattle.cd_edges.specs.Causes.{Rose}
-use Rattle.restore_job.specs.Asking.{MayRead}
-use Rattle.restore_job.specs.declared.error.RestoreErr.TheVariants as restore_errors
-use Rattle.transcript.specs.declared.refusal.Refusal.TheVariants as refusals
+use Rattle.session.specs.CdBase.ids.UserId.{UserId}
+use Rattle.session.specs.CdBase.ids.Version.{Version}
+use Rattle.session.specs.CdEdges.Causes.{Rose}
+use Rattle.subset_restore.specs.RestoreJob.Asking.{MayRead}
+use Rattle.subset_restore.specs.RestoreJob.error.RestoreErr.TheVariants as restore_errors
+use Rattle.session.specs.Transcript.refusal.Refusal.TheVariants as refusals
 use Rattle.std.proofs.lemmas.List.{map-append}
 use Rattle.std.proofs.lemmas.List.Elements.{Contains-append_left, Contains-append_right}
-use Rattle.messages.specs.declared.request.Request.{Request}
-use Rattle.messages.specs.declared.reply.Reply.TheVariants as replies
-use Rattle.user_dedup.specs.declared.command.Command.{Command}
-use Rattle.user_dedup.specs.Exec.{Peer, MaySettleAs, Exec, ExecTold, ExecUntold}
-use Rattle.user_dedup.proofs.Owned.{contains_here, contains_later, contains_nothing, contains_cases}
-use Rattle.upload_job.specs.declared.news.LaneNews.{LaneNews}
-use Rattle.upload_job.specs.declared.news.LaneNews.TheVariants as lane_news
-use Rattle.upload_job.specs.Lane.{LaneState, Asking, Sending, Committing, Done, Refused, news_of}
-use Rattle.upload_job.specs.Lanes.{with_state}
-use Rattle.rebuild.specs.LaneSteps.Runs.{Turn, Progress, starting, request_of, progress_after, LaneRun, LaneAlong, Tell, lane_at}
+use Rattle.rebuild.specs.Messages.request.Request.{Request}
+use Rattle.rebuild.specs.Messages.reply.Reply.TheVariants as replies
+use Rattle.subset_restore.specs.UserDedup.command.Command.{Command}
+use Rattle.subset_restore.specs.UserDedup.Exec.{Peer, MaySettleAs, Exec, ExecTold, ExecUntold}
+use Rattle.subset_restore.proofs.UserDedup.Owned.{contains_here, contains_later, contains_nothing, contains_cases}
+use Rattle.rebuild.specs.UploadJob.news.LaneNews.{LaneNews}
+use Rattle.rebuild.specs.UploadJob.news.LaneNews.TheVariants as lane_news
+use Rattle.rebuild.specs.UploadJob.Lane.{LaneState, Asking, Sending, Committing, Done, Refused, news_of}
+use Rattle.rebuild.specs.UploadJob.Lanes.{with_state}
+use Rattle.rebuild.specs.LaneSteps.Runs.{LaneTurn, Progress, starting, request_of, progress_after, LaneRun, LaneAlong, Tell, lane_at}
 use Rattle.subset_restore.specs.Subsets.{subsets, IsSubset}
 use Rattle.subset_restore.specs.Going.{sought}
 use Rattle.subset_restore.proofs.Choices.{first_choice, only_choice}
@@ -30,9 +30,9 @@ use Rattle.subset_restore.proofs.Elements.{all_of, of_all}
 use Rattle.session.specs.Spelling.{AreSources}
 use Rattle.session.specs.declared.event.Event.{Event}
 use Rattle.session.specs.declared.event.Event.TheVariants as events
-use Rattle.transcript.specs.declared.line.Line.{Line}
-use Rattle.transcript.specs.declared.line.Line.TheVariants as lines
-use Rattle.session_model.specs.Vault.{Setting, Vault, Executes, served_at, lanes_of, with_lanes}
+use Rattle.session.specs.Transcript.line.Line.{Line}
+use Rattle.session.specs.Transcript.line.Line.TheVariants as lines
+use Rattle.session_model.specs.Vault.{Setting, Vault, HasVaultExecuted, served_at, lanes_of, with_lanes}
 use Rattle.session_model.specs.Steps.{Moment, quiet, cloud_no, moment_of, step_line, stored_line, all_done, FinishLanes, NoneFrom, Gets, VStep}
 use Rattle.session_model.specs.Run.{IsListIn}
 use Rattle.session_model.specs.Headline.{Begun, ComesTo, IsPartOf}
@@ -111,23 +111,23 @@ module _ (s : Setting) where
       by_told true = inr (record { reply_is = refl; rose = omega arith; left = inl (record { list = refl; pending = refl }) })
       by_told false = record { kind = tt; memory = λ e. cc; fault = λ e. omega arith; stays = record { list = refl; pending = refl } }
 
-  pub fails : (cloud : ℕ) (peers : ℕ → Peer) (request : Request) → Executes s cloud peers request replies.Fault (put peers cloud (fault_of (peers cloud)))
+  pub fails : (cloud : ℕ) (peers : ℕ → Peer) (request : Request) → HasVaultExecuted s cloud peers request replies.Fault (put peers cloud (fault_of (peers cloud)))
   fails cloud peers request = record {
     does = subst (Exec s.shape (s.told cloud) (served_at s cloud) (peers cloud) request replies.Fault) (sym (put_here peers cloud (fault_of (peers cloud)))) (exec_fault cloud (peers cloud) request);
     others = put_other peers cloud (fault_of (peers cloud));
   }
 
   -- by one fault, where it may go on
-  end_now : (cloud : ℕ) (p : Progress) (old : ℕ → Peer) → (turns : List (Turn (ℕ → Peer))) × (at : Progress) × (news : List LaneNews) × (mid : ℕ → Peer)
-      × LaneRun (Executes s cloud) p old turns at mid × Tell p.lane turns news × FirstIs old (map (moment_of cloud) turns) mid
+  end_now : (cloud : ℕ) (p : Progress) (old : ℕ → Peer) → (turns : List (LaneTurn (ℕ → Peer))) × (at : Progress) × (news : List LaneNews) × (mid : ℕ → Peer)
+      × LaneRun (HasVaultExecuted s cloud) p old turns at mid × Tell p.lane turns news × FirstIs old (map (moment_of cloud) turns) mid
   end_now cloud p old = by_stop p.stopped refl (request_of p.lane) refl
     where
-      by_stop : (b : Bool) → p.stopped ≡ b → (r : Option Request) → request_of p.lane ≡ r → (turns : List (Turn (ℕ → Peer))) × (at : Progress) × (news : List LaneNews) × (mid : ℕ → Peer)
-          × LaneRun (Executes s cloud) p old turns at mid × Tell p.lane turns news × FirstIs old (map (moment_of cloud) turns) mid
+      by_stop : (b : Bool) → p.stopped ≡ b → (r : Option Request) → request_of p.lane ≡ r → (turns : List (LaneTurn (ℕ → Peer))) × (at : Progress) × (news : List LaneNews) × (mid : ℕ → Peer)
+          × LaneRun (HasVaultExecuted s cloud) p old turns at mid × Tell p.lane turns news × FirstIs old (map (moment_of cloud) turns) mid
       by_stop true e r asks = ([], p, [], old, (inl e, refl, refl), refl, inl (refl, refl))
       by_stop false e None asks = ([], p, [], old, (inr asks, refl, refl), refl, inl (refl, refl))
       by_stop false e (Some r) asks =
-          let t : Turn (ℕ → Peer) = record { before = old; request = r; reply = replies.Fault } in
+          let t : LaneTurn (ℕ → Peer) = record { before = old; request = r; reply = replies.Fault } in
           let mid = put old cloud (fault_of (old cloud)) in (
             t ∷ [],
             progress_after p replies.Fault,
@@ -139,16 +139,16 @@ module _ (s : Setting) where
           )
 
   -- a lane that has gone on for a while, and then to an end
-  pub record Goes (cloud : ℕ) (p : Progress) (old : ℕ → Peer) (turns : List (Turn (ℕ → Peer))) (last : ℕ → Peer) : Type 0 where
-    pub more : List (Turn (ℕ → Peer))
+  pub record Goes (cloud : ℕ) (p : Progress) (old : ℕ → Peer) (turns : List (LaneTurn (ℕ → Peer))) (last : ℕ → Peer) : Type 0 where
+    pub more : List (LaneTurn (ℕ → Peer))
     pub at : Progress
     pub news : List LaneNews
     pub mid : ℕ → Peer
-    pub run : LaneRun (Executes s cloud) p old (turns ++ more) at mid
+    pub run : LaneRun (HasVaultExecuted s cloud) p old (turns ++ more) at mid
     pub tell : Tell p.lane (turns ++ more) news
     pub first : FirstIs last (map (moment_of cloud) more) mid
 
-  goes : (cloud : ℕ) (p : Progress) (old : ℕ → Peer) (turns : List (Turn (ℕ → Peer))) (told : List LaneNews) (at : Progress) (last : ℕ → Peer) → LaneAlong (Executes s cloud) p old turns at last → Tell p.lane turns told → Goes cloud p old turns last
+  goes : (cloud : ℕ) (p : Progress) (old : ℕ → Peer) (turns : List (LaneTurn (ℕ → Peer))) (told : List LaneNews) (at : Progress) (last : ℕ → Peer) → LaneAlong (HasVaultExecuted s cloud) p old turns at last → Tell p.lane turns told → Goes cloud p old turns last
   goes cloud p old [] told at last along tell =
       let e = end_now cloud p old in
       record { more = e.0; at = e.1; news = e.2; mid = e.3; run = e.4; tell = e.5; first = subst (λ (f : ℕ → Peer). FirstIs f (map (moment_of cloud) e.0) e.3) (sym along.1) e.6 }
@@ -163,7 +163,7 @@ module _ (s : Setting) where
     pub new : Vault
     pub lanes_run : FinishLanes s job clouds old answers moments new
 
-  lane_finishes : (job cloud : ℕ) (clouds : List ℕ) (old : Vault) (turns : List (Turn (ℕ → Peer))) (at : Progress) (news : List LaneNews) (mid : ℕ → Peer) → LaneRun (Executes s cloud) (starting (lane_at (lanes_of old.jobs job) cloud)) old.peers turns at mid
+  lane_finishes : (job cloud : ℕ) (clouds : List ℕ) (old : Vault) (turns : List (LaneTurn (ℕ → Peer))) (at : Progress) (news : List LaneNews) (mid : ℕ → Peer) → LaneRun (HasVaultExecuted s cloud) (starting (lane_at (lanes_of old.jobs job) cloud)) old.peers turns at mid
       → Tell (lane_at (lanes_of old.jobs job) cloud) turns news → (rest : Finishes job clouds (record { peers = mid; jobs = with_lanes old.jobs job (with_state (lanes_of old.jobs job) cloud at.lane.state) }))
       → FinishLanes s job (cloud ∷ clouds) old (map (step_line job cloud) news ++ stored_line job (lanes_of old.jobs job) (with_state (lanes_of old.jobs job) cloud at.lane.state) ++ rest.answers) (map (moment_of cloud) turns ++ rest.moments) rest.new
   lane_finishes job cloud clouds old turns at news mid run tell rest = (
@@ -214,8 +214,8 @@ module _ (s : Setting) where
   rest_of job [] old moments last f = record { answers = []; more = []; new = old; lanes_run = (refl, append-nil moments ∙ f.0, refl); first = inl (refl, sym f.1) }
   rest_of job (cloud ∷ clouds) old moments last f = by_where f.5 (λ at rest cut. rest_of job clouds (record { peers = f.3; jobs = with_lanes old.jobs job (with_state (lanes_of old.jobs job) cloud at.lane.state) }) rest last cut)
     where
-      by_where : ((LaneAlong (Executes s cloud) (starting (lane_at (lanes_of old.jobs job) cloud)) old.peers f.0 f.1 f.3) × (moments ≡ map (moment_of cloud) f.0) × (last ≡ f.3))
-          ⊎ ((LaneRun (Executes s cloud) (starting (lane_at (lanes_of old.jobs job) cloud)) old.peers f.0 f.1 f.3) × ((rest : List Moment) × (moments ≡ map (moment_of cloud) f.0 ++ rest) × FinishCut s job clouds (record { peers = f.3; jobs = with_lanes old.jobs job (with_state (lanes_of old.jobs job) cloud f.1.lane.state) }) rest last))
+      by_where : ((LaneAlong (HasVaultExecuted s cloud) (starting (lane_at (lanes_of old.jobs job) cloud)) old.peers f.0 f.1 f.3) × (moments ≡ map (moment_of cloud) f.0) × (last ≡ f.3))
+          ⊎ ((LaneRun (HasVaultExecuted s cloud) (starting (lane_at (lanes_of old.jobs job) cloud)) old.peers f.0 f.1 f.3) × ((rest : List Moment) × (moments ≡ map (moment_of cloud) f.0 ++ rest) × FinishCut s job clouds (record { peers = f.3; jobs = with_lanes old.jobs job (with_state (lanes_of old.jobs job) cloud f.1.lane.state) }) rest last))
           → ((at : Progress) (rest : List Moment) → FinishCut s job clouds (record { peers = f.3; jobs = with_lanes old.jobs job (with_state (lanes_of old.jobs job) cloud at.lane.state) }) rest last
           → Rest job clouds (record { peers = f.3; jobs = with_lanes old.jobs job (with_state (lanes_of old.jobs job) cloud at.lane.state) }) rest last) → Rest job (cloud ∷ clouds) old moments last
       by_where (inl x) again =

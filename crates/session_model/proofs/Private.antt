@@ -4,34 +4,34 @@ use Rattle.std.specs.Prelude.{MatchOption, fold, slice_get}
 use Rattle.std.specs.Bool.{MatchBool}
 use Rattle.std.specs.List.{Contains}
 use Rattle.std.proofs.lemmas.List.Elements.{Contains-append_cases, Contains-append_left}
-use Rattle.cd_base.specs.declared.ids.Tag.{Tag}
-use Rattle.cd_base.specs.declared.ids.UserId.{UserId}
-use Rattle.cd_base.specs.declared.ids.Version.{Version}
-use Rattle.cd_base.specs.declared.shape.Shape.{Shape}
-use Rattle.cd_edges.specs.Disk.{Cloud}
-use Rattle.journal_start.specs.declared.rooms.Rooms.{Rooms}
-use Rattle.messages.specs.declared.request.Request.{Request}
-use Rattle.messages.specs.declared.request.Request.TheVariants as requests
-use Rattle.messages.specs.declared.reply.Reply.{Reply}
-use Rattle.user_dedup.specs.declared.command.Command.{Command}
-use Rattle.user_dedup.specs.Cloud.{user_of, commands_of, no_view, view_after, user_view, held_string}
-use Rattle.user_dedup.specs.Requests.{asker}
-use Rattle.user_dedup.specs.Owning.{first_lacking}
-use Rattle.user_dedup.specs.Dedup.{Outcome, FullRoom, answer_by_view, shares_reply, answer_over, HeldAlike, room_for, by_room, unless_full}
-use Rattle.user_dedup.specs.Exec.{Peer, MaySettleAs, Exec, ExecTold, ExecUntold}
-use Rattle.user_dedup.specs.Served.{served_by}
-use Rattle.user_dedup.specs.Spending.{HoldsItself, full_for}
-use Rattle.user_dedup.proofs.Owned.{contains_cases, contains_nothing, contains_here}
-use Rattle.user_dedup.proofs.Replies.{same_reply}
-use Rattle.user_dedup.proofs.Sound.{by_asker}
-use Rattle.user_dedup.proofs.Spending.{full_alone}
-use Rattle.upload_job.specs.Lanes as lanes
-use Rattle.rebuild.specs.LaneSteps.Runs.{Turn, Progress, LaneRun, progress_after}
+use Rattle.session.specs.CdBase.ids.Tag.{Tag}
+use Rattle.session.specs.CdBase.ids.UserId.{UserId}
+use Rattle.session.specs.CdBase.ids.Version.{Version}
+use Rattle.session.specs.CdBase.shape.Shape.{Shape}
+use Rattle.session.specs.CdEdges.Disk.{Cloud}
+use Rattle.session.specs.JournalStart.rooms.UserRooms.{UserRooms}
+use Rattle.rebuild.specs.Messages.request.Request.{Request}
+use Rattle.rebuild.specs.Messages.request.Request.TheVariants as requests
+use Rattle.rebuild.specs.Messages.reply.Reply.{Reply}
+use Rattle.subset_restore.specs.UserDedup.command.Command.{Command}
+use Rattle.subset_restore.specs.UserDedup.Cloud.{user_of, commands_of, no_view, view_after, user_view, held_string}
+use Rattle.subset_restore.specs.UserDedup.Requests.{asker}
+use Rattle.subset_restore.specs.UserDedup.Owning.{first_lacking}
+use Rattle.subset_restore.specs.UserDedup.Dedup.{Outcome, FullRoom, answer_by_view, shares_reply, answer_over, HeldAlike, room_for, by_room, unless_full}
+use Rattle.subset_restore.specs.UserDedup.Exec.{Peer, MaySettleAs, Exec, ExecTold, ExecUntold}
+use Rattle.subset_restore.specs.UserDedup.Served.{served_by}
+use Rattle.subset_restore.specs.UserDedup.Spending.{HoldsItself, full_for}
+use Rattle.subset_restore.proofs.UserDedup.Owned.{contains_cases, contains_nothing, contains_here}
+use Rattle.subset_restore.proofs.UserDedup.Replies.{same_reply}
+use Rattle.subset_restore.proofs.UserDedup.Sound.{by_asker}
+use Rattle.subset_restore.proofs.UserDedup.Spending.{full_alone}
+use Rattle.rebuild.specs.UploadJob.Lanes as lanes
+use Rattle.rebuild.specs.LaneSteps.Runs.{LaneTurn, Progress, LaneRun, progress_after}
 use Rattle.session.specs.declared.event.Event.{Event}
 use Rattle.session.specs.declared.event.Event.TheVariants as events
-use Rattle.transcript.specs.declared.refusal.Refusal.{Refusal}
-use Rattle.transcript.specs.declared.line.Line.{Line}
-use Rattle.session_model.specs.Vault.{Setting, Vault, Executes, served_at, lanes_of, with_peer, ExecutesAll}
+use Rattle.session.specs.Transcript.refusal.Refusal.{Refusal}
+use Rattle.session.specs.Transcript.line.Line.{Line}
+use Rattle.session_model.specs.Vault.{Setting, Vault, HasVaultExecuted, served_at, lanes_of, with_peer, ExecutesAll}
 use Rattle.session_model.specs.Steps.{Moment, quiet, moment_of, turn_moment, target_moments, LaneStep, DropStep, FinishLanes, ListRun, VStep}
 use Rattle.session_model.specs.Run.{Answered, Turns, moments_of}
 use Rattle.session_model.specs.Headline.{Session, Begun, IsRun, IsPartOf, IsOwnReply, own_reply, IsPrivate, moments_begun}
@@ -78,7 +78,7 @@ held_alike shape cloud one two (requests.List user after) command adds = tt
 held_alike shape cloud one two (requests.Delete user tag version) command adds = tt
 
 -- so what is served for it follows from the asking user's own commands, as does which of the user's rooms is full
-pub served_alone : (rooms : Rooms) (shape : Shape) (cloud : ℕ) (one two : List Command) (request : Request) (command : Command)
+pub served_alone : (rooms : UserRooms) (shape : Shape) (cloud : ℕ) (one two : List Command) (request : Request) (command : Command)
     → commands_of (asker request) two ≡ commands_of (asker request) one → (answer_over shape cloud one request).adds ≡ Some command
     → HoldsItself (one ++ command ∷ []) → HoldsItself (two ++ command ∷ [])
     → served_by rooms shape cloud two request ≡ served_by rooms shape cloud one request
@@ -95,7 +95,7 @@ served_alone rooms shape cloud one two request command same adds first second =
     ∙ ap (λ (o : Option Command). by_room (answer_over shape cloud one request) (room_for (full_for shape rooms one) o)) (sym adds)
 
 module _ (s : Setting) where
-  private_exec : (cloud : ℕ) (old new : ℕ → Peer) (request : Request) (reply : Reply) → Executes s cloud old request reply new → IsPrivate s (record { peers = old; event = Some (record { cloud = cloud; request = request; reply = reply }) })
+  private_exec : (cloud : ℕ) (old new : ℕ → Peer) (request : Request) (reply : Reply) → HasVaultExecuted s cloud old request reply new → IsPrivate s (record { peers = old; event = Some (record { cloud = cloud; request = request; reply = reply }) })
   private_exec cloud old new request reply x told own =
       by_exec (subst (λ (b : Bool). MatchBool b (ExecTold (served_at s cloud) (old cloud) request reply (new cloud)) (ExecUntold s.shape (old cloud) request reply (new cloud))) told x.does.does)
     where
@@ -117,7 +117,7 @@ module _ (s : Setting) where
   private_quiet : (peers : ℕ → Peer) (moments : List Moment) → moments ≡ quiet peers → (m : Moment) → Contains moments m → IsPrivate s m
   private_quiet peers moments e m has = private_one (record { peers = peers; event = None }) m tt (subst (λ (l : List Moment). Contains l m) e has)
 
-  private_run_of : (cloud : ℕ) (p : Progress) (old : ℕ → Peer) (turns : List (Turn (ℕ → Peer))) (last : Progress) (new : ℕ → Peer) → LaneRun (Executes s cloud) p old turns last new
+  private_run_of : (cloud : ℕ) (p : Progress) (old : ℕ → Peer) (turns : List (LaneTurn (ℕ → Peer))) (last : Progress) (new : ℕ → Peer) → LaneRun (HasVaultExecuted s cloud) p old turns last new
       → (m : Moment) → Contains (map (moment_of cloud) turns) m → IsPrivate s m
   private_run_of cloud p old [] last new run m has = absurd (contains_nothing m has)
   private_run_of cloud p old (t ∷ turns) last new run m has = elim (contains_cases (moment_of cloud t) (map (moment_of cloud) turns) m has) [
@@ -146,19 +146,19 @@ module _ (s : Setting) where
   private_drop job cloud None old answers moments new x m has = private_quiet old.peers moments x.1 m has
   private_drop job cloud (Some request) old answers moments new x m has = private_one _ m (private_exec cloud old.peers new.peers request x.0 x.1) (subst (λ (l : List Moment). Contains l m) x.2 has)
 
-  private_list : (user : UserId) (cloud : ℕ) (above : Option (Tag × Version)) (old : ℕ → Peer) (turns : List (Turn (ℕ → Peer))) (listed : Result (List (Tag × Version)) Refusal) (new : ℕ → Peer)
+  private_list : (user : UserId) (cloud : ℕ) (above : Option (Tag × Version)) (old : ℕ → Peer) (turns : List (LaneTurn (ℕ → Peer))) (listed : Result (List (Tag × Version)) Refusal) (new : ℕ → Peer)
       → ListRun s user cloud above old turns listed new → (m : Moment) → Contains (map (moment_of cloud) turns) m → IsPrivate s m
   private_list user cloud above old [] listed new run m has = absurd run
   private_list user cloud above old (t ∷ turns) listed new run m has = elim (contains_cases (moment_of cloud t) (map (moment_of cloud) turns) m has) [
     | inl same ↦ subst (IsPrivate s) same (subst (λ (peers : ℕ → Peer). IsPrivate s (record { peers = peers; event = Some (record { cloud = cloud; request = t.request; reply = t.reply }) })) (sym run.0)
         (private_exec cloud old run.2.0 t.request t.reply run.2.1))
     | inr later ↦ elim run.2.2 [
-      | inl x ↦ absurd (contains_nothing m (subst (λ (l : List (Turn (ℕ → Peer))). Contains (map (moment_of cloud) l) m) x.1 later))
+      | inl x ↦ absurd (contains_nothing m (subst (λ (l : List (LaneTurn (ℕ → Peer))). Contains (map (moment_of cloud) l) m) x.1 later))
       | inr x ↦ private_list user cloud (slice_get x.0 (length x.0 - 1)) run.2.0 turns x.1 new x.5 m later
     ]
   ]
 
-  private_target : (old : ℕ → Peer) (target : ℕ) (p : Peer) (turns : List (Turn Peer)) (end : Peer) → ExecutesAll s target p turns end
+  private_target : (old : ℕ → Peer) (target : ℕ) (p : Peer) (turns : List (LaneTurn Peer)) (end : Peer) → ExecutesAll s target p turns end
       → (m : Moment) → Contains (target_moments old target turns end) m → IsPrivate s m
   private_target old target p [] end x m has = private_one (record { peers = with_peer old target end; event = None }) m tt has
   private_target old target p (t ∷ turns) end x m has = elim (contains_cases (turn_moment old target t) (target_moments old target turns end) m has) [

@@ -6,13 +6,13 @@ use Rattle.std.specs.List.Sorted.{IsStrictlyIncreasing}
 use Rattle.std.proofs.lemmas.List.Elements.{Contains-append_cases}
 use Rattle.std.proofs.lemmas.List.{get_or_default, get_or_past}
 use Rattle.std.proofs.lemmas.Bool.{cases_lt}
-use Rattle.cd_base.specs.Limits.{IsPath}
-use Rattle.cd_base.specs.declared.ids.UserId.{UserId}
-use Rattle.cd_base.specs.declared.ids.Version.{Version}
-use Rattle.cd_base.specs.declared.shape.Shape.{Shape}
-use Rattle.reed_solomon.specs.Dispersal.{AreChoice}
-use Rattle.user_dedup.proofs.Owned.{contains_cases, contains_nothing}
-use Rattle.upload_job.specs.Upload.{FileVersion}
+use Rattle.session.specs.CdBase.Limits.{IsPath}
+use Rattle.session.specs.CdBase.ids.UserId.{UserId}
+use Rattle.session.specs.CdBase.ids.Version.{Version}
+use Rattle.session.specs.CdBase.shape.Shape.{Shape}
+use Rattle.rebuild.specs.ReedSolomon.Dispersal.{AreChoice}
+use Rattle.subset_restore.proofs.UserDedup.Owned.{contains_cases, contains_nothing}
+use Rattle.rebuild.specs.UploadJob.Upload.{FileVersion}
 use Rattle.subset_restore.specs.Subsets.{subsets, IsSubset}
 use Rattle.subset_restore.proofs.Choices.{each_is_subset}
 use Rattle.subset_restore.proofs.Elements.{all_of, of_all}

@@ -5,30 +5,30 @@ use Rattle.std.specs.List.{Contains, list_all}
 use Rattle.std.proofs.lemmas.List.Elements.{Contains-append_left, Contains-push}
 use Rattle.std.proofs.lemmas.Grind.{flat_map-append}
 use Rattle.std.proofs.lemmas.Option.{same_Some}
-use Rattle.cd_edges.specs.Causes.{Rose}
-use Rattle.cd_base.specs.declared.ids.Tag.{Tag}
-use Rattle.cd_base.specs.declared.ids.UserId.{UserId}
-use Rattle.cd_base.specs.declared.ids.Version.{Version}
-use Rattle.cd_base.specs.declared.shape.Shape.{Shape}
-use Rattle.caont_rs.specs.Package.{share}
-use Rattle.file_recipe.specs.FileRecipe.{secrets}
-use Rattle.reed_solomon.specs.Dispersal.{AreChoice}
-use Rattle.messages.specs.declared.request.Request.{Request}
-use Rattle.messages.specs.declared.reply.Reply.{Reply}
-use Rattle.messages.specs.declared.reply.Reply.TheVariants as replies
-use Rattle.user_dedup.specs.declared.command.Command.{Command}
-use Rattle.user_dedup.specs.declared.file_list.FileEntry.{FileEntry}
-use Rattle.user_dedup.specs.Cloud.{fingerprint, strings_of, user_view}
-use Rattle.user_dedup.specs.Pages.{entry_at, sorted_keys, key_of as key_of_entry}
-use Rattle.user_dedup.specs.Exec.{Peer, MaySettleAs, Exec, ExecTold}
-use Rattle.user_dedup.proofs.Owned.{contains_cases, contains_nothing, contains_here, contains_later}
-use Rattle.user_dedup.proofs.Sound.{found_entry}
-use Rattle.user_dedup.specs.Spending.{full_for}
-use Rattle.user_dedup.specs.Cloud.{strings_in}
-use Rattle.upload_job.specs.declared.news.LaneNews.TheVariants as lane_news
-use Rattle.upload_job.specs.Upload.{FileVersion, Work, work_of}
-use Rattle.upload_job.specs.Lane.{LaneState, Asking, Sending, Committing, Done, Refused, onward, past_known, lane_request, lane_after, news_of}
-use Rattle.rebuild.specs.LaneSteps.Runs.{Turn, Progress, LaneRun, progress_after}
+use Rattle.session.specs.CdEdges.Causes.{Rose}
+use Rattle.session.specs.CdBase.ids.Tag.{Tag}
+use Rattle.session.specs.CdBase.ids.UserId.{UserId}
+use Rattle.session.specs.CdBase.ids.Version.{Version}
+use Rattle.session.specs.CdBase.shape.Shape.{Shape}
+use Rattle.subset_restore.specs.CaontRs.Package.{share}
+use Rattle.rebuild.specs.FileRecipe.FileRecipe.{secrets}
+use Rattle.rebuild.specs.ReedSolomon.Dispersal.{AreChoice}
+use Rattle.rebuild.specs.Messages.request.Request.{Request}
+use Rattle.rebuild.specs.Messages.reply.Reply.{Reply}
+use Rattle.rebuild.specs.Messages.reply.Reply.TheVariants as replies
+use Rattle.subset_restore.specs.UserDedup.command.Command.{Command}
+use Rattle.subset_restore.specs.UserDedup.file_list.FileEntry.{FileEntry}
+use Rattle.subset_restore.specs.UserDedup.Cloud.{fingerprint, strings_of, user_view}
+use Rattle.subset_restore.specs.UserDedup.Pages.{entry_at, sorted_keys, key_of as key_of_entry}
+use Rattle.subset_restore.specs.UserDedup.Exec.{Peer, MaySettleAs, Exec, ExecTold}
+use Rattle.subset_restore.proofs.UserDedup.Owned.{contains_cases, contains_nothing, contains_here, contains_later}
+use Rattle.subset_restore.proofs.UserDedup.Sound.{found_entry}
+use Rattle.subset_restore.specs.UserDedup.Spending.{full_for}
+use Rattle.subset_restore.specs.UserDedup.Cloud.{strings_in}
+use Rattle.rebuild.specs.UploadJob.news.LaneNews.TheVariants as lane_news
+use Rattle.rebuild.specs.UploadJob.Upload.{FileVersion, Work, work_of}
+use Rattle.rebuild.specs.UploadJob.Lane.{LaneState, Asking, Sending, Committing, Done, Refused, onward, past_known, lane_request, lane_after, news_of}
+use Rattle.rebuild.specs.LaneSteps.Runs.{LaneTurn, Progress, LaneRun, progress_after}
 use Rattle.rebuild.specs.KeptFiles.Kept.{Keeps, key_of}
 use Rattle.rebuild.specs.declared.error.SkipWhy.{SkipWhy}
 use Rattle.rebuild.specs.declared.error.SkipWhy.TheVariants as whys
@@ -170,11 +170,11 @@ stopped_by key Refused replies.NoMemory x r e = same_Some replies.NoMemory x e
 
 -- ---- a rebuild that goes on behind a key, or stops there
 
-abbrev pub Behind : (Peer → Progressed → Type 0) → Progressed → Peer → List (Turn Peer) → Progressed → Peer → Option Reply → Type 0
+abbrev pub Behind : (Peer → Progressed → Type 0) → Progressed → Peer → List (LaneTurn Peer) → Progressed → Peer → Option Reply → Type 0
 Behind Rest next mid rest after new o = MatchOption o (Rest mid next) (λ said. (rest ≡ []) × (after ≡ next) × (new ≡ mid))
 
 -- one that came to its end goes on behind each
-goes_behind : (Rest : Peer → Progressed → Type 0) (next : Progressed) (mid : Peer) (rest : List (Turn Peer)) (after : Progressed) (new : Peer) (o : Option Reply) → next.stop ≡ o → after.stop ≡ None
+goes_behind : (Rest : Peer → Progressed → Type 0) (next : Progressed) (mid : Peer) (rest : List (LaneTurn Peer)) (after : Progressed) (new : Peer) (o : Option Reply) → next.stop ≡ o → after.stop ≡ None
     → Behind Rest next mid rest after new o → (o ≡ None) × Rest mid next
 goes_behind Rest next mid rest after new None e goes m = (refl, m)
 goes_behind Rest next mid rest after new (Some said) e goes m = absurd (let k : Some said ≡ None = sym e ∙ (ap (λ (p : Progressed). p.stop) (sym m.1) ∙ goes) in cc)
@@ -205,7 +205,7 @@ module _ (s : Setting) (c : ℕ) (told : IsTrue (s.told c)) (v : FileVersion) (g
       known string (strings_later x.0 x.1.0 q.list string x.1.1 (strings_settled p x.0 string x.2 has))
 
   -- the Commit that brings a lane to its end
-  commit_keeps : (p : Progress) (old mid new : Peer) (request : Request) (reply : Reply) (turns : List (Turn Peer)) (last : Progress) → p.lane.work ≡ work_of s.shape v c → lane_request p.lane.work p.lane.state ≡ Some request
+  commit_keeps : (p : Progress) (old mid new : Peer) (request : Request) (reply : Reply) (turns : List (LaneTurn Peer)) (last : Progress) → p.lane.work ≡ work_of s.shape v c → lane_request p.lane.work p.lane.state ≡ Some request
       → Exec s.shape true (served_at s c) old request reply mid → LaneRun (Exec s.shape true (served_at s c)) (progress_after p reply) mid turns last new → p.lane.state ≡ Committing → reply ≡ replies.Committed
       → AllKnown mid → KeepsAll s c told v good Known apart new
   commit_keeps p old mid new request reply turns last work asks exec run at said known =
@@ -215,7 +215,7 @@ module _ (s : Setting) (c : ℕ) (told : IsTrue (s.told c)) (v : FileVersion) (g
       keeps_on s c told v good Known apart mid new (executed_keeps s.shape c (full_for s.shape s.rooms) v good Known apart p.lane request old mid reply work asks does news known)
       (grows_lane_run s c (progress_after p reply) mid turns last new run)
 
-  run_keeps : (p : Progress) (old : Peer) (turns : List (Turn Peer)) (last : Progress) (new : Peer) → LaneRun (Exec s.shape true (served_at s c)) p old turns last new → p.lane.work ≡ work_of s.shape v c
+  run_keeps : (p : Progress) (old : Peer) (turns : List (LaneTurn Peer)) (last : Progress) (new : Peer) → LaneRun (Exec s.shape true (served_at s c)) p old turns last new → p.lane.work ≡ work_of s.shape v c
       → last.lane.state ≡ Done → AllKnown new → (p.lane.state ≡ Done) ⊎ KeepsAll s c told v good Known apart new
   run_keeps p old [] last new run work done known = inl (sym (ap (λ (q : Progress). q.lane.state) run.1) ∙ done)
   run_keeps p old (t ∷ turns) last new run work done known =
@@ -230,7 +230,7 @@ module _ (s : Setting) (c : ℕ) (told : IsTrue (s.told c)) (v : FileVersion) (g
       ]
 
   -- the lane of the version
-  lane_keeps : (key : Tag × Version) (r next : Progressed) (old : Peer) (turns : List (Turn Peer)) (mid : Peer) → BringsOne s.shape c (served_at s c) key (Ok v) r old turns next mid → next.stop ≡ None
+  lane_keeps : (key : Tag × Version) (r next : Progressed) (old : Peer) (turns : List (LaneTurn Peer)) (mid : Peer) → BringsOne s.shape c (served_at s c) key (Ok v) r old turns next mid → next.stop ≡ None
       → ¬ Contains next.skips (skip_for key whys.TargetExists) → AllKnown mid → KeepsAll s c told v good Known apart mid
   lane_keeps key r next old turns mid b goes absent known =
       elim (ended_by key b.0.lane.state b.1 r (sym (ap (λ (p : Progressed). p.stop) b.4) ∙ goes)) [
@@ -242,7 +242,7 @@ module _ (s : Setting) (c : ℕ) (told : IsTrue (s.told c)) (v : FileVersion) (g
       ]
 
   -- among all that was found
-  walk : (fs : List Finding) (r after : Progressed) (old new : Peer) (turns : List (Turn Peer)) → BringsAll s.shape c (served_at s c) fs r old turns after new → after.stop ≡ None
+  walk : (fs : List Finding) (r after : Progressed) (old new : Peer) (turns : List (LaneTurn Peer)) → BringsAll s.shape c (served_at s c) fs r old turns after new → after.stop ≡ None
       → (f : Finding) → Contains fs f → f.found ≡ Ok v → ¬ Contains after.skips (skip_for f.key whys.TargetExists) → AllKnown new → KeepsAll s c told v good Known apart new
   walk [] r after old new turns b goes f has is absent known = absurd (contains_nothing f has)
   walk (g ∷ gs) r after old new turns b goes f has is absent known =
@@ -285,7 +285,7 @@ has_key shape cloud list user path version file keeps =
 -- A version that all clouds keep which were read, and that isn't skipped, each list keeps that the target may settle as.
 pub refilled : (s : Setting) (c : ℕ) (told : IsTrue (s.told c)) (v : FileVersion) (good : IsUpload v) (Known : List ℕ → Type 0)
     (apart : (string secret : List ℕ) → Known string → Contains (secrets v.file) secret → fingerprint string ≡ fingerprint (share s.shape c secret) → string ≡ share s.shape c secret)
-    (from : List ℕ) (turns : List (Turn Peer)) (rebuilt : Rebuilt) (before after : ℕ → Peer) → AreChoice s.shape from → ((i : ℕ) → slice_index v.path i < 256) → ((i : ℕ) → slice_index v.file i < 256)
+    (from : List ℕ) (turns : List (LaneTurn Peer)) (rebuilt : Rebuilt) (before after : ℕ → Peer) → AreChoice s.shape from → ((i : ℕ) → slice_index v.path i < 256) → ((i : ℕ) → slice_index v.file i < 256)
     → Rebuilds s.shape v.user c (served_at s c) from turns (Ok rebuilt) before after
     → ((source : ℕ) → Contains from source → Keeps s.shape source (after source).list v.user v.path v.number v.file)
     → ¬ Contains rebuilt.skipped (skip_for (key_of s.shape v.path v.number) whys.TargetExists)
@@ -312,7 +312,7 @@ refilled s c told v good Known apart from turns rebuilt before after choice lett
 -- ---- a device of the target that fails
 
 -- the last reply of a lane was fault
-run_rose : (s : Setting) (c : ℕ) (p : Progress) (old : Peer) (turns : List (Turn Peer)) (last : Progress) (new : Peer) → LaneRun (Exec s.shape true (served_at s c)) p old turns last new → last_said turns ≡ Some replies.Fault
+run_rose : (s : Setting) (c : ℕ) (p : Progress) (old : Peer) (turns : List (LaneTurn Peer)) (last : Progress) (new : Peer) → LaneRun (Exec s.shape true (served_at s c)) p old turns last new → last_said turns ≡ Some replies.Fault
     → Rose old.faults new.faults
 run_rose s c p old [] last new run said = absurd cc
 run_rose s c p old (t ∷ []) last new run said =
@@ -325,7 +325,7 @@ run_rose s c p old (t ∷ u ∷ turns) last new run said =
     above : (a b c : ℕ) → a ≤ b → Rose b c → Rose a c
     above a b c le rose = omega (arith, le, rose)
 
-one_rose : (s : Setting) (c : ℕ) (key : Tag × Version) (found : Result FileVersion SkipWhy) (r : Progressed) (old : Peer) (turns : List (Turn Peer)) (next : Progressed) (mid : Peer)
+one_rose : (s : Setting) (c : ℕ) (key : Tag × Version) (found : Result FileVersion SkipWhy) (r : Progressed) (old : Peer) (turns : List (LaneTurn Peer)) (next : Progressed) (mid : Peer)
     → BringsOne s.shape c (served_at s c) key found r old turns next mid → next.stop ≡ Some replies.Fault → Rose old.faults mid.faults
 one_rose s c key (Err why) r old turns next mid b stop = absurd (let f : None ≡ Some replies.Fault = sym (ap (λ (p : Progressed). p.stop) b.0) ∙ stop in cc)
 one_rose s c key (Ok v) r old turns next mid b stop =
@@ -333,7 +333,7 @@ one_rose s c key (Ok v) r old turns next mid b stop =
     run_rose s c (lane_of s.shape c v) old turns b.0 mid b.2 (b.3 ∙ ap (λ (x : Reply). Some x) said)
 
 -- a rebuild that this stopped
-pub stop_rose : (s : Setting) (c : ℕ) → s.told c ≡ true → (fs : List Finding) (r : Progressed) (old : Peer) (turns : List (Turn Peer)) (last : Progressed) (new : Peer) → BringsAll s.shape c (served_at s c) fs r old turns last new
+pub stop_rose : (s : Setting) (c : ℕ) → s.told c ≡ true → (fs : List Finding) (r : Progressed) (old : Peer) (turns : List (LaneTurn Peer)) (last : Progressed) (new : Peer) → BringsAll s.shape c (served_at s c) fs r old turns last new
     → r.stop ≡ None → last.stop ≡ Some replies.Fault → Rose old.faults new.faults
 stop_rose s c told [] r old turns last new b none stop = absurd (let f : None ≡ Some replies.Fault = sym none ∙ (sym (ap (λ (p : Progressed). p.stop) b.0) ∙ stop) in cc)
 stop_rose s c told (f ∷ fs) r old turns last new b none stop = by_next b.0.stop refl b.6 (stop_rose s c told fs b.0 b.1 b.3 last new)

@@ -2,21 +2,21 @@
 use Rattle.std.proofs.Common.{◌≡◌, ℕ, Bool, true, List, [], ◌∷◌, ◌++◌, Option, Some, None, Result, Ok, Err, refl, sym, ap, ◌∙◌, subst, inl, inr, ◌⊎◌, append-nil}
 use Rattle.std.specs.Prelude.{IsTrue, IsSomeAnd, option_to_list}
 use Rattle.std.specs.Bool.{MatchBool}
-use Rattle.cd_edges.specs.Disk.{Cloud}
-use Rattle.half_journal.specs.declared.errors.OpenErr.{OpenErr}
-use Rattle.half_journal.specs.declared.errors.OpenErr.TheVariants as errors
-use Rattle.messages.specs.declared.request.Request.{Request}
-use Rattle.messages.specs.declared.reply.Reply.{Reply}
-use Rattle.user_dedup.specs.declared.command.Command.{Command}
-use Rattle.user_dedup.specs.Dedup.{FullRoom, Outcome, answer_over, by_room, room_for, unless_full}
-use Rattle.user_dedup.specs.Exec.{Peer, Answers, Exec, ExecTold, ExecUntold, FailsTold, IsCut, MaySettleAs, Stays, Settles}
-use Rattle.user_dedup.specs.Spending.{IsWithin, full_for}
-use Rattle.user_dedup.proofs.Spending.{none_within}
-use Rattle.user_dedup.proofs.Within.{next_within}
+use Rattle.session.specs.CdEdges.Disk.{Cloud}
+use Rattle.local_link.specs.HalfJournal.errors.OpenErr.{OpenErr}
+use Rattle.local_link.specs.HalfJournal.errors.OpenErr.TheVariants as errors
+use Rattle.rebuild.specs.Messages.request.Request.{Request}
+use Rattle.rebuild.specs.Messages.reply.Reply.{Reply}
+use Rattle.subset_restore.specs.UserDedup.command.Command.{Command}
+use Rattle.subset_restore.specs.UserDedup.Dedup.{FullRoom, Outcome, answer_over, by_room, room_for, unless_full}
+use Rattle.subset_restore.specs.UserDedup.Exec.{Peer, Answers, Exec, ExecTold, ExecUntold, FailsTold, IsCut, MaySettleAs, KeepsPeer, Settles}
+use Rattle.subset_restore.specs.UserDedup.Spending.{IsWithin, full_for}
+use Rattle.subset_restore.proofs.UserDedup.Spending.{none_within}
+use Rattle.subset_restore.proofs.UserDedup.Within.{next_within}
 use Rattle.local_link.specs.CloudServer.Serving.{ReopensAs}
-use Rattle.restore_job.specs.Asking.{MayRead}
+use Rattle.subset_restore.specs.RestoreJob.Asking.{MayRead}
 use Rattle.session.specs.declared.event.Event.{Event}
-use Rattle.transcript.specs.declared.line.Line.{Line}
+use Rattle.session.specs.Transcript.line.Line.{Line}
 use Rattle.session_model.specs.Vault.{Setting, served_at, opening}
 use Rattle.session_model.specs.Steps.{ReopensUntold, RestartStep, ReplaceStep}
 use Rattle.session_model.specs.Headline.{Session, IsRun}
@@ -55,7 +55,7 @@ module _ (s : Setting) where
   one_roomy : (q : Peer) → q.pending ≡ None → IsWithin s.shape s.rooms q.list → IsRoomy q
   one_roomy q none within list may = subst (IsWithin s.shape s.rooms) (sym (only_list q list none may)) within
 
-  stays_roomy : (p q : Peer) → Stays p q → KeepsRoomy p q
+  stays_roomy : (p q : Peer) → KeepsPeer p q → KeepsRoomy p q
   stays_roomy p q stays roomy list (inl same) = roomy list (inl (same ∙ stays.list))
   stays_roomy p q stays roomy list (inr some) =
       roomy list (inr (subst (λ (o : Option Command). IsSomeAnd o (λ command. list ≡ p.list ++ command ∷ [])) stays.pending
@@ -67,7 +67,7 @@ module _ (s : Setting) where
   read_roomy : (p q : Peer) → MayRead p q → KeepsRoomy p q
   read_roomy p q x roomy = by_case x.0
     where
-      by_case : Stays p q ⊎ Settles p q → IsRoomy q
+      by_case : KeepsPeer p q ⊎ Settles p q → IsRoomy q
       by_case (inl stays) = stays_roomy p q stays roomy
       by_case (inr settles) = settles_roomy p q settles roomy
 
@@ -106,7 +106,7 @@ module _ (s : Setting) where
     told_roomy p q request reply (inl a) = answered p q request reply a
     told_roomy p q request reply (inr f) = by_left f.left
       where
-        by_left : Stays p q ⊎ IsCut (served_at s c) p request q → KeepsRoomy p q
+        by_left : KeepsPeer p q ⊎ IsCut (served_at s c) p request q → KeepsRoomy p q
         by_left (inl stays) = stays_roomy p q stays
         by_left (inr x) = cut p q request x
 

@@ -3,20 +3,20 @@ use Rattle.std.proofs.Common.{◌≡◌, ℕ, List, [], ◌∷◌, ◌++◌, map
 use Rattle.std.specs.Prelude.{MatchOption}
 use Rattle.std.specs.List.{Contains}
 use Rattle.std.proofs.lemmas.List.Elements.{Contains-append_left, Contains-append_right}
-use Rattle.cd_base.specs.declared.ids.Tag.{Tag}
-use Rattle.cd_base.specs.declared.ids.UserId.{UserId}
-use Rattle.cd_base.specs.declared.ids.Version.{Version}
-use Rattle.messages.specs.declared.request.Request.{Request}
-use Rattle.user_dedup.specs.Exec.{Peer}
-use Rattle.user_dedup.proofs.Owned.{contains_here}
-use Rattle.user_dedup.specs.Cloud.{strings_in}
-use Rattle.upload_job.specs.Lanes as lanes
-use Rattle.rebuild.specs.LaneSteps.Runs.{Turn, Progress, LaneRun}
+use Rattle.session.specs.CdBase.ids.Tag.{Tag}
+use Rattle.session.specs.CdBase.ids.UserId.{UserId}
+use Rattle.session.specs.CdBase.ids.Version.{Version}
+use Rattle.rebuild.specs.Messages.request.Request.{Request}
+use Rattle.subset_restore.specs.UserDedup.Exec.{Peer}
+use Rattle.subset_restore.proofs.UserDedup.Owned.{contains_here}
+use Rattle.subset_restore.specs.UserDedup.Cloud.{strings_in}
+use Rattle.rebuild.specs.UploadJob.Lanes as lanes
+use Rattle.rebuild.specs.LaneSteps.Runs.{LaneTurn, Progress, LaneRun}
 use Rattle.session.specs.declared.event.Event.{Event}
 use Rattle.session.specs.declared.event.Event.TheVariants as events
-use Rattle.transcript.specs.declared.refusal.Refusal.{Refusal}
-use Rattle.transcript.specs.declared.line.Line.{Line}
-use Rattle.session_model.specs.Vault.{Setting, Vault, Executes, lanes_of}
+use Rattle.session.specs.Transcript.refusal.Refusal.{Refusal}
+use Rattle.session.specs.Transcript.line.Line.{Line}
+use Rattle.session_model.specs.Vault.{Setting, Vault, HasVaultExecuted, lanes_of}
 use Rattle.session_model.specs.Steps.{Moment, quiet, moment_of, target_moments, LaneStep, DropStep, FinishLanes, ListRun, VStep}
 use Rattle.session_model.specs.Run.{Answered, Turns, moments_of}
 use Rattle.session_model.specs.Headline.{Begun, ComesTo, IsPartOf, moments_begun}
@@ -29,7 +29,7 @@ first_quiet : (old new : ℕ → Peer) (moments : List Moment) → moments ≡ q
 first_quiet old new moments e = inr (record { peers = old; event = None }, [], e, refl)
 
 module _ (s : Setting) where
-  first_run : (cloud : ℕ) (p : Progress) (old : ℕ → Peer) (turns : List (Turn (ℕ → Peer))) (last : Progress) (mid : ℕ → Peer) (rest moments : List Moment) (new : ℕ → Peer) → LaneRun (Executes s cloud) p old turns last mid
+  first_run : (cloud : ℕ) (p : Progress) (old : ℕ → Peer) (turns : List (LaneTurn (ℕ → Peer))) (last : Progress) (mid : ℕ → Peer) (rest moments : List Moment) (new : ℕ → Peer) → LaneRun (HasVaultExecuted s cloud) p old turns last mid
       → FirstIs mid rest new → moments ≡ map (moment_of cloud) turns ++ rest → FirstIs old moments new
   first_run cloud p old [] last mid rest moments new run (inl x) e = inl (e ∙ x.0, x.1 ∙ run.2)
   first_run cloud p old [] last mid rest moments new run (inr x) e = inr (x.0, x.1, e ∙ x.2, x.3 ∙ run.2)
@@ -47,7 +47,7 @@ module _ (s : Setting) where
   first_drop job cloud None old answers moments new x = first_quiet old.peers new.peers moments x.1
   first_drop job cloud (Some request) old answers moments new x = inr (_, [], x.2, refl)
 
-  first_list : (user : UserId) (cloud : ℕ) (above : Option (Tag × Version)) (old : ℕ → Peer) (turns : List (Turn (ℕ → Peer))) (listed : Result (List (Tag × Version)) Refusal) (new : ℕ → Peer) (moments : List Moment)
+  first_list : (user : UserId) (cloud : ℕ) (above : Option (Tag × Version)) (old : ℕ → Peer) (turns : List (LaneTurn (ℕ → Peer))) (listed : Result (List (Tag × Version)) Refusal) (new : ℕ → Peer) (moments : List Moment)
       → ListRun s user cloud above old turns listed new → moments ≡ map (moment_of cloud) turns → FirstIs old moments new
   first_list user cloud above old [] listed new moments run e = absurd run
   first_list user cloud above old (t ∷ turns) listed new moments run e = inr (moment_of cloud t, map (moment_of cloud) turns, e, run.0)

@@ -2,18 +2,18 @@
 use Rattle.std.proofs.Common.{◌≡◌, ℕ, ◌^◌, ◌<◌, ◌≤◌, Bool, true, false, Option, None, Result, Ok, Err, refl, sym, ap, ◌∙◌, subst, inl, inr, ◌⊎◌, arith}
 use Rattle.std.specs.Prelude.{IsTrue, List, ◌∷◌, ◌++◌, [], IsSomeAnd}
 use Rattle.std.specs.Bool.{MatchBool}
-use Rattle.cd_edges.specs.Causes.{Rose}
-use Rattle.cd_edges.specs.Disk.{Cloud}
-use Rattle.half_journal.specs.declared.errors.OpenErr.{OpenErr}
-use Rattle.half_journal.specs.declared.errors.OpenErr.TheVariants as errors
-use Rattle.messages.specs.declared.request.Request.{Request}
-use Rattle.messages.specs.declared.reply.Reply.{Reply}
-use Rattle.user_dedup.specs.Exec.{Peer, Exec, ExecTold, ExecUntold, MaySettleAs, Stays, Settles}
-use Rattle.user_dedup.specs.declared.command.Command.{Command}
+use Rattle.session.specs.CdEdges.Causes.{Rose}
+use Rattle.session.specs.CdEdges.Disk.{Cloud}
+use Rattle.local_link.specs.HalfJournal.errors.OpenErr.{OpenErr}
+use Rattle.local_link.specs.HalfJournal.errors.OpenErr.TheVariants as errors
+use Rattle.rebuild.specs.Messages.request.Request.{Request}
+use Rattle.rebuild.specs.Messages.reply.Reply.{Reply}
+use Rattle.subset_restore.specs.UserDedup.Exec.{Peer, Exec, ExecTold, ExecUntold, MaySettleAs, KeepsPeer, Settles}
+use Rattle.subset_restore.specs.UserDedup.command.Command.{Command}
 use Rattle.local_link.specs.CloudServer.Serving.{ReopensAs}
-use Rattle.restore_job.specs.Asking.{MayRead}
+use Rattle.subset_restore.specs.RestoreJob.Asking.{MayRead}
 use Rattle.session.specs.declared.event.Event.{Event}
-use Rattle.transcript.specs.declared.line.Line.{Line}
+use Rattle.session.specs.Transcript.line.Line.{Line}
 use Rattle.session_model.specs.Vault.{Setting, served_at}
 use Rattle.session_model.specs.Steps.{ReopensUntold, RestartStep, ReplaceStep}
 use Rattle.session_model.specs.Headline.{Session, IsRun}
@@ -71,7 +71,7 @@ module _ (s : Setting) (c : ℕ) (told : IsTrue (s.told c)) where
   read : (p q : Peer) → MayRead p q → KeepsSettled p q
   read p q x = (up p.faults q.faults x.1.faults, λ none still. by_case x.0 none)
     where
-      by_case : Stays p q ⊎ Settles p q → p.pending ≡ None → q.pending ≡ None
+      by_case : KeepsPeer p q ⊎ Settles p q → p.pending ≡ None → q.pending ≡ None
       by_case (inl stays) none = stays.pending ∙ none
       by_case (inr settles) none = settles.pending
 

@@ -3,26 +3,26 @@ use Rattle.std.proofs.Common.{◌≡◌, ℕ, ◌+◌, ◌≤◌, Bool, true, fa
 use Rattle.std.specs.Prelude.{◌≢◌, IfErr, IsTrue}
 use Rattle.std.specs.List.{Contains}
 use Rattle.std.proofs.lemmas.Bool.{cases_eq}
-use Rattle.cd_base.specs.declared.ids.CloudNo.{CloudNo}
-use Rattle.cd_base.specs.declared.ids.UserId.{UserId}
-use Rattle.cd_edges.specs.Causes.{Rose}
-use Rattle.messages.specs.declared.request.Request.{Request}
-use Rattle.messages.specs.declared.reply.Reply.{Reply}
-use Rattle.messages.specs.declared.reply.Reply.TheVariants as replies
-use Rattle.user_dedup.specs.declared.command.Command.{Command}
-use Rattle.user_dedup.specs.Exec.{Peer, Stays, Settles, CountsOn}
-use Rattle.user_dedup.proofs.Owned.{contains_cases, contains_here, contains_later, contains_nothing}
-use Rattle.user_dedup.specs.Spending.{full_for}
-use Rattle.upload_job.specs.Upload.{FileVersion, work_of}
-use Rattle.upload_job.specs.Lane.{beginning, lane_request}
-use Rattle.rebuild.specs.LaneSteps.Runs.{Turn}
-use Rattle.restore_job.specs.Asking.{MayRead}
-use Rattle.restore_job.specs.declared.error.RestoreErr.TheVariants as restore_errors
+use Rattle.session.specs.CdBase.ids.CloudNo.{CloudNo}
+use Rattle.session.specs.CdBase.ids.UserId.{UserId}
+use Rattle.session.specs.CdEdges.Causes.{Rose}
+use Rattle.rebuild.specs.Messages.request.Request.{Request}
+use Rattle.rebuild.specs.Messages.reply.Reply.{Reply}
+use Rattle.rebuild.specs.Messages.reply.Reply.TheVariants as replies
+use Rattle.subset_restore.specs.UserDedup.command.Command.{Command}
+use Rattle.subset_restore.specs.UserDedup.Exec.{Peer, KeepsPeer, Settles, CountsOn}
+use Rattle.subset_restore.proofs.UserDedup.Owned.{contains_cases, contains_here, contains_later, contains_nothing}
+use Rattle.subset_restore.specs.UserDedup.Spending.{full_for}
+use Rattle.rebuild.specs.UploadJob.Upload.{FileVersion, work_of}
+use Rattle.rebuild.specs.UploadJob.Lane.{beginning, lane_request}
+use Rattle.rebuild.specs.LaneSteps.Runs.{LaneTurn}
+use Rattle.subset_restore.specs.RestoreJob.Asking.{MayRead}
+use Rattle.subset_restore.specs.RestoreJob.error.RestoreErr.TheVariants as restore_errors
 use Rattle.rebuild.specs.declared.error.RebuildErr.{RebuildErr}
 use Rattle.rebuild.specs.declared.error.RebuildErr.TheVariants as errors
 use Rattle.rebuild.specs.declared.skips.Rebuilt.{Rebuilt}
 use Rattle.rebuild.specs.Found.{findings}
-use Rattle.rebuild.specs.Rebuilding.{BringsAll, IsFront, IsNoLack, LeavesBut, Rebuilds, RunsTo, IsCut, ComesBefore, nothing_yet}
+use Rattle.rebuild.specs.Rebuilding.{BringsAll, IsFrontOfList, IsNoLack, LeavesBut, Rebuilds, RunsTo, IsRebuildCut, ComesBefore, nothing_yet}
 use Rattle.rebuild.specs.Turns.{EndsLane, OfReply, OwnLanes, SaidLast}
 use Rattle.rebuild.specs.Over.{HandsOn}
 use Rattle.rebuild.specs.Over as rebuilding
@@ -32,10 +32,10 @@ use Rattle.rebuild.proofs.Cutting.{first_request}
 use Rattle.rebuild.proofs.Telling.{ends_behind, ends_one, lanes_on, lanes_one, last_on}
 use Rattle.session.specs.Spelling.{AreClouds}
 use Rattle.session.specs.declared.event.Event.TheVariants as events
-use Rattle.transcript.specs.declared.refusal.Refusal.TheVariants as refusals
-use Rattle.transcript.specs.declared.refusal.TargetWhy.TheVariants as target_whys
-use Rattle.transcript.specs.declared.line.Line.{Line}
-use Rattle.transcript.specs.declared.line.Line.TheVariants as lines
+use Rattle.session.specs.Transcript.refusal.Refusal.TheVariants as refusals
+use Rattle.session.specs.Transcript.refusal.TargetWhy.TheVariants as target_whys
+use Rattle.session.specs.Transcript.line.Line.{Line}
+use Rattle.session.specs.Transcript.line.Line.TheVariants as lines
 use Rattle.session_model.specs.Vault.{Setting, Vault, served_at, with_peer, ExecutesAll}
 use Rattle.session_model.specs.Steps.{Moment, quiet, told_so, skip_line, AreRebuildLines, turn_moment, target_moments, rebuild_moments, AllTold, RebuildStep}
 use Rattle.session_model.specs.Headline.{ComesTo, IsPartOf}
@@ -60,11 +60,11 @@ told_or told (c ∷ clouds) = by_first (told c) refl (told_or told clouds)
     ])
 
 -- some requests of the target, and then more
-moments_join : (old : ℕ → Peer) (target : ℕ) (turns more : List (Turn Peer)) (end : Peer) → target_moments old target (turns ++ more) end ≡ map (turn_moment old target) turns ++ target_moments old target more end
+moments_join : (old : ℕ → Peer) (target : ℕ) (turns more : List (LaneTurn Peer)) (end : Peer) → target_moments old target (turns ++ more) end ≡ map (turn_moment old target) turns ++ target_moments old target more end
 moments_join old target [] more end = refl
 moments_join old target (t ∷ turns) more end = ap (λ (l : List Moment). turn_moment old target t ∷ l) (moments_join old target turns more end)
 
-comes_to : (old : ℕ → Peer) (target : ℕ) (more : List (Turn Peer)) (end at : Peer) (after : ℕ → Peer) → ComesBefore more end at → ComesTo (target_moments old target more end) after (with_peer old target at)
+comes_to : (old : ℕ → Peer) (target : ℕ) (more : List (LaneTurn Peer)) (end at : Peer) (after : ℕ → Peer) → ComesBefore more end at → ComesTo (target_moments old target more end) after (with_peer old target at)
 comes_to old target [] end at after comes = ap (with_peer old target) (sym comes)
 comes_to old target (t ∷ more) end at after comes = ap (with_peer old target) (sym comes)
 
@@ -79,7 +79,7 @@ may_fail : (p q : Peer) → MayRead p q → MayRead p (fault_of q)
 unfolding fault_of
 may_fail p q may = (by_way may.0, record { faults = up p.faults q.faults may.1.faults; armings = may.1.armings })
   where
-    by_way : Stays p q ⊎ Settles p q → Stays p (fault_of q) ⊎ Settles p (fault_of q)
+    by_way : KeepsPeer p q ⊎ Settles p q → KeepsPeer p (fault_of q) ⊎ Settles p (fault_of q)
     by_way (inl stays) = inl (record { list = stays.list; pending = stays.pending })
     by_way (inr set) = inr (record { list = set.list; pending = set.pending })
 
@@ -100,7 +100,7 @@ list_fault p = refl
 
 module _ (s : Setting) (old : Vault) (user : UserId) (target : CloudNo) (from : List ℕ) (are : AreClouds s.shape from) (apart : ¬ Contains from target.0) where
   -- such a step, whose target's last requests are these
-  part_by : (turns more : List (Turn Peer)) (at : Peer) (answers : List Line) (new : ℕ → Peer) → RebuildStep s user target.0 from old.peers answers (rebuild_moments old.peers target.0 (turns ++ more) (new target.0)) new
+  part_by : (turns more : List (LaneTurn Peer)) (at : Peer) (answers : List Line) (new : ℕ → Peer) → RebuildStep s user target.0 from old.peers answers (rebuild_moments old.peers target.0 (turns ++ more) (new target.0)) new
       → ComesBefore more (new target.0) at
       → IsPartOf s old (record { event = events.Rebuild user target from; moments = quiet old.peers ++ map (turn_moment old.peers target.0) turns }) (with_peer old.peers target.0 at)
   part_by turns more at answers new step comes = (
@@ -115,7 +115,7 @@ module _ (s : Setting) (old : Vault) (user : UserId) (target : CloudNo) (from : 
   )
 
   -- where not all are told: the target fails at its next request
-  part_untold : (turns : List (Turn Peer)) (at : Peer) → ExecutesAll s target.0 (old.peers target.0) turns at → OwnLanes s.shape user target.0 turns → (AllTold s (target.0 ∷ from) → ⊥)
+  part_untold : (turns : List (LaneTurn Peer)) (at : Peer) → ExecutesAll s target.0 (old.peers target.0) turns at → OwnLanes s.shape user target.0 turns → (AllTold s (target.0 ∷ from) → ⊥)
       → IsPartOf s old (record { event = events.Rebuild user target from; moments = quiet old.peers ++ map (turn_moment old.peers target.0) turns }) (with_peer old.peers target.0 at)
   part_untold turns at executes own none =
       part_by turns (next ∷ []) at (lines.Refused (refusals.Target target_whys.Fault) ∷ []) new (record {
@@ -145,7 +145,7 @@ module _ (s : Setting) (old : Vault) (user : UserId) (target : CloudNo) (from : 
       asks : (request : Request) × (lane_request (work_of s.shape another target.0) (beginning (work_of s.shape another target.0)) ≡ Some request)
       asks = first_request (work_of s.shape another target.0)
 
-      next : Turn Peer
+      next : LaneTurn Peer
       next = record { before = at; request = asks.0; reply = replies.Fault }
 
       new : ℕ → Peer
@@ -159,7 +159,7 @@ module _ (s : Setting) (old : Vault) (user : UserId) (target : CloudNo) (from : 
 
   -- ---- where all are told
 
-  module _ (told : AllTold s (target.0 ∷ from)) (turns more : List (Turn Peer)) (at : Peer) where
+  module _ (told : AllTold s (target.0 ∷ from)) (turns more : List (LaneTurn Peer)) (at : Peer) where
     abbrev Part : Type 0
     Part = IsPartOf s old (record { event = events.Rebuild user target from; moments = quiet old.peers ++ map (turn_moment old.peers target.0) turns }) (with_peer old.peers target.0 at)
 
@@ -211,7 +211,7 @@ module _ (s : Setting) (old : Vault) (user : UserId) (target : CloudNo) (from : 
         let stays : now target.0 ≡ later target.0 = with_other later c.0 (fault_of (later c.0)) target.0 (not_target c has) in
         let faulted : Ends (Err (errors.FromRestore (restore_errors.CloudFault c))) now = record {
           found = ends.found;
-          front = subst (λ (lists : ℕ → List Command). IsFront ends.found (findings s.shape lists from user)) (sym lists_same) ends.front;
+          front = subst (λ (lists : ℕ → List Command). IsFrontOfList ends.found (findings s.shape lists from user)) (sym lists_same) ends.front;
           last = ends.last;
           brings = subst (λ (p : Peer). BringsAll s.shape target.0 (served_at s target.0) ends.found nothing_yet (old.peers target.0) (turns ++ more) ends.last p) (sym stays) ends.brings;
           ends = (ends.ends.0, (has, (rose, subst (MayRead (old.peers c.0)) (sym here) failed)));
@@ -278,8 +278,8 @@ module _ (s : Setting) (old : Vault) (user : UserId) (target : CloudNo) (from : 
     part_told (Err (errors.TargetStrange kind)) later ends whole leaves comes = absurd ends.ends.2
     part_told (Err errors.NoMemory) later ends whole leaves comes = absurd ends.ends.2
 
-  pub part_of_rebuild : (turns : List (Turn Peer)) (at : Peer) → ExecutesAll s target.0 (old.peers target.0) turns at → OwnLanes s.shape user target.0 turns
-      → (AllTold s (target.0 ∷ from) → (after : ℕ → Peer) × IsCut s.shape user target.0 (served_at s target.0) from turns old.peers at after)
+  pub part_of_rebuild : (turns : List (LaneTurn Peer)) (at : Peer) → ExecutesAll s target.0 (old.peers target.0) turns at → OwnLanes s.shape user target.0 turns
+      → (AllTold s (target.0 ∷ from) → (after : ℕ → Peer) × IsRebuildCut s.shape user target.0 (served_at s target.0) from turns old.peers at after)
       → IsPartOf s old (record { event = events.Rebuild user target from; moments = quiet old.peers ++ map (turn_moment old.peers target.0) turns }) (with_peer old.peers target.0 at)
   part_of_rebuild turns at executes own cut = elim (told_or s.told (target.0 ∷ from)) [
     | inl told ↦ (let x = (cut told).1 in part_told told turns x.more at x.would x.later x.goes_on x.whole x.leaves x.comes)

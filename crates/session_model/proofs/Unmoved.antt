@@ -4,35 +4,35 @@ use Rattle.std.specs.Prelude.{◌≢◌, Err}
 use Rattle.std.specs.Bool.{MatchBool}
 use Rattle.std.specs.List.{Contains, range_with_len}
 use Rattle.std.proofs.lemmas.Bool.{cases_eq}
-use Rattle.cd_base.specs.declared.ids.CloudNo.{CloudNo}
-use Rattle.cd_base.specs.declared.ids.UserId.{UserId}
-use Rattle.cd_base.specs.declared.ids.Version.{Version}
-use Rattle.cd_edges.specs.Causes.{Rose}
-use Rattle.half_journal.specs.declared.errors.OpenErr.TheVariants as errors
-use Rattle.messages.specs.declared.request.Request.{Request}
-use Rattle.messages.specs.declared.request.Request.TheVariants as requests
-use Rattle.messages.specs.declared.reply.Reply.TheVariants as replies
-use Rattle.user_dedup.specs.Exec.{Peer, CountsOn}
-use Rattle.user_dedup.proofs.Owned.{contains_here}
+use Rattle.session.specs.CdBase.ids.CloudNo.{CloudNo}
+use Rattle.session.specs.CdBase.ids.UserId.{UserId}
+use Rattle.session.specs.CdBase.ids.Version.{Version}
+use Rattle.session.specs.CdEdges.Causes.{Rose}
+use Rattle.local_link.specs.HalfJournal.errors.OpenErr.TheVariants as errors
+use Rattle.rebuild.specs.Messages.request.Request.{Request}
+use Rattle.rebuild.specs.Messages.request.Request.TheVariants as requests
+use Rattle.rebuild.specs.Messages.reply.Reply.TheVariants as replies
+use Rattle.subset_restore.specs.UserDedup.Exec.{Peer, CountsOn}
+use Rattle.subset_restore.proofs.UserDedup.Owned.{contains_here}
 use Rattle.local_link.specs.CloudServer.Serving.{ReopensAs}
-use Rattle.restore_job.specs.Asking.{MayRead}
-use Rattle.restore_job.specs.declared.error.RestoreErr.TheVariants as restore_errors
+use Rattle.subset_restore.specs.RestoreJob.Asking.{MayRead}
+use Rattle.subset_restore.specs.RestoreJob.error.RestoreErr.TheVariants as restore_errors
 use Rattle.rebuild.specs.declared.error.RebuildErr.TheVariants as rebuild_errors
 use Rattle.rebuild.specs.Found.{findings}
 use Rattle.rebuild.specs.Rebuilding.{nothing_yet}
 use Rattle.rebuild.proofs.Telling.{lanes_none}
-use Rattle.upload_job.specs.declared.news.LaneNews.TheVariants as lane_news
-use Rattle.upload_job.specs.Lanes.{with_state}
+use Rattle.rebuild.specs.UploadJob.news.LaneNews.TheVariants as lane_news
+use Rattle.rebuild.specs.UploadJob.Lanes.{with_state}
 use Rattle.rebuild.specs.LaneSteps.Runs.{moved, lane_at}
 use Rattle.rebuild.specs.KeptFiles.Kept.{key_of}
 use Rattle.local_link.specs.Calls.{Armed}
 use Rattle.session.specs.Spelling.{Fits, AreClouds}
 use Rattle.session.specs.declared.event.Event.{Event}
 use Rattle.session.specs.declared.event.Event.TheVariants as events
-use Rattle.transcript.specs.declared.refusal.Refusal.{Refusal}
-use Rattle.transcript.specs.declared.refusal.Refusal.TheVariants as refusals
-use Rattle.transcript.specs.declared.line.Line.{Line}
-use Rattle.transcript.specs.declared.line.Line.TheVariants as lines
+use Rattle.session.specs.Transcript.refusal.Refusal.{Refusal}
+use Rattle.session.specs.Transcript.refusal.Refusal.TheVariants as refusals
+use Rattle.session.specs.Transcript.line.Line.{Line}
+use Rattle.session.specs.Transcript.line.Line.TheVariants as lines
 use Rattle.session_model.specs.Vault.{Setting, Vault, new_job, lanes_of, with_lanes, OneGoes}
 use Rattle.session_model.specs.Steps.{Execution, cloud_no, rebuild_moments, executed, quiet, no_step, step_line, stored_line, lose_lines, all_done, asked_by, version_of, LaneStep, DropStep, list_lines, ReopensUntold, RestartStep, ReplaceStep}
 use Rattle.session_model.specs.Headline.{IsPartOf}

@@ -1,15 +1,15 @@
 -- Which answers say that a cloud's device failed, and what such an answer says of the cloud's count.
 use Rattle.std.specs.Prelude.{◌≡◌, ℕ}
 use Rattle.std.specs.List.{Contains}
-use Rattle.cd_edges.specs.Causes.{Rose}
-use Rattle.cd_edges.specs.Disk.{Cloud}
+use Rattle.session.specs.CdEdges.Causes.{Rose}
+use Rattle.session.specs.CdEdges.Disk.{Cloud}
 use Rattle.session.specs.declared.event.Event.{Event}
 use Rattle.session.specs.declared.event.Event.TheVariants as events
-use Rattle.transcript.specs.declared.news.News.TheVariants as news
-use Rattle.transcript.specs.declared.refusal.Refusal.TheVariants as refusals
-use Rattle.transcript.specs.declared.refusal.TargetWhy.TheVariants as target_whys
-use Rattle.transcript.specs.declared.line.Line.{Line}
-use Rattle.transcript.specs.declared.line.Line.TheVariants as lines
+use Rattle.session.specs.Transcript.news.News.TheVariants as news
+use Rattle.session.specs.Transcript.refusal.Refusal.TheVariants as refusals
+use Rattle.session.specs.Transcript.refusal.TargetWhy.TheVariants as target_whys
+use Rattle.session.specs.Transcript.line.Line.{Line}
+use Rattle.session.specs.Transcript.line.Line.TheVariants as lines
 use Rattle.session_model.specs.Run.{Answered}
 use Rattle.session_model.specs.Headline.{Session}
 

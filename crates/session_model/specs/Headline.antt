@@ -1,29 +1,29 @@
 -- What a session promises: of acknowledged versions, of the disks after a crash, and of what a user is told.
 use Rattle.std.specs.Prelude.{◌≡◌, ℕ, ◌<◌, IsTrue, Bool, false, ◌⊎◌, List, [], ◌∷◌, ◌++◌, reverse, Option, Some, None, IfSome, MatchOption, if◌then◌else◌}
 use Rattle.std.specs.List.{Contains}
-use Rattle.cd_base.specs.declared.shape.Shape.{Shape}
-use Rattle.cd_edges.specs.Causes.{Rose}
-use Rattle.cd_edges.specs.Disk.{Cloud, Image, IsImage, IsImageSince, moment}
-use Rattle.messages.specs.declared.request.Request.{Request}
-use Rattle.messages.specs.declared.reply.Reply.{Reply}
-use Rattle.messages.specs.declared.reply.Reply.TheVariants as replies
-use Rattle.user_dedup.specs.declared.command.Command.{Command}
-use Rattle.user_dedup.specs.Cloud.{user_view}
-use Rattle.user_dedup.specs.Dedup.{answer_by_view}
-use Rattle.user_dedup.specs.Requests.{asker}
-use Rattle.user_dedup.specs.Exec.{Peer, MaySettleAs}
+use Rattle.session.specs.CdBase.shape.Shape.{Shape}
+use Rattle.session.specs.CdEdges.Causes.{Rose}
+use Rattle.session.specs.CdEdges.Disk.{Cloud, Image, IsImage, IsImageSince, moment}
+use Rattle.rebuild.specs.Messages.request.Request.{Request}
+use Rattle.rebuild.specs.Messages.reply.Reply.{Reply}
+use Rattle.rebuild.specs.Messages.reply.Reply.TheVariants as replies
+use Rattle.subset_restore.specs.UserDedup.command.Command.{Command}
+use Rattle.subset_restore.specs.UserDedup.Cloud.{user_view}
+use Rattle.subset_restore.specs.UserDedup.Dedup.{answer_by_view}
+use Rattle.subset_restore.specs.UserDedup.Requests.{asker}
+use Rattle.subset_restore.specs.UserDedup.Exec.{Peer, MaySettleAs}
 use Rattle.local_link.specs.CloudAreas.Standing.{StandsFor}
 use Rattle.local_link.specs.CloudServer.Names.{header_of}
-use Rattle.upload_job.specs.Upload.{FileVersion}
-use Rattle.restore_job.specs.Restored.{recipe_in}
+use Rattle.rebuild.specs.UploadJob.Upload.{FileVersion}
+use Rattle.subset_restore.specs.RestoreJob.Restored.{recipe_in}
 use Rattle.subset_restore.specs.Subsets.{IsSubset}
 use Rattle.rebuild.specs.KeptFiles.Kept.{Keeps, key_of}
 use Rattle.session.specs.Scripts.{AreLines}
 use Rattle.session.specs.declared.event.Event.{Event}
 use Rattle.session.specs.declared.event.Event.TheVariants as events
-use Rattle.transcript.specs.declared.refusal.Refusal.TheVariants as refusals
-use Rattle.transcript.specs.declared.line.Line.{Line}
-use Rattle.transcript.specs.declared.line.Line.TheVariants as lines
+use Rattle.session.specs.Transcript.refusal.Refusal.TheVariants as refusals
+use Rattle.session.specs.Transcript.line.Line.{Line}
+use Rattle.session.specs.Transcript.line.Line.TheVariants as lines
 use Rattle.session_model.specs.Vault.{Setting, Vault, opening}
 use Rattle.session_model.specs.Steps.{Moment, VStep}
 use Rattle.session_model.specs.Run.{Answered, Turns, script_of, moments_of, answers_of, IsListIn}

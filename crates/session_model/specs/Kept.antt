@@ -1,18 +1,18 @@
 -- Which versions of files were acknowledged, and when two strings or two names clash.
 use Rattle.std.specs.Prelude.{◌≡◌, ◌≢◌, ℕ, ◌+◌, ◌<◌, ◌⊎◌, IsTrue, List, [], ◌∷◌, reverse, slice_get, Some}
 use Rattle.std.specs.List.{Contains, flat_map}
-use Rattle.cd_base.specs.declared.shape.Shape.{Shape}
-use Rattle.caont_rs.specs.Package.{package_of, tag}
-use Rattle.user_dedup.specs.Cloud.{fingerprint, strings_in}
-use Rattle.user_dedup.specs.Exec.{Peer}
-use Rattle.upload_job.specs.Upload.{FileVersion, shares_for}
+use Rattle.session.specs.CdBase.shape.Shape.{Shape}
+use Rattle.subset_restore.specs.CaontRs.Package.{package_of, tag}
+use Rattle.subset_restore.specs.UserDedup.Cloud.{fingerprint, strings_in}
+use Rattle.subset_restore.specs.UserDedup.Exec.{Peer}
+use Rattle.rebuild.specs.UploadJob.Upload.{FileVersion, shares_for}
 use Rattle.rebuild.specs.KeptFiles.Kept.{key_of}
 use Rattle.session.specs.declared.event.Event.{Event}
 use Rattle.session.specs.declared.event.Event.TheVariants as events
-use Rattle.transcript.specs.declared.line.Line.{Line}
-use Rattle.transcript.specs.declared.line.SkipWord.{SkipWord}
-use Rattle.transcript.specs.declared.line.Line.TheVariants as lines
-use Rattle.transcript.specs.declared.news.News.TheVariants as news
+use Rattle.session.specs.Transcript.line.Line.{Line}
+use Rattle.session.specs.Transcript.line.SkipWord.{SkipWord}
+use Rattle.session.specs.Transcript.line.Line.TheVariants as lines
+use Rattle.session.specs.Transcript.news.News.TheVariants as news
 use Rattle.session_model.specs.Vault.{Setting}
 use Rattle.session_model.specs.Steps.{Moment, cloud_no, version_of}
 use Rattle.session_model.specs.Run.{Answered, script_of}

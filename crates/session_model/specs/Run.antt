@@ -1,11 +1,11 @@
 -- A whole session: what is answered to each line, and each state that the clouds go through.
 use Rattle.std.specs.Prelude.{◌≡◌, ℕ, ◌⊎◌, List, [], ◌∷◌, map, IsSomeAnd}
 use Rattle.std.specs.List.{Contains, flat_map}
-use Rattle.user_dedup.specs.declared.command.Command.{Command}
-use Rattle.user_dedup.specs.Exec.{Peer, MaySettleAs}
+use Rattle.subset_restore.specs.UserDedup.command.Command.{Command}
+use Rattle.subset_restore.specs.UserDedup.Exec.{Peer, MaySettleAs}
 use Rattle.local_link.specs.CloudAreas.Peers.{MayBecome}
 use Rattle.session.specs.declared.event.Event.{Event}
-use Rattle.transcript.specs.declared.line.Line.{Line}
+use Rattle.session.specs.Transcript.line.Line.{Line}
 use Rattle.session_model.specs.Vault.{Setting, Vault, served_at}
 use Rattle.session_model.specs.Steps.{Moment, VStep}
 

@@ -2,33 +2,33 @@
 use Rattle.std.specs.Prelude.{◌≡◌, ◌⊎◌, ℕ, ◌+◌, ◌-◌, ◌<◌, Bool, true, false, not, ◌&&◌, IsTrue, List, [], ◌∷◌, ◌++◌, length, map, slice_get, Option, Some, None, IfErr, Result, Ok, Err, All, if◌then◌else◌}
 use Rattle.std.specs.Bool.{MatchBool}
 use Rattle.std.specs.List.{Contains, list_all, range_with_len}
-use Rattle.cd_base.specs.declared.ids.Tag.{Tag}
-use Rattle.cd_base.specs.declared.ids.Version.{Version}
-use Rattle.cd_base.specs.declared.ids.UserId.{UserId}
-use Rattle.cd_base.specs.declared.ids.CloudNo.{CloudNo}
-use Rattle.cd_base.specs.declared.shape.Shape.{Shape}
-use Rattle.cd_edges.specs.Causes.{Rose}
-use Rattle.half_journal.specs.declared.errors.OpenErr.{OpenErr}
-use Rattle.half_journal.specs.declared.errors.OpenErr.TheVariants as errors
-use Rattle.message_fields.specs.Keys.{key_limit}
-use Rattle.messages.specs.declared.request.Request.{Request}
-use Rattle.messages.specs.declared.request.Request.TheVariants as requests
-use Rattle.messages.specs.declared.reply.Reply.{Reply}
-use Rattle.messages.specs.declared.reply.Reply.TheVariants as replies
-use Rattle.user_dedup.specs.Exec.{Peer, Stays, CountsOn}
-use Rattle.user_dedup.specs.Link.{LinkTelling}
+use Rattle.session.specs.CdBase.ids.Tag.{Tag}
+use Rattle.session.specs.CdBase.ids.Version.{Version}
+use Rattle.session.specs.CdBase.ids.UserId.{UserId}
+use Rattle.session.specs.CdBase.ids.CloudNo.{CloudNo}
+use Rattle.session.specs.CdBase.shape.Shape.{Shape}
+use Rattle.session.specs.CdEdges.Causes.{Rose}
+use Rattle.local_link.specs.HalfJournal.errors.OpenErr.{OpenErr}
+use Rattle.local_link.specs.HalfJournal.errors.OpenErr.TheVariants as errors
+use Rattle.rebuild.specs.MessageFields.Keys.{key_limit}
+use Rattle.rebuild.specs.Messages.request.Request.{Request}
+use Rattle.rebuild.specs.Messages.request.Request.TheVariants as requests
+use Rattle.rebuild.specs.Messages.reply.Reply.{Reply}
+use Rattle.rebuild.specs.Messages.reply.Reply.TheVariants as replies
+use Rattle.subset_restore.specs.UserDedup.Exec.{Peer, KeepsPeer, CountsOn}
+use Rattle.subset_restore.specs.UserDedup.Link.{LinkTelling}
 use Rattle.local_link.specs.CloudServer.Serving.{ReopensAs}
-use Rattle.upload_job.specs.declared.news.LaneNews.{LaneNews}
-use Rattle.upload_job.specs.declared.news.LaneNews.TheVariants as lane_news
-use Rattle.upload_job.specs.Lane.{LaneState, Done, news_of}
-use Rattle.upload_job.specs.Upload.{FileVersion}
-use Rattle.upload_job.specs.Lanes.{LaneView, with_state}
-use Rattle.upload_job.specs.Lanes as lanes
-use Rattle.rebuild.specs.LaneSteps.Runs.{Turn, Progress, starting, moved, LaneRun, Tell, lane_at}
-use Rattle.restore_job.specs.declared.error.RestoreErr.{RestoreErr}
-use Rattle.restore_job.specs.Asking.{OnlyRead, AreRead, is_lost}
-use Rattle.restore_job.specs.Reading.{Ends}
-use Rattle.restore_job.specs.Refusals.{Names, Causes}
+use Rattle.rebuild.specs.UploadJob.news.LaneNews.{LaneNews}
+use Rattle.rebuild.specs.UploadJob.news.LaneNews.TheVariants as lane_news
+use Rattle.rebuild.specs.UploadJob.Lane.{LaneState, Done, news_of}
+use Rattle.rebuild.specs.UploadJob.Upload.{FileVersion}
+use Rattle.rebuild.specs.UploadJob.Lanes.{LaneView, with_state}
+use Rattle.rebuild.specs.UploadJob.Lanes as lanes
+use Rattle.rebuild.specs.LaneSteps.Runs.{LaneTurn, Progress, starting, moved, LaneRun, Tell, lane_at}
+use Rattle.subset_restore.specs.RestoreJob.error.RestoreErr.{RestoreErr}
+use Rattle.subset_restore.specs.RestoreJob.Asking.{AreOnlyAsked, AreRead, is_lost}
+use Rattle.subset_restore.specs.RestoreJob.Reading.{Ends}
+use Rattle.subset_restore.specs.RestoreJob.Refusals.{Names, Causes}
 use Rattle.subset_restore.specs.Subsets.{subsets}
 use Rattle.subset_restore.specs.Ends.{Sought, outcome_of, any_outcome, JustRestores, GivesNone}
 use Rattle.subset_restore.specs.Going.{sought}
@@ -48,16 +48,16 @@ use Rattle.rebuild.specs.Turns.{EndsLane, OfReply, OwnLanes, SaidLast}
 use Rattle.rebuild.specs.Kept.{Refills}
 use Rattle.session.specs.declared.event.Event.{Event}
 use Rattle.session.specs.declared.event.Event.TheVariants as events
-use Rattle.transcript.specs.declared.news.News.{News}
-use Rattle.transcript.specs.declared.news.News.TheVariants as news
-use Rattle.transcript.specs.declared.refusal.Refusal.{Refusal}
-use Rattle.transcript.specs.declared.refusal.Refusal.TheVariants as refusals
-use Rattle.transcript.specs.declared.refusal.TargetWhy.TheVariants as target_whys
-use Rattle.transcript.specs.declared.line.SkipWord.{SkipWord}
-use Rattle.transcript.specs.declared.line.SkipWord.TheVariants as words
-use Rattle.transcript.specs.declared.line.Line.{Line}
-use Rattle.transcript.specs.declared.line.Line.TheVariants as lines
-use Rattle.session_model.specs.Vault.{Setting, Vault, new_job, lanes_of, with_lanes, served_at, Executes, OneGoes, with_peer, ExecutesAll}
+use Rattle.session.specs.Transcript.news.News.{News}
+use Rattle.session.specs.Transcript.news.News.TheVariants as news
+use Rattle.session.specs.Transcript.refusal.Refusal.{Refusal}
+use Rattle.session.specs.Transcript.refusal.Refusal.TheVariants as refusals
+use Rattle.session.specs.Transcript.refusal.TargetWhy.TheVariants as target_whys
+use Rattle.session.specs.Transcript.line.SkipWord.{SkipWord}
+use Rattle.session.specs.Transcript.line.SkipWord.TheVariants as words
+use Rattle.session.specs.Transcript.line.Line.{Line}
+use Rattle.session.specs.Transcript.line.Line.TheVariants as lines
+use Rattle.session_model.specs.Vault.{Setting, Vault, new_job, lanes_of, with_lanes, served_at, HasVaultExecuted, OneGoes, with_peer, ExecutesAll}
 
 -- ---- moments
 
@@ -81,7 +81,7 @@ executed peers cloud request reply =
 abbrev pub quiet : (ℕ → Peer) → List Moment
 quiet peers = record { peers = peers; event = None } ∷ []
 
-abbrev pub moment_of : ℕ → Turn (ℕ → Peer) → Moment
+abbrev pub moment_of : ℕ → LaneTurn (ℕ → Peer) → Moment
 moment_of cloud t = executed t.before cloud t.request t.reply
 
 -- ---- lanes
@@ -128,7 +128,7 @@ LaneStep s job cloud (Some request) old answers moments new =
     let views = lanes_of old.jobs job in
     let lane = lane_at views cloud in
     (reply : Reply) × (told : LaneNews) × (after : List LaneView)
-    × Executes s cloud old.peers request reply new.peers
+    × HasVaultExecuted s cloud old.peers request reply new.peers
     × (moments ≡ executed old.peers cloud request reply ∷ [])
     × (news_of lane.state reply ≡ Some told)
     × (after ≡ with_state views cloud (moved lane reply).state)
@@ -140,7 +140,7 @@ abbrev pub DropStep : Setting → ℕ → ℕ → Option Request → Vault → L
 DropStep s job cloud None old answers moments new =
     (answers ≡ no_step job cloud) × (moments ≡ quiet old.peers) × (new ≡ old)
 DropStep s job cloud (Some request) old answers moments new =
-    (reply : Reply) × Executes s cloud old.peers request reply new.peers
+    (reply : Reply) × HasVaultExecuted s cloud old.peers request reply new.peers
     × (moments ≡ executed old.peers cloud request reply ∷ [])
     × (new.jobs ≡ old.jobs) × (answers ≡ lines.Lost job (cloud_no cloud) ∷ [])
 
@@ -153,9 +153,9 @@ abbrev pub FinishLanes : Setting → ℕ → List ℕ → Vault → List Line �
 FinishLanes s job [] old answers moments new = (answers ≡ []) × (moments ≡ []) × (new ≡ old)
 FinishLanes s job (cloud ∷ clouds) old answers moments new =
     let views = lanes_of old.jobs job in
-    (turns : List (Turn (ℕ → Peer))) × (last : Progress) × (told : List LaneNews) × (mid : Vault)
+    (turns : List (LaneTurn (ℕ → Peer))) × (last : Progress) × (told : List LaneNews) × (mid : Vault)
     × (after : List LaneView) × (more : List Line) × (rest : List Moment)
-    × LaneRun (Executes s cloud) (starting (lane_at views cloud)) old.peers turns last mid.peers
+    × LaneRun (HasVaultExecuted s cloud) (starting (lane_at views cloud)) old.peers turns last mid.peers
     × Tell (lane_at views cloud) turns told
     × (after ≡ with_state views cloud last.lane.state)
     × (mid.jobs ≡ with_lanes old.jobs job after)
@@ -232,7 +232,7 @@ pub record GetStep (s : Setting) (user : UserId) (path : List ℕ) (version : Ve
   pub file : List ℕ
   pub line_is : IsGetLine result file line
   pub found : is_lost result ≡ false
-  pub read : OnlyRead clouds old new
+  pub read : AreOnlyAsked clouds old new
   pub named : IfErr result (Names (Contains clouds))
   pub caused : Causes (told_so s.shape) s.told s.shape user (key_of s.shape path version) result old new
   pub told : ((cloud : ℕ) → Contains clouds cloud → IsTrue (s.told cloud))
@@ -260,12 +260,12 @@ behind_page page (Err why) = Err why
 
 -- The cloud is asked for the user's entries above this one, a page at a time, each a request of its own. A page that isn't full
 -- is the last one; behind a full one the entries above its last one are asked for.
-abbrev pub ListRun : Setting → UserId → ℕ → Option (Tag × Version) → (ℕ → Peer) → List (Turn (ℕ → Peer))
+abbrev pub ListRun : Setting → UserId → ℕ → Option (Tag × Version) → (ℕ → Peer) → List (LaneTurn (ℕ → Peer))
     → Result (List (Tag × Version)) Refusal → (ℕ → Peer) → Type 0
 ListRun s user cloud above old [] listed new = ⊥
 ListRun s user cloud above old (t ∷ turns) listed new =
     (t.before ≡ old) × (t.request ≡ requests.List user above)
-    × ((mid : ℕ → Peer) × Executes s cloud old t.request t.reply mid
+    × ((mid : ℕ → Peer) × HasVaultExecuted s cloud old t.request t.reply mid
     × ((EndsListing cloud t.reply listed × (turns ≡ []) × (new ≡ mid))
     ⊎ ((page : List (Tag × Version)) × (rest : Result (List (Tag × Version)) Refusal)
     × (t.reply ≡ replies.Entries page) × (length page ≡ key_limit) × (listed ≡ behind_page page rest)
@@ -292,7 +292,7 @@ IsFault result = ⊥
 
 -- an opening of a cloud of which nothing is told
 pub record ReopensUntold (result : Result ℕ OpenErr) (old new : Peer) : Type 0 where
-  pub stays : Stays old new
+  pub stays : KeepsPeer old new
   pub counts : CountsOn old new
   pub fault : IsFault result → Rose old.faults new.faults
 
@@ -333,7 +333,7 @@ IsDeleteLine cloud reply line = ⊥
 abbrev pub DeleteStep : Setting → UserId → List ℕ → Version → ℕ → (ℕ → Peer) → List Line → List Moment → (ℕ → Peer) → Type 0
 DeleteStep s user path version cloud old answers moments new =
     let request = requests.Delete user (key_of s.shape path version).0 version in
-    (reply : Reply) × (line : Line) × Executes s cloud old request reply new
+    (reply : Reply) × (line : Line) × HasVaultExecuted s cloud old request reply new
     × IsDeleteLine cloud reply line × (answers ≡ line ∷ []) × (moments ≡ executed old cloud request reply ∷ [])
 
 -- ---- a rebuild
@@ -372,17 +372,17 @@ AreRebuildLines user target (Ok rebuilt) answers =
 AreRebuildLines user target (Err e) answers =
     (why : Refusal) × (rebuild_refusal e ≡ Some why) × (answers ≡ lines.Refused why ∷ [])
 
-abbrev pub turn_moment : (ℕ → Peer) → ℕ → Turn Peer → Moment
+abbrev pub turn_moment : (ℕ → Peer) → ℕ → LaneTurn Peer → Moment
 turn_moment old target t = executed (with_peer old target t.before) target t.request t.reply
 
 -- before each request of the target, and behind the last one
-abbrev pub target_moments : (ℕ → Peer) → ℕ → List (Turn Peer) → Peer → List Moment
+abbrev pub target_moments : (ℕ → Peer) → ℕ → List (LaneTurn Peer) → Peer → List Moment
 target_moments old target [] end = quiet (with_peer old target end)
 target_moments old target (t ∷ turns) end = turn_moment old target t ∷ target_moments old target turns end
 
 -- The moments of a rebuild: before it, and those of the target. What is read adds nothing to any list, so the other clouds are taken to
 -- be as before it until its end.
-abbrev pub rebuild_moments : (ℕ → Peer) → ℕ → List (Turn Peer) → Peer → List Moment
+abbrev pub rebuild_moments : (ℕ → Peer) → ℕ → List (LaneTurn Peer) → Peer → List Moment
 rebuild_moments old target turns end = quiet old ++ target_moments old target turns end
 
 -- these clouds are told
@@ -397,7 +397,7 @@ AllTold s clouds = (cloud : ℕ) → Contains clouds cloud → IsTrue (s.told cl
 pub record RebuildStep (s : Setting) (user : UserId) (target : ℕ) (from : List ℕ)
     (old : ℕ → Peer) (answers : List Line) (moments : List Moment) (new : ℕ → Peer) : Type 0 where
   pub result : Result Rebuilt RebuildErr
-  pub turns : List (Turn Peer)
+  pub turns : List (LaneTurn Peer)
   pub lines_are : AreRebuildLines user target result answers
   pub moments_are : moments ≡ rebuild_moments old target turns (new target)
   pub found : rebuilding.is_lost result ≡ false
@@ -445,7 +445,7 @@ VStep s old (events.Restart cloud) answers moments new =
     (line : Line) × OneGoes cloud.0 (RestartStep s cloud.0 line) old.peers new.peers
     × (answers ≡ line ∷ []) × (moments ≡ quiet old.peers) × (new.jobs ≡ old.jobs)
 VStep s old (events.List user cloud) answers moments new =
-    (turns : List (Turn (ℕ → Peer))) × (listed : Result (List (Tag × Version)) Refusal)
+    (turns : List (LaneTurn (ℕ → Peer))) × (listed : Result (List (Tag × Version)) Refusal)
     × ListRun s user cloud.0 None old.peers turns listed new.peers
     × (answers ≡ list_lines user cloud.0 listed) × (moments ≡ map (moment_of cloud.0) turns) × (new.jobs ≡ old.jobs)
 VStep s old (events.Replace cloud) answers moments new =

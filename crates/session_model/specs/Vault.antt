@@ -1,23 +1,23 @@
 -- The clouds and the jobs of a session: lists of whole commands, and lanes; and what one request does there.
 use Rattle.std.specs.Prelude.{◌≡◌, ◌≢◌, ℕ, zero, suc, ◌-◌, ◌==◌, Bool, List, [], ◌∷◌, if◌then◌else◌}
-use Rattle.journal_start.specs.declared.rooms.Rooms.{Rooms}
-use Rattle.cd_base.specs.declared.shape.Shape.{Shape}
-use Rattle.cd_edges.specs.Disk.{Cloud}
-use Rattle.messages.specs.declared.request.Request.{Request}
-use Rattle.messages.specs.declared.reply.Reply.{Reply}
-use Rattle.user_dedup.specs.declared.command.Command.{Command}
-use Rattle.user_dedup.specs.Dedup.{Outcome}
-use Rattle.user_dedup.specs.Exec.{Peer, Exec}
-use Rattle.user_dedup.specs.Served.{served_by}
-use Rattle.upload_job.specs.Upload.{FileVersion}
-use Rattle.upload_job.specs.Lanes.{LaneView, lanes_begun}
-use Rattle.rebuild.specs.LaneSteps.Runs.{Turn}
+use Rattle.session.specs.JournalStart.rooms.UserRooms.{UserRooms}
+use Rattle.session.specs.CdBase.shape.Shape.{Shape}
+use Rattle.session.specs.CdEdges.Disk.{Cloud}
+use Rattle.rebuild.specs.Messages.request.Request.{Request}
+use Rattle.rebuild.specs.Messages.reply.Reply.{Reply}
+use Rattle.subset_restore.specs.UserDedup.command.Command.{Command}
+use Rattle.subset_restore.specs.UserDedup.Dedup.{Outcome}
+use Rattle.subset_restore.specs.UserDedup.Exec.{Peer, Exec}
+use Rattle.subset_restore.specs.UserDedup.Served.{served_by}
+use Rattle.rebuild.specs.UploadJob.Upload.{FileVersion}
+use Rattle.rebuild.specs.UploadJob.Lanes.{LaneView, lanes_begun}
+use Rattle.rebuild.specs.LaneSteps.Runs.{LaneTurn}
 use Rattle.local_link.specs.Calls.{no_commands}
 
 -- what holds for a whole session. A cloud is told where its disk returns what was written
 pub record Setting : Type 0 where
   pub shape : Shape
-  pub rooms : Rooms
+  pub rooms : UserRooms
   pub told : ℕ → Bool
 
 -- what a cloud serves by its list
@@ -61,7 +61,8 @@ abbrev pub with_lanes : List JobState → ℕ → List LaneView → List JobStat
 with_lanes jobs job lanes = with_lanes_at jobs (job - 1) lanes
 
 -- One cloud executes a request, and the others are as they were.
-pub record Executes (s : Setting) (cloud : ℕ) (old : ℕ → Peer) (request : Request) (reply : Reply) (new : ℕ → Peer)
+pub record HasVaultExecuted (s : Setting) (cloud : ℕ) (old : ℕ → Peer) (request : Request) (reply : Reply)
+    (new : ℕ → Peer)
     : Type 0 where
   pub does : Exec s.shape (s.told cloud) (served_at s cloud) (old cloud) request reply (new cloud)
   pub others : (other : ℕ) → other ≢ cloud → new other ≡ old other
@@ -76,7 +77,7 @@ abbrev pub with_peer : (ℕ → Peer) → ℕ → Peer → ℕ → Peer
 with_peer peers cloud p other = if other == cloud then p else peers other
 
 -- One cloud executes these requests, one after another, with these replies.
-abbrev pub ExecutesAll : Setting → ℕ → Peer → List (Turn Peer) → Peer → Type 0
+abbrev pub ExecutesAll : Setting → ℕ → Peer → List (LaneTurn Peer) → Peer → Type 0
 ExecutesAll s cloud old [] new = new ≡ old
 ExecutesAll s cloud old (t ∷ turns) new =
     (t.before ≡ old)

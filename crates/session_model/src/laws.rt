@@ -2,33 +2,33 @@
 
 ghost use Rattle.std.specs.Prelude.{◌≡◌, ◌<◌, ◌≤◌, ◌-◌, ◌^◌, ℕ, IsTrue, List, [], ◌∷◌, ◌++◌, map, None, Some};
 ghost use Rattle.std.specs.List.{Contains, range_with_len};
-ghost use Rattle.cd_base.specs.declared.ids.CloudNo.{CloudNo};
-ghost use Rattle.cd_base.specs.declared.ids.UserId.{UserId};
-ghost use Rattle.cd_base.specs.declared.ids.Version.{Version};
-ghost use Rattle.cd_base.specs.declared.shape.Shape.{Shape};
-ghost use Rattle.journal_start.specs.declared.rooms.Rooms.{Rooms};
-ghost use Rattle.messages.specs.declared.request.Request.{Request};
-ghost use Rattle.user_dedup.specs.declared.command.Command.{Command};
-ghost use Rattle.user_dedup.specs.Cloud.{commands_of};
-ghost use Rattle.user_dedup.specs.Dedup.{answer_over};
-ghost use Rattle.user_dedup.specs.Requests.{asker};
-ghost use Rattle.user_dedup.specs.Exec.{MaySettleAs, Peer};
-ghost use Rattle.user_dedup.specs.Served.{served_by};
-ghost use Rattle.user_dedup.specs.Spending.{HoldsItself, IsWithin};
-ghost use Rattle.rebuild.specs.LaneSteps.Runs.{Turn};
-ghost use Rattle.rebuild.specs.Rebuilding.{IsCut};
+ghost use Rattle.session.specs.CdBase.ids.CloudNo.{CloudNo};
+ghost use Rattle.session.specs.CdBase.ids.UserId.{UserId};
+ghost use Rattle.session.specs.CdBase.ids.Version.{Version};
+ghost use Rattle.session.specs.CdBase.shape.Shape.{Shape};
+ghost use Rattle.session.specs.JournalStart.rooms.UserRooms.{UserRooms};
+ghost use Rattle.rebuild.specs.Messages.request.Request.{Request};
+ghost use Rattle.subset_restore.specs.UserDedup.command.Command.{Command};
+ghost use Rattle.subset_restore.specs.UserDedup.Cloud.{commands_of};
+ghost use Rattle.subset_restore.specs.UserDedup.Dedup.{answer_over};
+ghost use Rattle.subset_restore.specs.UserDedup.Requests.{asker};
+ghost use Rattle.subset_restore.specs.UserDedup.Exec.{MaySettleAs, Peer};
+ghost use Rattle.subset_restore.specs.UserDedup.Served.{served_by};
+ghost use Rattle.subset_restore.specs.UserDedup.Spending.{HoldsItself, IsWithin};
+ghost use Rattle.rebuild.specs.LaneSteps.Runs.{LaneTurn};
+ghost use Rattle.rebuild.specs.Rebuilding.{IsRebuildCut};
 ghost use Rattle.rebuild.specs.Turns.{OwnLanes};
 ghost use Rattle.session.specs.Spelling.{AreClouds, AreSources, Fits};
 ghost use Rattle.session.specs.declared.event.Event.{Event};
 ghost use Rattle.session.specs.declared.event.Event.TheVariants as events;
-ghost use Rattle.transcript.specs.declared.line.Line.{Line};
+ghost use Rattle.session.specs.Transcript.line.Line.{Line};
 ghost use Rattle.session_model.specs.Vault.{Setting, Vault, served_at, with_peer, ExecutesAll};
 ghost use Rattle.session_model.specs.Steps.{Moment, cloud_no, quiet, turn_moment, AllTold, VStep};
 ghost use Rattle.session_model.specs.Run.{IsListIn};
 ghost use Rattle.session_model.specs.Cut.{FinishCut};
 ghost use Rattle.session_model.specs.Faults.{FaultsRose, SaysFault};
-ghost use Rattle.cd_edges.specs.Causes.{Rose};
-ghost use Rattle.cd_edges.specs.Disk.{Cloud};
+ghost use Rattle.session.specs.CdEdges.Causes.{Rose};
+ghost use Rattle.session.specs.CdEdges.Disk.{Cloud};
 ghost use Rattle.session_model.specs.Headline.{Session, Begun, IsRun, GivesAcknowledged, GivesFromMore, DisksKeep, AnswersPrivately, IsPartOf, own_reply, script_in};
 
 /// Each reply that speaks of a user's own commands follows from that user's view.
@@ -44,7 +44,7 @@ pub fn law_of_own_commands()
         → own_reply shape cloud two request ≡ own_reply shape cloud one request }
     // So does all that comes of a request that would add a command, a full room among it, where no two strings have one
     // SHA-256.
-    ensures rooms { (rooms : Rooms) (shape : Shape) (cloud : ℕ) (one two : List Command) (request : Request)
+    ensures rooms { (rooms : UserRooms) (shape : Shape) (cloud : ℕ) (one two : List Command) (request : Request)
         (command : Command) → commands_of (asker request) two ≡ commands_of (asker request) one
         → (answer_over shape cloud one request).adds ≡ Some command
         → HoldsItself (one ++ command ∷ []) → HoldsItself (two ++ command ∷ [])
@@ -82,11 +82,11 @@ pub fn law_of_parts()
         → AreSources s.shape clouds
         → IsPartOf s old (record { event = events.Get user path version clouds; moments = [] }) old.peers }
     ensures rebuild { (s : Setting) (old : Vault) (user : UserId) (target : CloudNo) (from : List ℕ)
-        (turns : List (Turn Peer)) (at : Peer) → AreClouds s.shape from → ¬ Contains from target.0
+        (turns : List (LaneTurn Peer)) (at : Peer) → AreClouds s.shape from → ¬ Contains from target.0
         → ExecutesAll s target.0 (old.peers target.0) turns at
         → OwnLanes s.shape user target.0 turns
         → (AllTold s (target.0 ∷ from) → (after : ℕ → Peer)
-        × IsCut s.shape user target.0 (served_at s target.0) from turns old.peers at after)
+        × IsRebuildCut s.shape user target.0 (served_at s target.0) from turns old.peers at after)
         → IsPartOf s old (record {
           event = events.Rebuild user target from;
           moments = quiet old.peers ++ map (turn_moment old.peers target.0) turns;

@@ -9,3 +9,11 @@ pub use laws::{
     law_of_last_lists, law_of_moments, law_of_own_commands, law_of_own_replies, law_of_parts,
 };
 pub use local_link::{Fate, LocalLink, OpenErr, Servers, damage_of};
+pub use rebuild::{
+    Entries, Job, KEY_LIMIT, LaneNews, RebuildErr, Rebuilt, Skip, SkipWhy, Skips, rebuild,
+};
+pub use session::{
+    Answer, Ending, Event, Failed, Line, LineErr, LineReader, News, Refusal, ScriptErr, Shelf,
+    SkipWord, TargetWhy, read_line, write_ending, write_line,
+};
+pub use subset_restore::{Link, Lost, RestoreErr, as_refusal, restore_any};

@@ -5,8 +5,8 @@ use Rattle.std.specs.Borrow.{Bor}
 use Rattle.std.proofs.lemmas.Bool.{cond-true, cond-false, ne_eqb}
 use Rattle.std.proofs.lemmas.List.Sums.{sum_by-cons}
 use Rattle.std.specs.FinMap.{FinMap, get, insert, remove, empty, entries, len, len-entries, len-empty, get-empty}
-use Rattle.slot_pool.specs.Pool.{Pool, limit_of}
-use Rattle.pool_map.specs.declared.Entry.{Entry as Pair}
+use Rattle.pool_map.specs.SlotPool.Pool.{PoolContents, limit_of}
+use Rattle.pool_map.specs.declared.KeyedValue.{KeyedValue as Pair}
 use Rattle.share_index.specs.declared.key.UserNumber.{UserNumber}
 use Rattle.pool_map.specs.Table.{contents, charged, with_value_at, rewritten}
 use Rattle.pool_map.specs.MapSums.{sum_by-insert_new, sum_by-insert_over, sum_by-remove, sum_by-alike, sum_by-parts}
@@ -69,7 +69,7 @@ len-le-total m positive =
     let parts = sum_by-parts (λ (e : UserNumber × ℕ). 1) (λ e. e.1 - 1) (λ e. 1 + (e.1 - 1)) (entries m) (λ e. refl) in
     omega (arith, length-ones (entries m), len-entries m)
 
-module _ (p : Pool (Pair UserNumber ℕ)) (batches : ℕ) (is : IsCounting p batches) where
+module _ (p : PoolContents (Pair UserNumber ℕ)) (batches : ℕ) (is : IsCounting p batches) where
   abbrev table : FinMap number_cmp (ℕ × ℕ)
   table = contents number_cmp p
 
@@ -97,7 +97,7 @@ module _ (p : Pool (Pair UserNumber ℕ)) (batches : ℕ) (is : IsCounting p bat
   pub rewritten-is : (user v : ℕ) (x : ℕ × ℕ) → get table (number_of user) ≡ Some x → x.0 ≡ 0 → with_value_at table (number_of user) v ≡ insert table (number_of user) (0, v)
   rewritten-is user v x at zero_account = ap (rewritten table (number_of user) v) at ∙ ap (λ (a : ℕ). insert table (number_of user) (a, v)) zero_account
 
-  pub counting-put : (q : Pool (Pair UserNumber ℕ)) (user v batches' : ℕ) → q.limits ≡ p.limits → contents number_cmp q ≡ insert table (number_of user) (0, v) → 0 < v → user < 2 ^ 32 → batches' + begun (count_at counts user) ≡ batches + begun v → IsCounting q batches'
+  pub counting-put : (q : PoolContents (Pair UserNumber ℕ)) (user v batches' : ℕ) → q.limits ≡ p.limits → contents number_cmp q ≡ insert table (number_of user) (0, v) → 0 < v → user < 2 ^ 32 → batches' + begun (count_at counts user) ≡ batches + begun v → IsCounting q batches'
   counting-put q user v batches' limits to some fits sum =
       record {
         limits = limits ∙ is.limits ∙ ap (λ l. room_of l ∷ []) (sym limits);
@@ -118,7 +118,7 @@ module _ (p : Pool (Pair UserNumber ℕ)) (batches : ℕ) (is : IsCounting p bat
             omega (arith, batches-put counts user v);
       }
 
-  pub counting-take : (q : Pool (Pair UserNumber ℕ)) (user batches' : ℕ) (x : ℕ × ℕ) → q.limits ≡ p.limits → contents number_cmp q ≡ remove table (number_of user) → get table (number_of user) ≡ Some x → batches' + begun x.1 ≡ batches → IsCounting q batches'
+  pub counting-take : (q : PoolContents (Pair UserNumber ℕ)) (user batches' : ℕ) (x : ℕ × ℕ) → q.limits ≡ p.limits → contents number_cmp q ≡ remove table (number_of user) → get table (number_of user) ≡ Some x → batches' + begun x.1 ≡ batches → IsCounting q batches'
   counting-take q user batches' x limits to at sum =
       record {
         limits = limits ∙ is.limits ∙ ap (λ l. room_of l ∷ []) (sym limits);
@@ -186,13 +186,13 @@ module _ (p : Pool (Pair UserNumber ℕ)) (batches : ℕ) (is : IsCounting p bat
       omega arith
 
 -- the begun batches, summed over all users' numbers
-pub batches-sum : (p : Pool (Pair UserNumber ℕ)) (batches : ℕ) → IsCounting p batches → batches ≡ sum_below (2 ^ 32) (λ user. begun (count_at (shown plain (contents number_cmp p)) user))
+pub batches-sum : (p : PoolContents (Pair UserNumber ℕ)) (batches : ℕ) → IsCounting p batches → batches ≡ sum_below (2 ^ 32) (λ user. begun (count_at (shown plain (contents number_cmp p)) user))
 batches-sum p batches is =
     is.counted ∙ sym (sum_below-counts (2 ^ 32) (shown plain (contents number_cmp p)) (λ k v got.
     let x = shown-had p k v got in
     is.keys k x.0 x.1))
   where
-    shown-had : (p : Pool (Pair UserNumber ℕ)) (k : UserNumber) (v : ℕ) → get (shown plain (contents number_cmp p)) k ≡ Some v → (x : ℕ × ℕ) × (get (contents number_cmp p) k ≡ Some x)
+    shown-had : (p : PoolContents (Pair UserNumber ℕ)) (k : UserNumber) (v : ℕ) → get (shown plain (contents number_cmp p)) k ≡ Some v → (x : ℕ × ℕ) × (get (contents number_cmp p) k ≡ Some x)
     shown-had p k v got = go (get (contents number_cmp p) k) refl (sym (get-shown plain (contents number_cmp p) k) ∙ got)
       where
         go : (o : Option (ℕ × ℕ)) → get (contents number_cmp p) k ≡ o → option_map plain o ≡ Some v → (x : ℕ × ℕ) × (get (contents number_cmp p) k ≡ Some x)
@@ -210,7 +210,7 @@ pub none-copied : (r : Option (Bor ℕ)) (A : Type 0) → option_copied r ≡ No
 none-copied None A e h = h
 none-copied (Some a) A e h = absurd (let gone : Some a.now ≡ None = e in cc)
 
-pub counting-empty : (q : Pool (Pair UserNumber ℕ)) → q.limits ≡ room_of q.limits ∷ [] → room_of q.limits < 2 ^ 32 → contents number_cmp q ≡ empty → IsCounting q 0
+pub counting-empty : (q : PoolContents (Pair UserNumber ℕ)) → q.limits ≡ room_of q.limits ∷ [] → room_of q.limits < 2 ^ 32 → contents number_cmp q ≡ empty → IsCounting q 0
 counting-empty q limits small none = record {
   limits = limits;
   small = small;

@@ -8,8 +8,8 @@ use Rattle.std.specs.Ordering.{eq_by_cmp, is_eq}
 use Rattle.std.specs.Cmp.{IsTotalOrder, tied_itself}
 use Rattle.std.specs.Cmp.Rules.{comparing}
 use Rattle.std.specs.FinMap.{FinMap, get, insert, remove, empty, entries, len, len-entries, len-empty, len-insert, get-insert, get-remove, get-empty, same_map, nat_cmp-IsAntisymmetric}
-use Rattle.slot_pool.specs.Pool.{Pool, limit_of}
-use Rattle.pool_map.specs.declared.Entry.{Entry as Pair}
+use Rattle.pool_map.specs.SlotPool.Pool.{PoolContents, limit_of}
+use Rattle.pool_map.specs.declared.KeyedValue.{KeyedValue as Pair}
 use Rattle.share_index.specs.declared.key.UserNumber.{UserNumber}
 use Rattle.pool_map.specs.Table.{contents, at_key, value_at, charged, with_value_at, rewritten}
 use Rattle.pool_map.specs.MapSums.{sum_by-insert_new, sum_by-insert_over, sum_by-remove, insert-remove, insert-same}
@@ -130,7 +130,7 @@ module _ (m : FinMap owner_cmp ℕ) (k : Owner) where
       let more : len (insert (remove m k) k v) ≡ len (remove m k) + 1 = back ∙ ap (λ o. cond (is_some o) (len (remove m k)) (len (remove m k) + 1)) gone in
       omega arith
 
-module _ (p : Pool (Pair Owner ℕ)) (counts : UserCounts) (accounts : Accounts) (is : IsOwning p counts accounts) where
+module _ (p : PoolContents (Pair Owner ℕ)) (counts : UserCounts) (accounts : Accounts) (is : IsOwning p counts accounts) where
   abbrev pub table : FinMap owner_cmp (ℕ × ℕ)
   table = contents owner_cmp p
 
@@ -158,16 +158,16 @@ module _ (p : Pool (Pair Owner ℕ)) (counts : UserCounts) (accounts : Accounts)
   pub lacks-read : (k : Owner) → at_key owner_cmp p k ≡ None → get owners k ≡ None
   lacks-read k none = get-shown plain table k ∙ ap (option_map plain) none
 
-  pub add-is : (q : Pool (Pair Owner ℕ)) (k : Owner) (a : ℕ) → contents owner_cmp q ≡ insert table k (a, 0) → shown plain (contents owner_cmp q) ≡ insert owners k 0
+  pub add-is : (q : PoolContents (Pair Owner ℕ)) (k : Owner) (a : ℕ) → contents owner_cmp q ≡ insert table k (a, 0) → shown plain (contents owner_cmp q) ≡ insert owners k 0
   add-is q k a to = ap (shown plain) to ∙ shown-insert plain owner_total owner_exact table k (a, 0)
 
-  pub remove-is : (q : Pool (Pair Owner ℕ)) (k : Owner) → contents owner_cmp q ≡ remove table k → shown plain (contents owner_cmp q) ≡ remove owners k
+  pub remove-is : (q : PoolContents (Pair Owner ℕ)) (k : Owner) → contents owner_cmp q ≡ remove table k → shown plain (contents owner_cmp q) ≡ remove owners k
   remove-is q k to = ap (shown plain) to ∙ shown-remove plain owner_total owner_exact table k
 
-  pub set-is : (q : Pool (Pair Owner ℕ)) (k : Owner) (v : ℕ) (x : ℕ × ℕ) → get table k ≡ Some x → contents owner_cmp q ≡ with_value_at table k v → shown plain (contents owner_cmp q) ≡ insert owners k v
+  pub set-is : (q : PoolContents (Pair Owner ℕ)) (k : Owner) (v : ℕ) (x : ℕ × ℕ) → get table k ≡ Some x → contents owner_cmp q ≡ with_value_at table k v → shown plain (contents owner_cmp q) ≡ insert owners k v
   set-is q k v x at to = ap (shown plain) (to ∙ ap (rewritten table k v) at) ∙ shown-insert plain owner_total owner_exact table k (x.0, v)
 
-  pub owning-add : (q : Pool (Pair Owner ℕ)) (counts' : UserCounts) (k : Owner) (a : ℕ) → q.limits ≡ p.limits → length q.slots ≡ length p.slots → contents owner_cmp q ≡ insert table k (a, 0) → get owners k ≡ None → a ≡ account_for accounts k.user → IsKnown accounts k.user → counts'.counts ≡ insert counts.counts (number_of k.user) (count_at counts.counts k.user + 1) → counts'.room ≡ counts.room → IsOwning q counts' accounts
+  pub owning-add : (q : PoolContents (Pair Owner ℕ)) (counts' : UserCounts) (k : Owner) (a : ℕ) → q.limits ≡ p.limits → length q.slots ≡ length p.slots → contents owner_cmp q ≡ insert table k (a, 0) → get owners k ≡ None → a ≡ account_for accounts k.user → IsKnown accounts k.user → counts'.counts ≡ insert counts.counts (number_of k.user) (count_at counts.counts k.user + 1) → counts'.room ≡ counts.room → IsOwning q counts' accounts
   owning-add q counts' k a limits slots to none at known raised room =
       let after = add-is q k a to in
       record {
@@ -203,7 +203,7 @@ module _ (p : Pool (Pair Owner ℕ)) (counts : UserCounts) (accounts : Accounts)
       let e = one-same k.user k refl in
       omega (arith, keys-taken owners k v k.user at)
 
-  pub owning-remove : (q : Pool (Pair Owner ℕ)) (counts' : UserCounts) (k : Owner) (v : ℕ) → q.limits ≡ p.limits → length q.slots ≡ length p.slots → contents owner_cmp q ≡ remove table k → get owners k ≡ Some v → counts'.counts ≡ lowered counts.counts k.user → counts'.room ≡ counts.room → IsOwning q counts' accounts
+  pub owning-remove : (q : PoolContents (Pair Owner ℕ)) (counts' : UserCounts) (k : Owner) (v : ℕ) → q.limits ≡ p.limits → length q.slots ≡ length p.slots → contents owner_cmp q ≡ remove table k → get owners k ≡ Some v → counts'.counts ≡ lowered counts.counts k.user → counts'.room ≡ counts.room → IsOwning q counts' accounts
   owning-remove q counts' k v limits slots to had raised room =
       let after = remove-is q k to in
       let some = owned-count k v had in
@@ -236,7 +236,7 @@ module _ (p : Pool (Pair Owner ℕ)) (counts : UserCounts) (accounts : Accounts)
         room = room ∙ is.room ∙ sym slots;
       }
 
-  pub owning-set : (q : Pool (Pair Owner ℕ)) (k : Owner) (v : ℕ) (x : ℕ × ℕ) → q.limits ≡ p.limits → length q.slots ≡ length p.slots → contents owner_cmp q ≡ with_value_at table k v → get table k ≡ Some x → get owners k ≡ Some x.1 → IsOwning q counts accounts
+  pub owning-set : (q : PoolContents (Pair Owner ℕ)) (k : Owner) (v : ℕ) (x : ℕ × ℕ) → q.limits ≡ p.limits → length q.slots ≡ length p.slots → contents owner_cmp q ≡ with_value_at table k v → get table k ≡ Some x → get owners k ≡ Some x.1 → IsOwning q counts accounts
   owning-set q k v x limits slots to at had =
       let after = set-is q k v x at to in
       record {
@@ -248,7 +248,7 @@ module _ (p : Pool (Pair Owner ℕ)) (counts : UserCounts) (accounts : Accounts)
       }
 
   -- there is room for one more count, since each owner has a slot
-  pub has-room : (q : Pool (Pair Owner ℕ)) (k : Owner) (a n : ℕ) → contents owner_cmp q ≡ insert table k (a, 0) → length q.slots ≡ length p.slots → get owners k ≡ None → n ≡ len (contents owner_cmp q) → n ≤ length q.slots → total counts.counts < counts.room
+  pub has-room : (q : PoolContents (Pair Owner ℕ)) (k : Owner) (a n : ℕ) → contents owner_cmp q ≡ insert table k (a, 0) → length q.slots ≡ length p.slots → get owners k ≡ None → n ≡ len (contents owner_cmp q) → n ≤ length q.slots → total counts.counts < counts.room
   has-room q k a n to slots none many fits =
       let was = is.totalled in
       let room = is.room in
@@ -282,7 +282,7 @@ module _ (p : Pool (Pair Owner ℕ)) (counts : UserCounts) (accounts : Accounts)
         let u = unknown-use owner_total owner_exact user_of plain accounts table is.charged user unknown in
         (u ∙ sym none, (λ i. Full (sym u i) (sym none i)))
 
-pub owning-empty : (q : Pool (Pair Owner ℕ)) (counts : UserCounts) (accounts : Accounts) → q.limits ≡ limits_of accounts → contents owner_cmp q ≡ empty → counts.counts ≡ empty → counts.room ≡ length q.slots → IsOwning q counts accounts
+pub owning-empty : (q : PoolContents (Pair Owner ℕ)) (counts : UserCounts) (accounts : Accounts) → q.limits ≡ limits_of accounts → contents owner_cmp q ≡ empty → counts.counts ≡ empty → counts.room ≡ length q.slots → IsOwning q counts accounts
 owning-empty q counts accounts limits none counted room =
     let after : shown plain (contents owner_cmp q) ≡ empty = ap (shown plain) none ∙ shown-empty plain owner_total owner_exact in
     record {

@@ -7,8 +7,8 @@ use Rattle.std.specs.Cmp.{IsTotalOrder, tied_itself}
 use Rattle.std.specs.Cmp.Rules.{comparing}
 use Rattle.std.proofs.lemmas.Bool.{cond-true, cases_eq, ne_eqb}
 use Rattle.std.specs.FinMap.{FinMap, get, insert, remove, empty, entries, len, len-entries, len-empty, len-insert, get-remove}
-use Rattle.slot_pool.specs.Pool.{Pool, limit_of}
-use Rattle.pool_map.specs.declared.Entry.{Entry as Pair}
+use Rattle.pool_map.specs.SlotPool.Pool.{PoolContents, limit_of}
+use Rattle.pool_map.specs.declared.KeyedValue.{KeyedValue as Pair}
 use Rattle.pool_map.specs.Table.{contents, at_key, value_at, charged, with_value_at, rewritten}
 use Rattle.pool_map.specs.MapSums.{sum_by-insert_new, sum_by-insert_over, sum_by-remove, insert-remove, insert-same}
 use Rattle.pool_map.specs.Shown.{shown, get-shown, shown-insert, shown-remove, shown-empty}
@@ -65,7 +65,7 @@ module _ (m : FinMap fp_cmp Kept) (fp : List ℕ) where
       let more : len (insert (remove m fp) fp old) ≡ len (remove m fp) + 1 = back ∙ ap (λ o. cond (is_some o) (len (remove m fp)) (len (remove m fp) + 1)) gone in
       omega arith
 
-module _ (p : Pool (Pair (List ℕ) Kept)) (ownerless : ℕ) (is : IsPlacing p ownerless) where
+module _ (p : PoolContents (Pair (List ℕ) Kept)) (ownerless : ℕ) (is : IsPlacing p ownerless) where
   abbrev table : FinMap fp_cmp (ℕ × Kept)
   table = contents fp_cmp p
 
@@ -100,16 +100,16 @@ module _ (p : Pool (Pair (List ℕ) Kept)) (ownerless : ℕ) (is : IsPlacing p o
   pub charge-is : charged table 0 ≡ len kept
   charge-is = charged-use fp_total fp_exact nobody kept_of (Shared (room_of p.limits)) table is.charged 0
 
-  pub add-is : (q : Pool (Pair (List ℕ) Kept)) (fp : List ℕ) (k : Kept) → contents fp_cmp q ≡ insert table fp (0, k) → shown kept_of (contents fp_cmp q) ≡ insert kept fp k
+  pub add-is : (q : PoolContents (Pair (List ℕ) Kept)) (fp : List ℕ) (k : Kept) → contents fp_cmp q ≡ insert table fp (0, k) → shown kept_of (contents fp_cmp q) ≡ insert kept fp k
   add-is q fp k to = ap (shown kept_of) to ∙ shown-insert kept_of fp_total fp_exact table fp (0, k)
 
-  pub set-is : (q : Pool (Pair (List ℕ) Kept)) (fp : List ℕ) (k : Kept) (x : ℕ × Kept) → get table fp ≡ Some x → contents fp_cmp q ≡ with_value_at table fp k → shown kept_of (contents fp_cmp q) ≡ insert kept fp k
+  pub set-is : (q : PoolContents (Pair (List ℕ) Kept)) (fp : List ℕ) (k : Kept) (x : ℕ × Kept) → get table fp ≡ Some x → contents fp_cmp q ≡ with_value_at table fp k → shown kept_of (contents fp_cmp q) ≡ insert kept fp k
   set-is q fp k x at to = ap (shown kept_of) (to ∙ ap (rewritten table fp k) at) ∙ shown-insert kept_of fp_total fp_exact table fp (x.0, k)
 
-  pub remove-is : (q : Pool (Pair (List ℕ) Kept)) (fp : List ℕ) → contents fp_cmp q ≡ remove table fp → shown kept_of (contents fp_cmp q) ≡ remove kept fp
+  pub remove-is : (q : PoolContents (Pair (List ℕ) Kept)) (fp : List ℕ) → contents fp_cmp q ≡ remove table fp → shown kept_of (contents fp_cmp q) ≡ remove kept fp
   remove-is q fp to = ap (shown kept_of) to ∙ shown-remove kept_of fp_total fp_exact table fp
 
-  placing : (q : Pool (Pair (List ℕ) Kept)) (ownerless' : ℕ) → q.limits ≡ p.limits → IsCharged (Shared (room_of p.limits)) nobody (contents fp_cmp q) → len (shown kept_of (contents fp_cmp q)) ≤ room_of p.limits → ownerless' ≡ zeros (shown kept_of (contents fp_cmp q)) → IsPlacing q ownerless'
+  placing : (q : PoolContents (Pair (List ℕ) Kept)) (ownerless' : ℕ) → q.limits ≡ p.limits → IsCharged (Shared (room_of p.limits)) nobody (contents fp_cmp q) → len (shown kept_of (contents fp_cmp q)) ≤ room_of p.limits → ownerless' ≡ zeros (shown kept_of (contents fp_cmp q)) → IsPlacing q ownerless'
   placing q ownerless' limits charges few counts = record {
     limits = limits ∙ is.limits ∙ ap (λ l. room_of l ∷ []) (sym limits);
     small = subst (λ l. room_of l < 2 ^ 32) (sym limits) is.small;
@@ -121,7 +121,7 @@ module _ (p : Pool (Pair (List ℕ) Kept)) (ownerless : ℕ) (is : IsPlacing p o
   pub add-fits : (k : Kept) (z : ℕ) → len kept < room_of p.limits → z ≡ cond (k.owners == 0) 1 0 → ownerless + z < 2 ^ 32
   add-fits k z room e = let a = is.counted in let b = is.small in omega (arith, zeros-le-len kept, zero-small k)
 
-  pub placing-add : (q : Pool (Pair (List ℕ) Kept)) (fp : List ℕ) (k : Kept) (z : ℕ) → q.limits ≡ p.limits → contents fp_cmp q ≡ insert table fp (0, k) → get kept fp ≡ None → len kept < room_of p.limits → z ≡ cond (k.owners == 0) 1 0 → IsPlacing q (ownerless + z)
+  pub placing-add : (q : PoolContents (Pair (List ℕ) Kept)) (fp : List ℕ) (k : Kept) (z : ℕ) → q.limits ≡ p.limits → contents fp_cmp q ≡ insert table fp (0, k) → get kept fp ≡ None → len kept < room_of p.limits → z ≡ cond (k.owners == 0) 1 0 → IsPlacing q (ownerless + z)
   placing-add q fp k z limits to none room e =
       let after = add-is q fp k to in
       placing q (ownerless + z) limits
@@ -135,7 +135,7 @@ module _ (p : Pool (Pair (List ℕ) Kept)) (ownerless : ℕ) (is : IsPlacing p o
   pub set-add-fits : (fp : List ℕ) (old k : Kept) (z y : ℕ) → get kept fp ≡ Some old → z ≡ cond (old.owners == 0) 1 0 → y ≡ cond (k.owners == 0) 1 0 → (ownerless - z) + y < 2 ^ 32
   set-add-fits fp old k z y at e f = let a = is.counted in let b = is.small in let c = is.few in omega (arith, zeros-over kept fp old k at, zeros-le-len (insert kept fp k), len-over kept fp old k at, set-sub-fits fp old z at e)
 
-  pub placing-set : (q : Pool (Pair (List ℕ) Kept)) (fp : List ℕ) (old k : Kept) (x : ℕ × Kept) (z y : ℕ) → q.limits ≡ p.limits → contents fp_cmp q ≡ with_value_at table fp k → get table fp ≡ Some x → get kept fp ≡ Some old → z ≡ cond (old.owners == 0) 1 0 → y ≡ cond (k.owners == 0) 1 0 → IsPlacing q ((ownerless - z) + y)
+  pub placing-set : (q : PoolContents (Pair (List ℕ) Kept)) (fp : List ℕ) (old k : Kept) (x : ℕ × Kept) (z y : ℕ) → q.limits ≡ p.limits → contents fp_cmp q ≡ with_value_at table fp k → get table fp ≡ Some x → get kept fp ≡ Some old → z ≡ cond (old.owners == 0) 1 0 → y ≡ cond (k.owners == 0) 1 0 → IsPlacing q ((ownerless - z) + y)
   placing-set q fp old k x z y limits to at had e f =
       let after = set-is q fp k x at to in
       placing q ((ownerless - z) + y) limits
@@ -143,7 +143,7 @@ module _ (p : Pool (Pair (List ℕ) Kept)) (ownerless : ℕ) (is : IsPlacing p o
       (let many = ap len after in let c = is.few in omega (arith, len-over kept fp old k had))
       (let a = is.counted in let many = ap (λ (m : FinMap fp_cmp Kept). zeros m) after in omega (arith, zeros-over kept fp old k had, set-sub-fits fp old z had e))
 
-  pub placing-remove : (q : Pool (Pair (List ℕ) Kept)) (fp : List ℕ) (old : Kept) (z : ℕ) → q.limits ≡ p.limits → contents fp_cmp q ≡ remove table fp → get kept fp ≡ Some old → z ≡ cond (old.owners == 0) 1 0 → IsPlacing q (ownerless - z)
+  pub placing-remove : (q : PoolContents (Pair (List ℕ) Kept)) (fp : List ℕ) (old : Kept) (z : ℕ) → q.limits ≡ p.limits → contents fp_cmp q ≡ remove table fp → get kept fp ≡ Some old → z ≡ cond (old.owners == 0) 1 0 → IsPlacing q (ownerless - z)
   placing-remove q fp old z limits to had e =
       let after = remove-is q fp to in
       placing q (ownerless - z) limits
@@ -154,7 +154,7 @@ module _ (p : Pool (Pair (List ℕ) Kept)) (ownerless : ℕ) (is : IsPlacing p o
   pub spare-is : (n : ℕ) → n + charged table 0 ≡ limit_of p 0 → (n ≡ 0 → len kept ≡ room_of p.limits) × (len kept ≡ room_of p.limits → n ≡ 0) × (0 < n → len kept < room_of p.limits)
   spare-is n e = let c = charge-is in ((λ zero. omega arith), (λ full. omega arith), (λ some. omega arith))
 
-module _ (p : Pool (Pair (List ℕ) Kept)) (ownerless : ℕ) (is : IsPlacing p ownerless) (n : ℕ) (spare : n + charged (contents fp_cmp p) 0 ≡ limit_of p 0) where
+module _ (p : PoolContents (Pair (List ℕ) Kept)) (ownerless : ℕ) (is : IsPlacing p ownerless) (n : ℕ) (spare : n + charged (contents fp_cmp p) 0 ≡ limit_of p 0) where
   pub full-is : (eqb n 0 ≡ true) ↔ (len (shown kept_of (contents fp_cmp p)) ≡ room_of p.limits)
   full-is =
       let all = spare-is p ownerless is n spare in
@@ -171,7 +171,7 @@ module _ (p : Pool (Pair (List ℕ) Kept)) (ownerless : ℕ) (is : IsPlacing p o
         | inr some ↦ all.2 (omega arith)
       ]
 
-pub placing-empty : (q : Pool (Pair (List ℕ) Kept)) → q.limits ≡ room_of q.limits ∷ [] → room_of q.limits < 2 ^ 32 → contents fp_cmp q ≡ empty → IsPlacing q 0
+pub placing-empty : (q : PoolContents (Pair (List ℕ) Kept)) → q.limits ≡ room_of q.limits ∷ [] → room_of q.limits < 2 ^ 32 → contents fp_cmp q ≡ empty → IsPlacing q 0
 placing-empty q limits small none =
     let after : shown kept_of (contents fp_cmp q) ≡ empty = ap (shown kept_of) none ∙ shown-empty kept_of fp_total fp_exact in
     record {

@@ -9,10 +9,10 @@ use Rattle.std.specs.Ordering.{eq_by_cmp, is_eq, nat_cmp}
 use Rattle.std.specs.Cmp.{tied_itself, nat_cmp_total}
 use Rattle.std.specs.Cmp.Lexicographic.{lists_ties, pointwise}
 use Rattle.std.specs.FinMap.{find, from_entries, get, empty, entries, len-entries, len-empty, get-from_entries, nat_cmp-IsAntisymmetric}
-use Rattle.slot_pool.specs.declared.Content.{Content}
-use Rattle.slot_pool.specs.declared.Content.TheVariants.{Empty, Held}
-use Rattle.slot_pool.specs.Pool.{Pool}
-use Rattle.pool_map.specs.declared.Entry.{Entry as Pair}
+use Rattle.pool_map.specs.SlotPool.Content.{Content}
+use Rattle.pool_map.specs.SlotPool.Content.TheVariants.{Empty, Held}
+use Rattle.pool_map.specs.SlotPool.Pool.{PoolContents}
+use Rattle.pool_map.specs.declared.KeyedValue.{KeyedValue as Pair}
 use Rattle.pool_map.specs.Table.{pairs, contents, pair_of}
 use Rattle.pool_map.specs.MapSums.{sum_by-insert_new}
 use Rattle.pool_map.specs.Shown.{shown, sum_by-shown}
@@ -85,7 +85,7 @@ module _ (fp : List ℕ) where
       omega (arith, sum_by-cons show_one (Some (e.key, e.value)) (shown_slots itself cells))
 
   -- where the slots list the owners, if there are slots
-  pub scan-listed : (p : Pool (Pair Owner ℕ)) → (0 < length p.slots → IsListed (shown plain (contents owner_cmp p)) (shown_slots itself p.slots)) → count_by (shows_fp fp) (shown_slots itself p.slots) ≡ owners_of (shown plain (contents owner_cmp p)) fp
+  pub scan-listed : (p : PoolContents (Pair Owner ℕ)) → (0 < length p.slots → IsListed (shown plain (contents owner_cmp p)) (shown_slots itself p.slots)) → count_by (shows_fp fp) (shown_slots itself p.slots) ≡ owners_of (shown plain (contents owner_cmp p)) fp
   scan-listed p each =
       scan p.slots (λ i j a b e f ie jf tie.
       let key : f.key ≡ e.key = sym (owner_exact e.key f.key tie) in
@@ -116,7 +116,7 @@ shows-held cells s fp owner uses e =
     ∙ ap (shows_fp fp) (sym (at-shown_slots itself cells s))
 
 -- and so does the loop over all slots
-pub scanned : (p : Pool (Pair Owner ℕ)) (fp : List ℕ) (count slot end : ℕ) → count ≡ count_by (shows_fp fp) (take slot (shown_slots itself p.slots)) → (0 < slot → IsListed (shown plain (contents owner_cmp p)) (shown_slots itself p.slots)) → end ≡ length p.slots → slot ≤ end → end ≤ slot → count ≡ owners_of (shown plain (contents owner_cmp p)) fp
+pub scanned : (p : PoolContents (Pair Owner ℕ)) (fp : List ℕ) (count slot end : ℕ) → count ≡ count_by (shows_fp fp) (take slot (shown_slots itself p.slots)) → (0 < slot → IsListed (shown plain (contents owner_cmp p)) (shown_slots itself p.slots)) → end ≡ length p.slots → slot ≤ end → end ≤ slot → count ≡ owners_of (shown plain (contents owner_cmp p)) fp
 scanned p fp count slot end counted each ends a b =
     let all : slot ≡ length (shown_slots itself p.slots) = omega (arith, length-shown_slots itself p.slots) in
     let many : slot ≡ length p.slots = omega arith in

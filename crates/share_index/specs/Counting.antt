@@ -1,8 +1,8 @@
 -- How a hash table keeps the users' counts. No public clause cites this module.
 use Rattle.std.specs.Prelude.{◌≡◌, ℕ, ◌<◌, ◌^◌, List, [], ◌∷◌, Some, slice_index_or}
 use Rattle.std.specs.FinMap.{get}
-use Rattle.slot_pool.specs.Pool.{Pool}
-use Rattle.pool_map.specs.declared.Entry.{Entry as Pair}
+use Rattle.pool_map.specs.SlotPool.Pool.{PoolContents}
+use Rattle.pool_map.specs.declared.KeyedValue.{KeyedValue as Pair}
 use Rattle.share_index.specs.declared.key.UserNumber.{UserNumber}
 use Rattle.pool_map.specs.Table.{contents}
 use Rattle.pool_map.specs.Shown.{shown}
@@ -13,10 +13,10 @@ use Rattle.share_index.specs.Counts.{UserCounts, number_cmp, batches_in}
 abbrev pub room_of : List ℕ → ℕ
 room_of limits = slice_index_or limits 0 0
 
-abbrev pub counts_of : Pool (Pair UserNumber ℕ) → UserCounts
+abbrev pub counts_of : PoolContents (Pair UserNumber ℕ) → UserCounts
 counts_of table = record { counts = shown (λ (x : ℕ × ℕ). x.1) (contents number_cmp table); room = room_of table.limits }
 
-pub record IsCounting (table : Pool (Pair UserNumber ℕ)) (batches : ℕ) : Type 0 where
+pub record IsCounting (table : PoolContents (Pair UserNumber ℕ)) (batches : ℕ) : Type 0 where
   pub limits : table.limits ≡ room_of table.limits ∷ []
   pub small : room_of table.limits < 2 ^ 32
   pub charged : IsCharged (Shared (room_of table.limits)) (λ (k : UserNumber). 0) (contents number_cmp table)

@@ -4,10 +4,10 @@ use Rattle.std.proofs.Common.{refl, sym, ap, ◌∙◌, zero, suc}
 use Rattle.std.specs.declared.cmp.Ordering.{Ordering}
 use Rattle.std.specs.Cmp.{IsTotalOrder, tied_itself}
 use Rattle.std.specs.FinMap.{IsAntisymmetric}
-use Rattle.slot_pool.specs.declared.Content.{Content}
-use Rattle.slot_pool.specs.declared.Content.TheVariants.{Empty, Held}
-use Rattle.slot_pool.specs.Pool.{Pool, content}
-use Rattle.pool_map.specs.declared.Entry.{Entry}
+use Rattle.pool_map.specs.SlotPool.Content.{Content}
+use Rattle.pool_map.specs.SlotPool.Content.TheVariants.{Empty, Held}
+use Rattle.pool_map.specs.SlotPool.Pool.{PoolContents, content}
+use Rattle.pool_map.specs.declared.KeyedValue.{KeyedValue}
 use Rattle.pool_map.specs.Table.{Drops}
 use Rattle.pool_map.specs.Shown.{through}
 use Rattle.pool_map.specs.Slots.{slot_of, show, shown_slots, at-shown_slots, length-shown_slots}
@@ -20,7 +20,7 @@ pub record IsEmptied {K V : Type 0} (old new : List (Option (K × V))) (key : K)
 
 module _ {K W V : Type 0} (f : W → V) where
   -- a slot that shows a key holds it
-  held : (c : Content (Entry K W)) (k : K) (v : V) → show f c ≡ Some (k, v) → (a : ℕ) × (e : Entry K W) × (c ≡ Held a e) × (e.key ≡ k)
+  held : (c : Content (KeyedValue K W)) (k : K) (v : V) → show f c ≡ Some (k, v) → (a : ℕ) × (e : KeyedValue K W) × (c ≡ Held a e) × (e.key ≡ k)
   held Empty k v is = absurd (let no : None ≡ Some (k, v) = is in cc)
   held (Held a e) k v is =
       let two : ◌≡◌ {A = Option (K × V)} (Some (e.key, f e.value)) (Some (k, v)) = is in
@@ -28,7 +28,7 @@ module _ {K W V : Type 0} (f : W → V) where
       (a, e, refl, ap (λ (p : K × V). p.0) same)
 
   -- a key that is taken out of a table is seen no more, and every other where it was
-  pub emptied-shown : {R : K → K → Ordering} → IsTotalOrder R → IsAntisymmetric R → (p q : Pool (Entry K W)) (key : K) → Drops R p q key → IsEmptied (shown_slots f p.slots) (shown_slots f q.slots) key
+  pub emptied-shown : {R : K → K → Ordering} → IsTotalOrder R → IsAntisymmetric R → (p q : PoolContents (KeyedValue K W)) (key : K) → Drops R p q key → IsEmptied (shown_slots f p.slots) (shown_slots f q.slots) key
   emptied-shown {R} total exact p q key is = record {
     emptied = λ s v at.
         let h = held (content p s) key v (sym (at-shown_slots f p.slots s) ∙ at) in

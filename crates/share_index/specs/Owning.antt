@@ -2,8 +2,8 @@
 use Rattle.std.specs.Prelude.{◌≡◌, ℕ, Bool, false, List, length, Option, Some, None}
 use Rattle.std.specs.Ordering.{eq_by_cmp}
 use Rattle.std.specs.FinMap.{FinMap, len}
-use Rattle.slot_pool.specs.Pool.{Pool}
-use Rattle.pool_map.specs.declared.Entry.{Entry as Pair}
+use Rattle.pool_map.specs.SlotPool.Pool.{PoolContents}
+use Rattle.pool_map.specs.declared.KeyedValue.{KeyedValue as Pair}
 use Rattle.pool_map.specs.Table.{contents}
 use Rattle.pool_map.specs.Shown.{shown}
 use Rattle.pool_map.specs.declared.accounts.Accounts.{Accounts}
@@ -28,14 +28,14 @@ abbrev pub shows_fp : List ℕ → Option (Owner × ℕ) → Bool
 shows_fp fp None = false
 shows_fp fp (Some e) = eq_by_cmp fp_cmp e.0.fp fp
 
-abbrev pub owners_in : Pool (Pair Owner ℕ) → Accounts → Owners
+abbrev pub owners_in : PoolContents (Pair Owner ℕ) → Accounts → Owners
 owners_in table accounts = record {
   owners = shown (λ (x : ℕ × ℕ). x.1) (contents owner_cmp table);
   slots = shown_slots (λ (uses : ℕ). uses) table.slots;
   accounts = accounts;
 }
 
-pub record IsOwning (table : Pool (Pair Owner ℕ)) (counts : UserCounts) (accounts : Accounts) : Type 0 where
+pub record IsOwning (table : PoolContents (Pair Owner ℕ)) (counts : UserCounts) (accounts : Accounts) : Type 0 where
   pub limits : table.limits ≡ limits_of accounts
   pub charged : IsCharged accounts (λ (k : Owner). k.user) (contents owner_cmp table)
   pub counted : (user : ℕ) → count_at counts.counts user ≡ keys_of (λ k. k.user) (owners_in table accounts).owners user

@@ -1,8 +1,8 @@
 -- How a hash table keeps the placed shares. No public clause cites this module.
 use Rattle.std.specs.Prelude.{◌≡◌, ℕ, ◌<◌, ◌≤◌, ◌^◌, ◌==◌, ◌-◌, List, [], ◌∷◌, Option, Some, None, count_by}
 use Rattle.std.specs.FinMap.{FinMap, get, insert, len, entries}
-use Rattle.slot_pool.specs.Pool.{Pool}
-use Rattle.pool_map.specs.declared.Entry.{Entry as Pair}
+use Rattle.pool_map.specs.SlotPool.Pool.{PoolContents}
+use Rattle.pool_map.specs.declared.KeyedValue.{KeyedValue as Pair}
 use Rattle.pool_map.specs.Table.{contents}
 use Rattle.pool_map.specs.Shown.{shown}
 use Rattle.pool_map.specs.declared.accounts.Accounts.TheVariants.{Shared}
@@ -30,14 +30,14 @@ fewer_at kept fp (Some old) = insert kept fp (record { place = old.place; owners
 abbrev pub with_fewer_owners : FinMap fp_cmp Kept → List ℕ → FinMap fp_cmp Kept
 with_fewer_owners kept fp = fewer_at kept fp (get kept fp)
 
-abbrev pub places_in : Pool (Pair (List ℕ) Kept) → Places
+abbrev pub places_in : PoolContents (Pair (List ℕ) Kept) → Places
 places_in table = record {
   kept = shown (λ (x : ℕ × Kept). x.1) (contents fp_cmp table);
   slots = shown_slots (λ (k : Kept). k) table.slots;
   room = room_of table.limits;
 }
 
-pub record IsPlacing (table : Pool (Pair (List ℕ) Kept)) (ownerless : ℕ) : Type 0 where
+pub record IsPlacing (table : PoolContents (Pair (List ℕ) Kept)) (ownerless : ℕ) : Type 0 where
   pub limits : table.limits ≡ room_of table.limits ∷ []
   pub small : room_of table.limits < 2 ^ 32
   pub charged : IsCharged (Shared (room_of table.limits)) (λ (k : List ℕ). 0) (contents fp_cmp table)

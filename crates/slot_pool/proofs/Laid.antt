@@ -6,7 +6,7 @@ use Rattle.std.proofs.lemmas.Bool.{cases_lt}
 use Rattle.slot_pool.specs.declared.Content.{Content}
 use Rattle.slot_pool.specs.declared.Content.TheVariants.{Empty, Held}
 use Rattle.slot_pool.specs.Pool.{IsHeld, is_of, with_value}
-use Rattle.slot_pool.specs.Sound.{IsSound, IsLaid, all_slots, all_free, fresh_from}
+use Rattle.slot_pool.specs.Sound.{IsPoolSound, IsLaid, all_slots, all_free, fresh_from}
 use Rattle.slot_pool.proofs.Steps.{take-step, some-free-step, give-step, write-sound, fresh-sound, top-empty}
 
 -- ---- numbers from one on, the last one first
@@ -86,8 +86,8 @@ module _ {T : Type 0} where
       let lt = again-within cells count free rest used limits cr fr s laid e in
       let step = take-step (all_slots cells count) (fresh ++ free) (fresh ++ rest) used limits fr a s u l v laid.sound (ap (λ x. fresh ++ x) e ∙ sym (append_assoc fresh rest (s ∷ []))) la ru rl ne in
       record {
-        sound = subst (λ m. IsSound (all_slots (set cells s (Held a v)) count) (all_free m count rest) (set used a (u + 1)) limits fr) (sym n)
-            (subst (λ x. IsSound x (fresh ++ rest) (set used a (u + 1)) limits fr) (sym (all-set cells count s (Held a v) lt)) step);
+        sound = subst (λ m. IsPoolSound (all_slots (set cells s (Held a v)) count) (all_free m count rest) (set used a (u + 1)) limits fr) (sym n)
+            (subst (λ x. IsPoolSound x (fresh ++ rest) (set used a (u + 1)) limits fr) (sym (all-set cells count s (Held a v) lt)) step);
         few = omega (arith, laid.few, n);
         fit = laid.fit;
         among = λ i li.
@@ -139,8 +139,8 @@ module _ {T : Type 0} where
       ∙ ap (λ f. f ++ c ∷ []) (sym (append-nil (fresh_from (c + 1) d)) ∙ ap (λ f. fresh_from (c + 1) d ++ f) (sym none)) in
       let step = take-step (all_slots cells count) (fresh_from c (count - c) ++ free) rest used limits fr a c u l v laid.sound parts la ru rl ne in
       record {
-        sound = subst (λ m. IsSound (all_slots (cells ++ Held a v ∷ []) count) (all_free m count free) (set used a (u + 1)) limits fr) (sym n)
-            (subst (λ x. IsSound x rest (set used a (u + 1)) limits fr) (sym (all-push cells count (Held a v) lt)) step);
+        sound = subst (λ m. IsPoolSound (all_slots (cells ++ Held a v ∷ []) count) (all_free m count free) (set used a (u + 1)) limits fr) (sym n)
+            (subst (λ x. IsPoolSound x rest (set used a (u + 1)) limits fr) (sym (all-push cells count (Held a v) lt)) step);
         few = omega (arith, lt, n);
         fit = laid.fit;
         among = λ i li. let z : length free ≡ 0 = ap length none in absurd (omega (arith, li, z));
@@ -178,9 +178,9 @@ module _ {T : Type 0} where
       let step = give-step (all_slots cells count) (fresh ++ free) used limits fr a s u v old laid.sound held (ro ∙ sym (all-at cells count s old lt)) is ru in
       let more = length-append fresh free in (
         record {
-          sound = subst (λ m. IsSound (all_slots (set cells s Empty) count) (all_free m count (free ++ s ∷ [])) (set used a (u - 1)) limits fr) (sym n)
-              (subst (λ f. IsSound (all_slots (set cells s Empty) count) f (set used a (u - 1)) limits fr) (append_assoc fresh free (s ∷ []))
-              (subst (λ x. IsSound x ((fresh ++ free) ++ s ∷ []) (set used a (u - 1)) limits fr) (sym (all-set cells count s Empty lt)) step.0));
+          sound = subst (λ m. IsPoolSound (all_slots (set cells s Empty) count) (all_free m count (free ++ s ∷ [])) (set used a (u - 1)) limits fr) (sym n)
+              (subst (λ f. IsPoolSound (all_slots (set cells s Empty) count) f (set used a (u - 1)) limits fr) (append_assoc fresh free (s ∷ []))
+              (subst (λ x. IsPoolSound x ((fresh ++ free) ++ s ∷ []) (set used a (u - 1)) limits fr) (sym (all-set cells count s Empty lt)) step.0));
           few = omega (arith, laid.few, n);
           fit = laid.fit;
           among = λ i li. elim (cases_lt i (length free)) [
@@ -202,8 +202,8 @@ module _ {T : Type 0} where
       let step = write-sound (all_slots cells count) (all_free (length cells) count free) used limits fr s v laid.sound (omega (arith, lt, laid.few, len)) in
       let same = ap (λ c. with_value c v) (all-at cells count s Empty lt) in
       record {
-        sound = subst (λ m. IsSound (all_slots (set cells s new) count) (all_free m count free) used limits fr) (sym n)
-            (subst (λ x. IsSound x (all_free (length cells) count free) used limits fr) (ap (set (all_slots cells count) s) same ∙ sym (all-set cells count s new lt)) step);
+        sound = subst (λ m. IsPoolSound (all_slots (set cells s new) count) (all_free m count free) used limits fr) (sym n)
+            (subst (λ x. IsPoolSound x (all_free (length cells) count free) used limits fr) (ap (set (all_slots cells count) s) same ∙ sym (all-set cells count s new lt)) step);
         few = omega (arith, laid.few, n);
         fit = laid.fit;
         among = λ i li. let was = laid.among i li in omega (arith, was, n);
@@ -213,8 +213,8 @@ module _ {T : Type 0} where
   pub fresh-laid : (count : ℕ) (limits : List ℕ) (cr fr : ℕ) → sum limits ≤ count → count < 2 ^ 32 → count ≤ cr → count ≤ fr → IsLaid {T = T} [] count [] (replicate (length limits) 0) limits cr fr
   fresh-laid count limits cr fr covered small fit room = record {
     sound = let all : count - 0 ≡ count = omega arith in
-        subst (λ n. IsSound {T = T} (replicate n Empty) (fresh_from 0 n ++ []) (replicate (length limits) 0) limits fr) (sym all)
-        (subst (λ f. IsSound {T = T} (replicate count Empty) f (replicate (length limits) 0) limits fr) (sym (append-nil (fresh_from 0 count)))
+        subst (λ n. IsPoolSound {T = T} (replicate n Empty) (fresh_from 0 n ++ []) (replicate (length limits) 0) limits fr) (sym all)
+        (subst (λ f. IsPoolSound {T = T} (replicate count Empty) f (replicate (length limits) 0) limits fr) (sym (append-nil (fresh_from 0 count)))
         (fresh-sound count (fresh_from 0 count) limits fr covered small (fresh-length 0 count) room (λ k lk. let e = fresh-at 0 count k lk in omega (arith, e))));
     few = omega arith;
     fit = fit;

@@ -51,7 +51,7 @@ pub struct Pool<T> {
 
 impl<T> Model for Pool<T> {
     ghost use Rattle.std.specs.Prelude.{◌≡◌, vec_capacity};
-    ghost use Rattle.slot_pool.specs.Pool.{Pool as Slots};
+    ghost use Rattle.slot_pool.specs.Pool.{PoolContents as Slots};
     ghost use Rattle.slot_pool.specs.declared.Content.TheVariants.{Empty};
 
     ghost Value = { Slots T };

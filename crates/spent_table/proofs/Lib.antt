@@ -1,2 +1,3 @@
 mod Sums
 mod Adding
+pub mod CdBase

@@ -1,1 +1,2 @@
+pub mod CdBase
 pub mod Spending

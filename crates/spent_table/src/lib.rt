@@ -6,7 +6,9 @@
 ghost use Rattle.std.specs.Prelude.{◌≡◌, ◌+◌, ◌<◌, ◌≤◌, ◌^◌, IfOk, length, replicate, slice_set};
 ghost use Rattle.spent_table.specs.Spending.{nothing, spent_by, of_shares, of_recipe, both, reached};
 
-use cd_base::{NoMemory, UserId};
+pub use cd_base::{
+    Bytes, CloudNo, Fp, NoMemory, Place, RECIPE_LIMIT, Room, Shape, Tag, UserId, Version, sha256,
+};
 use std::alloc::Global;
 use std::marker::Model;
 

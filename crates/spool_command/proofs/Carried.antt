@@ -2,26 +2,26 @@
 use Rattle.std.proofs.Common.{◌≡◌, ◌≢◌, inl, inr, ◌↔◌, ℕ, Bool, IsTrue, List, [], ◌∷◌, length, Ok, Err, Some, None, refl, sym, ap, ◌∙◌, subst}
 use Rattle.std.specs.Prelude.{Result, Option}
 use Rattle.std.specs.List.{Contains}
-use Rattle.cd_base.specs.declared.ids.CloudNo.{CloudNo}
-use Rattle.cd_base.specs.declared.shape.Shape.{Shape}
-use Rattle.cd_edges.specs.declared.area.Area.TheVariants.{Journal}
-use Rattle.cd_edges.specs.Causes.{Rose}
-use Rattle.cd_edges.specs.Disk.{Cloud, Image, IsImage, LeavesOnly, reads}
-use Rattle.cd_edges.specs.Ports.{Telling}
-use Rattle.cd_edges.specs.Shelf.{HasFailed, KeepsCounts, Stays}
-use Rattle.cd_edges.proofs.Moments.{started, weaker, joined}
-use Rattle.ports_link.specs.declared.judging.Asked.TheVariants as asked
-use Rattle.ports_link.specs.declared.meeting.MeetErr.{MeetErr}
-use Rattle.ports_link.specs.declared.meeting.MeetErr.TheVariants as errors
-use Rattle.ports_link.specs.Meeting.{CountsMeeting, MeetsAll}
-use Rattle.ports_link.specs.declared.greeting.Greeted.{Greeted}
-use Rattle.upload_job.specs.Lanes.{LaneView, lanes_begun}
-use Rattle.upload_job.specs.Upload.{FileVersion}
+use Rattle.upload_spool.specs.CdBase.ids.CloudNo.{CloudNo}
+use Rattle.upload_spool.specs.CdBase.shape.Shape.{Shape}
+use Rattle.upload_spool.specs.CdEdges.area.Area.TheVariants.{Journal}
+use Rattle.upload_spool.specs.CdEdges.Causes.{Rose}
+use Rattle.upload_spool.specs.CdEdges.Disk.{Cloud, Image, IsImage, LeavesOnly, reads}
+use Rattle.upload_spool.specs.CdEdges.Ports.{Telling}
+use Rattle.upload_spool.specs.CdEdges.Shelf.{HasFailed, KeepsCounts, Stays}
+use Rattle.upload_spool.proofs.CdEdges.Moments.{started, weaker, joined}
+use Rattle.backup_command.specs.PortsLink.judging.AskedClouds.TheVariants as asked
+use Rattle.backup_command.specs.PortsLink.meeting.MeetErr.{MeetErr}
+use Rattle.backup_command.specs.PortsLink.meeting.MeetErr.TheVariants as errors
+use Rattle.backup_command.specs.PortsLink.Meeting.{CountsMeeting, MeetsAll}
+use Rattle.backup_command.specs.PortsLink.greeting.Greeted.{Greeted}
+use Rattle.upload_spool.specs.UploadJob.Lanes.{LaneView, lanes_begun}
+use Rattle.upload_spool.specs.UploadJob.Upload.{FileVersion}
 use Rattle.upload_spool.specs.declared.error.SpoolErr.{SpoolErr}
 use Rattle.upload_spool.specs.declared.error.SpoolErr.TheVariants as spool_errors
 use Rattle.upload_spool.specs.declared.spool.Spool.{Spool}
 use Rattle.upload_spool.specs.Spools.{SpoolFor, IsBegunOr}
-use Rattle.upload_spool.specs.States.{State, BeginsIs, IsSpool, LeavesJob, NoOpenJob, OnFault, first_filled}
+use Rattle.upload_spool.specs.States.{SpoolState, BeginsIs, IsSpool, LeavesJob, NoOpenJob, OnFault, first_filled}
 use Rattle.backup_command.specs.BackedUp.{AreDone, Met}
 use Rattle.backup_command.specs.Lanes.{numbered}
 use Rattle.spool_command.specs.declared.interruption.Interruption.{Interruption}
@@ -29,7 +29,7 @@ use Rattle.spool_command.specs.declared.interruption.Interruption.TheVariants.{P
 use Rattle.spool_command.specs.declared.writing.Unspooled.TheVariants.{Interrupted}
 use Rattle.spool_command.specs.Going.{GoneOn, HeldOn, WentOn}
 use Rattle.spool_command.specs.Noted.{IfPorts, IfShelf, IsAlong}
-use Rattle.spool_command.specs.Spooled.{CarriesSpool, IsKept, IsOwnOr, IsUnbegun, LeavesOwn, Outside, SparesFilled, SpooledOn, call_for, unmet_as}
+use Rattle.spool_command.specs.Spooled.{CarriesSpool, IsSpoolKept, IsOwnOr, IsUnbegun, LeavesOwn, SpoolOutside, SparesFilled, SpooledOn, call_for, unmet_as}
 
 -- ---- nothing was begun
 
@@ -51,7 +51,7 @@ why_unbegun (spool_errors.OtherStore found wanted) old new before now is counts 
 why_unbegun (spool_errors.Rotten named found) old new before now is counts = is
 
 -- no cloud was met
-pub not_met : (error : MeetErr) (out : Outside) (v : FileVersion) (text : List ℕ) → out.left ≡ out.folder
+pub not_met : (error : MeetErr) (out : SpoolOutside) (v : FileVersion) (text : List ℕ) → out.left ≡ out.folder
     → MeetsAll asked.Backup out.addresses out.before out.after (Err error)
     → CountsMeeting {A = Greeted} out.faults_before out.faults_after (Err error)
     → CarriesSpool out v (Err (unmet_as error)) text
@@ -62,7 +62,7 @@ not_met errors.NoMemory out v text same meets counts = inl same
 
 -- ---- the job was kept
 
-held_on : (shape : Shape) (v : FileVersion) (state : State) (all : List CloudNo) (mid new : Cloud)
+held_on : (shape : Shape) (v : FileVersion) (state : SpoolState) (all : List CloudNo) (mid new : Cloud)
     (result : Result Bool Interruption) → state.shape ≡ shape → state.noted ≡ [] → IsTrue mid.told → IsSpool state v [] mid
     → (IsTrue mid.told → (u : FileVersion) → IsSpool state u state.noted mid → HeldOn state.shape u state.noted all mid new result)
     → HeldOn shape v [] all mid new result
@@ -84,11 +84,11 @@ own_on shape v all old mid new result leaves held told none nojob =
     joined old mid new _ (weaker old mid _ _ (leaves told none nojob) (λ image at. first_along shape v all image at))
     (weaker mid new _ _ (held told).any_moment (λ image at. inr at))
 
-pub spooled_on : (out : Outside) (v : FileVersion) (shape : Shape) (dialled : List ℕ) (behind : Telling)
-    (clouds : List (CloudNo × ℕ)) (views : List LaneView) (state : State) (mid : Cloud) (result : Result Bool Interruption)
+pub spooled_on : (out : SpoolOutside) (v : FileVersion) (shape : Shape) (dialled : List ℕ) (behind : Telling)
+    (clouds : List (CloudNo × ℕ)) (views : List LaneView) (state : SpoolState) (mid : Cloud) (result : Result Bool Interruption)
     (text : List ℕ) → Met (call_for out v) dialled shape behind → clouds ≡ numbered 0 dialled
     → views ≡ lanes_begun shape v → state.shape ≡ shape → state.noted ≡ [] → mid.told ≡ out.folder.told
-    → LeavesJob shape v out.folder mid → (IsTrue out.folder.told → IsKept v state out.folder mid)
+    → LeavesJob shape v out.folder mid → (IsTrue out.folder.told → IsSpoolKept v state out.folder mid)
     → WentOn behind out.after clouds views state result text mid out.left
     → (IsTrue behind.told → (port : ℕ) → ¬ (Contains dialled port) → out.after.port port ≡ behind.port port)
     → SpooledOn out v result text
@@ -115,7 +115,7 @@ spooled_on out v shape dialled behind clouds views state mid result text met lin
     }
 
 -- it was stopped
-pub stopped : (why : Interruption) (out : Outside) (v : FileVersion) (text : List ℕ) → SpooledOn out v (Err why) text
+pub stopped : (why : Interruption) (out : SpoolOutside) (v : FileVersion) (text : List ℕ) → SpooledOn out v (Err why) text
     → IfPorts {T = Bool} (Err why) (Rose out.faults_before out.faults_after)
     → IfShelf {T = Bool} (Err why) (Rose out.folder.faults out.left.faults)
     → CarriesSpool out v (Err (Interrupted why)) text
@@ -129,6 +129,6 @@ if_shelf Shelf P Q more has = more has
 if_shelf Memory P Q more has = tt
 
 -- a folder that had to be empty, and was
-pub was_empty : (v : FileVersion) (state : State) (old mid new : Cloud) → (IsTrue old.told → IsKept v state old mid)
+pub was_empty : (v : FileVersion) (state : SpoolState) (old mid new : Cloud) → (IsTrue old.told → IsSpoolKept v state old mid)
     → SparesFilled old new
 was_empty v state old mid new kept told some = absurd (some (kept told).empty)

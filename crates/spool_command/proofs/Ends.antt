@@ -1,20 +1,20 @@
 -- A kept job that came to its end, or stopped.
 use Rattle.std.proofs.Common.{◌≡◌, ◌⊎◌, inl, inr, ◌↔◌, ℕ, Bool, true, false, IsTrue, List, [], ◌∷◌, ◌++◌, append-nil, Ok, Err, refl, sym, ap, ◌∙◌, subst}
 use Rattle.std.specs.Prelude.{Result}
-use Rattle.cd_base.specs.declared.ids.CloudNo.{CloudNo}
-use Rattle.cd_base.specs.declared.shape.Shape.{Shape}
-use Rattle.cd_edges.specs.Disk.{Areas, Cloud, Image, IsImage, LeavesOnly, MayLeave}
-use Rattle.cd_edges.specs.Ports.{Telling}
-use Rattle.cd_edges.specs.Shelf.{HasFailed, IsCall, IsFresh}
-use Rattle.cd_edges.proofs.Calls.{failed_after}
-use Rattle.cd_edges.proofs.Moments.{weaker, joined as images_joined, moved, stayed, left_alone}
-use Rattle.cd_edges.proofs.Torn.{only}
-use Rattle.upload_job.specs.Lanes.{LaneView}
-use Rattle.upload_job.specs.Upload.{FileVersion}
-use Rattle.transcript.specs.declared.line.Line.{Line}
-use Rattle.transcript.specs.declared.line.Line.TheVariants as lines
+use Rattle.upload_spool.specs.CdBase.ids.CloudNo.{CloudNo}
+use Rattle.upload_spool.specs.CdBase.shape.Shape.{Shape}
+use Rattle.upload_spool.specs.CdEdges.Disk.{Areas, Cloud, Image, IsImage, LeavesOnly, MayLeave}
+use Rattle.upload_spool.specs.CdEdges.Ports.{Telling}
+use Rattle.upload_spool.specs.CdEdges.Shelf.{HasFailed, IsCall, IsFresh}
+use Rattle.upload_spool.proofs.CdEdges.Calls.{failed_after}
+use Rattle.upload_spool.proofs.CdEdges.Moments.{weaker, joined as images_joined, moved, stayed, left_alone}
+use Rattle.upload_spool.proofs.CdEdges.Torn.{only}
+use Rattle.upload_spool.specs.UploadJob.Lanes.{LaneView}
+use Rattle.upload_spool.specs.UploadJob.Upload.{FileVersion}
+use Rattle.backup_command.specs.Transcript.line.Line.{Line}
+use Rattle.backup_command.specs.Transcript.line.Line.TheVariants as lines
 use Rattle.upload_spool.specs.Spools.{SpoolFor, IsNotedOr}
-use Rattle.upload_spool.specs.States.{State, IsSpool}
+use Rattle.upload_spool.specs.States.{SpoolState, IsSpool}
 use Rattle.upload_spool.proofs.Notes.{spool_image}
 use Rattle.spool_command.proofs.Notes.{not_true}
 use Rattle.backup_command.specs.BackedUp.{AreDone}
@@ -22,7 +22,7 @@ use Rattle.backup_command.specs.Texts.{text_of}
 use Rattle.backup_command.proofs.Joining.{joined}
 use Rattle.spool_command.specs.declared.interruption.Interruption.{Interruption}
 use Rattle.spool_command.specs.declared.interruption.Interruption.TheVariants.{Ports, Shelf, Memory}
-use Rattle.spool_command.specs.Noted.{IfPorts, IfShelf, IsAlong, Keeps, LanesNoted, NotedWent}
+use Rattle.spool_command.specs.Noted.{IfPorts, IfShelf, IsAlong, KeepsSpool, LanesNoted, NotedWent}
 use Rattle.spool_command.specs.Going.{EndsJob, EndsStored, GoneOn, IsEmptied, IsHeld, NowHolds, WentOn, stored_lines}
 
 -- ---- what is kept
@@ -34,7 +34,7 @@ Sofar shape v noted all image = IsAlong shape v noted all image ⊎ IsEmptied im
 along_only : (shape : Shape) (v : FileVersion) (noted all : List CloudNo) (old new : Cloud) → LeavesOnly old new (IsAlong shape v noted all) → LeavesOnly old new (Sofar shape v noted all)
 along_only shape v noted all old new leaves = weaker old new _ _ leaves (λ image at. inl at)
 
-held : (before after : State) (v : FileVersion) (all : List CloudNo) (cloud : Cloud) → after.shape ≡ before.shape → IsSpool after v all cloud → IsHeld before.shape v all cloud
+held : (before after : SpoolState) (v : FileVersion) (all : List CloudNo) (cloud : Cloud) → after.shape ≡ before.shape → IsSpool after v all cloud → IsHeld before.shape v all cloud
 held before after v all cloud shape is image now =
     subst (λ (s : Shape). SpoolFor image s v all) shape (spool_image after v all cloud is image now)
 
@@ -64,7 +64,7 @@ two one answers before mid a b = joined [] before mid (one ∷ []) answers a b
 -- ---- ways to end
 
 -- memory ran out before the lanes
-pub lacked_first : (behind : Telling) (clouds : List (CloudNo × ℕ)) (views : List LaneView) (had : Bool) (state : State) (cloud : Cloud) (text : List ℕ) → (IsTrue had ↔ AreDone views)
+pub lacked_first : (behind : Telling) (clouds : List (CloudNo × ℕ)) (views : List LaneView) (had : Bool) (state : SpoolState) (cloud : Cloud) (text : List ℕ) → (IsTrue had ↔ AreDone views)
     → LanesNoted behind behind clouds views state.noted (Err Memory) [] views state.noted → WentOn behind behind clouds views state (Err Memory) text cloud cloud
 lacked_first behind clouds views had state cloud text had_is go = record {
   had = had;
@@ -83,13 +83,13 @@ lacked_first behind clouds views had state cloud text had_is go = record {
     still : (v : FileVersion) → IsSpool state v state.noted cloud → LeavesOnly cloud cloud (IsAlong state.shape v state.noted state.noted)
     still v is = left_alone cloud cloud _ refl (λ image now. last_along state.shape v state.noted state.noted ([], sym (append-nil state.noted)) image (spool_image state v state.noted cloud is image now))
 
-module _ (behind now : Telling) (clouds : List (CloudNo × ℕ)) (views after : List LaneView) (had : Bool) (before mid : List ℕ) (s0 s1 : State) (c0 c1 : Cloud) where
+module _ (behind now : Telling) (clouds : List (CloudNo × ℕ)) (views after : List LaneView) (had : Bool) (before mid : List ℕ) (s0 s1 : SpoolState) (c0 c1 : Cloud) where
   -- what is kept of lanes that came so far
   kept_so : (result : Result (Unit {0}) Interruption) (w : NotedWent behind now clouds views result after before mid s0 s1 c0 c1) → IsTrue c0.told → (v : FileVersion) → IsSpool s0 v s0.noted c0
       → LeavesOnly c0 c1 (IsAlong s0.shape v s0.noted w.all)
   kept_so result w told v is = (w.keeps told v is).any_moment
 
-  stopped_now : (why : Interruption) (v : FileVersion) (all : List CloudNo) → s1.shape ≡ s0.shape → Keeps {T = Unit {0}} s0 s1 all c0 c1 (Err why) v → NowHolds s0.shape v all c1 (Err why)
+  stopped_now : (why : Interruption) (v : FileVersion) (all : List CloudNo) → s1.shape ≡ s0.shape → KeepsSpool {T = Unit {0}} s0 s1 all c0 c1 (Err why) v → NowHolds s0.shape v all c1 (Err why)
   stopped_now Ports v all shape keeps = held s0 s1 v all c1 shape keeps.now
   stopped_now Shelf v all shape keeps =
       let now = keeps.now in

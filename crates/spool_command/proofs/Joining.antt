@@ -1,24 +1,24 @@
 -- Lanes of a kept job, one after another.
 use Rattle.std.proofs.Common.{◌≡◌, inl, inr, ℕ, ◌<◌, IsTrue, List, [], ◌∷◌, ◌++◌, map, length, append-nil, append_assoc, Ok, Err, refl, sym, ap, ◌∙◌, subst}
 use Rattle.std.specs.Prelude.{Result}
-use Rattle.cd_base.specs.declared.ids.CloudNo.{CloudNo}
-use Rattle.cd_base.specs.declared.shape.Shape.{Shape}
-use Rattle.cd_edges.specs.Disk.{Cloud, Image}
-use Rattle.cd_edges.specs.Ports.{Telling}
-use Rattle.cd_edges.proofs.Moments.{weaker, joined as images_joined}
-use Rattle.upload_job.specs.Lane.{LaneState}
-use Rattle.upload_job.specs.Lanes.{LaneView, with_state}
-use Rattle.upload_job.specs.Upload.{FileVersion}
-use Rattle.lane_steps.specs.Runs.{lane_at}
-use Rattle.lane_steps.proofs.Views.{lane_with}
-use Rattle.transcript.specs.declared.line.Line.{Line}
-use Rattle.ports_link.specs.declared.link.PortsLink.{PortsLink}
+use Rattle.upload_spool.specs.CdBase.ids.CloudNo.{CloudNo}
+use Rattle.upload_spool.specs.CdBase.shape.Shape.{Shape}
+use Rattle.upload_spool.specs.CdEdges.Disk.{Cloud, Image}
+use Rattle.upload_spool.specs.CdEdges.Ports.{Telling}
+use Rattle.upload_spool.proofs.CdEdges.Moments.{weaker, joined as images_joined}
+use Rattle.upload_spool.specs.UploadJob.Lane.{LaneState}
+use Rattle.upload_spool.specs.UploadJob.Lanes.{LaneView, with_state}
+use Rattle.upload_spool.specs.UploadJob.Upload.{FileVersion}
+use Rattle.backup_command.specs.LaneSteps.Runs.{lane_at}
+use Rattle.backup_command.proofs.LaneSteps.Views.{lane_with}
+use Rattle.backup_command.specs.Transcript.line.Line.{Line}
+use Rattle.backup_command.specs.PortsLink.link.PortsLink.{PortsLink}
 use Rattle.upload_spool.specs.Spools.{SpoolFor}
-use Rattle.upload_spool.specs.States.{State}
+use Rattle.upload_spool.specs.States.{SpoolState}
 use Rattle.backup_command.specs.declared.halt.Halt.{Halt}
 use Rattle.backup_command.specs.declared.halt.Halt.TheVariants as halts
 use Rattle.backup_command.specs.Texts.{text_of, step_line, lane_lines}
-use Rattle.backup_command.specs.Steps.{Leaves, AreReady, LaneGoes}
+use Rattle.backup_command.specs.Steps.{KeepsOtherPorts, AreReady, LaneGoes}
 use Rattle.backup_command.proofs.Joining.{came_on, joined, rest_silent}
 use Rattle.spool_command.specs.declared.interruption.Interruption.{Interruption}
 use Rattle.spool_command.specs.declared.interruption.Interruption.TheVariants.{Ports, Shelf, Memory}
@@ -26,7 +26,7 @@ use Rattle.spool_command.specs.Noted.{Notes, NoteIs, IsAlong, KeepsAll, KeepsNot
 use Rattle.spool_command.proofs.Notes.{kept_same, lost_same, lacked_same}
 
 -- no lane
-pub went_none : (behind now : Telling) (views : List LaneView) (text : List ℕ) (state : State) (cloud : Cloud)
+pub went_none : (behind now : Telling) (views : List LaneView) (text : List ℕ) (state : SpoolState) (cloud : Cloud)
     → NotedWent behind now [] views (Ok tt) views text text state state cloud cloud
 went_none behind now views text state cloud = record {
   answers = [];
@@ -75,7 +75,7 @@ module _ (v : FileVersion) (shape : Shape) (noted mid all : List CloudNo) where
         spool = subst (λ (s : Shape). SpoolFor image s v (noted ++ (one ++ at.more))) same (subst (SpoolFor image other v) here at.spool);
       }
 
-keeps_more : (s0 s1 s2 : State) (all : List CloudNo) (c0 c1 c2 : Cloud) (result : Result (Unit {0}) Interruption) (one more : List CloudNo) → s1.noted ≡ s0.noted ++ one → all ≡ s1.noted ++ more
+keeps_more : (s0 s1 s2 : SpoolState) (all : List CloudNo) (c0 c1 c2 : Cloud) (result : Result (Unit {0}) Interruption) (one more : List CloudNo) → s1.noted ≡ s0.noted ++ one → all ≡ s1.noted ++ more
     → s1.shape ≡ s0.shape → c1.told ≡ c0.told → KeepsAll {T = Unit {0}} s0 s1 s1.noted c0 c1 (Ok tt) → KeepsAll s1 s2 all c1 c2 result → KeepsAll s0 s2 all c0 c2 result
 keeps_more s0 s1 s2 all c0 c1 c2 result one more e f shape same first second told v is =
     let a = first told v is in
@@ -95,7 +95,7 @@ stands views between cloud state lt e = ap (λ (l : List LaneView). (lane_at l c
 
 -- a lane that came to its end, and the lanes behind it
 pub went_more : (behind mid new : Telling) (line : CloudNo × ℕ) (rest : List (CloudNo × ℕ)) (views between after : List LaneView) (result : Result (Unit {0}) Interruption) (before text now : List ℕ)
-    (s0 s1 s2 : State) (c0 c1 c2 : Cloud) → line.0.0 < length views → (IsTrue behind.told → new.port line.1 ≡ mid.port line.1) → LaneGoes behind mid line views (Ok tt) between before text
+    (s0 s1 s2 : SpoolState) (c0 c1 c2 : Cloud) → line.0.0 < length views → (IsTrue behind.told → new.port line.1 ≡ mid.port line.1) → LaneGoes behind mid line views (Ok tt) between before text
     → NoteIs s0 s1 line.0 (lane_at between line.0.0).state (Ok tt) → KeepsNote s0 s1 line.0 c0 c1 (Ok tt) → s1.shape ≡ s0.shape → c1.told ≡ c0.told
     → NotedWent behind new rest between result after text now s1 s2 c1 c2 → NotedWent behind new (line ∷ rest) views result after before now s0 s2 c0 c2
 went_more behind mid new line rest views between after result before text now s0 s1 s2 c0 c1 c2 lt same one note kept shape told rests =
@@ -118,7 +118,7 @@ went_more behind mid new line rest views between after result before text now s0
 
 -- a lane in which the ports failed, or memory ran out
 pub went_stopped : {P : Type 0} (tells : P → Telling) (behind : Telling) (old new : PortsLink P) (line : CloudNo × ℕ) (rest : List (CloudNo × ℕ)) (views after : List LaneView) (halt : Halt)
-    (before text : List ℕ) (state : State) (cloud : Cloud) → AreReady behind tells old (line ∷ rest) → Leaves tells line.0.0 old new
+    (before text : List ℕ) (state : SpoolState) (cloud : Cloud) → AreReady behind tells old (line ∷ rest) → KeepsOtherPorts tells line.0.0 old new
     → LaneGoes behind (tells new.ports.now) line views (Err halt) after before text
     → NotedWent behind (tells new.ports.now) (line ∷ rest) views (Err (halted_as halt)) after before text state state cloud cloud
 went_stopped tells behind old new line rest views after halts.Lost before text state cloud ready leaves one = record {
@@ -143,7 +143,7 @@ went_stopped tells behind old new line rest views after halts.NoMemory before te
 
 -- a lane whose note failed
 pub went_unnoted : {P : Type 0} (tells : P → Telling) (behind : Telling) (old new : PortsLink P) (line : CloudNo × ℕ) (rest : List (CloudNo × ℕ)) (views between : List LaneView) (why : Interruption)
-    (before text : List ℕ) (s0 s1 : State) (c0 c1 : Cloud) → line.0.0 < length views → AreReady behind tells old (line ∷ rest) → Leaves tells line.0.0 old new
+    (before text : List ℕ) (s0 s1 : SpoolState) (c0 c1 : Cloud) → line.0.0 < length views → AreReady behind tells old (line ∷ rest) → KeepsOtherPorts tells line.0.0 old new
     → LaneGoes behind (tells new.ports.now) line views (Ok tt) between before text
     → NoteIs s0 s1 line.0 (lane_at between line.0.0).state (Err why) → KeepsNote s0 s1 line.0 c0 c1 (Err why) → s1.shape ≡ s0.shape
     → NotedWent behind (tells new.ports.now) (line ∷ rest) views (Err why) between before text s0 s1 c0 c1

@@ -2,25 +2,25 @@
 use Rattle.std.proofs.Common.{◌≡◌, inl, inr, ℕ, ◌≤◌, Bool, IsTrue, List, length, Some, None, Ok, Err, sym, subst}
 use Rattle.std.specs.Prelude.{IfSome, Option, Result}
 use Rattle.std.specs.List.{Contains}
-use Rattle.cd_base.specs.Limits.{IsPath}
-use Rattle.cd_base.specs.declared.ids.CloudNo.{CloudNo}
-use Rattle.cd_base.specs.declared.shape.Shape.{Shape}
-use Rattle.cd_edges.specs.Causes.{Rose}
-use Rattle.cd_edges.specs.Disk.{Cloud, IsImage, LeavesOnly, reads}
-use Rattle.cd_edges.specs.Ports.{Telling}
-use Rattle.cd_edges.specs.Shelf.{HasFailed}
-use Rattle.cd_edges.proofs.Moments.{weaker, joined, at_end}
-use Rattle.recipe.specs.Spelling.{file_limit}
-use Rattle.upload_job.specs.Lanes.{LaneView, lanes_resumed}
-use Rattle.upload_job.specs.Upload.{FileVersion}
-use Rattle.transcript.specs.declared.line.Line.{Line}
-use Rattle.ports_link.specs.declared.greeting.Greeted.{Greeted}
-use Rattle.ports_link.specs.declared.judging.Asked.TheVariants.{Backup}
-use Rattle.ports_link.specs.Meeting.{MeetsAll}
+use Rattle.upload_spool.specs.CdBase.Limits.{IsPath}
+use Rattle.upload_spool.specs.CdBase.ids.CloudNo.{CloudNo}
+use Rattle.upload_spool.specs.CdBase.shape.Shape.{Shape}
+use Rattle.upload_spool.specs.CdEdges.Causes.{Rose}
+use Rattle.upload_spool.specs.CdEdges.Disk.{Cloud, IsImage, LeavesOnly, reads}
+use Rattle.upload_spool.specs.CdEdges.Ports.{Telling}
+use Rattle.upload_spool.specs.CdEdges.Shelf.{HasFailed}
+use Rattle.upload_spool.proofs.CdEdges.Moments.{weaker, joined, at_end}
+use Rattle.upload_spool.specs.Recipe.Spelling.{file_limit}
+use Rattle.upload_spool.specs.UploadJob.Lanes.{LaneView, lanes_resumed}
+use Rattle.upload_spool.specs.UploadJob.Upload.{FileVersion}
+use Rattle.backup_command.specs.Transcript.line.Line.{Line}
+use Rattle.backup_command.specs.PortsLink.greeting.Greeted.{Greeted}
+use Rattle.backup_command.specs.PortsLink.judging.AskedClouds.TheVariants.{Backup}
+use Rattle.backup_command.specs.PortsLink.Meeting.{MeetsAll}
 use Rattle.upload_spool.specs.declared.error.SpoolErr.TheVariants as spool_errors
 use Rattle.upload_spool.specs.Opens.{IsOpenedSpool, OpensIs, answer_of, rising}
 use Rattle.upload_spool.specs.Spools.{FitsKept, SpoolFor}
-use Rattle.upload_spool.specs.States.{State, IsJobOf, IsOf, IsSpool, state_of}
+use Rattle.upload_spool.specs.States.{SpoolState, IsJobOf, IsOf, IsSpool, state_of}
 use Rattle.upload_spool.specs.declared.spool.Spool.{Spool}
 use Rattle.upload_spool.proofs.Again.{found_again}
 use Rattle.upload_spool.proofs.Jobs.{job_resumed}
@@ -34,8 +34,8 @@ use Rattle.spool_command.specs.declared.writing.Unspooled.{Unspooled}
 use Rattle.spool_command.specs.declared.writing.Unspooled.TheVariants.{Undialled, Unheard, Refused, Unkept, Interrupted}
 use Rattle.spool_command.specs.Going.{WentOn}
 use Rattle.spool_command.specs.Noted.{IfPorts, IfShelf, LanesNoted}
-use Rattle.spool_command.specs.Resumed.{CarriesResumed, GoesKept, HasFoundJob, HasNoJob, IsCleared, IsOldOrEmptied, IsUnopened, KeptOn, KeptSince, MetAndWent, any_version}
-use Rattle.spool_command.specs.Spooled.{Outside, call_for}
+use Rattle.spool_command.specs.Resumed.{CarriesResumed, GoesKept, HasFoundJob, HasNoJob, IsCleared, IsOldOrEmptied, IsSpoolUnopened, KeptOn, KeptSince, MetAndWent, any_version}
+use Rattle.spool_command.specs.Spooled.{SpoolOutside, call_for}
 
 -- each lane came to its end and is committed
 abbrev Stored : Telling → Telling → List (CloudNo × ℕ) → List LaneView → List CloudNo → List Line → List LaneView → List CloudNo → Type 0
@@ -60,7 +60,7 @@ module _ (shape : Shape) (c0 c1 c2 : Cloud) (same : c1.told ≡ c0.told) (spared
         };
   }
 
-  pub not_cleared : (IsTrue c1.told → LeavesOnly c1 c2 (IsImage c1.now)) → Rose c0.faults c2.faults → IsUnopened shape c0 c2 spool_errors.Fault
+  pub not_cleared : (IsTrue c1.told → LeavesOnly c1 c2 (IsImage c1.now)) → Rose c0.faults c2.faults → IsSpoolUnopened shape c0 c2 spool_errors.Fault
   not_cleared stays rose = record {
     opens = λ told. tt;
     stays = λ told.
@@ -71,7 +71,7 @@ module _ (shape : Shape) (c0 c1 c2 : Cloud) (same : c1.told ≡ c0.told) (spared
 
   -- ---- what is
 
-  pub kept_on : (behind now : Telling) (clouds : List (CloudNo × ℕ)) (result : Result Bool Interruption) (text : List ℕ) (state : State) (views : List LaneView) (v : FileVersion) → IsPath v.path
+  pub kept_on : (behind now : Telling) (clouds : List (CloudNo × ℕ)) (result : Result Bool Interruption) (text : List ℕ) (state : SpoolState) (views : List LaneView) (v : FileVersion) → IsPath v.path
       → length v.file ≤ file_limit → IsOf state v → views ≡ lanes_resumed shape v (rising shape state.noted) → (IsTrue c0.told → OpensIs shape (reads c0.now) (Ok (Some (state, views)))) → state.shape ≡ shape
       → (IsTrue c0.told → (u : FileVersion) (lanes : List CloudNo) → FitsKept u → SpoolFor (reads c0.now) shape u lanes → IsSpool state u lanes c1)
       → WentOn behind now clouds views state result text c1 c2 → KeptOn shape behind now clouds c0 c2 result text
@@ -131,7 +131,7 @@ found_job shape behind now faults later clouds folder left (Err Undialled) text 
 found_job shape behind now faults later clouds folder left (Err Unheard) text goes told u lanes fits for = goes
 found_job shape behind now faults later clouds folder left (Err (Refused why)) text goes told u lanes fits for = goes
 
-pub met_and_went : (out : Outside) (behind : Telling) (faults : ℕ) (greeted : Greeted) (meets : MeetsAll Backup out.addresses out.before behind (Ok greeted)) (came : Result (Option Bool) Unspooled) (text : List ℕ)
+pub met_and_went : (out : SpoolOutside) (behind : Telling) (faults : ℕ) (greeted : Greeted) (meets : MeetsAll Backup out.addresses out.before behind (Ok greeted)) (came : Result (Option Bool) Unspooled) (text : List ℕ)
     → behind.told ≡ out.before.told → faults ≡ out.faults_before → AreGreetedOn behind meets.0 greeted.lines.items
     → GoesKept greeted.shape behind out.after faults out.faults_after greeted.lines.items out.folder out.left came text
     → (IsTrue behind.told → (port : ℕ) → ¬ Contains meets.0 port → out.after.port port ≡ behind.port port) → MetAndWent out came text
@@ -146,7 +146,7 @@ met_and_went out behind faults greeted meets came text told same on goes others 
       (subst (λ (l : List (CloudNo × ℕ)). GoesKept greeted.shape behind out.after faults out.faults_after l out.folder out.left came text) on.lines_are goes);
 }
 
-pub resumed : (out : Outside) (came : Result (Option Bool) Unspooled) (text : List ℕ) → MetAndWent out came text → CarriesResumed out came text
+pub resumed : (out : SpoolOutside) (came : Result (Option Bool) Unspooled) (text : List ℕ) → MetAndWent out came text → CarriesResumed out came text
 resumed out (Ok kept) text w = w
 resumed out (Err Undialled) text w = absurd w.goes
 resumed out (Err Unheard) text w = absurd w.goes

@@ -3,15 +3,15 @@ use Rattle.std.proofs.Common.{◌≡◌, ℕ, ◌≤◌, Bool, true, false, List
 use Rattle.std.specs.Prelude.{All}
 use Rattle.std.specs.List.{Contains}
 use Rattle.std.proofs.lemmas.List.Elements.{All-nil, All-cons, All-head, All-tail}
-use Rattle.user_dedup.proofs.Owned.{contains_here, contains_later}
-use Rattle.cd_base.specs.declared.ids.CloudNo.{CloudNo}
-use Rattle.cd_edges.specs.Ports.{Telling}
-use Rattle.ports_link.specs.declared.lines.Line.{Line}
-use Rattle.ports_link.specs.declared.greeting.Greeted.{Greeted}
-use Rattle.ports_link.specs.Hellos.{HaveTalks, clouds_of, hello}
-use Rattle.ports_link.specs.Lines.{line_of, lines_for}
-use Rattle.ports_link.specs.Tells.{BringsReplies, HasAsked, HasComing, HasTalk}
-use Rattle.upload_job.specs.Lanes.{LaneView}
+use Rattle.backup_command.proofs.UserDedup.Owned.{contains_here, contains_later}
+use Rattle.upload_spool.specs.CdBase.ids.CloudNo.{CloudNo}
+use Rattle.upload_spool.specs.CdEdges.Ports.{Telling}
+use Rattle.backup_command.specs.PortsLink.lines.CloudLine.{CloudLine}
+use Rattle.backup_command.specs.PortsLink.greeting.Greeted.{Greeted}
+use Rattle.backup_command.specs.PortsLink.Hellos.{HaveTalks, clouds_of, hello}
+use Rattle.backup_command.specs.PortsLink.Lines.{line_of, lines_for}
+use Rattle.backup_command.specs.PortsLink.Tells.{BringsReplies, HasAsked, HasComing, HasTalk}
+use Rattle.upload_spool.specs.UploadJob.Lanes.{LaneView}
 use Rattle.backup_command.specs.Said.{SaidOn, SaysNothing, greeted}
 use Rattle.backup_command.specs.Lanes.{Tells, numbered}
 use Rattle.backup_command.specs.Steps.{AreGreetedOn, IsNumbered}
@@ -26,19 +26,19 @@ open_coming : (is_ended : Bool) (bytes : List ℕ) (coming : List (List ℕ)) �
 open_coming false bytes coming e has = has
 open_coming true bytes coming e has = absurd (let f : true ≡ false = e in cc)
 
-abbrev Talked : Telling → List Line → ℕ → Type 0
+abbrev Talked : Telling → List CloudLine → ℕ → Type 0
 Talked behind lines cloud = (coming : List (List ℕ)) × HasTalk behind lines cloud (record { asked = hello ∷ []; coming = coming })
 
 abbrev Silent : Telling → CloudNo × ℕ → Type 0
 Silent behind line = Tells behind behind line.1 SaysNothing
 
-one_silent : (behind : Telling) (lines : List Line) (line : CloudNo × ℕ) → line_of lines line.0.0 ≡ line_on line.1 → Talked behind lines line.0.0 → SaidOn behind behind line.1 SaysNothing
+one_silent : (behind : Telling) (lines : List CloudLine) (line : CloudNo × ℕ) → line_of lines line.0.0 ≡ line_on line.1 → Talked behind lines line.0.0 → SaidOn behind behind line.1 SaysNothing
 one_silent behind lines line reach t =
-    let same : t.1.port ≡ line.1 = some_same t.1.port line.1 (sym t.1.reached ∙ ap (λ (l : Line). l.port) reach) in
+    let same : t.1.port ≡ line.1 = some_same t.1.port line.1 (sym t.1.reached ∙ ap (λ (l : CloudLine). l.port) reach) in
     record {
       coming = t.0;
       brings = subst (λ (n : ℕ). BringsReplies (behind.port n).to_come t.0) same
-          (open_coming (line_of lines line.0.0).ended (behind.port t.1.port).to_come t.0 (ap (λ (l : Line). l.ended) reach) t.1.coming);
+          (open_coming (line_of lines line.0.0).ended (behind.port t.1.port).to_come t.0 (ap (λ (l : CloudLine). l.ended) reach) t.1.coming);
       after = greeted t.0;
       says = refl;
       sent = subst (λ (n : ℕ). HasAsked (behind.port n).sent (hello ∷ [])) same t.1.asked;
@@ -46,7 +46,7 @@ one_silent behind lines line reach t =
       left = subst (λ (n : ℕ). HasComing (line_of lines line.0.0).ended (behind.port n).to_come t.0) same t.1.coming;
     }
 
-all_silent : (behind : Telling) (lines : List Line) (part : List (CloudNo × ℕ)) → All (λ (line : CloudNo × ℕ). line_of lines line.0.0 ≡ line_on line.1) part
+all_silent : (behind : Telling) (lines : List CloudLine) (part : List (CloudNo × ℕ)) → All (λ (line : CloudNo × ℕ). line_of lines line.0.0 ≡ line_on line.1) part
     → (IsTrue behind.told → (cloud : ℕ) → Contains (clouds_of part) cloud → Talked behind lines cloud) → All (Silent behind) part
 all_silent behind lines [] reach talks = All-nil _
 all_silent behind lines (line ∷ part) reach talks =

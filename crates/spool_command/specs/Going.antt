@@ -1,17 +1,17 @@
 -- A kept job that goes on, and is given up where its version is entered at all clouds.
 use Rattle.std.specs.Prelude.{◌≡◌, ◌⊎◌, ◌↔◌, ℕ, Bool, true, false, IsTrue, List, [], ◌∷◌, ◌++◌, Result, Ok, Err, if◌then◌else◌}
-use Rattle.cd_base.specs.declared.ids.CloudNo.{CloudNo}
-use Rattle.cd_base.specs.declared.shape.Shape.{Shape}
-use Rattle.cd_edges.specs.declared.area.Area.{Area}
-use Rattle.cd_edges.specs.Disk.{Cloud, Image, IsImage, LeavesOnly}
-use Rattle.cd_edges.specs.Ports.{Telling}
-use Rattle.cd_edges.specs.Shelf.{IsFresh, Stays, stable}
-use Rattle.upload_job.specs.Lanes.{LaneView}
-use Rattle.upload_job.specs.Upload.{FileVersion}
-use Rattle.transcript.specs.declared.line.Line.{Line}
-use Rattle.transcript.specs.declared.line.Line.TheVariants as lines
+use Rattle.upload_spool.specs.CdBase.ids.CloudNo.{CloudNo}
+use Rattle.upload_spool.specs.CdBase.shape.Shape.{Shape}
+use Rattle.upload_spool.specs.CdEdges.area.Area.{Area}
+use Rattle.upload_spool.specs.CdEdges.Disk.{Cloud, Image, IsImage, LeavesOnly}
+use Rattle.upload_spool.specs.CdEdges.Ports.{Telling}
+use Rattle.upload_spool.specs.CdEdges.Shelf.{IsFresh, Stays, stable}
+use Rattle.upload_spool.specs.UploadJob.Lanes.{LaneView}
+use Rattle.upload_spool.specs.UploadJob.Upload.{FileVersion}
+use Rattle.backup_command.specs.Transcript.line.Line.{Line}
+use Rattle.backup_command.specs.Transcript.line.Line.TheVariants as lines
 use Rattle.upload_spool.specs.Spools.{SpoolFor, IsNotedOr}
-use Rattle.upload_spool.specs.States.{State, IsSpool}
+use Rattle.upload_spool.specs.States.{SpoolState, IsSpool}
 use Rattle.backup_command.specs.BackedUp.{AreDone}
 use Rattle.backup_command.specs.Texts.{text_of}
 use Rattle.spool_command.specs.declared.interruption.Interruption.{Interruption}
@@ -92,7 +92,7 @@ pub record HeldOn (shape : Shape) (v : FileVersion) (noted all : List CloudNo) (
   pub now : NowHolds shape v all new result
 
 -- What the job came to, with its lines, and what is kept of it.
-pub record WentOn (behind now : Telling) (clouds : List (CloudNo × ℕ)) (views : List LaneView) (state : State)
+pub record WentOn (behind now : Telling) (clouds : List (CloudNo × ℕ)) (views : List LaneView) (state : SpoolState)
     (result : Result Bool Interruption) (text : List ℕ) (old new : Cloud) : Type 0 where
   pub had : Bool
   pub had_is : IsTrue had ↔ AreDone views

@@ -1,5 +1,6 @@
-pub mod Noted
+pub mod BackupCommand
 pub mod Going
-pub mod Writing
-pub mod Spooled
+pub mod Noted
 pub mod Resumed
+pub mod Spooled
+pub mod Writing

@@ -1,20 +1,20 @@
 -- The lanes of a kept job over ports, one after another, each noted when its version is entered.
 use Rattle.std.specs.Prelude.{◌≡◌, ◌≢◌, ◌⊎◌, ℕ, IsTrue, List, [], ◌∷◌, ◌++◌, drop, map, All, Result, Ok, Err}
-use Rattle.cd_base.specs.declared.ids.CloudNo.{CloudNo}
-use Rattle.cd_base.specs.declared.shape.Shape.{Shape}
-use Rattle.cd_edges.specs.Disk.{Cloud, Image, IsImage, LeavesOnly}
-use Rattle.cd_edges.specs.Ports.{Telling}
-use Rattle.upload_job.specs.declared.news.LaneNews.{LaneNews}
-use Rattle.upload_job.specs.Lane.{LaneState, Done}
-use Rattle.upload_job.specs.Lanes.{LaneView, with_state}
-use Rattle.upload_job.specs.Upload.{FileVersion}
-use Rattle.lane_steps.specs.Runs.{lane_at}
-use Rattle.lane_steps.specs.declared.error.StepErr.{StepErr}
-use Rattle.transcript.specs.declared.line.Line.{Line}
+use Rattle.upload_spool.specs.CdBase.ids.CloudNo.{CloudNo}
+use Rattle.upload_spool.specs.CdBase.shape.Shape.{Shape}
+use Rattle.upload_spool.specs.CdEdges.Disk.{Cloud, Image, IsImage, LeavesOnly}
+use Rattle.upload_spool.specs.CdEdges.Ports.{Telling}
+use Rattle.upload_spool.specs.UploadJob.news.LaneNews.{LaneNews}
+use Rattle.upload_spool.specs.UploadJob.Lane.{LaneState, Done}
+use Rattle.upload_spool.specs.UploadJob.Lanes.{LaneView, with_state}
+use Rattle.upload_spool.specs.UploadJob.Upload.{FileVersion}
+use Rattle.backup_command.specs.LaneSteps.Runs.{lane_at}
+use Rattle.backup_command.specs.LaneSteps.error.StepErr.{StepErr}
+use Rattle.backup_command.specs.Transcript.line.Line.{Line}
 use Rattle.upload_spool.specs.declared.error.SpoolErr.{SpoolErr}
 use Rattle.upload_spool.specs.declared.error.SpoolErr.TheVariants as spool_errors
 use Rattle.upload_spool.specs.Spools.{SpoolFor, IsNotedOr}
-use Rattle.upload_spool.specs.States.{State, IsSpool}
+use Rattle.upload_spool.specs.States.{SpoolState, IsSpool}
 use Rattle.backup_command.specs.declared.halt.Halt.{Halt}
 use Rattle.backup_command.specs.declared.halt.Halt.TheVariants as halts
 use Rattle.backup_command.specs.Texts.{text_of, step_line, lane_lines}
@@ -58,7 +58,7 @@ Notes noted lane state all =
     ((state ≡ Done) × IsNew noted lane × (all ≡ noted ++ lane ∷ [])) ⊎ (¬ ((state ≡ Done) × IsNew noted lane) × (all ≡ noted))
 
 -- what a note answers of a lane that stands so
-abbrev pub NoteIs : State → State → CloudNo → LaneState → Result (Unit {0}) Interruption → Type 0
+abbrev pub NoteIs : SpoolState → SpoolState → CloudNo → LaneState → Result (Unit {0}) Interruption → Type 0
 NoteIs before after lane state (Ok u) = Notes before.noted lane state after.noted
 NoteIs before after lane state (Err Shelf) = (state ≡ Done) × IsNew before.noted lane
 NoteIs before after lane state (Err Memory) = after.noted ≡ before.noted
@@ -74,7 +74,7 @@ pub record IsAlong (shape : Shape) (v : FileVersion) (noted all : List CloudNo) 
   pub spool : SpoolFor image shape v (noted ++ more)
 
 -- What is kept in the end: the spool has all these lanes; or, where the shelf failed, it has those before the last or all.
-abbrev pub NowKeeps : {T : Type 0} → State → FileVersion → List CloudNo → Cloud → Result T Interruption → Type 0
+abbrev pub NowKeeps : {T : Type 0} → SpoolState → FileVersion → List CloudNo → Cloud → Result T Interruption → Type 0
 NowKeeps state v all cloud (Ok value) = IsSpool state v all cloud
 NowKeeps state v all cloud (Err Ports) = IsSpool state v all cloud
 NowKeeps state v all cloud (Err Memory) = IsSpool state v all cloud
@@ -83,17 +83,19 @@ NowKeeps state v all cloud (Err Shelf) =
     × ((image : Image) → IsImage cloud.now image → IsNotedOr state.shape v front lane image)
 
 -- Where a version was kept with the lanes that the spool noted: each image since has the lanes so far, and so it is kept now.
-pub record Keeps {T : Type 0} (before after : State) (all : List CloudNo) (old new : Cloud) (result : Result T Interruption)
+pub record KeepsSpool {T : Type 0} (before after : SpoolState) (all : List CloudNo) (old new : Cloud) (result : Result T Interruption)
     (v : FileVersion) : Type 0 where
   pub any_moment : LeavesOnly old new (IsAlong before.shape v before.noted all)
   pub now : NowKeeps after v all new result
 
-abbrev pub KeepsAll : {T : Type 0} → State → State → List CloudNo → Cloud → Cloud → Result T Interruption → Type 0
+abbrev pub KeepsAll : {T : Type 0} → SpoolState → SpoolState → List CloudNo → Cloud → Cloud → Result T Interruption
+    → Type 0
 KeepsAll before after all old new result =
-    IsTrue old.told → (v : FileVersion) → IsSpool before v before.noted old → Keeps before after all old new result v
+    IsTrue old.told → (v : FileVersion) → IsSpool before v before.noted old
+    → KeepsSpool before after all old new result v
 
 -- the same of one note
-abbrev pub KeepsNote : State → State → CloudNo → Cloud → Cloud → Result (Unit {0}) Interruption → Type 0
+abbrev pub KeepsNote : SpoolState → SpoolState → CloudNo → Cloud → Cloud → Result (Unit {0}) Interruption → Type 0
 KeepsNote before after lane old new (Ok u) = KeepsAll {T = Unit {0}} before after after.noted old new (Ok u)
 KeepsNote before after lane old new (Err Memory) = KeepsAll {T = Unit {0}} before after after.noted old new (Err Memory)
 KeepsNote before after lane old new (Err Shelf) = KeepsAll {T = Unit {0}} before after (before.noted ++ lane ∷ []) old new (Err Shelf)
@@ -140,7 +142,7 @@ Wrote (Err Memory) before text answers = Unit {0}
 
 -- What the lanes of these clouds came to, with their lines behind what was there, and what is kept.
 pub record NotedWent (behind now : Telling) (lines : List (CloudNo × ℕ)) (views : List LaneView)
-    (result : Result (Unit {0}) Interruption) (after : List LaneView) (before text : List ℕ) (old new : State)
+    (result : Result (Unit {0}) Interruption) (after : List LaneView) (before text : List ℕ) (old new : SpoolState)
     (cloud left : Cloud) : Type 0 where
   pub answers : List Line
   pub all : List CloudNo

@@ -1,25 +1,25 @@
 -- What going on with a kept job promises.
 use Rattle.std.specs.Prelude.{◌≡◌, ◌⊎◌, ◌↔◌, ◌≤◌, ℕ, Bool, IsTrue, List, [], length, Option, Some, None, Result, Ok, Err}
 use Rattle.std.specs.List.{Contains}
-use Rattle.cd_base.specs.Limits.{IsPath}
-use Rattle.cd_base.specs.declared.ids.CloudNo.{CloudNo}
-use Rattle.cd_base.specs.declared.shape.Shape.{Shape}
-use Rattle.cd_edges.specs.Causes.{Rose}
-use Rattle.cd_edges.specs.Disk.{Cloud, Image, IsImage, LeavesOnly, reads}
-use Rattle.cd_edges.specs.Ports.{Telling}
-use Rattle.cd_edges.specs.declared.area.Area.{Area}
-use Rattle.recipe.specs.Spelling.{file_limit}
-use Rattle.upload_job.specs.Lanes.{LaneView, lanes_resumed}
-use Rattle.upload_job.specs.Upload.{FileVersion}
-use Rattle.transcript.specs.declared.line.Line.{Line}
-use Rattle.ports_link.specs.declared.judging.Asked.TheVariants as asked
-use Rattle.ports_link.specs.declared.meeting.MeetErr.TheVariants as unmet
-use Rattle.ports_link.specs.Meeting.{MeetsAll}
+use Rattle.upload_spool.specs.CdBase.Limits.{IsPath}
+use Rattle.upload_spool.specs.CdBase.ids.CloudNo.{CloudNo}
+use Rattle.upload_spool.specs.CdBase.shape.Shape.{Shape}
+use Rattle.upload_spool.specs.CdEdges.Causes.{Rose}
+use Rattle.upload_spool.specs.CdEdges.Disk.{Cloud, Image, IsImage, LeavesOnly, reads}
+use Rattle.upload_spool.specs.CdEdges.Ports.{Telling}
+use Rattle.upload_spool.specs.CdEdges.area.Area.{Area}
+use Rattle.upload_spool.specs.Recipe.Spelling.{file_limit}
+use Rattle.upload_spool.specs.UploadJob.Lanes.{LaneView, lanes_resumed}
+use Rattle.upload_spool.specs.UploadJob.Upload.{FileVersion}
+use Rattle.backup_command.specs.Transcript.line.Line.{Line}
+use Rattle.backup_command.specs.PortsLink.judging.AskedClouds.TheVariants as asked
+use Rattle.backup_command.specs.PortsLink.meeting.MeetErr.TheVariants as unmet
+use Rattle.backup_command.specs.PortsLink.Meeting.{MeetsAll}
 use Rattle.upload_spool.specs.declared.error.SpoolErr.{SpoolErr}
 use Rattle.upload_spool.specs.declared.error.SpoolErr.TheVariants as spool_errors
 use Rattle.upload_spool.specs.Opens.{OpensIs, rising}
 use Rattle.upload_spool.specs.Spools.{FitsKept, SpoolFor}
-use Rattle.upload_spool.specs.States.{State, IsOf}
+use Rattle.upload_spool.specs.States.{SpoolState, IsOf}
 use Rattle.backup_command.specs.BackedUp.{AreDone, Met}
 use Rattle.backup_command.specs.Lanes.{numbered}
 use Rattle.backup_command.specs.Writing.{Output}
@@ -29,7 +29,7 @@ use Rattle.spool_command.specs.declared.writing.Unspooled.{Unspooled}
 use Rattle.spool_command.specs.declared.writing.Unspooled.TheVariants.{Undialled, Unheard, Refused, Unkept, Interrupted}
 use Rattle.spool_command.specs.Going.{GoneOn, IsEmptied, NowHolds}
 use Rattle.spool_command.specs.Noted.{IsAlong, LanesNoted}
-use Rattle.spool_command.specs.Spooled.{Outside, call_for, IsUnmet}
+use Rattle.spool_command.specs.Spooled.{SpoolOutside, call_for, AreAddressesUnmet}
 use Rattle.spool_command.specs.Writing.{IsWritten}
 
 -- ---- what the folder is left as
@@ -54,7 +54,7 @@ pub record HasNoJob (shape : Shape) (folder left : Cloud) : Type 0 where
   pub clears : IsTrue folder.told → IsCleared folder left
 
 -- What is kept for clouds of this shape can't be gone on with. It stays: each image since is one that a crash might have left before.
-pub record IsUnopened (shape : Shape) (folder left : Cloud) (error : SpoolErr) : Type 0 where
+pub record IsSpoolUnopened (shape : Shape) (folder left : Cloud) (error : SpoolErr) : Type 0 where
   pub opens : IsTrue folder.told → OpensIs shape (reads folder.now) (Err error)
   pub stays : IsTrue folder.told → LeavesOnly folder left (IsImage folder.now)
   pub cause : error ≡ spool_errors.Fault → Rose folder.faults left.faults
@@ -76,7 +76,7 @@ pub record KeptOn (shape : Shape) (behind now : Telling) (clouds : List (CloudNo
   pub v : FileVersion
   pub path : IsPath v.path
   pub few : length v.file ≤ file_limit
-  pub state : State
+  pub state : SpoolState
   pub of : IsOf state v
   pub views : List LaneView
   pub views_are : views ≡ lanes_resumed shape v (rising shape state.noted)
@@ -96,7 +96,7 @@ pub record KeptOn (shape : Shape) (behind now : Telling) (clouds : List (CloudNo
 abbrev pub GoesKept : Shape → Telling → Telling → ℕ → ℕ → List (CloudNo × ℕ) → Cloud → Cloud → Result (Option Bool) Unspooled → List ℕ → Type 0
 GoesKept shape behind now faults later clouds folder left (Ok (Some stored)) text = KeptOn shape behind now clouds folder left (Ok stored) text
 GoesKept shape behind now faults later clouds folder left (Ok None) text = (now ≡ behind) × HasNoJob shape folder left
-GoesKept shape behind now faults later clouds folder left (Err (Unkept error)) text = (now ≡ behind) × IsUnopened shape folder left error
+GoesKept shape behind now faults later clouds folder left (Err (Unkept error)) text = (now ≡ behind) × IsSpoolUnopened shape folder left error
 GoesKept shape behind now faults later clouds folder left (Err (Interrupted Ports)) text =
     KeptOn shape behind now clouds folder left (Err Ports) text × Rose faults later
 GoesKept shape behind now faults later clouds folder left (Err (Interrupted Shelf)) text =
@@ -129,7 +129,7 @@ HasFoundJob (Err Unheard) = ⊥
 HasFoundJob (Err (Refused why)) = ⊥
 
 -- The clouds were met, and behind their Hellos this came of what is kept. No port but theirs changed since.
-pub record MetAndWent (out : Outside) (came : Result (Option Bool) Unspooled) (text : List ℕ) : Type 0 where
+pub record MetAndWent (out : SpoolOutside) (came : Result (Option Bool) Unspooled) (text : List ℕ) : Type 0 where
   pub shape : Shape
   pub dialled : List ℕ
   pub behind : Telling
@@ -139,23 +139,23 @@ pub record MetAndWent (out : Outside) (came : Result (Option Bool) Unspooled) (t
   pub others : IsTrue behind.told → (port : ℕ) → ¬ Contains dialled port → out.after.port port ≡ behind.port port
 
 -- Memory ran out before all clouds were met: the folder is as before.
-pub record IsLackedUnmet (out : Outside) : Type 0 where
+pub record IsLackedUnmet (out : SpoolOutside) : Type 0 where
   pub folder_is : out.left ≡ out.folder
   pub meets : MeetsAll asked.Backup out.addresses out.before out.after (Err unmet.NoMemory)
 
 -- What came of what is kept, with the text of its lines.
-abbrev pub CarriesResumed : Outside → Result (Option Bool) Unspooled → List ℕ → Type 0
+abbrev pub CarriesResumed : SpoolOutside → Result (Option Bool) Unspooled → List ℕ → Type 0
 CarriesResumed out (Ok kept) text = MetAndWent out (Ok kept) text
-CarriesResumed out (Err Undialled) text = IsUnmet out Undialled
-CarriesResumed out (Err Unheard) text = IsUnmet out Unheard
-CarriesResumed out (Err (Refused why)) text = IsUnmet out (Refused why)
+CarriesResumed out (Err Undialled) text = AreAddressesUnmet out Undialled
+CarriesResumed out (Err Unheard) text = AreAddressesUnmet out Unheard
+CarriesResumed out (Err (Refused why)) text = AreAddressesUnmet out (Refused why)
 CarriesResumed out (Err (Unkept error)) text = MetAndWent out (Err (Unkept error)) text
 CarriesResumed out (Err (Interrupted Ports)) text = MetAndWent out (Err (Interrupted Ports)) text
 CarriesResumed out (Err (Interrupted Shelf)) text = MetAndWent out (Err (Interrupted Shelf)) text
 CarriesResumed out (Err (Interrupted Memory)) text = IsLackedUnmet out ⊎ MetAndWent out (Err (Interrupted Memory)) text
 
 -- The whole promise.
-pub record IsResumed (status : ℕ) (outside : Outside) (out : Output) : Type 0 where
+pub record IsResumed (status : ℕ) (outside : SpoolOutside) (out : Output) : Type 0 where
   pub came : Result (Option Bool) Unspooled
   pub text : List ℕ
   pub carries : CarriesResumed outside came text

@@ -1,31 +1,31 @@
 -- What backing up with a spool promises.
 use Rattle.std.specs.Prelude.{◌≡◌, ◌≢◌, ◌⊎◌, ◌↔◌, ℕ, Bool, IsTrue, List, [], length, Option, Some, None, Result, Ok, Err}
 use Rattle.std.specs.List.{Contains}
-use Rattle.cd_base.specs.declared.ids.CloudNo.{CloudNo}
-use Rattle.cd_base.specs.declared.shape.Shape.{Shape}
-use Rattle.cd_edges.specs.Causes.{Rose}
-use Rattle.cd_edges.specs.Disk.{Cloud, Image, LeavesOnly, reads}
-use Rattle.cd_edges.specs.Ports.{Telling}
-use Rattle.cd_edges.specs.Shelf.{Stays}
-use Rattle.cd_edges.specs.declared.area.Area.TheVariants.{Journal}
-use Rattle.recipe.specs.Spelling.{file_limit}
-use Rattle.upload_job.specs.Lanes.{LaneView, lanes_begun}
-use Rattle.upload_job.specs.Upload.{FileVersion}
-use Rattle.transcript.specs.declared.ending.Ending.TheVariants as endings
-use Rattle.transcript.specs.declared.line.Line.{Line}
-use Rattle.transcript.specs.Endings.{ending_text}
-use Rattle.ports_link.specs.declared.judging.Asked.TheVariants as asked
-use Rattle.ports_link.specs.declared.meeting.MeetErr.{MeetErr}
-use Rattle.ports_link.specs.declared.meeting.MeetErr.TheVariants as unmet
-use Rattle.ports_link.specs.Meeting.{MeetsAll}
+use Rattle.upload_spool.specs.CdBase.ids.CloudNo.{CloudNo}
+use Rattle.upload_spool.specs.CdBase.shape.Shape.{Shape}
+use Rattle.upload_spool.specs.CdEdges.Causes.{Rose}
+use Rattle.upload_spool.specs.CdEdges.Disk.{Cloud, Image, LeavesOnly, reads}
+use Rattle.upload_spool.specs.CdEdges.Ports.{Telling}
+use Rattle.upload_spool.specs.CdEdges.Shelf.{Stays}
+use Rattle.upload_spool.specs.CdEdges.area.Area.TheVariants.{Journal}
+use Rattle.upload_spool.specs.Recipe.Spelling.{file_limit}
+use Rattle.upload_spool.specs.UploadJob.Lanes.{LaneView, lanes_begun}
+use Rattle.upload_spool.specs.UploadJob.Upload.{FileVersion}
+use Rattle.backup_command.specs.Transcript.ending.Ending.TheVariants as endings
+use Rattle.backup_command.specs.Transcript.line.Line.{Line}
+use Rattle.backup_command.specs.Transcript.Endings.{ending_text}
+use Rattle.backup_command.specs.PortsLink.judging.AskedClouds.TheVariants as asked
+use Rattle.backup_command.specs.PortsLink.meeting.MeetErr.{MeetErr}
+use Rattle.backup_command.specs.PortsLink.meeting.MeetErr.TheVariants as unmet
+use Rattle.backup_command.specs.PortsLink.Meeting.{MeetsAll}
 use Rattle.upload_spool.specs.declared.error.SpoolErr.{SpoolErr}
 use Rattle.upload_spool.specs.declared.error.SpoolErr.TheVariants as spool_errors
 use Rattle.upload_spool.specs.Spools.{HasOpenJob}
-use Rattle.upload_spool.specs.States.{State, BeginsIs, IsSpool, LeavesJob, NoOpenJob, first_filled}
-use Rattle.backup_command.specs.BackedUp.{AreDone, Call, Met}
+use Rattle.upload_spool.specs.States.{SpoolState, BeginsIs, IsSpool, LeavesJob, NoOpenJob, first_filled}
+use Rattle.backup_command.specs.BackedUp.{AreDone, BackupCall, Met}
 use Rattle.backup_command.specs.Lanes.{numbered}
-use Rattle.backup_command.specs.Reading.{Input, IsRead, IsTooLong}
-use Rattle.backup_command.specs.Writing.{Output, IsSilent, Writes}
+use Rattle.backup_command.specs.Reading.{Input, IsFileRead, IsTooLong}
+use Rattle.backup_command.specs.Writing.{Output, IsSilent, HasWrittenOrCause}
 use Rattle.spool_command.specs.declared.interruption.Interruption.{Interruption}
 use Rattle.spool_command.specs.declared.interruption.Interruption.TheVariants.{Ports, Shelf, Memory}
 use Rattle.spool_command.specs.declared.spooling.SpooledFile.{SpooledFile}
@@ -36,7 +36,7 @@ use Rattle.spool_command.specs.Noted.{IsAlong}
 use Rattle.spool_command.specs.Writing.{IsWritten}
 
 -- what the ports and the folder tell before and after
-pub record Outside : Type 0 where
+pub record SpoolOutside : Type 0 where
   pub addresses : ℕ
   pub before : Telling
   pub after : Telling
@@ -45,7 +45,7 @@ pub record Outside : Type 0 where
   pub folder : Cloud
   pub left : Cloud
 
-abbrev pub call_for : Outside → FileVersion → Call
+abbrev pub call_for : SpoolOutside → FileVersion → BackupCall
 call_for out v = record {
   user = v.user;
   path = v.path;
@@ -71,7 +71,7 @@ abbrev pub SparesFilled : Cloud → Cloud → Type 0
 SparesFilled old new = IsTrue old.told → first_filled (reads old.now) ≢ None → Stays old new
 
 -- The folder was empty, and has the job now, with no lane noted.
-pub record IsKept (v : FileVersion) (state : State) (old new : Cloud) : Type 0 where
+pub record IsSpoolKept (v : FileVersion) (state : SpoolState) (old new : Cloud) : Type 0 where
   pub empty : first_filled (reads old.now) ≡ None
   pub is : IsSpool state v [] new
 
@@ -82,7 +82,7 @@ unmet_as (unmet.Refused why) = Refused why
 unmet_as unmet.Lost = Unheard
 unmet_as unmet.NoMemory = Interrupted Memory
 
-abbrev pub NotMet : Outside → Unspooled → Type 0
+abbrev pub NotMet : SpoolOutside → Unspooled → Type 0
 NotMet out Undialled =
     MeetsAll asked.Backup out.addresses out.before out.after (Err unmet.Undialled) × Rose out.faults_before out.faults_after
 NotMet out Unheard =
@@ -92,12 +92,12 @@ NotMet out (Unkept error) = ⊥
 NotMet out (Interrupted why) = ⊥
 
 -- Addresses weren't dialled, heard or as asked: the folder is as before.
-pub record IsUnmet (out : Outside) (came : Unspooled) : Type 0 where
+pub record AreAddressesUnmet (out : SpoolOutside) (came : Unspooled) : Type 0 where
   pub folder_is : out.left ≡ out.folder
   pub meets : NotMet out came
 
 -- The clouds were met and the job wasn't kept: nothing was sent behind the Hellos.
-pub record IsUnkept (out : Outside) (v : FileVersion) (error : SpoolErr) : Type 0 where
+pub record IsUnkept (out : SpoolOutside) (v : FileVersion) (error : SpoolErr) : Type 0 where
   pub shape : Shape
   pub dialled : List ℕ
   pub met : Met (call_for out v) dialled shape out.after
@@ -121,7 +121,7 @@ pub record IsKeptOn (shape : Shape) (v : FileVersion) (all : List CloudNo) (old 
   pub now : NowHolds shape v all new result
 
 -- The job was kept, and its lanes went so, in order, each on the port of its cloud. No port but theirs changed behind the Hellos.
-pub record SpooledOn (out : Outside) (v : FileVersion) (result : Result Bool Interruption) (text : List ℕ) : Type 0 where
+pub record SpooledOn (out : SpoolOutside) (v : FileVersion) (result : Result Bool Interruption) (text : List ℕ) : Type 0 where
   pub shape : Shape
   pub dialled : List ℕ
   pub behind : Telling
@@ -137,36 +137,38 @@ pub record SpooledOn (out : Outside) (v : FileVersion) (result : Result Bool Int
   pub keeps : IsTrue out.folder.told → IsKeptOn shape v all out.folder out.left result
 
 -- Memory ran out: the folder is as before, or each image since has no open job, or this one, or is empty.
-abbrev pub IsShort : Outside → FileVersion → Type 0
+abbrev pub IsShort : SpoolOutside → FileVersion → Type 0
 IsShort out v =
     (out.left ≡ out.folder) ⊎ ((shape : Shape) × (all : List CloudNo) × LeavesOwn shape v all out.folder out.left)
 
 -- What came of a file that was read, with the text of its lines.
-abbrev pub CarriesSpool : Outside → FileVersion → Result (Option Bool) Unspooled → List ℕ → Type 0
+abbrev pub CarriesSpool : SpoolOutside → FileVersion → Result (Option Bool) Unspooled → List ℕ → Type 0
 CarriesSpool out v (Ok (Some stored)) text = SpooledOn out v (Ok stored) text
 CarriesSpool out v (Ok None) text = ⊥
-CarriesSpool out v (Err Undialled) text = IsUnmet out Undialled
-CarriesSpool out v (Err Unheard) text = IsUnmet out Unheard
-CarriesSpool out v (Err (Refused why)) text = IsUnmet out (Refused why)
+CarriesSpool out v (Err Undialled) text = AreAddressesUnmet out Undialled
+CarriesSpool out v (Err Unheard) text = AreAddressesUnmet out Unheard
+CarriesSpool out v (Err (Refused why)) text = AreAddressesUnmet out (Refused why)
 CarriesSpool out v (Err (Unkept error)) text = IsUnkept out v error
 CarriesSpool out v (Err (Interrupted Ports)) text = SpooledOn out v (Err Ports) text × Rose out.faults_before out.faults_after
 CarriesSpool out v (Err (Interrupted Shelf)) text = SpooledOn out v (Err Shelf) text × Rose out.folder.faults out.left.faults
 CarriesSpool out v (Err (Interrupted Memory)) text = IsShort out v
 
 -- neither the ports nor the folder were touched
-pub record IsUntouched (out : Outside) : Type 0 where
+pub record IsOutsideUntouched (out : SpoolOutside) : Type 0 where
   pub tells : out.after ≡ out.before
   pub faults : out.faults_after ≡ out.faults_before
   pub folder_is : out.left ≡ out.folder
 
 -- The whole promise, by the way it ended.
-pub data IsSpooled (status : ℕ) (outside : Outside) (file : SpooledFile) (input : Input) (out : Output) : Type 0 where
-  ReadLacked : status ≡ 6 → IsSilent out → IsUntouched outside → IsSpooled status outside file input out
-  ReadFailed : status ≡ 3 → Rose input.faults_before input.faults_after → IsSilent out → IsUntouched outside
+pub data IsSpooled (status : ℕ) (outside : SpoolOutside) (file : SpooledFile) (input : Input)
+    (out : Output) : Type 0 where
+  ReadLacked : status ≡ 6 → IsSilent out → IsOutsideUntouched outside → IsSpooled status outside file input out
+  ReadFailed : status ≡ 3 → Rose input.faults_before input.faults_after → IsSilent out → IsOutsideUntouched outside
       → IsSpooled status outside file input out
   ReadTooMuch : (byte : ℕ) → IsTooLong input byte
-      → Writes (ending_text (endings.Script 1 file_limit (Some byte))) 2 out status → IsUntouched outside
+      → HasWrittenOrCause (ending_text (endings.Script 1 file_limit (Some byte))) 2 out status
+      → IsOutsideUntouched outside
       → IsSpooled status outside file input out
-  Carried : (bytes : List ℕ) (came : Result (Option Bool) Unspooled) (text : List ℕ) → IsRead input bytes
+  Carried : (bytes : List ℕ) (came : Result (Option Bool) Unspooled) (text : List ℕ) → IsFileRead input bytes
       → CarriesSpool outside (version_for file bytes) came text → IsWritten came text out status
       → IsSpooled status outside file input out

@@ -1,15 +1,15 @@
 -- What is written of a job that is kept, with the status.
 use Rattle.std.specs.Prelude.{◌≡◌, ℕ, Bool, List, [], ◌++◌, Option, Some, None, Result, Ok, Err, if◌then◌else◌}
-use Rattle.cd_base.specs.declared.ids.CloudNo.{CloudNo}
-use Rattle.transcript.specs.declared.ending.Ending.TheVariants as endings
-use Rattle.transcript.specs.declared.line.Line.TheVariants as lines
-use Rattle.transcript.specs.declared.refusal.Refusal.TheVariants as refusals
-use Rattle.transcript.specs.Endings.{ending_text}
-use Rattle.transcript.specs.Transcript.{line_text}
-use Rattle.ports_link.specs.Refusals.{refused_text}
+use Rattle.upload_spool.specs.CdBase.ids.CloudNo.{CloudNo}
+use Rattle.backup_command.specs.Transcript.ending.Ending.TheVariants as endings
+use Rattle.backup_command.specs.Transcript.line.Line.TheVariants as lines
+use Rattle.backup_command.specs.Transcript.refusal.Refusal.TheVariants as refusals
+use Rattle.backup_command.specs.Transcript.Endings.{ending_text}
+use Rattle.backup_command.specs.Transcript.Transcript.{line_text}
+use Rattle.backup_command.specs.PortsLink.Refusals.{refused_text}
 use Rattle.upload_spool.specs.declared.error.SpoolErr.{SpoolErr}
 use Rattle.upload_spool.specs.declared.error.SpoolErr.TheVariants as spool_errors
-use Rattle.backup_command.specs.Writing.{Output, IsSilent, Writes}
+use Rattle.backup_command.specs.Writing.{Output, IsSilent, HasWrittenOrCause}
 use Rattle.spool_command.specs.declared.interruption.Interruption.TheVariants.{Ports, Shelf, Memory}
 use Rattle.spool_command.specs.declared.writing.Unspooled.{Unspooled}
 use Rattle.spool_command.specs.declared.writing.Unspooled.TheVariants.{Undialled, Unheard, Refused, Unkept, Interrupted}
@@ -44,12 +44,14 @@ pub record IsQuiet (due : ℕ) (out : Output) (status : ℕ) : Type 0 where
 
 -- What is written of a job that came to this, with the text of its lines; None is no job.
 abbrev pub IsWritten : Result (Option Bool) Unspooled → List ℕ → Output → ℕ → Type 0
-IsWritten (Ok (Some stored)) text out status = Writes text (if stored then 0 else 8) out status
-IsWritten (Ok None) text out status = Writes (ending_text endings.NoSpool) 0 out status
+IsWritten (Ok (Some stored)) text out status = HasWrittenOrCause text (if stored then 0 else 8) out status
+IsWritten (Ok None) text out status = HasWrittenOrCause (ending_text endings.NoSpool) 0 out status
 IsWritten (Err Undialled) text out status = IsQuiet 9 out status
 IsWritten (Err Unheard) text out status = IsQuiet 9 out status
-IsWritten (Err (Refused why)) text out status = Writes (refused_text why) 8 out status
-IsWritten (Err (Unkept error)) text out status = Writes (refusal_text error) (refusal_status error) out status
-IsWritten (Err (Interrupted Ports)) text out status = Writes text 9 out status
-IsWritten (Err (Interrupted Shelf)) text out status = Writes (text ++ ending_text (endings.Shelf folder)) 5 out status
+IsWritten (Err (Refused why)) text out status = HasWrittenOrCause (refused_text why) 8 out status
+IsWritten (Err (Unkept error)) text out status = HasWrittenOrCause (refusal_text error)
+    (refusal_status error) out status
+IsWritten (Err (Interrupted Ports)) text out status = HasWrittenOrCause text 9 out status
+IsWritten (Err (Interrupted Shelf)) text out status = HasWrittenOrCause
+    (text ++ ending_text (endings.Shelf folder)) 5 out status
 IsWritten (Err (Interrupted Memory)) text out status = IsQuiet 6 out status

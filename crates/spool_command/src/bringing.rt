@@ -2,31 +2,26 @@
 
 ghost use Rattle.std.specs.Prelude.{◌≡◌, ◌<◌, ◌≤◌, ℕ, List, All, IsTrue};
 ghost use Rattle.std.specs.List.{Contains};
-ghost use Rattle.cd_edges.specs.Causes.{Rose};
-ghost use Rattle.cd_edges.specs.Ports.{Telling};
-ghost use Rattle.cd_edges.specs.Shelf.{IsCall, HasFailed};
-ghost use Rattle.half_journal.specs.declared.journal.Stage.{Stage};
-ghost use Rattle.ports_link.specs.Tells.{telling};
-ghost use Rattle.lane_steps.specs.Reached.{IsReached};
-ghost use Rattle.upload_job.specs.Upload.{FileVersion};
+ghost use Rattle.upload_spool.specs.CdEdges.Causes.{Rose};
+ghost use Rattle.upload_spool.specs.CdEdges.Ports.{Telling};
+ghost use Rattle.upload_spool.specs.CdEdges.Shelf.{IsCall, HasFailed};
+ghost use Rattle.upload_spool.specs.HalfJournal.journal.Stage.{Stage};
+ghost use Rattle.backup_command.specs.PortsLink.Tells.{telling};
+ghost use Rattle.backup_command.specs.LaneSteps.Reached.{IsReached};
+ghost use Rattle.upload_spool.specs.UploadJob.Upload.{FileVersion};
 ghost use Rattle.upload_spool.specs.States.{state_of, IsOf, IsJobOf};
 ghost use Rattle.backup_command.specs.Steps.{AreGreetedOn, AreReady, IsNumbered, ports_of};
 ghost use Rattle.spool_command.specs.Noted.{IfPorts, IfShelf, NotedWent, halted_as};
 
 use crate::interruption::Interruption;
 use crate::noting::note_lane;
-use backup_command::{Halt, bring_one, next_line};
-use cd_base::{Bytes, CloudNo, NoMemory};
-use cd_edges::{Ports, Shelf};
-use frames::ReplyBuf;
-use ports_link::{Greeted, PortsLink, lines_of};
+use backup_command::{Greeted, Halt, PortsLink, ReplyBuf, bring_one, lines_of, next_line};
 use std::alloc::Global;
-use upload_job::{Job, LaneNews};
-use upload_spool::Spool;
+use upload_spool::{Bytes, CloudNo, Job, LaneNews, NoMemory, Ports, Shelf, Spool};
 
 /// What a lane needs room for: its request, a reply, and its news.
 #[derive(Drop)]
-pub struct Buffers {
+pub struct LaneBuffers {
     pub content: Bytes,
     pub reply: ReplyBuf,
     pub told: Vec<LaneNews>,
@@ -50,7 +45,7 @@ pub fn bring_noted<P: Ports, V: Shelf>(
     spool: &mut Spool,
     job: &mut Job,
     shelf: &mut V,
-    buffers: &mut Buffers,
+    buffers: &mut LaneBuffers,
     text: &mut Bytes,
 ) -> Result<(), Interruption>
     requires below { All (λ line. line.0.0 < link.old.shape.n) lines.now }
@@ -105,7 +100,7 @@ pub fn bring_greeted<P: Ports, V: Shelf>(
     job: &mut Job,
     shelf: &mut V,
     ports: &mut P,
-    buffers: &mut Buffers,
+    buffers: &mut LaneBuffers,
     text: &mut Bytes,
 ) -> Result<(), Interruption>
     requires numbered { IsNumbered greeted.now }

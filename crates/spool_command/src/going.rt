@@ -2,27 +2,22 @@
 
 ghost use Rattle.std.specs.Prelude.{◌≡◌, ◌≤◌, ◌++◌, [], ℕ, List, IsTrue, OnOk};
 ghost use Rattle.std.specs.List.{Contains};
-ghost use Rattle.cd_edges.specs.Causes.{Rose};
-ghost use Rattle.cd_edges.specs.Shelf.{IsCall, HasFailed};
-ghost use Rattle.half_journal.specs.declared.journal.Stage.{Stage};
-ghost use Rattle.lane_steps.specs.Reached.{IsReached};
-ghost use Rattle.upload_job.specs.Upload.{FileVersion};
+ghost use Rattle.upload_spool.specs.CdEdges.Causes.{Rose};
+ghost use Rattle.upload_spool.specs.CdEdges.Shelf.{IsCall, HasFailed};
+ghost use Rattle.upload_spool.specs.HalfJournal.journal.Stage.{Stage};
+ghost use Rattle.backup_command.specs.LaneSteps.Reached.{IsReached};
+ghost use Rattle.upload_spool.specs.UploadJob.Upload.{FileVersion};
 ghost use Rattle.upload_spool.specs.States.{state_of, IsOf, IsJobOf};
 ghost use Rattle.backup_command.specs.Steps.{AreGreetedOn, IsNumbered};
 ghost use Rattle.backup_command.specs.Texts.{text_of};
 ghost use Rattle.spool_command.specs.Noted.{IfPorts, IfShelf};
 ghost use Rattle.spool_command.specs.Going.{EndsJob, EndsStored, WentOn, stored_lines};
 
-use crate::bringing::{Buffers, bring_greeted};
+use crate::bringing::{LaneBuffers, bring_greeted};
 use crate::interruption::Interruption;
-use backup_command::put_line;
-use cd_base::{Bytes, NoMemory};
-use cd_edges::{Ports, Shelf};
-use ports_link::Greeted;
+use backup_command::{Greeted, Line, put_line};
 use std::alloc::Global;
-use transcript::Line;
-use upload_job::Job;
-use upload_spool::Spool;
+use upload_spool::{Bytes, Job, NoMemory, Ports, Shelf, Spool};
 
 // Appends that the version is entered at all clouds, unless it was so before.
 fn put_stored(had: bool, text: &mut Bytes) -> Result<(), NoMemory>
@@ -108,7 +103,7 @@ pub fn go_on<P: Ports, V: Shelf>(
     job: &mut Job,
     shelf: &mut V,
     ports: &mut P,
-    buffers: &mut Buffers,
+    buffers: &mut LaneBuffers,
     text: &mut Bytes,
 ) -> Result<bool, Interruption>
     requires empty { text.old ≡ [] }

@@ -10,6 +10,7 @@ mod resuming;
 mod spooling;
 mod writing;
 
+pub use backup_command::backup;
 pub use resuming::resume;
 pub use spooling::{SpooledFile, spool};
-pub use upload_spool::{Spool, SpoolErr};
+pub use upload_spool::{Job, Spool, SpoolErr};

@@ -1,19 +1,16 @@
 //! Noting a lane whose cloud has committed.
 
 ghost use Rattle.std.specs.Prelude.{◌≡◌, ◌≢◌, ◌<◌, ◌↔◌, length, All, IsTrue, OnOk};
-ghost use Rattle.cd_edges.specs.Shelf.{IsCall, HasFailed};
-ghost use Rattle.half_journal.specs.declared.journal.Stage.{Stage};
-ghost use Rattle.upload_job.specs.Lanes.{IsDoneAt};
-ghost use Rattle.upload_job.specs.Upload.{FileVersion};
+ghost use Rattle.upload_spool.specs.CdEdges.Shelf.{IsCall, HasFailed};
+ghost use Rattle.upload_spool.specs.HalfJournal.journal.Stage.{Stage};
+ghost use Rattle.upload_spool.specs.UploadJob.Lanes.{IsDoneAt};
+ghost use Rattle.upload_spool.specs.UploadJob.Upload.{FileVersion};
 ghost use Rattle.upload_spool.specs.States.{state_of, IsOf, IsJobOf};
-ghost use Rattle.lane_steps.specs.Runs.{lane_at};
+ghost use Rattle.backup_command.specs.LaneSteps.Runs.{lane_at};
 ghost use Rattle.spool_command.specs.Noted.{NoteIs, KeepsNote, IfShelf, interruption_of};
 
 use crate::interruption::Interruption;
-use cd_base::CloudNo;
-use cd_edges::Shelf;
-use upload_job::Job;
-use upload_spool::{Spool, SpoolErr};
+use upload_spool::{CloudNo, Job, Shelf, Spool, SpoolErr};
 
 // Whether a lane is none of those that were noted.
 fn is_new(noted: &[CloudNo], lane: CloudNo) -> bool

@@ -2,24 +2,20 @@
 
 ghost use Rattle.std.specs.Prelude.{◌≡◌, ◌≤◌, ◌↔◌, ℕ, List, [], length, IsTrue, IfOk, OnErr};
 ghost use Rattle.std.specs.List.{Contains};
-ghost use Rattle.cd_edges.specs.declared.area.Area.{Area};
-ghost use Rattle.cd_edges.specs.Shelf.{IsCall, HasFailed, Stays};
-ghost use Rattle.ports_link.specs.Dialled.{OnlyDialled};
+ghost use Rattle.upload_spool.specs.CdEdges.area.Area.{Area};
+ghost use Rattle.upload_spool.specs.CdEdges.Shelf.{IsCall, HasFailed, Stays};
+ghost use Rattle.backup_command.specs.PortsLink.Dialled.{OnlyDialled};
 ghost use Rattle.backup_command.specs.Steps.{AreGreetedOn, IsNumbered};
 ghost use Rattle.backup_command.specs.Writing.{output_of};
 ghost use Rattle.spool_command.specs.Resumed.{CarriesResumed, Clears, GoesKept, IsResumed};
 
-use crate::bringing::Buffers;
+use crate::bringing::LaneBuffers;
 use crate::going::go_on;
 use crate::interruption::Interruption;
 use crate::writing::{Unspooled, write_end};
-use cd_base::{Bytes, CloudNo, NoMemory};
-use cd_edges::{Area, Failed, Ports, Shelf, Sink};
-use frames::ReplyBuf;
-use lane_steps::law_of_resumed_lanes;
-use ports_link::{Asked, Greeted, MeetErr, meet_all};
+use backup_command::{AskedClouds, Greeted, MeetErr, ReplyBuf, law_of_resumed_lanes, meet_all};
 use std::alloc::Global;
-use upload_spool::{Spool, SpoolErr};
+use upload_spool::{Area, Bytes, CloudNo, Failed, NoMemory, Ports, Shelf, Sink, Spool, SpoolErr};
 
 const FOLDER: CloudNo = CloudNo(0);
 
@@ -102,7 +98,7 @@ fn go_on_kept<P: Ports, V: Shelf>(
     law_of_resumed_lanes();
     let _user = spool.user().0;
     let _version = spool.version().0;
-    let mut buffers = Buffers {
+    let mut buffers = LaneBuffers {
         content: Bytes::new(alloc),
         reply,
         told: Vec::new(alloc),
@@ -151,7 +147,7 @@ fn carry<P: Ports, V: Shelf>(
         Ok(reply) => reply,
         Err(NoMemory) => return Err(Unspooled::Interrupted(Interruption::Memory)),
     };
-    let greeted = match meet_all(alloc, ports, Asked::Backup, addresses, &mut reply) {
+    let greeted = match meet_all(alloc, ports, AskedClouds::Backup, addresses, &mut reply) {
         Ok(greeted) => greeted,
         Err(MeetErr::Undialled) => return Err(Unspooled::Undialled),
         Err(MeetErr::Refused(why)) => return Err(Unspooled::Refused(why)),

@@ -1,29 +1,28 @@
 //! Backing a file up with a spool.
 
 ghost use Rattle.std.specs.Prelude.{◌≡◌, ◌≤◌, [], length, IsTrue, IfErr, IfOk};
-ghost use Rattle.cd_base.specs.Limits.{IsPath};
-ghost use Rattle.cd_edges.specs.Shelf.{IsCall};
-ghost use Rattle.recipe.specs.Spelling.{file_limit};
-ghost use Rattle.upload_job.specs.Lanes.{lanes_begun};
-ghost use Rattle.lane_steps.specs.Reached.{IsReached};
+ghost use Rattle.upload_spool.specs.CdBase.Limits.{IsPath};
+ghost use Rattle.upload_spool.specs.CdEdges.Shelf.{IsCall};
+ghost use Rattle.upload_spool.specs.Recipe.Spelling.{file_limit};
+ghost use Rattle.upload_spool.specs.UploadJob.Lanes.{lanes_begun};
+ghost use Rattle.backup_command.specs.LaneSteps.Reached.{IsReached};
 ghost use Rattle.upload_spool.specs.States.{IsBegunSpool, LeavesJob, state_of};
-ghost use Rattle.ports_link.specs.Dialled.{OnlyDialled};
+ghost use Rattle.backup_command.specs.PortsLink.Dialled.{OnlyDialled};
 ghost use Rattle.backup_command.specs.Reading.{input_of};
 ghost use Rattle.backup_command.specs.Writing.{output_of};
-ghost use Rattle.spool_command.specs.Spooled.{CarriesSpool, IsKept, IsSpooled, IsUnbegun, SparesFilled, unmet_as, version_for};
+ghost use Rattle.spool_command.specs.Spooled.{CarriesSpool, IsSpoolKept, IsSpooled, IsUnbegun, SparesFilled, unmet_as, version_for};
 
-use crate::bringing::Buffers;
+use crate::bringing::LaneBuffers;
 use crate::going::go_on;
 use crate::interruption::Interruption;
 use crate::writing::{Unspooled, write_end};
-use backup_command::{ReadErr, read_file, write_too_long};
-use cd_base::{Bytes, NoMemory, Shape, UserId, Version};
-use cd_edges::{Ports, Shelf, Sink, Source};
-use frames::ReplyBuf;
-use ports_link::{Asked, MeetErr, meet_all};
+use backup_command::{
+    AskedClouds, FileReadErr, MeetErr, ReplyBuf, meet_all, read_file, write_too_long,
+};
 use std::alloc::Global;
-use upload_job::Job;
-use upload_spool::{Spool, SpoolErr};
+use upload_spool::{
+    Bytes, Job, NoMemory, Ports, Shape, Shelf, Sink, Source, Spool, SpoolErr, UserId, Version,
+};
 
 /// Which version of which file is backed up.
 #[derive(Clone, Copy, Debug)]
@@ -50,7 +49,7 @@ fn start<V: Shelf>(
     ensures reached { IfOk result (λ x. IsReached shape x.1) }
     ensures spool { IfOk result (λ x. IsBegunSpool shape (version_for file.now bytes) x.0) }
     ensures begun { IsTrue (V.cloud_at shelf.old 0).told
-        → IfOk result (λ x. IsKept (version_for file.now bytes) (state_of x.0)
+        → IfOk result (λ x. IsSpoolKept (version_for file.now bytes) (state_of x.0)
         (V.cloud_at shelf.old 0) (V.cloud_at shelf.new 0)) }
     ensures any_moment { LeavesJob shape (version_for file.now bytes)
         (V.cloud_at shelf.old 0) (V.cloud_at shelf.new 0) }
@@ -107,7 +106,7 @@ fn carry<P: Ports, V: Shelf>(
         Ok(reply) => reply,
         Err(NoMemory) => return Err(Unspooled::Interrupted(Interruption::Memory)),
     };
-    let greeted = match meet_all(alloc, ports, Asked::Backup, addresses, &mut reply) {
+    let greeted = match meet_all(alloc, ports, AskedClouds::Backup, addresses, &mut reply) {
         Ok(greeted) => greeted,
         Err(error) => return Err(unmet(error)),
     };
@@ -115,7 +114,7 @@ fn carry<P: Ports, V: Shelf>(
         Ok(started) => started,
         Err(error) => return Err(Unspooled::Unkept(error)),
     };
-    let mut buffers = Buffers {
+    let mut buffers = LaneBuffers {
         content: Bytes::new(alloc),
         reply,
         told: Vec::new(alloc),
@@ -197,9 +196,9 @@ pub fn spool<S: Source, V: Shelf, K: Sink, P: Ports>(
 {
     let bytes = match read_file(alloc, source) {
         Ok(bytes) => bytes,
-        Err(ReadErr::Failed) => return 3,
-        Err(ReadErr::TooLong { byte }) => return write_too_long(alloc, sink, byte),
-        Err(ReadErr::NoMemory) => return 6,
+        Err(FileReadErr::Failed) => return 3,
+        Err(FileReadErr::TooLong { byte }) => return write_too_long(alloc, sink, byte),
+        Err(FileReadErr::NoMemory) => return 6,
     };
     let mut text = Bytes::new(alloc);
     let came = carry(alloc, &file, addresses, bytes, shelf, ports, &mut text);

@@ -1,20 +1,18 @@
 //! What is written of a job that is kept, with the status.
 
 ghost use Rattle.std.specs.Prelude.{◌≡◌, ◌++◌, if◌then◌else◌, Ok, Err, OnOk};
-ghost use Rattle.cd_base.specs.declared.ids.CloudNo.{CloudNo};
-ghost use Rattle.transcript.specs.declared.ending.Ending.TheVariants as endings;
-ghost use Rattle.transcript.specs.Endings.{ending_text};
-ghost use Rattle.backup_command.specs.Writing.{Writes, output_of};
+ghost use Rattle.upload_spool.specs.CdBase.ids.CloudNo.{CloudNo};
+ghost use Rattle.backup_command.specs.Transcript.ending.Ending.TheVariants as endings;
+ghost use Rattle.backup_command.specs.Transcript.Endings.{ending_text};
+ghost use Rattle.backup_command.specs.Writing.{HasWrittenOrCause, output_of};
 ghost use Rattle.spool_command.specs.Writing.{IsWritten, refusal_text, refusal_status};
 
 use crate::interruption::Interruption;
-use backup_command::{write_hello, write_text};
-use cd_base::{Bytes, CloudNo, NoMemory};
-use cd_edges::Sink;
-use ports_link::Refused;
+use backup_command::{
+    Ending, Line, Refusal, Refused, write_ending, write_hello, write_line, write_text,
+};
 use std::alloc::Global;
-use transcript::{Ending, Line, Refusal, write_ending, write_line};
-use upload_spool::SpoolErr;
+use upload_spool::{Bytes, CloudNo, NoMemory, Sink, SpoolErr};
 
 /// Why a kept job didn't come to its end.
 #[derive(Clone, Copy, Debug, PartialEq, Eq)]
@@ -110,7 +108,7 @@ fn put_refusal(error: &SpoolErr, out: &mut Bytes) -> Result<(), NoMemory>
 
 // Writes the line with which a spool was refused.
 fn write_unkept<K: Sink>(alloc: Global, sink: &mut K, error: &SpoolErr) -> u8
-    ensures { Writes (refusal_text error.now) (refusal_status error.now)
+    ensures { HasWrittenOrCause (refusal_text error.now) (refusal_status error.now)
         (output_of (K.written sink.old) (K.written sink.new) (K.faults sink.old) (K.faults sink.new)) result }
 {
     let mut line = Bytes::new(alloc);
@@ -122,7 +120,7 @@ fn write_unkept<K: Sink>(alloc: Global, sink: &mut K, error: &SpoolErr) -> u8
 
 // Writes an ending behind a text.
 fn write_behind<K: Sink>(sink: &mut K, text: Bytes, ending: &Ending, due: u8) -> u8
-    ensures { Writes (text ++ ending_text ending.now) due
+    ensures { HasWrittenOrCause (text ++ ending_text ending.now) due
         (output_of (K.written sink.old) (K.written sink.new) (K.faults sink.old) (K.faults sink.new)) result }
 {
     let mut all = text;

@@ -1,21 +1,21 @@
 -- The records that were taken so far, one after another.
 use Rattle.std.proofs.Common.{◌≡◌, ℕ, ◌+◌, ◌≤◌, Bool, IsTrue, true, false, List, [], ◌∷◌, ◌++◌, length, nat_lt, Result, Ok, Err, sym, ◌∙◌, ap, subst, arith, length-append}
-use Rattle.cd_edges.specs.declared.area.Area.TheVariants.{Journal, Recipes}
-use Rattle.cd_edges.specs.Disk.{Store, Areas, Cloud}
-use Rattle.cd_edges.specs.Shelf.{IsCall, HasFailed, KeepsCounts, Stays}
-use Rattle.cd_edges.proofs.Calls.{called_twice}
-use Rattle.cd_edges.proofs.Moments.{told_on}
-use Rattle.journal_start.specs.declared.start.Start.{Start}
-use Rattle.journal_start.specs.Spelling.{records_of}
-use Rattle.journal_halves.specs.Journals.{Where}
-use Rattle.half_journal.specs.declared.journal.Stage.TheVariants.{Reading}
-use Rattle.half_journal.specs.States.{State, IsReading}
-use Rattle.cloud_memory.specs.declared.cloud.CloudMemory.{CloudMemory}
-use Rattle.cloud_memory.specs.Fitting.{FitsRecords}
-use Rattle.cloud_memory.specs.Memory.{Memory}
-use Rattle.cloud_memory.specs.Rooms.{memory_of}
-use Rattle.record_checks.specs.declared.ground.Ground.{Ground}
-use Rattle.first_records.specs.Limits.{HasFirstRooms}
+use Rattle.fresh_checkpoints.specs.CdEdges.area.Area.TheVariants.{Journal, Recipes}
+use Rattle.fresh_checkpoints.specs.CdEdges.Disk.{Store, Areas, Cloud}
+use Rattle.fresh_checkpoints.specs.CdEdges.Shelf.{IsCall, HasFailed, KeepsCounts, Stays}
+use Rattle.fresh_checkpoints.proofs.CdEdges.Calls.{called_twice}
+use Rattle.fresh_checkpoints.proofs.CdEdges.Moments.{told_on}
+use Rattle.store_opening.specs.JournalStart.start.Start.{Start}
+use Rattle.store_opening.specs.JournalStart.Spelling.{records_of}
+use Rattle.fresh_checkpoints.specs.JournalHalves.Journals.{Where}
+use Rattle.store_opening.specs.HalfJournal.journal.Stage.TheVariants.{Reading}
+use Rattle.store_opening.specs.HalfJournal.States.{JournalState, IsJournalReading}
+use Rattle.fresh_checkpoints.specs.CloudMemory.cloud.CloudMemory.{CloudMemory}
+use Rattle.fresh_checkpoints.specs.CloudMemory.Fitting.{FitsRecords}
+use Rattle.fresh_checkpoints.specs.CloudMemory.Memory.{Memory}
+use Rattle.fresh_checkpoints.specs.CloudMemory.Rooms.{memory_of}
+use Rattle.store_opening.specs.RecordChecks.ground.Ground.{Ground}
+use Rattle.first_laws.specs.FirstRecords.Limits.{HasFirstRooms}
 use Rattle.store_opening.proofs.Along.{with_bodies}
 use Rattle.store_opening.proofs.Synced.{still, counts_still}
 use Rattle.store_migration.specs.declared.errors.OldErr.{OldErr}
@@ -26,14 +26,14 @@ use Rattle.store_migration.specs.Steps.{From, NextAs, AllAs}
 use Rattle.store_migration.proofs.Cases.{counted_behind}
 
 -- So many records of the chain were read, and what comes of the rest comes of all.
-pub record Leads (g : Ground) (recipes : List ℕ) (store : Store) (w : Where) (start journal : State) (first m : Memory) (records : ℕ) : Type 0 where
+pub record Leads (g : Ground) (recipes : List ℕ) (store : Store) (w : Where) (start journal : JournalState) (first m : Memory) (records : ℕ) : Type 0 where
   pub bodies : List (List ℕ)
   pub count : records ≡ length bodies
-  pub reading : IsReading journal store (with_bodies w bodies)
+  pub reading : IsJournalReading journal store (with_bodies w bodies)
   pub leads : (new : Memory) (answer : Result (Unit {0}) OldErr) → From g recipes store new journal records m answer → From g recipes store new start 0 first answer
 
 -- Each step kept the cloud and its counts, and the records before the gate were taken.
-pub record Along (c0 c : ℕ → Cloud) (number before now : ℕ) (g : Ground) (start journal : State) (first memory : CloudMemory) (records long len : ℕ) : Type 0 where
+pub record Along (c0 c : ℕ → Cloud) (number before now : ℕ) (g : Ground) (start journal : JournalState) (first memory : CloudMemory) (records long len : ℕ) : Type 0 where
   pub stays : Stays (c0 number) (c number)
   pub call : IsCall c0 c number before now
   pub counts : KeepsCounts (c0 number) (c number) before now
@@ -45,18 +45,18 @@ pub record Along (c0 c : ℕ → Cloud) (number before now : ℕ) (g : Ground) (
   pub len_is : len ≡ long
   pub unspent : memory.spent ≡ first.spent
   pub fit : FitsRecords (memory_of first) → FitsRecords (memory_of memory)
-  pub exact : IsTrue (c0 number).told → (w : Where) → IsReading start ((c0 number).now Journal) w → w.bodies ≡ []
+  pub exact : IsTrue (c0 number).told → (w : Where) → IsJournalReading start ((c0 number).now Journal) w → w.bodies ≡ []
       → Leads g ((c0 number).now Recipes).read ((c0 number).now Journal) w start journal (memory_of first) (memory_of memory) records
 
-module _ (c0 c d : ℕ → Cloud) (number before mid now : ℕ) (g : Ground) (start old new : State) (first memory after : CloudMemory) (records long len len2 of : ℕ)
+module _ (c0 c d : ℕ → Cloud) (number before mid now : ℕ) (g : Ground) (start old new : JournalState) (first memory after : CloudMemory) (records long len len2 of : ℕ)
     (of_is : of ≡ records_of start.start.checkpoint) (along : Along c0 c number before mid g start old first memory records long len) where
   -- the step as its clause says it
   abbrev pub StepAs : Result Bool MigrateErr → Type 0
-  StepAs result = IsTrue (c number).told → (w : Where) → IsReading old ((c number).now Journal) w → nat_lt records of ≡ nat_lt (length w.bodies) (records_of w.start.checkpoint)
+  StepAs result = IsTrue (c number).told → (w : Where) → IsJournalReading old ((c number).now Journal) w → nat_lt records of ≡ nat_lt (length w.bodies) (records_of w.start.checkpoint)
       → NextAs g ((c number).now Recipes).read ((c number).now Journal) w old (memory_of memory) new (memory_of after) result
 
   -- the step behind those before, at the areas of the start
-  module _ (result : Result Bool MigrateErr) (step : StepAs result) (told : IsTrue (c0 number).told) (w : Where) (reading : IsReading start ((c0 number).now Journal) w) (none : w.bodies ≡ []) where
+  module _ (result : Result Bool MigrateErr) (step : StepAs result) (told : IsTrue (c0 number).told) (w : Where) (reading : IsJournalReading start ((c0 number).now Journal) w) (none : w.bodies ≡ []) where
     abbrev so_far : Leads g ((c0 number).now Recipes).read ((c0 number).now Journal) w start old (memory_of first) (memory_of memory) records
     so_far = along.exact told w reading none
 
@@ -65,7 +65,7 @@ module _ (c0 c d : ℕ → Cloud) (number before mid now : ℕ) (g : Ground) (st
 
     pub exactly : NextAs g ((c0 number).now Recipes).read ((c0 number).now Journal) (with_bodies w so_far.bodies) old (memory_of memory) new (memory_of after) result
     exactly =
-        subst (λ (a : Areas). (v : Where) → IsReading old (a Journal) v → nat_lt records of ≡ nat_lt (length v.bodies) (records_of v.start.checkpoint)
+        subst (λ (a : Areas). (v : Where) → IsJournalReading old (a Journal) v → nat_lt records of ≡ nat_lt (length v.bodies) (records_of v.start.checkpoint)
         → NextAs g (a Recipes).read (a Journal) v old (memory_of memory) new (memory_of after) result) along.stays.now
         (step (told_on (c0 number) (c number) along.call.told told)) (with_bodies w so_far.bodies) so_far.reading inside_is
 
@@ -99,7 +99,7 @@ module _ (c0 c d : ℕ → Cloud) (number before mid now : ℕ) (g : Ground) (st
   }
 
   -- the end
-  pub all_taken : StepAs (Ok false) → IsTrue (c0 number).told → (w : Where) → IsReading start ((c0 number).now Journal) w → w.bodies ≡ []
+  pub all_taken : StepAs (Ok false) → IsTrue (c0 number).told → (w : Where) → IsJournalReading start ((c0 number).now Journal) w → w.bodies ≡ []
       → AllAs g ((c0 number).now Recipes).read ((c0 number).now Journal) w start (memory_of first) new (memory_of after) (Ok tt)
   all_taken step told w reading none =
       let f = so_far (Ok false) step told w reading none in
@@ -110,7 +110,7 @@ module _ (c0 c d : ℕ → Cloud) (number before mid now : ℕ) (g : Ground) (st
       )
 
   -- an Err
-  pub not_taken : (error : MigrateErr) → StepAs (Err error) → IsTrue (c0 number).told → (w : Where) → IsReading start ((c0 number).now Journal) w → w.bodies ≡ []
+  pub not_taken : (error : MigrateErr) → StepAs (Err error) → IsTrue (c0 number).told → (w : Where) → IsJournalReading start ((c0 number).now Journal) w → w.bodies ≡ []
       → AllAs g ((c0 number).now Recipes).read ((c0 number).now Journal) w start (memory_of first) new (memory_of after) (Err error)
   not_taken (why.Open error) step told w reading none = λ last.
       let f = so_far (Err (why.Open error)) step told w reading none in

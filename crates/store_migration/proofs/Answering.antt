@@ -2,32 +2,32 @@
 use Rattle.std.proofs.Common.{◌≡◌, ◌⊎◌, inl, inr, ℕ, ◌+◌, ◌≤◌, ◌<◌, Bool, true, false, List, [], ◌∷◌, ◌++◌, Result, Ok, Err, OnOk, IsTrue, refl, sym, ap, ◌∙◌, subst, arith, length}
 use Rattle.std.specs.Prelude.{IsOk}
 use Rattle.std.proofs.lemmas.List.{append-nil}
-use Rattle.cd_base.specs.declared.ids.CloudNo.{CloudNo}
-use Rattle.cd_base.specs.declared.shape.Shape.{Shape}
-use Rattle.cd_edges.specs.Disk.{Areas, Image, Cloud, IsImage, reads}
-use Rattle.cd_edges.specs.Shelf.{IsCall, HasFailed, KeepsCounts}
-use Rattle.cd_edges.proofs.Calls.{failed_after}
-use Rattle.half_journal.specs.States as journals
-use Rattle.journal_start.specs.declared.rooms.Rooms.{Rooms}
-use Rattle.journal_start.specs.declared.start.Header.{Header}
-use Rattle.user_dedup.specs.declared.command.Command.{Command}
-use Rattle.user_dedup.specs.Cloud.{counted}
-use Rattle.user_dedup.specs.Compact.{compact}
-use Rattle.cloud_areas.specs.Standing.{Chain, StandsFor}
-use Rattle.cloud_disk.specs.Disk.{IsRead}
-use Rattle.cloud_disk.proofs.Standing.{one_image, stands_read}
-use Rattle.cloud_memory.specs.Greatest.{HasGreatest, KeepsGreatest}
-use Rattle.cloud_memory.specs.Memory.{Memory}
-use Rattle.cloud_memory.specs.Rooms.{memory_of}
-use Rattle.cloud_memory.specs.declared.cloud.CloudMemory.{CloudMemory}
-use Rattle.cd_base.specs.declared.rooms.Room.TheVariants.{Fps, Owners, Files}
-use Rattle.checkpoints.specs.declared.whole.Unsettled.{Unsettled}
-use Rattle.checkpoints.specs.declared.whole.Unsettled.TheVariants.{Long, Failed}
-use Rattle.checkpoints.specs.Known.{IfFailed, IfLong}
-use Rattle.compact_memories.specs.Kept.{IsCompacted, commands_in}
-use Rattle.first_records.specs.Limits.{limit_of}
+use Rattle.fresh_checkpoints.specs.CdBase.ids.CloudNo.{CloudNo}
+use Rattle.fresh_checkpoints.specs.CdBase.shape.Shape.{Shape}
+use Rattle.fresh_checkpoints.specs.CdEdges.Disk.{Areas, Image, Cloud, IsImage, reads}
+use Rattle.fresh_checkpoints.specs.CdEdges.Shelf.{IsCall, HasFailed, KeepsCounts}
+use Rattle.fresh_checkpoints.proofs.CdEdges.Calls.{failed_after}
+use Rattle.store_opening.specs.HalfJournal.States as journals
+use Rattle.store_opening.specs.JournalStart.rooms.UserRooms.{UserRooms}
+use Rattle.store_opening.specs.JournalStart.start.Header.{Header}
+use Rattle.store_opening.specs.UserDedup.command.Command.{Command}
+use Rattle.store_opening.specs.UserDedup.Cloud.{counted}
+use Rattle.store_opening.specs.UserDedup.Compact.{compact}
+use Rattle.fresh_checkpoints.specs.CloudAreas.Standing.{Chain, StandsFor}
+use Rattle.fresh_checkpoints.specs.CloudDisk.Disk.{IsRead}
+use Rattle.fresh_checkpoints.proofs.CloudDiskLaws.Standing.{one_image, stands_read}
+use Rattle.fresh_checkpoints.specs.CloudMemory.Greatest.{HasGreatest, KeepsGreatest}
+use Rattle.fresh_checkpoints.specs.CloudMemory.Memory.{Memory}
+use Rattle.fresh_checkpoints.specs.CloudMemory.Rooms.{memory_of}
+use Rattle.fresh_checkpoints.specs.CloudMemory.cloud.CloudMemory.{CloudMemory}
+use Rattle.fresh_checkpoints.specs.CdBase.rooms.Room.TheVariants.{Fps, Owners, Files}
+use Rattle.fresh_checkpoints.specs.Checkpoints.whole.Unsettled.{Unsettled}
+use Rattle.fresh_checkpoints.specs.Checkpoints.whole.Unsettled.TheVariants.{Long, Failed}
+use Rattle.fresh_checkpoints.specs.Checkpoints.Known.{IfFailed, IfLong}
+use Rattle.fresh_checkpoints.specs.CompactMemories.Kept.{IsCompacted, commands_in}
+use Rattle.first_laws.specs.FirstRecords.Limits.{limit_of}
 use Rattle.large_users.specs.Large.{IsNonePassed, IsCountedBy}
-use Rattle.migration_model.specs.Migrating.{AreSmallEnough, header_two}
+use Rattle.large_users.specs.MigrationModel.Migrating.{AreSmallEnough, header_two}
 use Rattle.store_opening.specs.Synced.{AreSynced, BeginsSynced}
 use Rattle.store_migration.specs.declared.errors.MigrateErr.{MigrateErr}
 use Rattle.store_migration.specs.declared.errors.MigrateErr.TheVariants as why
@@ -67,13 +67,13 @@ failed_only {A} r e limit len P is fits long failed =
     failed_of A e P (subst (λ (x : Result A Unsettled). IfLong x ⊥) is (long_never r limit len fits long)) (subst (λ (x : Result A Unsettled). IfFailed x P) is failed)
 
 -- each image of a cloud that was read for a list stands for it
-pub images_stand : (header : Header) (list : List Command) (c : Chain) (j : journals.State) (cloud : Cloud) → IsRead header list c j cloud
+pub images_stand : (header : Header) (list : List Command) (c : Chain) (j : journals.JournalState) (cloud : Cloud) → IsRead header list c j cloud
     → (image : Image) → IsImage cloud.now image → StandsFor image header list
 images_stand header list c j cloud is image left = subst (λ (im : Image). StandsFor im header list) (sym (one_image cloud.now image is.on_disk left)) (stands_read header list c j cloud is)
 
 -- ---- judged, then settled
 
-pub taken_over : (rooms : Rooms) (m : Memory) (commands : ℕ) (result : Result ℕ MigrateErr) → JudgedAs rooms m (Ok commands) → SettledAs commands result → TakenOverAs rooms m result
+pub taken_over : (rooms : UserRooms) (m : Memory) (commands : ℕ) (result : Result ℕ MigrateErr) → JudgedAs rooms m (Ok commands) → SettledAs commands result → TakenOverAs rooms m result
 taken_over rooms m commands (Ok number) judged settled = (judged.0, settled ∙ judged.1)
 taken_over rooms m commands (Err (why.Open error)) judged settled = absurd settled
 taken_over rooms m commands (Err why.Already) judged settled = absurd settled
@@ -81,14 +81,14 @@ taken_over rooms m commands (Err (why.TooLarge user room used limit)) judged set
 taken_over rooms m commands (Err why.Fault) judged settled = tt
 taken_over rooms m commands (Err why.NoMemory) judged settled = absurd settled
 
-pub judged_over : (rooms : Rooms) (m : Memory) (error : MigrateErr) → JudgedAs rooms m (Err error) → TakenOverAs rooms m (Err error)
+pub judged_over : (rooms : UserRooms) (m : Memory) (error : MigrateErr) → JudgedAs rooms m (Err error) → TakenOverAs rooms m (Err error)
 judged_over rooms m (why.Open error) judged = absurd judged
 judged_over rooms m why.Already judged = absurd judged
 judged_over rooms m (why.TooLarge user room used limit) judged = judged
 judged_over rooms m why.Fault judged = absurd judged
 judged_over rooms m why.NoMemory judged = absurd judged
 
-module _ (shape : Shape) (cloud_no : CloudNo) (rooms : Rooms) (list : List Command) (cloud : Cloud) where
+module _ (shape : Shape) (cloud_no : CloudNo) (rooms : UserRooms) (list : List Command) (cloud : Cloud) where
   pub settled_as : (commands : ℕ) (result : Result ℕ MigrateErr) → SettledAs commands result → counted (compact shape list) ≡ commands → AreSmallEnough shape rooms list
       → OnOk result ((image : Image) → IsImage cloud.now image → StandsFor image (header_two shape cloud_no rooms) (compact shape list))
       → MigratedAs shape cloud_no rooms list cloud result
@@ -116,7 +116,7 @@ module _ (shape : Shape) (cloud_no : CloudNo) (rooms : Rooms) (list : List Comma
 
 -- ---- exact answers
 
-module _ (shape : Shape) (cloud_no : CloudNo) (rooms : Rooms) (image : Image) (m : Memory) where
+module _ (shape : Shape) (cloud_no : CloudNo) (rooms : UserRooms) (image : Image) (m : Memory) where
   pub moves_as : (result : Result ℕ MigrateErr) → ReadsOld shape cloud_no image m (Ok tt) → TakenOverAs rooms m result → IfAnswered result (Migrates shape cloud_no rooms image result)
   moves_as (Ok number) read over = subst (λ (n : ℕ). Migrates shape cloud_no rooms image (Ok n)) (sym over.1) (exact.Moves m read over.0)
   moves_as (Err (why.Open error)) read over = absurd over
@@ -185,7 +185,7 @@ unread_answered (why.TooLarge user room used limit) P Q f is = f is
 unread_answered why.Fault P Q f is = tt
 unread_answered why.NoMemory P Q f is = tt
 
-pub over_no_memory : (rooms : Rooms) (m : Memory) (result : Result ℕ MigrateErr) → TakenOverAs rooms m result → IfNoMemory result ⊥
+pub over_no_memory : (rooms : UserRooms) (m : Memory) (result : Result ℕ MigrateErr) → TakenOverAs rooms m result → IfNoMemory result ⊥
 over_no_memory rooms m (Ok value) over = tt
 over_no_memory rooms m (Err (why.Open error)) over = tt
 over_no_memory rooms m (Err why.Already) over = tt
@@ -248,7 +248,7 @@ unread_counts why.Fault failed other is = is
 unread_counts why.NoMemory failed other is = is
 
 -- who judges calls no device
-pub judged_counts : (rooms : Rooms) (m : Memory) (error : MigrateErr) (failed other : Type 0) → JudgedAs rooms m (Err error) → other → OnFault {T = ℕ} (Err error) failed other
+pub judged_counts : (rooms : UserRooms) (m : Memory) (error : MigrateErr) (failed other : Type 0) → JudgedAs rooms m (Err error) → other → OnFault {T = ℕ} (Err error) failed other
 judged_counts rooms m (why.Open error) failed other judged holds = holds
 judged_counts rooms m why.Already failed other judged holds = holds
 judged_counts rooms m (why.TooLarge user room used limit) failed other judged holds = holds

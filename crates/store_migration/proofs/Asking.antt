@@ -1,19 +1,19 @@
 -- A record with what lies where its recipe is to lie.
 use Rattle.std.proofs.Common.{◌≡◌, ℕ, Bool, List, [], take, drop, Result, sym, subst}
-use Rattle.cd_base.specs.declared.place.Place.{Place}
-use Rattle.cloud_memory.specs.Memory.{Memory}
-use Rattle.record_checks.specs.declared.ground.Ground.{Ground}
-use Rattle.record_checks.specs.Checks.{AsksFor}
+use Rattle.fresh_checkpoints.specs.CdBase.place.Place.{Place}
+use Rattle.fresh_checkpoints.specs.CloudMemory.Memory.{Memory}
+use Rattle.store_opening.specs.RecordChecks.ground.Ground.{Ground}
+use Rattle.store_opening.specs.RecordChecks.Checks.{AsksFor}
 use Rattle.store_opening.specs.Exact.{Recipe, Nothing}
 use Rattle.store_migration.specs.declared.errors.MigrateErr.{MigrateErr}
 use Rattle.store_migration.specs.Answers.{OnFault}
-use Rattle.store_migration.specs.Steps.{BodyAs, OneAs}
+use Rattle.store_migration.specs.Steps.{BodyAs, IsFirstOneAs}
 use Rattle.store_migration.proofs.Cases.{of_all, on_answer}
 
 module _ (g : Ground) (inside : Bool) (recipes : List ℕ) (old : Memory) (at : ℕ) (body : List ℕ) (new : Memory) (result : Result (Unit {0}) MigrateErr) where
   pub by_recipe : (place : Place) (b : List ℕ) → b ≡ body → AsksFor g inside old b place
       → OnFault result (Unit {0}) (BodyAs g inside (take place.len (drop place.at recipes)) old at body new result)
-      → OnFault result (Unit {0}) (OneAs g inside recipes old at body new result)
+      → OnFault result (Unit {0}) (IsFirstOneAs g inside recipes old at body new result)
   by_recipe place b same asks judged = on_answer result _ _ (λ is. record {
     read = take place.len (drop place.at recipes);
     reads_for = Recipe place (subst (λ (l : List ℕ). AsksFor g inside old l place) same asks);
@@ -21,7 +21,7 @@ module _ (g : Ground) (inside : Bool) (recipes : List ℕ) (old : Memory) (at : 
   }) judged
 
   pub by_nothing : (b : List ℕ) → b ≡ body → ((place : Place) → ¬ (AsksFor g inside old b place)) → BodyAs g inside [] old at body new result
-      → OnFault result (Unit {0}) (OneAs g inside recipes old at body new result)
+      → OnFault result (Unit {0}) (IsFirstOneAs g inside recipes old at body new result)
   by_nothing b same none judged = of_all result _ (record {
     read = [];
     reads_for = Nothing (λ place asks. none place (subst (λ (l : List ℕ). AsksFor g inside old l place) (sym same) asks));

@@ -1,8 +1,8 @@
 -- Facts of an answer, by its cases.
 use Rattle.std.proofs.Common.{ℕ, Result, Ok, Err}
-use Rattle.cd_edges.specs.Disk.{Cloud}
-use Rattle.cd_edges.specs.Shelf.{HasFailed, KeepsCounts, IsCall}
-use Rattle.cd_edges.proofs.Calls.{failed_after}
+use Rattle.fresh_checkpoints.specs.CdEdges.Disk.{Cloud}
+use Rattle.fresh_checkpoints.specs.CdEdges.Shelf.{HasFailed, KeepsCounts, IsCall}
+use Rattle.fresh_checkpoints.proofs.CdEdges.Calls.{failed_after}
 use Rattle.store_opening.proofs.Synced.{counts_still}
 use Rattle.store_migration.specs.declared.errors.MigrateErr.{MigrateErr}
 use Rattle.store_migration.specs.declared.errors.MigrateErr.TheVariants as why

@@ -4,34 +4,34 @@ use Rattle.std.specs.Prelude.{All}
 use Rattle.std.proofs.Math.Seq.{take-append-add}
 use Rattle.std.proofs.lemmas.List.{drop_at}
 use Rattle.std.proofs.lemmas.List.Elements.{All-head, All-tail}
-use Rattle.cd_edges.specs.declared.area.Area.TheVariants.{Journal, Shares, Recipes}
-use Rattle.cd_edges.specs.Disk.{Image}
-use Rattle.commit_journal.specs.Records.{sized, chain, IsJournal}
-use Rattle.commit_journal.specs.Frames.{IsClosed, IsRecord}
-use Rattle.commit_journal.proofs.Headed.{one_record}
-use Rattle.commit_journal.proofs.Unique.{undamaged, whole_record}
-use Rattle.journal_start.specs.declared.start.Checkpoint.{Checkpoint}
-use Rattle.journal_start.specs.declared.start.Header.{Header}
-use Rattle.journal_start.specs.declared.start.Start.{Start}
-use Rattle.journal_start.specs.Ranges.{IsBehind}
-use Rattle.journal_start.specs.Spelling.{start_bytes, records_of, commands_of, region_of, recipes_end_of}
-use Rattle.journal_halves.specs.Halves.{half_len, half_of}
-use Rattle.journal_halves.specs.Findings.{part_of}
-use Rattle.record_bodies.specs.Spelling.{Body, body_bytes, FitsBody}
-use Rattle.user_dedup.specs.declared.command.Command.{Command}
-use Rattle.cloud_areas.specs.FormatOne.{Lays}
-use Rattle.cloud_areas.specs.Standing.{Chain, IsChain}
-use Rattle.cloud_memory.specs.Memory.{Memory, Remembers, Stand}
-use Rattle.compact_memories.specs.Moved.{PlacesLie}
-use Rattle.compact_memories.specs.Tables.{with_table}
-use Rattle.record_checks.specs.declared.ground.Ground.{Ground}
-use Rattle.record_laws.specs.Fronts.{is_inside}
-use Rattle.record_laws.proofs.Chain.{checkpoint_within}
+use Rattle.fresh_checkpoints.specs.CdEdges.area.Area.TheVariants.{Journal, Shares, Recipes}
+use Rattle.fresh_checkpoints.specs.CdEdges.Disk.{Image}
+use Rattle.store_opening.specs.CommitJournal.Records.{sized, chain, IsJournal}
+use Rattle.store_opening.specs.CommitJournal.Frames.{IsClosed, IsRecord}
+use Rattle.store_opening.proofs.CommitJournal.Headed.{one_record}
+use Rattle.store_opening.proofs.CommitJournal.Unique.{undamaged, whole_record}
+use Rattle.store_opening.specs.JournalStart.start.Checkpoint.{Checkpoint}
+use Rattle.store_opening.specs.JournalStart.start.Header.{Header}
+use Rattle.store_opening.specs.JournalStart.start.Start.{Start}
+use Rattle.store_opening.specs.JournalStart.Ranges.{IsBehind}
+use Rattle.store_opening.specs.JournalStart.Spelling.{start_bytes, records_of, commands_of, region_of, recipes_end_of}
+use Rattle.fresh_checkpoints.specs.JournalHalves.Halves.{half_len, half_of}
+use Rattle.fresh_checkpoints.specs.JournalHalves.Findings.{part_of}
+use Rattle.store_opening.specs.RecordBodies.Spelling.{Body, body_bytes, FitsBody}
+use Rattle.store_opening.specs.UserDedup.command.Command.{Command}
+use Rattle.fresh_checkpoints.specs.CloudAreas.FormatOne.{Lays}
+use Rattle.fresh_checkpoints.specs.CloudAreas.Standing.{Chain, IsChain}
+use Rattle.fresh_checkpoints.specs.CloudMemory.Memory.{Memory, Remembers, Stand}
+use Rattle.fresh_checkpoints.specs.CompactMemories.Moved.{PlacesLie}
+use Rattle.fresh_checkpoints.specs.CompactMemories.Tables.{with_table}
+use Rattle.store_opening.specs.RecordChecks.ground.Ground.{Ground}
+use Rattle.store_opening.specs.RecordLaws.Fronts.{is_inside}
+use Rattle.store_opening.proofs.RecordLaws.Chain.{checkpoint_within}
 use Rattle.store_opening.specs.Exact.{ground_of, ReadsFor, Recipe, Nothing}
 use Rattle.store_opening.proofs.Opened.{not_open, not_broken}
-use Rattle.first_records.specs.declared.errors.FirstErr.{FirstErr}
-use Rattle.first_records.specs.Judging.{JudgesFirst}
-use Rattle.first_records.proofs.OneAnswer.{one_answer}
+use Rattle.first_laws.specs.FirstRecords.errors.FirstErr.{FirstErr}
+use Rattle.first_laws.specs.FirstRecords.Judging.{JudgesFirst}
+use Rattle.first_laws.proofs.FirstRecords.OneAnswer.{one_answer}
 use Rattle.first_laws.specs.Holding.{MayHoldOne, front_left_one}
 use Rattle.first_laws.specs.Lawful.{ground_one, IsNextOne, PassesOne}
 use Rattle.first_laws.specs.Leaving.{IsLeftOne, begun_behind}

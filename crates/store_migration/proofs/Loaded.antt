@@ -1,36 +1,36 @@
 -- A journal of format 1 that is read into the memory, over the areas of a cloud.
 use Rattle.std.proofs.Common.{◌≡◌, inl, inr, ℕ, ◌+◌, ◌*◌, ◌<◌, ◌≤◌, List, [], ◌∷◌, length, drop, Option, Some, None, Result, Ok, Err, OnOk, refl, sym, ◌∙◌, ap, subst, arith, length-append}
-use Rattle.cd_base.specs.declared.ids.CloudNo.{CloudNo}
-use Rattle.cd_base.specs.declared.shape.Shape.{Shape}
-use Rattle.cd_edges.specs.declared.area.Area.{Area}
-use Rattle.cd_edges.specs.declared.area.Area.TheVariants.{Journal, Shares, Recipes}
-use Rattle.cd_edges.specs.Disk.{Store, Areas, Cloud, Image, reads}
-use Rattle.cd_edges.specs.Shelf.{stable, Stays}
-use Rattle.commit_journal.specs.Records.{chain}
-use Rattle.journal_start.specs.declared.start.Checkpoint.{Checkpoint}
-use Rattle.journal_start.specs.declared.start.Header.{Header}
-use Rattle.journal_start.specs.declared.start.Start.{Start}
-use Rattle.journal_start.specs.Ranges.{IsBehind, usual_rooms}
-use Rattle.journal_start.specs.Spelling.{start_bytes, region_of, recipes_end_of}
-use Rattle.journal_halves.specs.Halves.{half_len}
-use Rattle.journal_halves.specs.Journals.{Where}
-use Rattle.journal_halves.specs.Findings.{part_of}
-use Rattle.half_journal.specs.Openings.{IsOpened}
-use Rattle.half_journal.specs.States.{State, IsReading, IsEnded}
-use Rattle.cloud_memory.specs.declared.cloud.CloudMemory.{CloudMemory}
-use Rattle.cloud_memory.specs.Fitting.{FitsRecords}
-use Rattle.cloud_memory.specs.Greatest.{KeepsGreatest}
-use Rattle.cloud_memory.specs.Memory.{Memory}
-use Rattle.cloud_memory.proofs.Fitting.{begun_fits}
-use Rattle.record_checks.specs.declared.ground.Ground.{Ground}
-use Rattle.cd_base.specs.declared.rooms.Room.TheVariants.{Fps, Owners, Files}
-use Rattle.first_records.specs.Limits.{HasFirstRooms, limit_of}
+use Rattle.fresh_checkpoints.specs.CdBase.ids.CloudNo.{CloudNo}
+use Rattle.fresh_checkpoints.specs.CdBase.shape.Shape.{Shape}
+use Rattle.fresh_checkpoints.specs.CdEdges.area.Area.{Area}
+use Rattle.fresh_checkpoints.specs.CdEdges.area.Area.TheVariants.{Journal, Shares, Recipes}
+use Rattle.fresh_checkpoints.specs.CdEdges.Disk.{Store, Areas, Cloud, Image, reads}
+use Rattle.fresh_checkpoints.specs.CdEdges.Shelf.{stable, Stays}
+use Rattle.store_opening.specs.CommitJournal.Records.{chain}
+use Rattle.store_opening.specs.JournalStart.start.Checkpoint.{Checkpoint}
+use Rattle.store_opening.specs.JournalStart.start.Header.{Header}
+use Rattle.store_opening.specs.JournalStart.start.Start.{Start}
+use Rattle.store_opening.specs.JournalStart.Ranges.{IsBehind, usual_rooms}
+use Rattle.store_opening.specs.JournalStart.Spelling.{start_bytes, region_of, recipes_end_of}
+use Rattle.fresh_checkpoints.specs.JournalHalves.Halves.{half_len}
+use Rattle.fresh_checkpoints.specs.JournalHalves.Journals.{Where}
+use Rattle.fresh_checkpoints.specs.JournalHalves.Findings.{part_of}
+use Rattle.store_opening.specs.HalfJournal.Openings.{IsOpened}
+use Rattle.store_opening.specs.HalfJournal.States.{JournalState, IsJournalReading, IsJournalEnded}
+use Rattle.fresh_checkpoints.specs.CloudMemory.cloud.CloudMemory.{CloudMemory}
+use Rattle.fresh_checkpoints.specs.CloudMemory.Fitting.{FitsRecords}
+use Rattle.fresh_checkpoints.specs.CloudMemory.Greatest.{KeepsGreatest}
+use Rattle.fresh_checkpoints.specs.CloudMemory.Memory.{Memory}
+use Rattle.fresh_checkpoints.proofs.CloudMemoryLaws.Fitting.{begun_fits}
+use Rattle.store_opening.specs.RecordChecks.ground.Ground.{Ground}
+use Rattle.fresh_checkpoints.specs.CdBase.rooms.Room.TheVariants.{Fps, Owners, Files}
+use Rattle.first_laws.specs.FirstRecords.Limits.{HasFirstRooms, limit_of}
 use Rattle.first_laws.specs.Leaving.{begun_behind}
 use Rattle.store_opening.specs.Exact.{ground_of}
-use Rattle.store_opening.specs.Steps.{HasEnded}
+use Rattle.store_opening.specs.Steps.{HasChainEnded}
 use Rattle.store_opening.specs.Synced.{AreSynced}
 use Rattle.store_opening.proofs.Synced.{synced_at}
-use Rattle.migration_model.specs.Migrating.{header_one}
+use Rattle.large_users.specs.MigrationModel.Migrating.{header_one}
 use Rattle.store_migration.specs.declared.errors.OldErr.{OldErr}
 use Rattle.store_migration.specs.declared.errors.OldErr.TheVariants.{NotBegun, Damaged, OtherStore, RoomsTooSmall}
 use Rattle.store_migration.specs.declared.errors.MigrateErr.{MigrateErr}
@@ -55,7 +55,7 @@ users_kept old new keeps rooms = (keeps (limit_of Fps) (limit_of Owners) (limit_
 
 -- ---- the records behind a start
 
-module _ (g : Ground) (half : ℕ) (recipes : List ℕ) (store : Store) (w : Where) (before : State) (m0 : Memory) (after : State) (new : Memory)
+module _ (g : Ground) (half : ℕ) (recipes : List ℕ) (store : Store) (w : Where) (before : JournalState) (m0 : Memory) (after : JournalState) (new : Memory)
     (begun : m0 ≡ begun_behind users_most (recipes_end_of before.start.checkpoint)) (within : recipes_end_of before.start.checkpoint ≤ g.recipes_len) where
   from_start : (answer : Result (Unit {0}) OldErr) → From g recipes store new before 0 m0 answer → FromStart g recipes store new before answer
   from_start answer from = subst (λ (m : Memory). From g recipes store new before 0 m answer) begun from
@@ -68,12 +68,12 @@ module _ (g : Ground) (half : ℕ) (recipes : List ℕ) (store : Store) (w : Whe
   loads (Err why.Fault) all = tt
   loads (Err why.NoMemory) all = all
 
-  pub loads_ended : (result : Result (Unit {0}) MigrateErr) → AllAs g recipes store w before m0 after new result → OnOk result (HasEnded after store w)
+  pub loads_ended : (result : Result (Unit {0}) MigrateErr) → AllAs g recipes store w before m0 after new result → OnOk result (HasChainEnded after store w)
   loads_ended (Ok value) all = record { bodies = all.0.0; ended = all.0.1 }
   loads_ended (Err e) all = tt
 
 -- recipes end past their area
-pub loads_past : (g : Ground) (half : ℕ) (recipes : List ℕ) (store : Store) (before : State) (new : Memory) (end : ℕ) (error : OldErr) → end ≡ recipes_end_of before.start.checkpoint → g.recipes_len < end → error ≡ past_err half end
+pub loads_past : (g : Ground) (half : ℕ) (recipes : List ℕ) (store : Store) (before : JournalState) (new : Memory) (end : ℕ) (error : OldErr) → end ≡ recipes_end_of before.start.checkpoint → g.recipes_len < end → error ≡ past_err half end
     → LoadsAs g half recipes store before new (Err (why.Open error))
 loads_past g half recipes store before new end error is past error_is =
     inr (subst (λ (n : ℕ). g.recipes_len < n) is past, error_is ∙ ap (past_err half) is)
@@ -81,7 +81,7 @@ loads_past g half recipes store before new end error is past error_is =
 -- ---- over the areas
 
 -- the gate behind the start
-gate_behind : (state : State) (store : Store) (w : Where) → IsReading state store w → w.bodies ≡ [] → state.current.gate ≡ length (start_bytes w.start) + 5
+gate_behind : (state : JournalState) (store : Store) (w : Where) → IsJournalReading state store w → w.bodies ≡ [] → state.current.gate ≡ length (start_bytes w.start) + 5
 gate_behind state store w reading none =
     let gate : state.current.gate ≡ length (chain (start_bytes w.start ∷ [])) = reading.read.gate ∙ ap (λ (l : List (List ℕ)). length (chain (start_bytes w.start ∷ l))) none in
     omega (arith, gate, length-append (start_bytes w.start) [])
@@ -91,7 +91,7 @@ no_region : (half format : ℕ) (o : Option Checkpoint) → format ≡ 1 → IsB
 no_region half format None one is = refl
 no_region half format (Some checkpoint) one is = is.without_region one
 
-module _ (shape : Shape) (cloud_no : CloudNo) (c : Cloud) (state : State) (o : IsOpened state (c.now Journal) (header_one shape cloud_no)) (half : ℕ) (half_is : state.current.half ≡ half)
+module _ (shape : Shape) (cloud_no : CloudNo) (c : Cloud) (state : JournalState) (o : IsOpened state (c.now Journal) (header_one shape cloud_no)) (half : ℕ) (half_is : state.current.half ≡ half)
     (g : Ground) (shape_is : g.shape ≡ shape) (rooms_is : g.rooms ≡ usual_rooms) (region_is : g.region ≡ 0) (shares_is : g.shares_len ≡ length (c.now Shares).read) (recipes_is : g.recipes_len ≡ length (c.now Recipes).read) where
   abbrev header : Header
   header = header_one shape cloud_no
@@ -140,7 +140,7 @@ module _ (shape : Shape) (cloud_no : CloudNo) (c : Cloud) (state : State) (o : I
   read_as new (Err why.Fault) loaded = tt
   read_as new (Err why.NoMemory) loaded = absurd loaded
 
-  pub read_all : (new : Memory) (after : State) (result : Result (Unit {0}) MigrateErr) → LoadsAs g half (c.now Recipes).read (c.now Journal) state new result → OnOk result (HasEnded after (c.now Journal) w)
+  pub read_all : (new : Memory) (after : JournalState) (result : Result (Unit {0}) MigrateErr) → LoadsAs g half (c.now Recipes).read (c.now Journal) state new result → OnOk result (HasChainEnded after (c.now Journal) w)
       → OnOk result (HasReadAll shape cloud_no after new c)
   read_all new after (Ok value) loaded ended = record {
     w = record w { bodies = ended.bodies };
@@ -167,22 +167,22 @@ module _ (shape : Shape) (cloud_no : CloudNo) (c0 c1 : Cloud) (synced : AreSynce
   on_disk : (area : Area) → c1.now area ≡ stable (c1.now area).read
   on_disk area = let is = synced_at c0 c1 synced area in is ∙ ap (λ (s : Store). stable s.read) (sym is)
 
-  pub read_whole : (after : State) (new : Memory) → HasReadAll shape cloud_no after new c1 → IsReadWholeOne shape cloud_no after new c1
+  pub read_whole : (after : JournalState) (new : Memory) → HasReadAll shape cloud_no after new c1 → IsReadWholeOne shape cloud_no after new c1
   read_whole after new r = record { w = r.w; header_is = r.header_is; ended = r.ended; on_disk = on_disk; within = r.within; replays = r.replays }
 
 -- the same of a cloud that stays
-pub read_all_still : (shape : Shape) (cloud_no : CloudNo) (after : State) (new : Memory) (c d : Cloud) → Stays c d → HasReadAll shape cloud_no after new c → HasReadAll shape cloud_no after new d
+pub read_all_still : (shape : Shape) (cloud_no : CloudNo) (after : JournalState) (new : Memory) (c d : Cloud) → Stays c d → HasReadAll shape cloud_no after new c → HasReadAll shape cloud_no after new d
 read_all_still shape cloud_no after new c d stays r = record {
   w = r.w;
   header_is = r.header_is;
-  ended = subst (λ (a : Areas). IsEnded after (a Journal) r.w) (sym stays.now) r.ended;
+  ended = subst (λ (a : Areas). IsJournalEnded after (a Journal) r.w) (sym stays.now) r.ended;
   within = subst (λ (a : Areas). recipes_end_of r.w.start.checkpoint ≤ length (a Recipes).read) (sym stays.now) r.within;
   replays = subst (λ (a : Areas). ReplaysAllFirst (header_one shape cloud_no) r.w.half r.w.start (reads a) new (Ok tt)) (sym stays.now) r.replays;
 }
 
 -- ---- it isn't opened
 
-module _ (shape : Shape) (cloud_no : CloudNo) (after : State) (c : Cloud) (new : Memory) where
+module _ (shape : Shape) (cloud_no : CloudNo) (after : JournalState) (c : Cloud) (new : Memory) where
   abbrev answer : MigrateErr → Type 0
   answer error = ReadsOld shape cloud_no (reads c.now) new (Err error)
 
@@ -201,7 +201,7 @@ module _ (shape : Shape) (cloud_no : CloudNo) (after : State) (c : Cloud) (new :
   unopened_as why.NoMemory is = absurd is
 
 -- behind the syncs
-pub unopened_before : (shape : Shape) (cloud_no : CloudNo) (c0 c1 : Cloud) (after : State) (new : Memory) (error : MigrateErr) → OnFault {T = ℕ} (Err error) (Unit {0}) (AreSynced c0 c1)
+pub unopened_before : (shape : Shape) (cloud_no : CloudNo) (c0 c1 : Cloud) (after : JournalState) (new : Memory) (error : MigrateErr) → OnFault {T = ℕ} (Err error) (Unit {0}) (AreSynced c0 c1)
     → OpenedAs shape cloud_no after (c1.now Journal) (Err error) → OnFault {T = Unit {0}} (Err error) (Unit {0}) (ReadsOld shape cloud_no (reads c0.now) new (Err error))
 unopened_before shape cloud_no c0 c1 after new (why.Open error) synced is = read_before shape cloud_no c0 c1 synced new (Err (why.Open error)) (unopened_as shape cloud_no after c1 new (why.Open error) is)
 unopened_before shape cloud_no c0 c1 after new why.Already synced is = read_before shape cloud_no c0 c1 synced new (Err why.Already) (unopened_as shape cloud_no after c1 new why.Already is)

@@ -2,47 +2,47 @@
 use Rattle.std.proofs.Common.{◌≡◌, ℕ, ◌^◌, ◌+◌, ◌*◌, ◌<◌, ◌≤◌, List, [], length, Option, Some, refl, sym, ap, ◌∙◌, subst, arith}
 use Rattle.std.specs.Prelude.{unwrap_or}
 use Rattle.std.specs.FinMap.{get}
-use Rattle.cd_base.specs.declared.ids.CloudNo.{CloudNo}
-use Rattle.cd_base.specs.declared.ids.Fp.{Fp}
-use Rattle.cd_base.specs.declared.ids.Tag.{Tag}
-use Rattle.cd_base.specs.declared.ids.UserId.{UserId}
-use Rattle.cd_base.specs.declared.ids.Version.{Version}
-use Rattle.cd_base.specs.declared.place.Place.{Place}
-use Rattle.cd_base.specs.declared.shape.Shape.{Shape}
-use Rattle.cd_edges.specs.declared.area.Area.TheVariants.{Shares, Recipes}
-use Rattle.cd_edges.specs.Disk.{Cloud}
-use Rattle.container_log.specs.Laying.{IsAt}
-use Rattle.file_index.specs.declared.key.Entry.{Entry}
-use Rattle.file_index.specs.declared.key.FileKey.{FileKey}
-use Rattle.file_index.specs.Files.{key_of}
-use Rattle.half_journal.specs.States as journals
-use Rattle.journal_start.specs.declared.rooms.Rooms.{Rooms}
-use Rattle.user_dedup.specs.declared.command.Command.{Command}
-use Rattle.user_dedup.specs.declared.file_list.FileEntry.{FileEntry}
-use Rattle.user_dedup.specs.Cloud.{counted, user_view, held_bytes}
-use Rattle.user_dedup.specs.Compact.{compact}
-use Rattle.user_dedup.specs.Dedup.{IsSound}
-use Rattle.user_dedup.specs.Pages.{entry_at}
-use Rattle.user_dedup.specs.Spending.{nothing, spent_by_all, IsWithin}
-use Rattle.user_dedup.proofs.CompactSound.{compact_sound}
-use Rattle.user_dedup.proofs.Compacting.{same_entries, same_held}
-use Rattle.cloud_areas.specs.Chains.{least_shares, least_recipes}
-use Rattle.cloud_areas.proofs.Room.{spent_above}
-use Rattle.cloud_memory.specs.declared.cloud.CloudMemory.{CloudMemory}
-use Rattle.cloud_memory.specs.Memory.{Memory, Remembers, Stand}
-use Rattle.cloud_memory.specs.Rooms.{memory_of}
-use Rattle.checkpoints.specs.Known.{AreListed}
-use Rattle.compact_lists.specs.Live.{live_of, IsAlive}
-use Rattle.compact_lists.proofs.Spent.{spent_kept}
-use Rattle.compact_memories.specs.Kept.{live_places, commands_in, IsCompacted}
-use Rattle.compact_memories.specs.Moved.{PlacesLie}
-use Rattle.compact_memories.specs.Tables.{with_table}
-use Rattle.compact_memories.proofs.Keeping as keeping
-use Rattle.compact_memories.proofs.Live.{live_from}
-use Rattle.compact_memories.proofs.Numbers.{numbers}
+use Rattle.fresh_checkpoints.specs.CdBase.ids.CloudNo.{CloudNo}
+use Rattle.fresh_checkpoints.specs.CdBase.ids.Fp.{Fp}
+use Rattle.fresh_checkpoints.specs.CdBase.ids.Tag.{Tag}
+use Rattle.fresh_checkpoints.specs.CdBase.ids.UserId.{UserId}
+use Rattle.fresh_checkpoints.specs.CdBase.ids.Version.{Version}
+use Rattle.fresh_checkpoints.specs.CdBase.place.Place.{Place}
+use Rattle.fresh_checkpoints.specs.CdBase.shape.Shape.{Shape}
+use Rattle.fresh_checkpoints.specs.CdEdges.area.Area.TheVariants.{Shares, Recipes}
+use Rattle.fresh_checkpoints.specs.CdEdges.Disk.{Cloud}
+use Rattle.store_opening.specs.ContainerLog.Laying.{IsAt}
+use Rattle.store_opening.specs.FileIndex.key.Entry.{Entry}
+use Rattle.store_opening.specs.FileIndex.key.FileKey.{FileKey}
+use Rattle.store_opening.specs.FileIndex.Files.{key_of}
+use Rattle.store_opening.specs.HalfJournal.States as journals
+use Rattle.store_opening.specs.JournalStart.rooms.UserRooms.{UserRooms}
+use Rattle.store_opening.specs.UserDedup.command.Command.{Command}
+use Rattle.store_opening.specs.UserDedup.file_list.FileEntry.{FileEntry}
+use Rattle.store_opening.specs.UserDedup.Cloud.{counted, user_view, held_bytes}
+use Rattle.store_opening.specs.UserDedup.Compact.{compact}
+use Rattle.store_opening.specs.UserDedup.Dedup.{IsSound}
+use Rattle.store_opening.specs.UserDedup.Pages.{entry_at}
+use Rattle.store_opening.specs.UserDedup.Spending.{nothing, spent_by_all, IsWithin}
+use Rattle.store_opening.proofs.UserDedup.CompactSound.{compact_sound}
+use Rattle.store_opening.proofs.UserDedup.Compacting.{same_entries, same_held}
+use Rattle.fresh_checkpoints.specs.CloudAreas.Chains.{least_shares, least_recipes}
+use Rattle.fresh_checkpoints.proofs.CloudAreas.Room.{spent_above}
+use Rattle.fresh_checkpoints.specs.CloudMemory.cloud.CloudMemory.{CloudMemory}
+use Rattle.fresh_checkpoints.specs.CloudMemory.Memory.{Memory, Remembers, Stand}
+use Rattle.fresh_checkpoints.specs.CloudMemory.Rooms.{memory_of}
+use Rattle.fresh_checkpoints.specs.Checkpoints.Known.{AreListed}
+use Rattle.large_users.specs.CompactLists.Live.{live_of, IsAlive}
+use Rattle.large_users.proofs.CompactLists.Spent.{spent_kept}
+use Rattle.fresh_checkpoints.specs.CompactMemories.Kept.{live_places, commands_in, IsCompacted}
+use Rattle.fresh_checkpoints.specs.CompactMemories.Moved.{PlacesLie}
+use Rattle.fresh_checkpoints.specs.CompactMemories.Tables.{with_table}
+use Rattle.fresh_checkpoints.proofs.CompactMemories.Keeping as keeping
+use Rattle.fresh_checkpoints.proofs.CompactMemories.Live.{live_from}
+use Rattle.fresh_checkpoints.proofs.CompactMemories.Numbers.{numbers}
 use Rattle.fresh_checkpoints.specs.Fresh.{IsNextMemory}
-use Rattle.migration_model.specs.Migrating.{AreSmallEnough, header_two}
-use Rattle.migration_model.proofs.Large.{all_within}
+use Rattle.large_users.specs.MigrationModel.Migrating.{AreSmallEnough, header_two}
+use Rattle.large_users.proofs.MigrationModel.Large.{all_within}
 use Rattle.store_migration.specs.Reading.{IsReadFirst}
 
 -- ---- places that are among those of another memory
@@ -62,7 +62,7 @@ lie_still region a b more most old new of one two lie = record {
 
 -- ---- the memory of the compact list
 
-module _ (shape : Shape) (cloud_no : CloudNo) (rooms : Rooms) (list : List Command) (journal : journals.State) (cloud : Cloud) (old new : CloudMemory)
+module _ (shape : Shape) (cloud_no : CloudNo) (rooms : UserRooms) (list : List Command) (journal : journals.JournalState) (cloud : Cloud) (old new : CloudMemory)
     (is : IsReadFirst shape cloud_no list journal (memory_of old) cloud) (l : AreListed old) (c : IsCompacted old (memory_of new)) (k : AreListed new)
     (small : AreSmallEnough shape rooms list) where
   abbrev kept : List Command

@@ -3,43 +3,43 @@ use Rattle.std.proofs.Common.{◌≡◌, ◌≢◌, ◌⊎◌, ℕ, ◌+◌, ◌
 use Rattle.std.proofs.lemmas.Bool.{cases_lt}
 use Rattle.std.specs.Prelude.{slice_index}
 use Rattle.std.specs.Int.{w64, to_be_bytes}
-use Rattle.cd_base.specs.declared.ids.CloudNo.{CloudNo}
-use Rattle.cd_base.specs.declared.ids.UserId.{UserId}
-use Rattle.cd_base.specs.declared.place.Place.{Place}
-use Rattle.cd_base.specs.declared.shape.Shape.{Shape}
-use Rattle.cd_edges.specs.declared.area.Area.TheVariants.{Journal, Recipes}
-use Rattle.cd_edges.specs.Disk.{Image}
-use Rattle.commit_journal.specs.Frames.{IsRecord}
-use Rattle.commit_journal.proofs.Headed.{one_record}
-use Rattle.commit_journal.proofs.Unique.{undamaged}
-use Rattle.file_index.specs.declared.key.Entry.{Entry}
-use Rattle.record_bodies.specs.Reading.{body_at}
-use Rattle.record_bodies.specs.Spelling.{Body}
-use Rattle.record_body.specs.declared.body.BodyErr.{BodyErr}
-use Rattle.journal_start.specs.declared.rooms.Rooms.{Rooms}
-use Rattle.journal_start.specs.declared.start.Header.{Header}
-use Rattle.journal_start.specs.declared.start.Start.{Start}
-use Rattle.journal_start.specs.Spelling.{records_of, recipes_end_of}
-use Rattle.journal_halves.specs.Halves.{half_len, IsCurrent}
-use Rattle.user_dedup.specs.Dedup.{FullRoom}
-use Rattle.cloud_memory.specs.Memory.{Memory}
-use Rattle.record_checks.specs.declared.ground.Ground.{Ground}
-use Rattle.record_checks.specs.Checks.{Asks, ByCommit, ByDelete, AsksFor}
-use Rattle.first_records.specs.declared.errors.FirstErr.{FirstErr}
-use Rattle.first_records.specs.Judging.{JudgesFirst}
-use Rattle.first_records.proofs.OneAnswer.{one_answer}
-use Rattle.compact_memories.specs.Kept.{commands_in}
+use Rattle.fresh_checkpoints.specs.CdBase.ids.CloudNo.{CloudNo}
+use Rattle.fresh_checkpoints.specs.CdBase.ids.UserId.{UserId}
+use Rattle.fresh_checkpoints.specs.CdBase.place.Place.{Place}
+use Rattle.fresh_checkpoints.specs.CdBase.shape.Shape.{Shape}
+use Rattle.fresh_checkpoints.specs.CdEdges.area.Area.TheVariants.{Journal, Recipes}
+use Rattle.fresh_checkpoints.specs.CdEdges.Disk.{Image}
+use Rattle.store_opening.specs.CommitJournal.Frames.{IsRecord}
+use Rattle.store_opening.proofs.CommitJournal.Headed.{one_record}
+use Rattle.store_opening.proofs.CommitJournal.Unique.{undamaged}
+use Rattle.store_opening.specs.FileIndex.key.Entry.{Entry}
+use Rattle.store_opening.specs.RecordBodies.Reading.{body_at}
+use Rattle.store_opening.specs.RecordBodies.Spelling.{Body}
+use Rattle.store_opening.specs.RecordBody.body.BodyErr.{BodyErr}
+use Rattle.store_opening.specs.JournalStart.rooms.UserRooms.{UserRooms}
+use Rattle.store_opening.specs.JournalStart.start.Header.{Header}
+use Rattle.store_opening.specs.JournalStart.start.Start.{Start}
+use Rattle.store_opening.specs.JournalStart.Spelling.{records_of, recipes_end_of}
+use Rattle.fresh_checkpoints.specs.JournalHalves.Halves.{half_len, IsCurrent}
+use Rattle.store_opening.specs.UserDedup.Dedup.{FullRoom}
+use Rattle.fresh_checkpoints.specs.CloudMemory.Memory.{Memory}
+use Rattle.store_opening.specs.RecordChecks.ground.Ground.{Ground}
+use Rattle.store_opening.specs.RecordChecks.Checks.{Asks, ByCommit, ByDelete, AsksFor}
+use Rattle.first_laws.specs.FirstRecords.errors.FirstErr.{FirstErr}
+use Rattle.first_laws.specs.FirstRecords.Judging.{JudgesFirst}
+use Rattle.first_laws.proofs.FirstRecords.OneAnswer.{one_answer}
+use Rattle.fresh_checkpoints.specs.CompactMemories.Kept.{commands_in}
 use Rattle.store_opening.specs.Exact.{ReadsFor, Recipe, Nothing}
 use Rattle.store_opening.proofs.Current.{same_half, same_start, not_unbegun}
 use Rattle.store_opening.proofs.Opened.{not_open, not_broken}
 use Rattle.store_opening.proofs.OneStart.{one_damage, one_found, unbegun_whole, current_whole}
 use Rattle.large_users.specs.Large.{passed_in, IsFirstPassed, IsNonePassed}
-use Rattle.migration_model.specs.Migrating.{header_one}
+use Rattle.large_users.specs.MigrationModel.Migrating.{header_one}
 use Rattle.store_migration.specs.declared.errors.OldErr.{OldErr}
 use Rattle.store_migration.specs.declared.errors.OldErr.TheVariants.{Damaged, OtherStore}
 use Rattle.store_migration.specs.declared.errors.MigrateErr.{MigrateErr}
 use Rattle.store_migration.specs.declared.errors.MigrateErr.TheVariants as why
-use Rattle.store_migration.specs.Exact.{IsNew, end_place, old_err, ReplaysFirst, Ended, Early, Taken, Refused, Broken, ReplaysAllFirst}
+use Rattle.store_migration.specs.Exact.{IsNewHeader, end_place, old_err, ReplaysFirst, Ended, Early, Taken, Refused, Broken, ReplaysAllFirst}
 use Rattle.store_migration.specs.Exact as exact
 use Rattle.store_migration.specs.Exact.{ReadsOld, Migrates}
 
@@ -186,11 +186,11 @@ module _ (shape : Shape) (cloud : CloudNo) (image : Image) where
     pub all_agree : (m n : Memory) (one two : Result (Unit {0}) OldErr) → ReplaysAllFirst first half start image m one → ReplaysAllFirst first half2 start2 image n two → IsOne m n one two
     all_agree m n one two r r2 = replays_agree _ half start (image Recipes) m n _ _ 0 _ one two r (replays_here n two r2)
 
-    pub not_new : ¬ (IsNew shape cloud start.header) → IsNew shape cloud start2.header → ⊥
-    not_new none is = none (subst (IsNew shape cloud) (sym header_is) is)
+    pub not_new : ¬ (IsNewHeader shape cloud start.header) → IsNewHeader shape cloud start2.header → ⊥
+    not_new none is = none (subst (IsNewHeader shape cloud) (sym header_is) is)
 
     -- a header of format 1 isn't one of format 2
-    pub not_first : IsNew shape cloud start.header → start2.header ≡ first → ⊥
+    pub not_first : IsNewHeader shape cloud start.header → start2.header ≡ first → ⊥
     not_first is same = let format : 2 ≡ 1 = sym is.format ∙ ap (λ (h : Header). h.format) (header_is ∙ same) in omega (arith, format)
 
     pub not_other : start.header ≢ first → start2.header ≡ first → ⊥
@@ -284,7 +284,7 @@ ordered a b = elim (cases_lt a b) [
 ]
 
 -- one user is the first that keeps too much, and it has one first room
-module _ (rooms : Rooms) (m : Memory) (user user2 : UserId) (full full2 : FullRoom) (one : IsFirstPassed rooms m user full) (two : IsFirstPassed rooms m user2 full2) where
+module _ (rooms : UserRooms) (m : Memory) (user user2 : UserId) (full full2 : FullRoom) (one : IsFirstPassed rooms m user full) (two : IsFirstPassed rooms m user2 full2) where
   pub one_user : user ≡ user2
   one_user = elim (ordered user.0 user2.0) [
     | inl less ↦ absurd (some_none full (passed_in rooms m user) one.here (two.before user less))
@@ -307,7 +307,7 @@ refusal_of e f same = cc
 not_read : (e : MigrateErr) → refused e ≡ Ok tt → ⊥
 not_read e same = cc
 
-module _ (shape : Shape) (cloud : CloudNo) (rooms : Rooms) (image : Image) where
+module _ (shape : Shape) (cloud : CloudNo) (rooms : UserRooms) (image : Image) where
   one_of : (m n : Memory) (one two : Result (Unit {0}) MigrateErr) → ReadsOld shape cloud image m one → ReadsOld shape cloud image n two → IsOne m n one two
   one_of m n one two r r2 = one_reading shape cloud image m n one two r r2
 

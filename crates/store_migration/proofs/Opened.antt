@@ -1,24 +1,24 @@
 -- The journal of format 1, found and opened.
 use Rattle.std.proofs.Common.{◌≡◌, ℕ, List, false, Ok, Err, sym, ◌∙◌, subst}
-use Rattle.cd_base.specs.declared.ids.CloudNo.{CloudNo}
-use Rattle.cd_base.specs.declared.shape.Shape.{Shape}
-use Rattle.cd_edges.specs.Disk.{Store}
-use Rattle.journal_start.specs.declared.start.Start.{Start}
-use Rattle.journal_halves.specs.declared.found.Found.{Found}
-use Rattle.journal_halves.specs.declared.found.FindErr.{FindErr}
-use Rattle.journal_halves.specs.declared.found.FindErr.TheVariants as finds
-use Rattle.journal_halves.specs.Findings as findings
-use Rattle.half_journal.specs.declared.errors.OpenErr.{OpenErr}
-use Rattle.half_journal.specs.declared.errors.OpenErr.TheVariants as opens
-use Rattle.half_journal.specs.Openings as openings
-use Rattle.half_journal.specs.States.{State}
+use Rattle.fresh_checkpoints.specs.CdBase.ids.CloudNo.{CloudNo}
+use Rattle.fresh_checkpoints.specs.CdBase.shape.Shape.{Shape}
+use Rattle.fresh_checkpoints.specs.CdEdges.Disk.{Store}
+use Rattle.store_opening.specs.JournalStart.start.Start.{Start}
+use Rattle.fresh_checkpoints.specs.JournalHalves.found.Found.{Found}
+use Rattle.fresh_checkpoints.specs.JournalHalves.found.FindErr.{FindErr}
+use Rattle.fresh_checkpoints.specs.JournalHalves.found.FindErr.TheVariants as finds
+use Rattle.fresh_checkpoints.specs.JournalHalves.Findings as findings
+use Rattle.store_opening.specs.HalfJournal.errors.OpenErr.{OpenErr}
+use Rattle.store_opening.specs.HalfJournal.errors.OpenErr.TheVariants as opens
+use Rattle.store_opening.specs.HalfJournal.Openings as openings
+use Rattle.store_opening.specs.HalfJournal.States.{JournalState}
 use Rattle.store_opening.proofs.Current.{same_half, same_start}
-use Rattle.migration_model.specs.Migrating.{header_one}
+use Rattle.large_users.specs.MigrationModel.Migrating.{header_one}
 use Rattle.store_migration.specs.declared.errors.OldErr.TheVariants.{NotBegun, Damaged, OtherStore, RoomsTooSmall}
 use Rattle.store_migration.specs.declared.errors.MigrateErr.{MigrateErr}
 use Rattle.store_migration.specs.declared.errors.MigrateErr.TheVariants as why
 use Rattle.store_migration.specs.Answers.{OnFault, IfNoMemory}
-use Rattle.store_migration.specs.Exact.{IsNew}
+use Rattle.store_migration.specs.Exact.{IsNewHeader}
 use Rattle.store_migration.specs.Finding.{err_of_find, err_of_open, FoundAs, OpenedAs}
 
 -- ---- no half is the current one
@@ -67,7 +67,7 @@ memory_of_open (opens.OtherStore found asked at) = tt
 pub open_memory : (error : OpenErr) (e : MigrateErr) → e ≡ err_of_open error → IfNoMemory {T = ℕ} (Err e) ⊥
 open_memory error e is = subst (λ (x : MigrateErr). IfNoMemory {T = ℕ} (Err x) ⊥) (sym is) (memory_of_open error)
 
-module _ (shape : Shape) (cloud : CloudNo) (store : Store) (half : ℕ) (found : FoundAs shape cloud store.read (Ok half)) (after : State) where
+module _ (shape : Shape) (cloud : CloudNo) (store : Store) (half : ℕ) (found : FoundAs shape cloud store.read (Ok half)) (after : JournalState) where
   pub old_opened : openings.IsOpened after store (header_one shape cloud) → OpenedAs shape cloud after store (Ok half)
   old_opened o = (o, o.reading.half ∙ same_half store.read o.w.half half o.w.start found.0 o.reading.is_current found.1)
 
@@ -80,7 +80,7 @@ module _ (shape : Shape) (cloud : CloudNo) (store : Store) (half : ℕ) (found :
         is.0,
         h.start,
         h.is_current,
-        (λ new. found.2 (subst (λ (s : Start). IsNew shape cloud s.header) (same_start store.read is.0 half h.start found.0 h.is_current found.1) new)),
+        (λ new. found.2 (subst (λ (s : Start). IsNewHeader shape cloud s.header) (same_start store.read is.0 half h.start found.0 h.is_current found.1) new)),
         (λ same. is.2 (sym h.header_is ∙ same)),
         sym h.header_is,
         is.3,
@@ -91,7 +91,7 @@ module _ (shape : Shape) (cloud : CloudNo) (store : Store) (half : ℕ) (found :
   not_opened error e is answer = subst (λ (x : MigrateErr). OpenedAs shape cloud after store (Err x)) (sym is) (opened_of error answer)
 
 -- what isn't found isn't opened
-pub none_opened : (shape : Shape) (cloud : CloudNo) (store : Store) (after : State) (error : MigrateErr) → FoundAs shape cloud store.read (Err error) → OpenedAs shape cloud after store (Err error)
+pub none_opened : (shape : Shape) (cloud : CloudNo) (store : Store) (after : JournalState) (error : MigrateErr) → FoundAs shape cloud store.read (Err error) → OpenedAs shape cloud after store (Err error)
 none_opened shape cloud store after (why.Open (NotBegun len)) found = found
 none_opened shape cloud store after (why.Open (Damaged at byte)) found = found
 none_opened shape cloud store after (why.Open (OtherStore other asked at)) found = absurd found

@@ -1,20 +1,20 @@
 -- One record further.
 use Rattle.std.proofs.Common.{◌≡◌, inl, inr, ℕ, ◌+◌, ◌*◌, Bool, true, false, List, length, drop, nat_lt, Result, Ok, Err, refl, sym, ◌∙◌, ap, subst, arith}
 use Rattle.std.proofs.lemmas.List.{drop-drop}
-use Rattle.cd_edges.specs.Disk.{Store}
-use Rattle.commit_journal.specs.Frames.{IsRecord}
-use Rattle.journal_start.specs.declared.start.Start.{Start}
-use Rattle.journal_start.specs.Spelling.{records_of}
-use Rattle.journal_halves.specs.Halves.{half_len}
-use Rattle.journal_halves.specs.Journals.{Where, all_bodies, with_body}
-use Rattle.journal_halves.specs.Findings.{part_of}
-use Rattle.journal_halves.specs.Outcomes.{gate_at, rest_of, StepsOver}
-use Rattle.half_journal.specs.declared.journal.Stage.{Stage}
-use Rattle.half_journal.specs.States.{State, IsReading, IsEnded}
-use Rattle.half_journal.specs.Outcomes.{records_place, IsDamaged}
-use Rattle.cloud_memory.specs.Memory.{Memory}
-use Rattle.record_checks.specs.declared.ground.Ground.{Ground}
-use Rattle.first_records.specs.Judging.{JudgesFirst}
+use Rattle.fresh_checkpoints.specs.CdEdges.Disk.{Store}
+use Rattle.store_opening.specs.CommitJournal.Frames.{IsRecord}
+use Rattle.store_opening.specs.JournalStart.start.Start.{Start}
+use Rattle.store_opening.specs.JournalStart.Spelling.{records_of}
+use Rattle.fresh_checkpoints.specs.JournalHalves.Halves.{half_len}
+use Rattle.fresh_checkpoints.specs.JournalHalves.Journals.{Where, all_bodies, with_body}
+use Rattle.fresh_checkpoints.specs.JournalHalves.Findings.{part_of}
+use Rattle.fresh_checkpoints.specs.JournalHalves.Outcomes.{gate_at, rest_of, IsRecordFurther}
+use Rattle.store_opening.specs.HalfJournal.journal.Stage.{Stage}
+use Rattle.store_opening.specs.HalfJournal.States.{JournalState, IsJournalReading, IsJournalEnded}
+use Rattle.store_opening.specs.HalfJournal.Outcomes.{records_place, IsDamaged}
+use Rattle.fresh_checkpoints.specs.CloudMemory.Memory.{Memory}
+use Rattle.store_opening.specs.RecordChecks.ground.Ground.{Ground}
+use Rattle.first_laws.specs.FirstRecords.Judging.{JudgesFirst}
 use Rattle.store_opening.specs.Exact.{ReadsFor}
 use Rattle.store_opening.proofs.Stepping.{restaged}
 use Rattle.store_migration.specs.declared.errors.OldErr.{OldErr}
@@ -23,10 +23,10 @@ use Rattle.store_migration.specs.declared.errors.MigrateErr.{MigrateErr}
 use Rattle.store_migration.specs.declared.errors.MigrateErr.TheVariants as why
 use Rattle.store_migration.specs.Answers.{OnFault}
 use Rattle.store_migration.specs.Exact.{ReplaysFirst, Ended, Early, Taken, Refused, Broken}
-use Rattle.store_migration.specs.Steps.{From, OneAs, NextAs}
+use Rattle.store_migration.specs.Steps.{From, IsFirstOneAs, NextAs}
 use Rattle.store_migration.proofs.AtGate.{record_at, closed_at}
 
-module _ (g : Ground) (recipes : List ℕ) (store : Store) (old mid : State) (w : Where) (before : Memory) (reading : IsReading old store w) where
+module _ (g : Ground) (recipes : List ℕ) (store : Store) (old mid : JournalState) (w : Where) (before : Memory) (reading : IsJournalReading old store w) where
   -- the same from an equal place
   moved : (new : Memory) (half half2 : ℕ) (start start2 : Start) (rest rest2 : List ℕ) (gate gate2 records : ℕ) (m : Memory) (answer : Result (Unit {0}) OldErr) → half ≡ half2 → start ≡ start2 → rest ≡ rest2 → gate ≡ gate2
       → ReplaysFirst g half start recipes new rest gate records m answer → ReplaysFirst g half2 start2 recipes new rest2 gate2 records m answer
@@ -39,11 +39,11 @@ module _ (g : Ground) (recipes : List ℕ) (store : Store) (old mid : State) (w 
   inside_is : (inside : Bool) → inside ≡ nat_lt (length w.bodies) (records_of w.start.checkpoint) → inside ≡ nat_lt (length w.bodies) (records_of old.start.checkpoint)
   inside_is inside is = is ∙ ap (λ (s : Start). nat_lt (length w.bodies) (records_of s.checkpoint)) (sym reading.start)
 
-  module _ (inside : Bool) (is : inside ≡ nat_lt (length w.bodies) (records_of w.start.checkpoint)) (further : IsReading mid store (with_body w mid.current.body)) (over : StepsOver old.current mid.current) where
+  module _ (inside : Bool) (is : inside ≡ nat_lt (length w.bodies) (records_of w.start.checkpoint)) (further : IsJournalReading mid store (with_body w mid.current.body)) (over : IsRecordFurther old.current mid.current) where
     at_gate : IsRecord (rest_of old.current store) mid.current.body
     at_gate = record_at old.current mid.current store (all_bodies w) mid.current.body reading.read over.half further.read
 
-    pub as_taken : (stage : Stage) (m : Memory) → mid.start ≡ old.start → OneAs g inside recipes before mid.current.body_at mid.current.body m (Ok tt)
+    pub as_taken : (stage : Stage) (m : Memory) → mid.start ≡ old.start → IsFirstOneAs g inside recipes before mid.current.body_at mid.current.body m (Ok tt)
         → NextAs g recipes store w old before (record mid { stage = stage }) m (Ok true)
     as_taken stage m start one = (
       (mid.current.body, restaged mid store (with_body w mid.current.body) stage further),
@@ -61,7 +61,7 @@ module _ (g : Ground) (recipes : List ℕ) (store : Store) (old mid : State) (w 
         gate_is : mid.current.gate ≡ old.current.gate + (5 + length mid.current.body)
         gate_is = omega (arith, over.gate)
 
-    pub as_refused : (new_state : State) (m : Memory) (error : MigrateErr) → OnFault {T = Unit {0}} (Err error) (Unit {0}) (OneAs g inside recipes before mid.current.body_at mid.current.body m (Err error))
+    pub as_refused : (new_state : JournalState) (m : Memory) (error : MigrateErr) → OnFault {T = Unit {0}} (Err error) (Unit {0}) (IsFirstOneAs g inside recipes before mid.current.body_at mid.current.body m (Err error))
         → NextAs g recipes store w old before new_state m (Err error)
     as_refused new_state m (why.Open error) one = λ new.
         let e = one.judged.0 in
@@ -75,7 +75,7 @@ module _ (g : Ground) (recipes : List ℕ) (store : Store) (old mid : State) (w 
     as_refused new_state m why.Fault one = tt
     as_refused new_state m why.NoMemory one = one.judged
 
-  pub as_ended : mid.current.half ≡ old.current.half → IsEnded mid store w → NextAs g recipes store w old before mid before (Ok false)
+  pub as_ended : mid.current.half ≡ old.current.half → IsJournalEnded mid store w → NextAs g recipes store w old before mid before (Ok false)
   as_ended half ended = (
     ended,
     Ended (rest_of old.current store) (gate_at old.current) (length w.bodies) (closed_at old.current mid.current store (all_bodies w) reading.read half ended.read)

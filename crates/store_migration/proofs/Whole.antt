@@ -1,25 +1,25 @@
 -- Areas of format 1 that stand for a list are read whole, whatever the list is.
 use Rattle.std.proofs.Common.{◌≡◌, inl, inr, ℕ, ◌<◌, IsTrue, is_ok, IsOk, List, length, Result, Ok, Err, OnOk, refl, sym, ◌∙◌, ap, subst, arith}
-use Rattle.cd_base.specs.declared.ids.CloudNo.{CloudNo}
-use Rattle.cd_base.specs.declared.shape.Shape.{Shape}
-use Rattle.cd_edges.specs.declared.area.Area.{Area}
-use Rattle.cd_edges.specs.declared.area.Area.TheVariants.{Journal, Recipes}
-use Rattle.cd_edges.specs.Disk.{Store, Image, Cloud, MayLeave, IsImage, LeavesOnly, reads}
-use Rattle.cd_edges.specs.Shelf.{stable}
-use Rattle.cd_edges.proofs.Moments.{at_end}
-use Rattle.cd_edges.proofs.Since.{image_of_stable}
-use Rattle.commit_journal.specs.Records.{IsJournal}
-use Rattle.journal_start.specs.declared.start.Header.{Header}
-use Rattle.journal_start.specs.declared.start.Start.{Start}
-use Rattle.journal_start.specs.Spelling.{recipes_end_of}
-use Rattle.journal_halves.specs.Beginnings.{IsUnbegun}
-use Rattle.journal_halves.specs.Halves.{half_of, IsCurrent}
-use Rattle.journal_halves.specs.Journals.{Where, all_bodies, HasChain}
-use Rattle.half_journal.specs.States.{State, IsEnded}
-use Rattle.user_dedup.specs.declared.command.Command.{Command}
-use Rattle.cloud_areas.specs.FormatOne.{Lays, HasListOne, StandsForOne, IsWithinGreatest}
-use Rattle.cloud_areas.specs.Standing.{Chain}
-use Rattle.cloud_memory.specs.Memory.{Memory}
+use Rattle.fresh_checkpoints.specs.CdBase.ids.CloudNo.{CloudNo}
+use Rattle.fresh_checkpoints.specs.CdBase.shape.Shape.{Shape}
+use Rattle.fresh_checkpoints.specs.CdEdges.area.Area.{Area}
+use Rattle.fresh_checkpoints.specs.CdEdges.area.Area.TheVariants.{Journal, Recipes}
+use Rattle.fresh_checkpoints.specs.CdEdges.Disk.{Store, Image, Cloud, MayLeave, IsImage, LeavesOnly, reads}
+use Rattle.fresh_checkpoints.specs.CdEdges.Shelf.{stable}
+use Rattle.fresh_checkpoints.proofs.CdEdges.Moments.{at_end}
+use Rattle.fresh_checkpoints.proofs.CdEdges.Since.{image_of_stable}
+use Rattle.store_opening.specs.CommitJournal.Records.{IsJournal}
+use Rattle.store_opening.specs.JournalStart.start.Header.{Header}
+use Rattle.store_opening.specs.JournalStart.start.Start.{Start}
+use Rattle.store_opening.specs.JournalStart.Spelling.{recipes_end_of}
+use Rattle.fresh_checkpoints.specs.JournalHalves.Beginnings.{IsUnbegun}
+use Rattle.fresh_checkpoints.specs.JournalHalves.Halves.{half_of, IsCurrent}
+use Rattle.fresh_checkpoints.specs.JournalHalves.Journals.{Where, all_bodies, HasChain}
+use Rattle.store_opening.specs.HalfJournal.States.{JournalState, IsJournalEnded}
+use Rattle.store_opening.specs.UserDedup.command.Command.{Command}
+use Rattle.fresh_checkpoints.specs.CloudAreas.FormatOne.{Lays, HasListOne, StandsForOne, IsWithinGreatest}
+use Rattle.fresh_checkpoints.specs.CloudAreas.Standing.{Chain}
+use Rattle.fresh_checkpoints.specs.CloudMemory.Memory.{Memory}
 use Rattle.store_opening.specs.Synced.{AreSynced}
 use Rattle.store_opening.proofs.Current.{same_half, same_start}
 use Rattle.store_opening.proofs.OneStart.{current_whole}
@@ -27,7 +27,7 @@ use Rattle.store_opening.proofs.Synced.{synced_at}
 use Rattle.first_laws.specs.Holding.{MayHoldOne, front_left_one}
 use Rattle.first_laws.specs.Leaving.{IsLeftOne}
 use Rattle.first_laws.proofs.Stood.{is_sound, by_chain}
-use Rattle.migration_model.specs.Migrating.{header_one, IsBegunOne, MayBeMigrated}
+use Rattle.large_users.specs.MigrationModel.Migrating.{header_one, IsBegunOne, MayBeMigrated}
 use Rattle.store_migration.specs.declared.errors.OldErr.{OldErr}
 use Rattle.store_migration.specs.declared.errors.MigrateErr.{MigrateErr}
 use Rattle.store_migration.specs.declared.errors.MigrateErr.TheVariants as why
@@ -114,13 +114,13 @@ module _ (shape : Shape) (cloud_no : CloudNo) (list : List Command) (image : Ima
 -- ---- a cloud that was read
 
 -- a journal that was read to its end has its chain
-ended_chain : (journal : State) (store : Store) (w : Where) → IsEnded journal store w → HasChain store.read w
+ended_chain : (journal : JournalState) (store : Store) (w : Where) → IsJournalEnded journal store w → HasChain store.read w
 ended_chain journal store w e = record {
   current = e.is_current;
   chain_is = subst (λ (h : ℕ). IsJournal (all_bodies w) (half_of h store.read)) e.half e.read.chain_is;
 }
 
-module _ (shape : Shape) (cloud_no : CloudNo) (list : List Command) (old new : Cloud) (may : MayBeMigrated shape cloud_no list old) (first : LeavesOnly old new (IsImage old.now)) (journal : State) (m : Memory) where
+module _ (shape : Shape) (cloud_no : CloudNo) (list : List Command) (old new : Cloud) (may : MayBeMigrated shape cloud_no list old) (first : LeavesOnly old new (IsImage old.now)) (journal : JournalState) (m : Memory) where
   -- what reads then is what a crash might have left before
   stands_now : (image : Image) → ((area : Area) → new.now area ≡ stable (image area)) → IsBegunOne (header_one shape cloud_no) list image
   stands_now image on_disk =
@@ -142,7 +142,7 @@ module _ (shape : Shape) (cloud_no : CloudNo) (list : List Command) (old new : C
           told = subst IsTrue (sym told) may.told;
           sound = held.sound;
           on_disk = r.on_disk;
-          ended = subst (λ (v : Where). IsEnded journal (new.now Journal) v) (sym h.bytes) r.ended;
+          ended = subst (λ (v : Where). IsJournalEnded journal (new.now Journal) v) (sym h.bytes) r.ended;
           is_chain = h.is_chain;
           lays = h.lays;
         };

@@ -1,16 +1,16 @@
 -- The answers of a migration, by cases.
 use Rattle.std.specs.Prelude.{ℕ, List, Result, Ok, Err}
-use Rattle.cd_base.specs.declared.ids.CloudNo.{CloudNo}
-use Rattle.cd_base.specs.declared.shape.Shape.{Shape}
-use Rattle.cd_edges.specs.Disk.{Cloud}
-use Rattle.journal_start.specs.declared.rooms.Rooms.{Rooms}
-use Rattle.user_dedup.specs.declared.command.Command.{Command}
-use Rattle.migration_model.specs.Migrating.{IsMigrated, AreSmallEnough, IsTooLarge}
+use Rattle.fresh_checkpoints.specs.CdBase.ids.CloudNo.{CloudNo}
+use Rattle.fresh_checkpoints.specs.CdBase.shape.Shape.{Shape}
+use Rattle.fresh_checkpoints.specs.CdEdges.Disk.{Cloud}
+use Rattle.store_opening.specs.JournalStart.rooms.UserRooms.{UserRooms}
+use Rattle.store_opening.specs.UserDedup.command.Command.{Command}
+use Rattle.large_users.specs.MigrationModel.Migrating.{IsMigrated, AreSmallEnough, IsTooLarge}
 use Rattle.store_migration.specs.declared.errors.MigrateErr.{MigrateErr}
 use Rattle.store_migration.specs.declared.errors.MigrateErr.TheVariants as why
 
 -- what is answered over a cloud that may be migrated with this list, and what it stands for then
-abbrev pub MigratedAs : Shape → CloudNo → Rooms → List Command → Cloud → Result ℕ MigrateErr → Type 0
+abbrev pub MigratedAs : Shape → CloudNo → UserRooms → List Command → Cloud → Result ℕ MigrateErr → Type 0
 MigratedAs shape cloud_no rooms list cloud (Ok commands) = IsMigrated shape cloud_no rooms list commands cloud × AreSmallEnough shape rooms list
 MigratedAs shape cloud_no rooms list cloud (Err (why.Open error)) = ⊥
 MigratedAs shape cloud_no rooms list cloud (Err why.Already) = ⊥

@@ -1,31 +1,31 @@
 -- What a migration answers by the bytes of the areas: the journal's records of format 1 one after another, and what they leave.
 use Rattle.std.specs.Prelude.{◌≡◌, ◌≢◌, ℕ, ◌+◌, ◌*◌, ◌<◌, ◌≤◌, nat_lt, List, length, drop, slice_index, Result, Ok, Err}
 use Rattle.std.specs.Int.{w32, w64, to_be_bytes}
-use Rattle.cd_base.specs.declared.ids.CloudNo.{CloudNo}
-use Rattle.cd_base.specs.declared.ids.UserId.{UserId}
-use Rattle.cd_base.specs.declared.shape.Shape.{Shape}
-use Rattle.cd_edges.specs.declared.area.Area.TheVariants.{Journal, Recipes}
-use Rattle.cd_edges.specs.Disk.{Image}
-use Rattle.commit_journal.specs.Records.{IsDamage}
-use Rattle.commit_journal.specs.Frames.{IsClosed, IsRecord}
-use Rattle.journal_start.specs.declared.rooms.Rooms.{Rooms}
-use Rattle.journal_start.specs.declared.start.Header.{Header}
-use Rattle.journal_start.specs.declared.start.Start.{Start}
-use Rattle.journal_start.specs.Spelling.{start_bytes, records_of, recipes_end_of}
-use Rattle.journal_halves.specs.Beginnings.{IsUnbegun}
-use Rattle.journal_halves.specs.Halves.{half_len, IsCurrent}
-use Rattle.journal_halves.specs.Findings.{part_of, IsFoundDamage}
-use Rattle.half_journal.specs.Outcomes.{records_place}
-use Rattle.user_dedup.specs.Dedup.{FullRoom}
-use Rattle.cloud_memory.specs.Memory.{Memory}
+use Rattle.fresh_checkpoints.specs.CdBase.ids.CloudNo.{CloudNo}
+use Rattle.fresh_checkpoints.specs.CdBase.ids.UserId.{UserId}
+use Rattle.fresh_checkpoints.specs.CdBase.shape.Shape.{Shape}
+use Rattle.fresh_checkpoints.specs.CdEdges.area.Area.TheVariants.{Journal, Recipes}
+use Rattle.fresh_checkpoints.specs.CdEdges.Disk.{Image}
+use Rattle.store_opening.specs.CommitJournal.Records.{IsDamage}
+use Rattle.store_opening.specs.CommitJournal.Frames.{IsClosed, IsRecord}
+use Rattle.store_opening.specs.JournalStart.rooms.UserRooms.{UserRooms}
+use Rattle.store_opening.specs.JournalStart.start.Header.{Header}
+use Rattle.store_opening.specs.JournalStart.start.Start.{Start}
+use Rattle.store_opening.specs.JournalStart.Spelling.{start_bytes, records_of, recipes_end_of}
+use Rattle.fresh_checkpoints.specs.JournalHalves.Beginnings.{IsUnbegun}
+use Rattle.fresh_checkpoints.specs.JournalHalves.Halves.{half_len, IsCurrent}
+use Rattle.fresh_checkpoints.specs.JournalHalves.Findings.{part_of, IsFoundDamage}
+use Rattle.store_opening.specs.HalfJournal.Outcomes.{records_place}
+use Rattle.store_opening.specs.UserDedup.Dedup.{FullRoom}
+use Rattle.fresh_checkpoints.specs.CloudMemory.Memory.{Memory}
 use Rattle.first_laws.specs.Leaving.{begun_behind}
-use Rattle.record_checks.specs.declared.ground.Ground.{Ground}
+use Rattle.store_opening.specs.RecordChecks.ground.Ground.{Ground}
 use Rattle.store_opening.specs.Exact.{ReadsFor, ground_of}
-use Rattle.first_records.specs.declared.errors.FirstErr.{FirstErr}
-use Rattle.first_records.specs.declared.errors.FirstErr.TheVariants as records
-use Rattle.first_records.specs.Judging.{JudgesFirst}
-use Rattle.compact_memories.specs.Kept.{commands_in}
-use Rattle.migration_model.specs.Migrating.{header_one}
+use Rattle.first_laws.specs.FirstRecords.errors.FirstErr.{FirstErr}
+use Rattle.first_laws.specs.FirstRecords.errors.FirstErr.TheVariants as records
+use Rattle.first_laws.specs.FirstRecords.Judging.{JudgesFirst}
+use Rattle.fresh_checkpoints.specs.CompactMemories.Kept.{commands_in}
+use Rattle.large_users.specs.MigrationModel.Migrating.{header_one}
 use Rattle.store_migration.specs.declared.errors.OldErr.{OldErr}
 use Rattle.store_migration.specs.declared.errors.OldErr.TheVariants.{NotBegun, Damaged, OtherStore, RoomsTooSmall}
 use Rattle.store_migration.specs.declared.errors.MigrateErr.{MigrateErr}
@@ -39,7 +39,7 @@ abbrev pub users_most : ℕ
 users_most = 256
 
 -- a header of format 2 of this cloud, whatever its rooms are
-pub record IsNew (shape : Shape) (cloud : CloudNo) (header : Header) : Type 0 where
+pub record IsNewHeader (shape : Shape) (cloud : CloudNo) (header : Header) : Type 0 where
   pub format : header.format ≡ 2
   pub shape_is : header.shape ≡ shape
   pub cloud_is : header.cloud ≡ cloud
@@ -90,9 +90,9 @@ ReplaysAllFirst header half start image new answer = ReplaysFirst (ground_of hea
 pub data ReadsOld (shape : Shape) (cloud : CloudNo) (image : Image) (new : Memory) : Result (Unit {0}) MigrateErr → Type 0 where
   Unbegun : IsUnbegun (image Journal) → ReadsOld shape cloud image new (Err (why.Open (NotBegun (length (image Journal)))))
   NoStart : (at byte : ℕ) → IsFoundDamage (image Journal) at byte → ReadsOld shape cloud image new (Err (why.Open (Damaged at byte)))
-  New : (half : ℕ) (start : Start) → IsCurrent (image Journal) half start → IsNew shape cloud start.header
+  New : (half : ℕ) (start : Start) → IsCurrent (image Journal) half start → IsNewHeader shape cloud start.header
       → ReadsOld shape cloud image new (Err why.Already)
-  Other : (half : ℕ) (start : Start) → IsCurrent (image Journal) half start → ¬ (IsNew shape cloud start.header)
+  Other : (half : ℕ) (start : Start) → IsCurrent (image Journal) half start → ¬ (IsNewHeader shape cloud start.header)
       → start.header ≢ header_one shape cloud
       → ReadsOld shape cloud image new (Err (why.Open (OtherStore start.header (header_one shape cloud) (half * half_len + 5))))
   PastEnd : (half : ℕ) (start : Start) → IsCurrent (image Journal) half start → start.header ≡ header_one shape cloud
@@ -109,7 +109,8 @@ pub data ReadsOld (shape : Shape) (cloud : CloudNo) (image : Image) (new : Memor
 -- ---- a migration
 
 -- What a migration answers, where no device call fails and there is memory, over areas that read so.
-pub data Migrates (shape : Shape) (cloud : CloudNo) (rooms : Rooms) (image : Image) : Result ℕ MigrateErr → Type 0 where
+pub data Migrates (shape : Shape) (cloud : CloudNo) (rooms : UserRooms) (image : Image) : Result ℕ MigrateErr
+    → Type 0 where
   Unread : (m : Memory) (error : MigrateErr) → ReadsOld shape cloud image m (Err error) → Migrates shape cloud rooms image (Err error)
   Large : (m : Memory) (user : UserId) (full : FullRoom) → ReadsOld shape cloud image m (Ok tt) → IsFirstPassed rooms m user full
       → Migrates shape cloud rooms image (Err (why.TooLarge user full.room full.used full.limit))

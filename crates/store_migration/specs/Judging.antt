@@ -1,18 +1,18 @@
 -- What becomes of a memory that was read. No public clause cites this module.
 use Rattle.std.specs.Prelude.{◌≡◌, ℕ, ◌++◌, List, Result, Ok, Err}
-use Rattle.cd_base.specs.declared.shape.Shape.{Shape}
-use Rattle.cd_edges.specs.Disk.{Areas, Cloud}
-use Rattle.journal_start.specs.declared.rooms.Rooms.{Rooms}
-use Rattle.user_dedup.specs.declared.command.Command.{Command}
-use Rattle.cloud_memory.specs.Memory.{Memory}
-use Rattle.compact_memories.specs.Kept.{commands_in}
+use Rattle.fresh_checkpoints.specs.CdBase.shape.Shape.{Shape}
+use Rattle.fresh_checkpoints.specs.CdEdges.Disk.{Areas, Cloud}
+use Rattle.store_opening.specs.JournalStart.rooms.UserRooms.{UserRooms}
+use Rattle.store_opening.specs.UserDedup.command.Command.{Command}
+use Rattle.fresh_checkpoints.specs.CloudMemory.Memory.{Memory}
+use Rattle.fresh_checkpoints.specs.CompactMemories.Kept.{commands_in}
 use Rattle.large_users.specs.Large.{IsFirstPassed, IsNonePassed}
-use Rattle.migration_model.specs.Migrating.{AreSmallEnough, IsTooLarge}
+use Rattle.large_users.specs.MigrationModel.Migrating.{AreSmallEnough, IsTooLarge}
 use Rattle.store_migration.specs.declared.errors.MigrateErr.{MigrateErr}
 use Rattle.store_migration.specs.declared.errors.MigrateErr.TheVariants as why
 
 -- which user is the first that keeps too much by the memory; or none does, and what is kept has so many commands
-abbrev pub JudgedAs : Rooms → Memory → Result ℕ MigrateErr → Type 0
+abbrev pub JudgedAs : UserRooms → Memory → Result ℕ MigrateErr → Type 0
 JudgedAs rooms m (Ok commands) = IsNonePassed rooms m × (commands ≡ commands_in m)
 JudgedAs rooms m (Err (why.Open error)) = ⊥
 JudgedAs rooms m (Err why.Already) = ⊥
@@ -21,7 +21,7 @@ JudgedAs rooms m (Err why.Fault) = ⊥
 JudgedAs rooms m (Err why.NoMemory) = ⊥
 
 -- the same by the list
-abbrev pub JudgedBy : Shape → Rooms → List Command → Result ℕ MigrateErr → Type 0
+abbrev pub JudgedBy : Shape → UserRooms → List Command → Result ℕ MigrateErr → Type 0
 JudgedBy shape rooms list (Ok commands) = AreSmallEnough shape rooms list
 JudgedBy shape rooms list (Err (why.Open error)) = ⊥
 JudgedBy shape rooms list (Err why.Already) = ⊥
@@ -39,7 +39,7 @@ SettledAs commands (Err why.Fault) = Unit {0}
 SettledAs commands (Err why.NoMemory) = ⊥
 
 -- judged, and settled where no user keeps too much
-abbrev pub TakenOverAs : Rooms → Memory → Result ℕ MigrateErr → Type 0
+abbrev pub TakenOverAs : UserRooms → Memory → Result ℕ MigrateErr → Type 0
 TakenOverAs rooms m (Ok commands) = IsNonePassed rooms m × (commands ≡ commands_in m)
 TakenOverAs rooms m (Err (why.Open error)) = ⊥
 TakenOverAs rooms m (Err why.Already) = ⊥

@@ -1,11 +1,11 @@
 -- What the memory of a migration is. No public clause cites this module.
 use Rattle.std.specs.Prelude.{◌≡◌, ◌≤◌, length, vec_len}
-use Rattle.cd_base.specs.Limits.{recipe_limit}
-use Rattle.journal_start.specs.declared.rooms.Rooms.{Rooms}
-use Rattle.journal_halves.specs.Halves.{half_limit}
-use Rattle.half_journal.specs.States.{state_of}
-use Rattle.cloud_memory.specs.declared.cloud.CloudMemory.{CloudMemory}
-use Rattle.first_records.specs.Limits.{HasFirstRooms}
+use Rattle.fresh_checkpoints.specs.CdBase.Limits.{recipe_limit}
+use Rattle.store_opening.specs.JournalStart.rooms.UserRooms.{UserRooms}
+use Rattle.fresh_checkpoints.specs.JournalHalves.Halves.{half_limit}
+use Rattle.store_opening.specs.HalfJournal.States.{state_of}
+use Rattle.fresh_checkpoints.specs.CloudMemory.cloud.CloudMemory.{CloudMemory}
+use Rattle.first_laws.specs.FirstRecords.Limits.{HasFirstRooms}
 use Rattle.store_migration.specs.Exact.{users_most}
 use Rattle.store_migration.specs.declared.kit.Kit.{Kit}
 
@@ -15,7 +15,7 @@ pub record HasFirst (memory : CloudMemory) : Type 0 where
   pub users : length memory.spent ≡ users_most
 
 -- All of it is for these rooms.
-pub record IsKit (rooms : Rooms) (kit : Kit) : Type 0 where
+pub record IsKit (rooms : UserRooms) (kit : Kit) : Type 0 where
   pub memory : HasFirst kit.memory
   pub limit : (state_of kit.journal).limit ≡ half_limit rooms
   pub recipe : recipe_limit ≤ vec_len kit.recipe

@@ -1,7 +1,13 @@
 pub mod Answers
+pub mod CdBase
+pub mod CdEdges
 pub mod Exact
 pub mod Finding
+pub mod JournalStart
 pub mod Judging
 pub mod Kit
+pub mod MigrationModel
 pub mod Reading
 pub mod Steps
+pub mod StoreOpening
+pub mod UserDedup

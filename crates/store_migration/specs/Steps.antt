@@ -1,26 +1,26 @@
 -- How far a journal's records of format 1 were taken into the memory. No public clause cites this module.
 use Rattle.std.specs.Prelude.{◌≡◌, ◌⊎◌, ℕ, ◌+◌, ◌*◌, ◌<◌, ◌≤◌, Bool, true, false, List, length, slice_index, Result, Ok, Err}
 use Rattle.std.specs.Int.{w64, to_be_bytes}
-use Rattle.cd_base.specs.declared.ids.CloudNo.{CloudNo}
-use Rattle.cd_base.specs.declared.shape.Shape.{Shape}
-use Rattle.cd_edges.specs.declared.area.Area.{Area}
-use Rattle.cd_edges.specs.declared.area.Area.TheVariants as areas
-use Rattle.cd_edges.specs.Disk.{Store, Cloud, reads}
-use Rattle.cd_edges.specs.Shelf.{stable}
-use Rattle.journal_start.specs.Spelling.{recipes_end_of}
-use Rattle.journal_halves.specs.Halves.{half_len}
-use Rattle.journal_halves.specs.Journals.{Where, with_body}
-use Rattle.journal_halves.specs.Outcomes.{gate_at, rest_of}
-use Rattle.half_journal.specs.declared.journal.Stage.{Stage}
-use Rattle.half_journal.specs.declared.journal.Stage.TheVariants.{Shut, Reading, AtEnd}
-use Rattle.half_journal.specs.States as journals
-use Rattle.cloud_memory.specs.Memory.{Memory}
-use Rattle.record_checks.specs.declared.ground.Ground.{Ground}
+use Rattle.fresh_checkpoints.specs.CdBase.ids.CloudNo.{CloudNo}
+use Rattle.fresh_checkpoints.specs.CdBase.shape.Shape.{Shape}
+use Rattle.fresh_checkpoints.specs.CdEdges.area.Area.{Area}
+use Rattle.fresh_checkpoints.specs.CdEdges.area.Area.TheVariants as areas
+use Rattle.fresh_checkpoints.specs.CdEdges.Disk.{Store, Cloud, reads}
+use Rattle.fresh_checkpoints.specs.CdEdges.Shelf.{stable}
+use Rattle.store_opening.specs.JournalStart.Spelling.{recipes_end_of}
+use Rattle.fresh_checkpoints.specs.JournalHalves.Halves.{half_len}
+use Rattle.fresh_checkpoints.specs.JournalHalves.Journals.{Where, with_body}
+use Rattle.fresh_checkpoints.specs.JournalHalves.Outcomes.{gate_at, rest_of}
+use Rattle.store_opening.specs.HalfJournal.journal.Stage.{Stage}
+use Rattle.store_opening.specs.HalfJournal.journal.Stage.TheVariants.{Shut, Reading, AtEnd}
+use Rattle.store_opening.specs.HalfJournal.States as journals
+use Rattle.fresh_checkpoints.specs.CloudMemory.Memory.{Memory}
+use Rattle.store_opening.specs.RecordChecks.ground.Ground.{Ground}
 use Rattle.store_opening.specs.Exact.{ReadsFor}
-use Rattle.first_records.specs.declared.errors.FirstErr.{FirstErr}
-use Rattle.first_records.specs.Judging.{JudgesFirst}
+use Rattle.first_laws.specs.FirstRecords.errors.FirstErr.{FirstErr}
+use Rattle.first_laws.specs.FirstRecords.Judging.{JudgesFirst}
 use Rattle.first_laws.specs.Leaving.{begun_behind}
-use Rattle.migration_model.specs.Migrating.{header_one}
+use Rattle.large_users.specs.MigrationModel.Migrating.{header_one}
 use Rattle.store_migration.specs.declared.errors.OldErr.{OldErr}
 use Rattle.store_migration.specs.declared.errors.OldErr.TheVariants.{Damaged}
 use Rattle.store_migration.specs.declared.errors.MigrateErr.{MigrateErr}
@@ -53,7 +53,8 @@ OnTrue (Ok false) fact = Unit {0}
 OnTrue (Err e) fact = Unit {0}
 
 -- What comes of the records from the gate on.
-abbrev pub From : Ground → List ℕ → Store → Memory → journals.State → ℕ → Memory → Result (Unit {0}) OldErr → Type 0
+abbrev pub From : Ground → List ℕ → Store → Memory → journals.JournalState → ℕ → Memory → Result (Unit {0}) OldErr
+    → Type 0
 From g recipes store new journal records old answer =
     ReplaysFirst g journal.current.half journal.start recipes new (rest_of journal.current store) (gate_at journal.current) records old answer
 
@@ -71,16 +72,16 @@ BodyAs g inside read old at body new (Err why.Fault) = ⊥
 BodyAs g inside read old at body new (Err why.NoMemory) = ⊥
 
 -- the same with what is read there
-pub record OneAs (g : Ground) (inside : Bool) (recipes : List ℕ) (old : Memory) (at : ℕ) (body : List ℕ) (new : Memory) (result : Result (Unit {0}) MigrateErr) : Type 0 where
+pub record IsFirstOneAs (g : Ground) (inside : Bool) (recipes : List ℕ) (old : Memory) (at : ℕ) (body : List ℕ) (new : Memory) (result : Result (Unit {0}) MigrateErr) : Type 0 where
   pub read : List ℕ
   pub reads_for : ReadsFor g inside old body recipes read
   pub judged : BodyAs g inside read old at body new result
 
 -- With one record taken the rest decides; or the gate is closed behind all of the checkpoint's records; or this is the answer.
-abbrev pub NextAs : Ground → List ℕ → Store → Where → journals.State → Memory → journals.State → Memory → Result Bool MigrateErr → Type 0
-NextAs g recipes store w before old after mid (Ok true) = ((body : List ℕ) × journals.IsReading after store (with_body w body))
+abbrev pub NextAs : Ground → List ℕ → Store → Where → journals.JournalState → Memory → journals.JournalState → Memory → Result Bool MigrateErr → Type 0
+NextAs g recipes store w before old after mid (Ok true) = ((body : List ℕ) × journals.IsJournalReading after store (with_body w body))
     × ((new : Memory) (answer : Result (Unit {0}) OldErr) → From g recipes store new after (length w.bodies + 1) mid answer → From g recipes store new before (length w.bodies) old answer)
-NextAs g recipes store w before old after mid (Ok false) = journals.IsEnded after store w × From g recipes store mid before (length w.bodies) old (Ok tt) × (mid ≡ old)
+NextAs g recipes store w before old after mid (Ok false) = journals.IsJournalEnded after store w × From g recipes store mid before (length w.bodies) old (Ok tt) × (mid ≡ old)
 NextAs g recipes store w before old after mid (Err (why.Open error)) = (new : Memory) → From g recipes store new before (length w.bodies) old (Err error)
 NextAs g recipes store w before old after mid (Err why.Already) = ⊥
 NextAs g recipes store w before old after mid (Err (why.TooLarge user room used limit)) = ⊥
@@ -88,9 +89,9 @@ NextAs g recipes store w before old after mid (Err why.Fault) = Unit {0}
 NextAs g recipes store w before old after mid (Err why.NoMemory) = ⊥
 
 -- All records were taken, or this is the answer.
-abbrev pub AllAs : Ground → List ℕ → Store → Where → journals.State → Memory → journals.State → Memory → Result (Unit {0}) MigrateErr → Type 0
+abbrev pub AllAs : Ground → List ℕ → Store → Where → journals.JournalState → Memory → journals.JournalState → Memory → Result (Unit {0}) MigrateErr → Type 0
 AllAs g recipes store w before old after mid (Ok value) =
-    ((bodies : List (List ℕ)) × journals.IsEnded after store (record w { bodies = bodies })) × From g recipes store mid before 0 old (Ok tt)
+    ((bodies : List (List ℕ)) × journals.IsJournalEnded after store (record w { bodies = bodies })) × From g recipes store mid before 0 old (Ok tt)
 AllAs g recipes store w before old after mid (Err (why.Open error)) = (new : Memory) → From g recipes store new before 0 old (Err error)
 AllAs g recipes store w before old after mid (Err why.Already) = ⊥
 AllAs g recipes store w before old after mid (Err (why.TooLarge user room used limit)) = ⊥
@@ -104,11 +105,12 @@ abbrev pub past_err : ℕ → ℕ → OldErr
 past_err half end = Damaged (half * half_len + end_place) (slice_index (to_be_bytes w64 end) 0)
 
 -- What comes of all records, into a memory of no commands whose recipes end where the start says.
-abbrev pub FromStart : Ground → List ℕ → Store → Memory → journals.State → Result (Unit {0}) OldErr → Type 0
+abbrev pub FromStart : Ground → List ℕ → Store → Memory → journals.JournalState → Result (Unit {0}) OldErr → Type 0
 FromStart g recipes store new before answer = From g recipes store new before 0 (begun_behind users_most (recipes_end_of before.start.checkpoint)) answer
 
 -- Recipes are to end within their area, and the records decide; or they end past it.
-abbrev pub LoadsAs : Ground → ℕ → List ℕ → Store → journals.State → Memory → Result (Unit {0}) MigrateErr → Type 0
+abbrev pub LoadsAs : Ground → ℕ → List ℕ → Store → journals.JournalState → Memory → Result (Unit {0}) MigrateErr
+    → Type 0
 LoadsAs g half recipes store before new (Ok value) = (recipes_end_of before.start.checkpoint ≤ g.recipes_len) × FromStart g recipes store new before (Ok tt)
 LoadsAs g half recipes store before new (Err (why.Open error)) =
     ((recipes_end_of before.start.checkpoint ≤ g.recipes_len) × FromStart g recipes store new before (Err error))
@@ -120,18 +122,18 @@ LoadsAs g half recipes store before new (Err why.NoMemory) = ⊥
 
 -- The journal was read to its end: its current half has a chain with the header of format 1, by whose start recipes end within their area, and
 -- the memory is what its records leave.
-pub record HasReadAll (shape : Shape) (cloud_no : CloudNo) (journal : journals.State) (m : Memory) (cloud : Cloud) : Type 0 where
+pub record HasReadAll (shape : Shape) (cloud_no : CloudNo) (journal : journals.JournalState) (m : Memory) (cloud : Cloud) : Type 0 where
   pub w : Where
   pub header_is : w.start.header ≡ header_one shape cloud_no
-  pub ended : journals.IsEnded journal (cloud.now areas.Journal) w
+  pub ended : journals.IsJournalEnded journal (cloud.now areas.Journal) w
   pub within : recipes_end_of w.start.checkpoint ≤ length (cloud.now areas.Recipes).read
   pub replays : ReplaysAllFirst (header_one shape cloud_no) w.half w.start (reads cloud.now) m (Ok tt)
 
 -- The same, and all of each area is on the disk.
-pub record IsReadWholeOne (shape : Shape) (cloud_no : CloudNo) (journal : journals.State) (m : Memory) (cloud : Cloud) : Type 0 where
+pub record IsReadWholeOne (shape : Shape) (cloud_no : CloudNo) (journal : journals.JournalState) (m : Memory) (cloud : Cloud) : Type 0 where
   pub w : Where
   pub header_is : w.start.header ≡ header_one shape cloud_no
-  pub ended : journals.IsEnded journal (cloud.now areas.Journal) w
+  pub ended : journals.IsJournalEnded journal (cloud.now areas.Journal) w
   pub on_disk : (area : Area) → cloud.now area ≡ stable (cloud.now area).read
   pub within : recipes_end_of w.start.checkpoint ≤ length (cloud.now areas.Recipes).read
   pub replays : ReplaysAllFirst (header_one shape cloud_no) w.half w.start (reads cloud.now) m (Ok tt)

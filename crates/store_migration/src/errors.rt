@@ -3,10 +3,8 @@
 ghost use Rattle.std.specs.Prelude.{◌≡◌};
 ghost use Rattle.store_migration.specs.Finding.{err_of_find, err_of_open};
 
-use cd_base::{Room, UserId};
-use half_journal::OpenErr;
-use journal_halves::FindErr;
-use journal_start::Header;
+use fresh_checkpoints::{FindErr, Room, UserId};
+use store_opening::{Header, OpenErr};
 
 /// Why a store of format 1 isn't opened. Places are those of the area Journal, from 0.
 #[derive(Clone, Copy, Debug, PartialEq, Eq)]

@@ -1,12 +1,12 @@
 //! The headers of a cloud before and after.
 
 ghost use Rattle.std.specs.Prelude.{◌≡◌, ◌↔◌, ◌<◌, IsTrue};
-ghost use Rattle.journal_start.specs.Ranges.{AreRooms, IsHeader};
-ghost use Rattle.migration_model.specs.Migrating as model;
-ghost use Rattle.store_migration.specs.Exact.{IsNew};
+ghost use Rattle.store_opening.specs.JournalStart.Ranges.{AreRooms, IsHeader};
+ghost use Rattle.large_users.specs.MigrationModel.Migrating as model;
+ghost use Rattle.store_migration.specs.Exact.{IsNewHeader};
 
-use cd_base::{CloudNo, Shape};
-use journal_start::{Header, Rooms};
+use fresh_checkpoints::{CloudNo, Shape};
+use store_opening::{Header, UserRooms};
 
 /// The header that format 1 has of the cloud.
 pub(crate) fn header_one(shape: Shape, cloud: CloudNo) -> Header
@@ -18,12 +18,12 @@ pub(crate) fn header_one(shape: Shape, cloud: CloudNo) -> Header
         format: 1,
         shape,
         cloud,
-        rooms: Rooms::usual(),
+        rooms: UserRooms::usual(),
     }
 }
 
 /// The header that format 2 has of it, with these rooms.
-pub(crate) fn header_two(shape: Shape, cloud: CloudNo, rooms: &Rooms) -> Header
+pub(crate) fn header_two(shape: Shape, cloud: CloudNo, rooms: &UserRooms) -> Header
     requires cloud { cloud.0 < shape.n }
     requires rooms { AreRooms rooms.now }
     ensures value { result ≡ model.header_two shape cloud rooms.now }
@@ -39,7 +39,7 @@ pub(crate) fn header_two(shape: Shape, cloud: CloudNo, rooms: &Rooms) -> Header
 
 /// Whether it is a header of format 2, of this cloud.
 pub(crate) fn is_new(header: &Header, shape: Shape, cloud: CloudNo) -> bool
-    ensures { IsTrue result ↔ IsNew shape cloud header.now }
+    ensures { IsTrue result ↔ IsNewHeader shape cloud header.now }
 {
     header.format == 2 && header.shape == shape && header.cloud == cloud
 }

@@ -1,17 +1,13 @@
 //! The memory of a migration.
 
 ghost use Rattle.std.specs.Prelude.{◌≡◌, vec_len, IfOk};
-ghost use Rattle.journal_start.specs.Ranges.{AreRooms};
+ghost use Rattle.store_opening.specs.JournalStart.Ranges.{AreRooms};
 ghost use Rattle.store_migration.specs.Kit.{IsKit, HasFirst};
 
-use cd_base::{NoMemory, RECIPE_LIMIT, Rooms as Limits};
-use checkpoints::{Marks, OwnerChains};
-use cloud_memory::CloudMemory;
-use half_journal::Journal;
-use journal_halves::half_limit;
-use journal_start::Rooms;
-use record_bodies::BodyBuf;
+use cd_base::Rooms as Limits;
+use fresh_checkpoints::{CloudMemory, Marks, NoMemory, OwnerChains, RECIPE_LIMIT, half_limit};
 use std::alloc::Global;
+use store_opening::{BodyBuf, Journal, UserRooms};
 
 // As many users as a cloud may have.
 const USERS: u32 = 256;
@@ -50,7 +46,7 @@ fn make_buffer(alloc: Global, len: usize) -> Result<Vec<u8>, NoMemory>
 
 impl Kit {
     /// Takes all memory of a migration to these rooms.
-    pub(crate) fn make(alloc: Global, rooms: &Rooms) -> Result<Kit, NoMemory>
+    pub(crate) fn make(alloc: Global, rooms: &UserRooms) -> Result<Kit, NoMemory>
         requires { AreRooms rooms.now }
         ensures { IfOk result (IsKit rooms.now) }
     {

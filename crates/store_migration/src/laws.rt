@@ -1,18 +1,18 @@
 //! The laws of readings of format 1 and of a migration's answers, for the proofs of callers. The calls do nothing.
 
 ghost use Rattle.std.specs.Prelude.{◌≡◌, ℕ, List, Result, IsOk};
-ghost use Rattle.cd_base.specs.declared.ids.CloudNo.{CloudNo};
-ghost use Rattle.cd_base.specs.declared.shape.Shape.{Shape};
-ghost use Rattle.cd_edges.specs.declared.area.Area.TheVariants.{Recipes};
-ghost use Rattle.cd_edges.specs.Disk.{Image};
-ghost use Rattle.journal_start.specs.declared.rooms.Rooms.{Rooms};
-ghost use Rattle.journal_start.specs.Spelling.{recipes_end_of};
-ghost use Rattle.user_dedup.specs.declared.command.Command.{Command};
-ghost use Rattle.cloud_areas.specs.FormatOne.{Lays, IsWithinGreatest};
-ghost use Rattle.cloud_areas.specs.Standing.{Chain};
-ghost use Rattle.cloud_memory.specs.Memory.{Memory};
+ghost use Rattle.fresh_checkpoints.specs.CdBase.ids.CloudNo.{CloudNo};
+ghost use Rattle.fresh_checkpoints.specs.CdBase.shape.Shape.{Shape};
+ghost use Rattle.fresh_checkpoints.specs.CdEdges.area.Area.TheVariants.{Recipes};
+ghost use Rattle.fresh_checkpoints.specs.CdEdges.Disk.{Image};
+ghost use Rattle.store_opening.specs.JournalStart.rooms.UserRooms.{UserRooms};
+ghost use Rattle.store_opening.specs.JournalStart.Spelling.{recipes_end_of};
+ghost use Rattle.store_opening.specs.UserDedup.command.Command.{Command};
+ghost use Rattle.fresh_checkpoints.specs.CloudAreas.FormatOne.{Lays, IsWithinGreatest};
+ghost use Rattle.fresh_checkpoints.specs.CloudAreas.Standing.{Chain};
+ghost use Rattle.fresh_checkpoints.specs.CloudMemory.Memory.{Memory};
 ghost use Rattle.first_laws.specs.Leaving.{IsLeftOne};
-ghost use Rattle.migration_model.specs.Migrating.{header_one, IsBegunOne};
+ghost use Rattle.large_users.specs.MigrationModel.Migrating.{header_one, IsBegunOne};
 ghost use Rattle.store_migration.specs.declared.errors.MigrateErr.{MigrateErr};
 ghost use Rattle.store_migration.specs.Exact.{ReadsOld, Migrates};
 
@@ -33,6 +33,6 @@ pub fn law_of_old_readings()
 /// call fails, has one answer alone: the first check that fails, in the order of the starts, of the records and of
 /// the checks of each, and of the users, or else how many commands there are.
 pub fn law_of_one_answer()
-    ensures one { (shape : Shape) (cloud : CloudNo) (rooms : Rooms) (image : Image) (one two : Result ℕ MigrateErr)
+    ensures one { (shape : Shape) (cloud : CloudNo) (rooms : UserRooms) (image : Image) (one two : Result ℕ MigrateErr)
         → Migrates shape cloud rooms image one → Migrates shape cloud rooms image two → one ≡ two }
 {}

@@ -13,4 +13,6 @@ mod recipes;
 mod records;
 
 pub use errors::{MigrateErr, OldErr};
+pub use fresh_checkpoints::{Bytes, CloudNo, NoMemory, Room, Shape, Shelf, Sink, UserId};
 pub use migrating::migrate;
+pub use store_opening::UserRooms;

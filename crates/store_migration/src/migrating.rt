@@ -1,35 +1,35 @@
 //! The migration of a cloud.
 
 ghost use Rattle.std.specs.Prelude.{◌≡◌, ◌<◌, ◌≤◌, ◌+◌, ℕ, List, IsTrue, IfOk, OnOk};
-ghost use Rattle.cd_base.specs.declared.ids.CloudNo.{CloudNo as OneCloud};
-ghost use Rattle.cd_base.specs.declared.shape.Shape.{Shape as OfStore};
-ghost use Rattle.cd_edges.specs.declared.area.Area.TheVariants.{Journal as OfJournal};
-ghost use Rattle.cd_edges.specs.Disk.{Image, Cloud, IsImage, LeavesOnly, reads};
-ghost use Rattle.cd_edges.specs.Shelf.{IsCall, HasFailed, KeepsCounts};
-ghost use Rattle.journal_start.specs.Ranges.{AreRooms, IsHeader};
-ghost use Rattle.journal_start.specs.declared.start.Header.{Header as Heading};
-ghost use Rattle.journal_halves.specs.Halves.{half_limit};
-ghost use Rattle.journal_halves.specs.Journals.{Where};
-ghost use Rattle.half_journal.specs.declared.journal.Stage.TheVariants as Stage;
-ghost use Rattle.half_journal.specs.States as journals;
-ghost use Rattle.spent_table.specs.declared.Spent.{Spent as Row};
-ghost use Rattle.user_dedup.specs.declared.command.Command.{Command};
-ghost use Rattle.user_dedup.specs.Compact.{compact};
-ghost use Rattle.user_dedup.specs.Dedup.{IsSound};
-ghost use Rattle.cloud_areas.specs.Standing.{Chain, StandsFor};
-ghost use Rattle.cloud_memory.specs.Fitting.{FitsRecords};
-ghost use Rattle.cloud_memory.specs.Memory.{Remembers};
-ghost use Rattle.cloud_memory.specs.Rooms.{memory_of};
-ghost use Rattle.checkpoints.specs.Known.{AreListed};
-ghost use Rattle.checkpoints.specs.Laying.{records_len};
-ghost use Rattle.checkpoints.specs.Records.{records_of};
-ghost use Rattle.compact_memories.specs.Kept.{IsCompacted, commands_in};
-ghost use Rattle.compact_memories.specs.Tables.{with_table};
+ghost use Rattle.fresh_checkpoints.specs.CdBase.ids.CloudNo.{CloudNo as OneCloud};
+ghost use Rattle.fresh_checkpoints.specs.CdBase.shape.Shape.{Shape as OfStore};
+ghost use Rattle.fresh_checkpoints.specs.CdEdges.area.Area.TheVariants.{Journal as OfJournal};
+ghost use Rattle.fresh_checkpoints.specs.CdEdges.Disk.{Image, Cloud, IsImage, LeavesOnly, reads};
+ghost use Rattle.fresh_checkpoints.specs.CdEdges.Shelf.{IsCall, HasFailed, KeepsCounts};
+ghost use Rattle.store_opening.specs.JournalStart.Ranges.{AreRooms, IsHeader};
+ghost use Rattle.store_opening.specs.JournalStart.start.Header.{Header as Heading};
+ghost use Rattle.fresh_checkpoints.specs.JournalHalves.Halves.{half_limit};
+ghost use Rattle.fresh_checkpoints.specs.JournalHalves.Journals.{Where};
+ghost use Rattle.store_opening.specs.HalfJournal.journal.Stage.TheVariants as Stage;
+ghost use Rattle.store_opening.specs.HalfJournal.States as journals;
+ghost use Rattle.store_opening.specs.SpentTable.Spent.{Spent as Row};
+ghost use Rattle.store_opening.specs.UserDedup.command.Command.{Command};
+ghost use Rattle.store_opening.specs.UserDedup.Compact.{compact};
+ghost use Rattle.store_opening.specs.UserDedup.Dedup.{IsSound};
+ghost use Rattle.fresh_checkpoints.specs.CloudAreas.Standing.{Chain, StandsFor};
+ghost use Rattle.fresh_checkpoints.specs.CloudMemory.Fitting.{FitsRecords};
+ghost use Rattle.fresh_checkpoints.specs.CloudMemory.Memory.{Remembers};
+ghost use Rattle.fresh_checkpoints.specs.CloudMemory.Rooms.{memory_of};
+ghost use Rattle.fresh_checkpoints.specs.Checkpoints.Known.{AreListed};
+ghost use Rattle.fresh_checkpoints.specs.Checkpoints.Laying.{records_len};
+ghost use Rattle.fresh_checkpoints.specs.Checkpoints.Records.{records_of};
+ghost use Rattle.fresh_checkpoints.specs.CompactMemories.Kept.{IsCompacted, commands_in};
+ghost use Rattle.fresh_checkpoints.specs.CompactMemories.Tables.{with_table};
 ghost use Rattle.fresh_checkpoints.specs.Fresh.{IsNextMemory};
 ghost use Rattle.fresh_checkpoints.specs.Switching.{IsReadOne, IsMigrating};
 ghost use Rattle.store_opening.specs.Synced.{AreSynced, BeginsSynced};
-ghost use Rattle.migration_model.specs.Migrating.{MayBeMigrated, EachBegunOne, IsBetween};
-ghost use Rattle.migration_model.specs.Migrating as model;
+ghost use Rattle.large_users.specs.MigrationModel.Migrating.{MayBeMigrated, EachBegunOne, IsBetween};
+ghost use Rattle.large_users.specs.MigrationModel.Migrating as model;
 ghost use Rattle.store_migration.specs.Answers.{MigratedAs, OnFault, IfAnswered, IfRefused, IfNoMemory};
 ghost use Rattle.store_migration.specs.Exact.{Migrates};
 ghost use Rattle.store_migration.specs.Judging.{JudgedAs, JudgedBy, SettledAs, TakenOverAs, GoesOn};
@@ -41,15 +41,14 @@ use crate::MigrateErr;
 use crate::headers::header_two;
 use crate::kit::Kit;
 use crate::reading::read_old;
-use cd_base::{CloudNo, NoMemory, Shape};
-use cd_edges::Shelf;
-use cloud_memory::CloudMemory;
-use compact_memories::{commands_of_compact, make_compact};
-use fresh_checkpoints::{NextList, lay_fresh};
-use journal_start::{Header, Rooms};
+use fresh_checkpoints::{
+    CloudMemory, CloudNo, NextList, NoMemory, Shape, Shelf, commands_of_compact, lay_fresh,
+    make_compact,
+};
 use large_users::laws::{law_of_compacted_fits, law_of_compacted_room};
 use large_users::{TooLarge, first_too_large};
 use std::alloc::Global;
+use store_opening::{Header, UserRooms};
 
 // The slots of a memory's tables list what they have.
 fn slots_list(memory: &CloudMemory)
@@ -91,14 +90,15 @@ fn refusal(large: TooLarge) -> MigrateErr
 
 // Takes out of the memory what no user owns, and says which user keeps too much, if one does. Else the rest is the
 // memory of the compact list, whose checkpoint a half has room for; answers how many commands it has.
-fn judge(memory: &mut CloudMemory, rooms: &Rooms) -> Result<u64, MigrateErr>
+fn judge(memory: &mut CloudMemory, rooms: &UserRooms) -> Result<u64, MigrateErr>
     requires rooms { AreRooms rooms.now }
     requires first { HasFirst memory.old }
     requires fit { FitsRecords (memory_of memory.old) }
     ensures judged { JudgedAs rooms.now (memory_of memory.old) result }
     ensures by_list { (shape : OfStore) (cloud : ℕ) (list : List Command) (table : List Row) → IsSound shape cloud list
         → Remembers shape list (with_table table (memory_of memory.old)) → JudgedBy shape rooms.now list result }
-    ensures next { (shape : OfStore) (cloud : OneCloud) (list : List Command) (journal : journals.State) (at : Cloud)
+    ensures next { (shape : OfStore) (cloud : OneCloud) (list : List Command) (journal : journals.JournalState)
+        (at : Cloud)
         → IsReadFirst shape cloud list journal (memory_of memory.old) at
         → IfOk result (λ commands. IsNextMemory (model.header_two shape cloud rooms.now) (compact shape list) commands 0
         memory.new at) }
@@ -141,7 +141,7 @@ fn settle<V: Shelf>(
         → StandsFor image header.now other) }
     ensures settled { SettledAs commands result }
     ensures goes_on { IsTrue (V.cloud_at shelf.old cloud.0).told → (w : Where)
-        → journals.IsEnded (journals.state_of kit.old.journal) ((V.cloud_at shelf.old cloud.0).now OfJournal) w
+        → journals.IsJournalEnded (journals.state_of kit.old.journal) ((V.cloud_at shelf.old cloud.0).now OfJournal) w
         → GoesOn (V.cloud_at shelf.old cloud.0) (V.cloud_at shelf.new cloud.0) }
     ensures call { IsCall (V.cloud_at shelf.old) (V.cloud_at shelf.new) cloud.0 (V.faults shelf.old)
         (V.faults shelf.new) }
@@ -180,7 +180,7 @@ fn take_over<V: Shelf>(
     shelf: &mut V,
     cloud: CloudNo,
     shape: Shape,
-    rooms: &Rooms,
+    rooms: &UserRooms,
 ) -> Result<u64, MigrateErr>
     requires cloud { cloud.0 < shape.n }
     requires rooms { AreRooms rooms.now }
@@ -200,7 +200,7 @@ fn take_over<V: Shelf>(
         → MigratedAs shape cloud rooms.now list (V.cloud_at shelf.new cloud.0) result }
     ensures taken_over { TakenOverAs rooms.now (memory_of kit.old.memory) result }
     ensures goes_on { IsTrue (V.cloud_at shelf.old cloud.0).told → (w : Where)
-        → journals.IsEnded (journals.state_of kit.old.journal) ((V.cloud_at shelf.old cloud.0).now OfJournal) w
+        → journals.IsJournalEnded (journals.state_of kit.old.journal) ((V.cloud_at shelf.old cloud.0).now OfJournal) w
         → GoesOn (V.cloud_at shelf.old cloud.0) (V.cloud_at shelf.new cloud.0) }
     ensures spared { IfRefused result (shelf.new ≡ shelf.old) }
     ensures call { IsCall (V.cloud_at shelf.old) (V.cloud_at shelf.new) cloud.0 (V.faults shelf.old)
@@ -229,7 +229,7 @@ fn migrate_with<V: Shelf>(
     shelf: &mut V,
     cloud: CloudNo,
     shape: Shape,
-    rooms: &Rooms,
+    rooms: &UserRooms,
 ) -> Result<u64, MigrateErr>
     requires cloud { cloud.0 < shape.n }
     requires rooms { AreRooms rooms.now }
@@ -290,7 +290,7 @@ pub fn migrate<V: Shelf>(
     shelf: &mut V,
     cloud: CloudNo,
     shape: Shape,
-    rooms: Rooms,
+    rooms: UserRooms,
 ) -> Result<u64, MigrateErr>
     requires cloud { cloud.0 < shape.n }
     requires rooms { AreRooms rooms }

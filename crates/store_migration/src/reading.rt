@@ -1,20 +1,20 @@
 //! A journal of format 1 that is read into the memory.
 
 ghost use Rattle.std.specs.Prelude.{◌≡◌, ◌<◌, ◌≤◌, [], List, length, IsTrue, IsOk, IfOk, Ok, OnOk, OnErr};
-ghost use Rattle.cd_base.specs.Limits.{recipe_limit};
-ghost use Rattle.cd_edges.specs.declared.area.Area.{Area};
-ghost use Rattle.cd_edges.specs.Disk.{LeavesOnly, IsImage, reads};
-ghost use Rattle.cd_edges.specs.Shelf.{IsCall, HasFailed, KeepsCounts, Stays};
-ghost use Rattle.journal_halves.specs.Journals.{Where};
-ghost use Rattle.half_journal.specs.declared.journal.Stage.TheVariants as Stage;
-ghost use Rattle.half_journal.specs.States.{state_of, IsReading, IsEnded};
-ghost use Rattle.journal_start.specs.Ranges.{usual_rooms};
-ghost use Rattle.user_dedup.specs.declared.command.Command.{Command};
-ghost use Rattle.cloud_memory.specs.Fitting.{FitsRecords};
-ghost use Rattle.cloud_memory.specs.Rooms.{memory_of};
-ghost use Rattle.first_records.specs.Limits.{HasFirstRooms};
-ghost use Rattle.migration_model.specs.Migrating.{MayBeMigrated};
-ghost use Rattle.store_opening.specs.Steps.{HasEnded};
+ghost use Rattle.fresh_checkpoints.specs.CdBase.Limits.{recipe_limit};
+ghost use Rattle.fresh_checkpoints.specs.CdEdges.area.Area.{Area};
+ghost use Rattle.fresh_checkpoints.specs.CdEdges.Disk.{LeavesOnly, IsImage, reads};
+ghost use Rattle.fresh_checkpoints.specs.CdEdges.Shelf.{IsCall, HasFailed, KeepsCounts, Stays};
+ghost use Rattle.fresh_checkpoints.specs.JournalHalves.Journals.{Where};
+ghost use Rattle.store_opening.specs.HalfJournal.journal.Stage.TheVariants as Stage;
+ghost use Rattle.store_opening.specs.HalfJournal.States.{state_of, IsJournalReading, IsJournalEnded};
+ghost use Rattle.store_opening.specs.JournalStart.Ranges.{usual_rooms};
+ghost use Rattle.store_opening.specs.UserDedup.command.Command.{Command};
+ghost use Rattle.fresh_checkpoints.specs.CloudMemory.Fitting.{FitsRecords};
+ghost use Rattle.fresh_checkpoints.specs.CloudMemory.Rooms.{memory_of};
+ghost use Rattle.first_laws.specs.FirstRecords.Limits.{HasFirstRooms};
+ghost use Rattle.large_users.specs.MigrationModel.Migrating.{MayBeMigrated};
+ghost use Rattle.store_opening.specs.Steps.{HasChainEnded};
 ghost use Rattle.store_opening.specs.Synced.{AreSynced};
 ghost use Rattle.store_migration.specs.Answers.{OnFault, IfNoMemory};
 ghost use Rattle.store_migration.specs.Exact.{ReadsOld, users_most};
@@ -25,12 +25,9 @@ ghost use Rattle.store_migration.specs.Steps.{past_err, stage_after, HasReadAll,
 use crate::finding::open_old;
 use crate::records::take_all;
 use crate::{MigrateErr, OldErr};
-use cd_base::{CloudNo, Shape};
-use cd_edges::{Area, Failed, Shelf};
-use first_records::{CloudMemory, Ground};
-use half_journal::Journal;
-use journal_halves::HALF_LEN;
-use journal_start::Rooms;
+use first_laws::{CloudMemory, Ground};
+use fresh_checkpoints::{Area, CloudNo, Failed, HALF_LEN, Shape, Shelf};
+use store_opening::{Journal, UserRooms};
 
 // The first place of the recipes' end in a start's record.
 const RECIPES_END: u64 = 33;
@@ -56,7 +53,7 @@ fn survey<V: Shelf>(shelf: &mut V, cloud: CloudNo, shape: Shape) -> Result<Groun
     let recipes_len = shelf.len(cloud, Area::Recipes)?;
     Ok(Ground {
         shape,
-        rooms: Rooms::usual(),
+        rooms: UserRooms::usual(),
         region: 0,
         shares_len,
         recipes_len,
@@ -88,12 +85,12 @@ fn load<V: Shelf>(
     requires users { length memory.old.spent ≡ users_most }
     requires buffer { recipe_limit ≤ length buffer.old }
     ensures exact { IsTrue (V.cloud_at shelf.old cloud.0).told → (w : Where)
-        → IsReading (state_of journal.old) ((V.cloud_at shelf.old cloud.0).now Area.Journal) w → w.bodies ≡ []
+        → IsJournalReading (state_of journal.old) ((V.cloud_at shelf.old cloud.0).now Area.Journal) w → w.bodies ≡ []
         → LoadsAs ground.now half ((V.cloud_at shelf.old cloud.0).now Area.Recipes).read
         ((V.cloud_at shelf.old cloud.0).now Area.Journal) (state_of journal.old) (memory_of memory.new) result }
     ensures ended { IsTrue (V.cloud_at shelf.old cloud.0).told → (w : Where)
-        → IsReading (state_of journal.old) ((V.cloud_at shelf.old cloud.0).now Area.Journal) w → w.bodies ≡ []
-        → OnOk result (HasEnded (state_of journal.new) ((V.cloud_at shelf.old cloud.0).now Area.Journal) w) }
+        → IsJournalReading (state_of journal.old) ((V.cloud_at shelf.old cloud.0).now Area.Journal) w → w.bodies ≡ []
+        → OnOk result (HasChainEnded (state_of journal.new) ((V.cloud_at shelf.old cloud.0).now Area.Journal) w) }
     ensures fit { OnOk result (FitsRecords (memory_of memory.new)) }
     ensures rooms { HasFirstRooms memory.new }
     ensures users { OnOk result (length memory.new.spent ≡ users_most) }
@@ -188,7 +185,7 @@ fn read_journal<V: Shelf>(
     ensures read { IsTrue (V.cloud_at shelf.old cloud.0).told → OnOk result
         (IsReadWholeOne shape cloud (state_of journal.new) (memory_of memory.new) (V.cloud_at shelf.new cloud.0)) }
     ensures ended { IsTrue (V.cloud_at shelf.old cloud.0).told → OnOk result ((w : Where)
-        × IsEnded (state_of journal.new) ((V.cloud_at shelf.new cloud.0).now Area.Journal) w) }
+        × IsJournalEnded (state_of journal.new) ((V.cloud_at shelf.new cloud.0).now Area.Journal) w) }
     ensures fit { OnOk result (FitsRecords (memory_of memory.new)) }
     ensures rooms { HasFirstRooms memory.new }
     ensures unspent { OnOk result (length memory.new.spent ≡ users_most) }
@@ -238,7 +235,7 @@ pub(crate) fn read_old<V: Shelf>(
     ensures whole { (list : List Command) → MayBeMigrated shape cloud list (V.cloud_at shelf.old cloud.0)
         → OnFault result (Unit {0}) (IsOk result) }
     ensures ended { IsTrue (V.cloud_at shelf.old cloud.0).told → OnOk result ((w : Where)
-        × IsEnded (state_of journal.new) ((V.cloud_at shelf.new cloud.0).now Area.Journal) w) }
+        × IsJournalEnded (state_of journal.new) ((V.cloud_at shelf.new cloud.0).now Area.Journal) w) }
     ensures fit { OnOk result (FitsRecords (memory_of memory.new)) }
     ensures rooms { HasFirstRooms memory.new }
     ensures unspent { OnOk result (length memory.new.spent ≡ users_most) }

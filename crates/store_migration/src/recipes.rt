@@ -1,12 +1,11 @@
 //! What lies where a record's recipe is to lie.
 
 ghost use Rattle.std.specs.Prelude.{◌≡◌, ◌≤◌, length, take, drop, IsTrue, IfOk, OnOk, OnErr};
-ghost use Rattle.cd_edges.specs.declared.area.Area.{Area};
-ghost use Rattle.cd_edges.specs.Shelf.{IsCall, HasFailed, KeepsCounts, Stays};
-ghost use Rattle.store_opening.specs.Windows.{IsFront};
+ghost use Rattle.fresh_checkpoints.specs.CdEdges.area.Area.{Area};
+ghost use Rattle.fresh_checkpoints.specs.CdEdges.Shelf.{IsCall, HasFailed, KeepsCounts, Stays};
+ghost use Rattle.store_opening.specs.Windows.{IsFrontOfWindow};
 
-use cd_base::{CloudNo, Place};
-use cd_edges::{Area, Failed, Shelf};
+use fresh_checkpoints::{Area, CloudNo, Failed, Place, Shelf};
 
 /// The front of a buffer.
 pub(crate) fn front(buffer: &[u8], count: usize) -> &[u8]
@@ -26,7 +25,7 @@ fn fetch<V: Shelf>(
 ) -> Result<usize, Failed>
     requires { len ≤ length buffer.old }
     ensures bytes { IsTrue (V.cloud_at shelf.old cloud.0).told → IfOk result (λ count.
-        IsFront ((V.cloud_at shelf.old cloud.0).now Area.Recipes).read at len count buffer.new) }
+        IsFrontOfWindow ((V.cloud_at shelf.old cloud.0).now Area.Recipes).read at len count buffer.new) }
     ensures few { IfOk result (λ count. count ≤ len) }
     ensures inside { IfOk result (λ count. count ≤ length buffer.new) }
     ensures stays { Stays (V.cloud_at shelf.old cloud.0) (V.cloud_at shelf.new cloud.0) }

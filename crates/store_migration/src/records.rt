@@ -1,28 +1,28 @@
 //! The records of a journal of format 1, taken into the memory one after another.
 
 ghost use Rattle.std.specs.Prelude.{◌≡◌, ◌≤◌, ◌<◌, ◌+◌, ◌^◌, [], length, take, drop, nat_lt, is_ok, IsTrue, OnOk, if◌then◌else◌};
-ghost use Rattle.cd_base.specs.Limits.{recipe_limit};
-ghost use Rattle.cd_edges.specs.declared.area.Area.{Area};
-ghost use Rattle.cd_edges.specs.Shelf.{IsCall, HasFailed, KeepsCounts, Stays};
-ghost use Rattle.commit_journal.specs.Records.{IsBody};
-ghost use Rattle.journal_halves.specs.Journals.{Where};
-ghost use Rattle.journal_start.specs.Spelling.{records_of};
-ghost use Rattle.half_journal.specs.declared.journal.Stage.TheVariants as Stage;
-ghost use Rattle.half_journal.specs.States.{state_of, IsReading};
-ghost use Rattle.cloud_memory.specs.Fitting.{FitsRecords};
-ghost use Rattle.cloud_memory.specs.Rooms.{memory_of};
-ghost use Rattle.first_records.specs.Limits.{HasFirstRooms};
+ghost use Rattle.fresh_checkpoints.specs.CdBase.Limits.{recipe_limit};
+ghost use Rattle.fresh_checkpoints.specs.CdEdges.area.Area.{Area};
+ghost use Rattle.fresh_checkpoints.specs.CdEdges.Shelf.{IsCall, HasFailed, KeepsCounts, Stays};
+ghost use Rattle.store_opening.specs.CommitJournal.Records.{IsJournalBody};
+ghost use Rattle.fresh_checkpoints.specs.JournalHalves.Journals.{Where};
+ghost use Rattle.store_opening.specs.JournalStart.Spelling.{records_of};
+ghost use Rattle.store_opening.specs.HalfJournal.journal.Stage.TheVariants as Stage;
+ghost use Rattle.store_opening.specs.HalfJournal.States.{state_of, IsJournalReading};
+ghost use Rattle.fresh_checkpoints.specs.CloudMemory.Fitting.{FitsRecords};
+ghost use Rattle.fresh_checkpoints.specs.CloudMemory.Rooms.{memory_of};
+ghost use Rattle.first_laws.specs.FirstRecords.Limits.{HasFirstRooms};
 ghost use Rattle.store_migration.specs.Answers.{OnFault};
 ghost use Rattle.store_migration.specs.Exact.{old_err};
-ghost use Rattle.store_migration.specs.Steps.{BodyAs, OneAs, NextAs, AllAs, IsOfRecords, OnTrue, stage_of, stage_after};
+ghost use Rattle.store_migration.specs.Steps.{BodyAs, IsFirstOneAs, NextAs, AllAs, IsOfRecords, OnTrue, stage_of};
+ghost use Rattle.store_migration.specs.Steps.{stage_after};
 ghost use Rattle.store_migration.specs.declared.errors.MigrateErr.TheVariants.{Open};
 
 use crate::recipes::{front, read_at};
 use crate::{MigrateErr, OldErr};
-use cd_base::{CloudNo, Place};
-use cd_edges::{Failed, Shelf};
-use first_records::{CloudMemory, Damage, FirstErr, Ground, recipe_of, take};
-use half_journal::{Journal, JournalErr};
+use first_laws::{CloudMemory, Damage, FirstErr, Ground, recipe_of, take};
+use fresh_checkpoints::{CloudNo, Failed, Place, Shelf};
+use store_opening::{Journal, RecordErr};
 
 // Why a record isn't taken.
 fn untaken(error: FirstErr) -> MigrateErr
@@ -45,7 +45,7 @@ fn take_body(
     read: &[u8],
 ) -> Result<(), MigrateErr>
     requires rooms { HasFirstRooms memory.old }
-    requires body { IsBody (state_of journal.old).current.body }
+    requires body { IsJournalBody (state_of journal.old).current.body }
     requires place { 5 ≤ (state_of journal.old).current.body_at }
     requires end { (state_of journal.old).current.body_at + length (state_of journal.old).current.body < 2 ^ 64 }
     requires read { length read.now < 2 ^ 32 }
@@ -86,7 +86,7 @@ fn take_read<V: Shelf>(
     buffer: &mut [u8],
 ) -> Result<(), MigrateErr>
     requires rooms { HasFirstRooms memory.old }
-    requires body { IsBody (state_of journal.old).current.body }
+    requires body { IsJournalBody (state_of journal.old).current.body }
     requires place { 5 ≤ (state_of journal.old).current.body_at }
     requires end { (state_of journal.old).current.body_at + length (state_of journal.old).current.body < 2 ^ 64 }
     requires room { place.len ≤ length buffer.old }
@@ -132,12 +132,12 @@ fn take_record<V: Shelf>(
     buffer: &mut [u8],
 ) -> Result<(), MigrateErr>
     requires rooms { HasFirstRooms memory.old }
-    requires body { IsBody (state_of journal.old).current.body }
+    requires body { IsJournalBody (state_of journal.old).current.body }
     requires place { 5 ≤ (state_of journal.old).current.body_at }
     requires end { (state_of journal.old).current.body_at + length (state_of journal.old).current.body < 2 ^ 64 }
     requires buffer { recipe_limit ≤ length buffer.old }
     ensures judged { IsTrue (V.cloud_at shelf.old cloud.0).told → OnFault result (Unit {0})
-        (OneAs ground.now inside ((V.cloud_at shelf.old cloud.0).now Area.Recipes).read
+        (IsFirstOneAs ground.now inside ((V.cloud_at shelf.old cloud.0).now Area.Recipes).read
         (memory_of memory.old) (state_of journal.old).current.body_at (state_of journal.old).current.body
         (memory_of memory.new) result) }
     ensures rooms { HasFirstRooms memory.new }
@@ -182,7 +182,7 @@ fn take_next<V: Shelf>(
     requires rooms { HasFirstRooms memory.old }
     requires buffer { recipe_limit ≤ length buffer.old }
     ensures exact { IsTrue (V.cloud_at shelf.old cloud.0).told → (w : Where)
-        → IsReading (state_of journal.old) ((V.cloud_at shelf.old cloud.0).now Area.Journal) w
+        → IsJournalReading (state_of journal.old) ((V.cloud_at shelf.old cloud.0).now Area.Journal) w
         → inside ≡ nat_lt (length w.bodies) (records_of w.start.checkpoint)
         → NextAs ground.now ((V.cloud_at shelf.old cloud.0).now Area.Recipes).read
         ((V.cloud_at shelf.old cloud.0).now Area.Journal) w (state_of journal.old) (memory_of memory.old)
@@ -211,10 +211,10 @@ fn take_next<V: Shelf>(
             Err(error) => Err(error),
         },
         Ok(false) => Ok(false),
-        Err(JournalErr::Damaged { at, byte }) => {
+        Err(RecordErr::Damaged { at, byte }) => {
             Err(MigrateErr::Open(OldErr::Damaged { at, byte }))
         }
-        Err(JournalErr::Failed) => Err(MigrateErr::Fault),
+        Err(RecordErr::Failed) => Err(MigrateErr::Fault),
     }
 }
 
@@ -231,7 +231,7 @@ pub(crate) fn take_all<V: Shelf>(
     requires rooms { HasFirstRooms memory.old }
     requires buffer { recipe_limit ≤ length buffer.old }
     ensures exact { IsTrue (V.cloud_at shelf.old cloud.0).told → (w : Where)
-        → IsReading (state_of journal.old) ((V.cloud_at shelf.old cloud.0).now Area.Journal) w → w.bodies ≡ []
+        → IsJournalReading (state_of journal.old) ((V.cloud_at shelf.old cloud.0).now Area.Journal) w → w.bodies ≡ []
         → AllAs ground.now ((V.cloud_at shelf.old cloud.0).now Area.Recipes).read
         ((V.cloud_at shelf.old cloud.0).now Area.Journal) w (state_of journal.old) (memory_of memory.old)
         (state_of journal.new) (memory_of memory.new) result }

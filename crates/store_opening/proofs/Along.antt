@@ -1,23 +1,23 @@
 -- The records that were taken so far, one after another.
 use Rattle.std.proofs.Common.{◌≡◌, ℕ, ◌+◌, ◌≤◌, Bool, IsTrue, true, false, List, [], ◌∷◌, ◌++◌, length, nat_lt, Result, Ok, Err, sym, ◌∙◌, ap, subst, arith, length-append}
-use Rattle.cd_edges.specs.declared.area.Area.TheVariants.{Journal, Recipes}
-use Rattle.cd_edges.specs.Disk.{Store, Areas, Cloud}
-use Rattle.cd_edges.specs.Shelf.{IsCall, HasFailed, KeepsCounts, Stays}
-use Rattle.cd_edges.proofs.Calls.{called_twice}
-use Rattle.cd_edges.proofs.Moments.{told_on}
-use Rattle.journal_start.specs.declared.start.Start.{Start}
-use Rattle.journal_start.specs.Spelling.{records_of}
-use Rattle.journal_halves.specs.Journals.{Where}
-use Rattle.half_journal.specs.declared.errors.OpenErr.{OpenErr}
-use Rattle.half_journal.specs.declared.errors.OpenErr.TheVariants.{Fault, NotBegun, Damaged, OtherStore}
-use Rattle.half_journal.specs.declared.journal.Stage.TheVariants.{Reading}
-use Rattle.half_journal.specs.Openings.{OnFault}
-use Rattle.half_journal.specs.States.{State, IsReading}
-use Rattle.record_checks.specs.CloudMemory.cloud.CloudMemory.{CloudMemory}
-use Rattle.record_checks.specs.CloudMemory.Memory.{Memory}
-use Rattle.record_checks.specs.CloudMemory.Rooms.{memory_of, HasRooms}
-use Rattle.record_checks.specs.declared.ground.Ground.{Ground}
-use Rattle.record_checks.specs.declared.taking.Taking.{Taking}
+use Rattle.cloud_disk.specs.CdEdges.area.Area.TheVariants.{Journal, Recipes}
+use Rattle.cloud_disk.specs.CdEdges.Disk.{Store, Areas, Cloud}
+use Rattle.cloud_disk.specs.CdEdges.Shelf.{IsCall, HasFailed, KeepsCounts, Stays}
+use Rattle.cloud_disk.proofs.CdEdges.Calls.{called_twice}
+use Rattle.cloud_disk.proofs.CdEdges.Moments.{told_on}
+use Rattle.cloud_disk.specs.JournalStart.start.Start.{Start}
+use Rattle.cloud_disk.specs.JournalStart.Spelling.{records_of}
+use Rattle.cloud_disk.specs.JournalHalves.Journals.{Where}
+use Rattle.cloud_disk.specs.HalfJournal.errors.OpenErr.{OpenErr}
+use Rattle.cloud_disk.specs.HalfJournal.errors.OpenErr.TheVariants.{Fault, NotBegun, Damaged, OtherStore}
+use Rattle.cloud_disk.specs.HalfJournal.journal.Stage.TheVariants.{Reading}
+use Rattle.cloud_disk.specs.HalfJournal.Openings.{OnFault}
+use Rattle.cloud_disk.specs.HalfJournal.States.{JournalState, IsJournalReading}
+use Rattle.record_laws.specs.RecordChecks.CloudMemory.cloud.CloudMemory.{CloudMemory}
+use Rattle.record_laws.specs.RecordChecks.CloudMemory.Memory.{Memory}
+use Rattle.record_laws.specs.RecordChecks.CloudMemory.Rooms.{memory_of, HasRooms}
+use Rattle.record_laws.specs.RecordChecks.ground.Ground.{Ground}
+use Rattle.record_laws.specs.RecordChecks.taking.Taking.{Taking}
 use Rattle.store_opening.specs.Exact.{Closes, number_behind}
 use Rattle.store_opening.specs.Steps.{IsTraced, From, NextAs, AllAs}
 use Rattle.store_opening.specs.declared.window.Window.{Window}
@@ -29,14 +29,14 @@ abbrev pub with_bodies : Where → List (List ℕ) → Where
 with_bodies w bodies = record w { bodies = bodies }
 
 -- So many records of the chain were read, and what comes of the rest comes of all.
-pub record Leads (g : Ground) (recipes : List ℕ) (store : Store) (w : Where) (start journal : State) (first m : Memory) (t0 t : Taking) (records : ℕ) : Type 0 where
+pub record Leads (g : Ground) (recipes : List ℕ) (store : Store) (w : Where) (start journal : JournalState) (first m : Memory) (t0 t : Taking) (records : ℕ) : Type 0 where
   pub bodies : List (List ℕ)
   pub count : records ≡ length bodies
-  pub reading : IsReading journal store (with_bodies w bodies)
+  pub reading : IsJournalReading journal store (with_bodies w bodies)
   pub leads : (new : Memory) (answer : Result ℕ OpenErr) → From g recipes store new journal records m t answer → From g recipes store new start 0 first t0 answer
 
 -- Each step kept the cloud and its counts, and the records before the gate were taken.
-pub record Along (c0 c : ℕ → Cloud) (number before now : ℕ) (g : Ground) (start journal : State) (first memory : CloudMemory) (t0 t : Taking) (records long len : ℕ) : Type 0 where
+pub record Along (c0 c : ℕ → Cloud) (number before now : ℕ) (g : Ground) (start journal : JournalState) (first memory : CloudMemory) (t0 t : Taking) (records long len : ℕ) : Type 0 where
   pub stays : Stays (c0 number) (c number)
   pub call : IsCall c0 c number before now
   pub counts : KeepsCounts (c0 number) (c number) before now
@@ -47,18 +47,18 @@ pub record Along (c0 c : ℕ → Cloud) (number before now : ℕ) (g : Ground) (
   pub few : records ≤ journal.current.gate
   pub len_is : len ≡ long
   pub traced : IsTraced g (memory_of first) t0 → IsTraced g (memory_of memory) t
-  pub exact : IsTrue (c0 number).told → (w : Where) → IsReading start ((c0 number).now Journal) w → w.bodies ≡ []
+  pub exact : IsTrue (c0 number).told → (w : Where) → IsJournalReading start ((c0 number).now Journal) w → w.bodies ≡ []
       → Leads g ((c0 number).now Recipes).read ((c0 number).now Journal) w start journal (memory_of first) (memory_of memory) t0 t records
 
-module _ (c0 c d : ℕ → Cloud) (number before mid now : ℕ) (g : Ground) (start old new : State) (first memory after : CloudMemory) (t0 t u : Taking) (records long len len2 of : ℕ)
+module _ (c0 c d : ℕ → Cloud) (number before mid now : ℕ) (g : Ground) (start old new : JournalState) (first memory after : CloudMemory) (t0 t u : Taking) (records long len len2 of : ℕ)
     (of_is : of ≡ records_of start.start.checkpoint) (along : Along c0 c number before mid g start old first memory t0 t records long len) where
   -- the step as its clause says it
   abbrev pub StepAs : Result Bool OpenErr → Type 0
-  StepAs result = IsTrue (c number).told → (w : Where) → IsReading old ((c number).now Journal) w → nat_lt records of ≡ nat_lt (length w.bodies) (records_of w.start.checkpoint)
+  StepAs result = IsTrue (c number).told → (w : Where) → IsJournalReading old ((c number).now Journal) w → nat_lt records of ≡ nat_lt (length w.bodies) (records_of w.start.checkpoint)
       → NextAs g ((c number).now Recipes).read ((c number).now Journal) w old (memory_of memory) t new (memory_of after) u result
 
   -- the step behind those before, at the areas of the start
-  module _ (result : Result Bool OpenErr) (step : StepAs result) (told : IsTrue (c0 number).told) (w : Where) (reading : IsReading start ((c0 number).now Journal) w) (none : w.bodies ≡ []) where
+  module _ (result : Result Bool OpenErr) (step : StepAs result) (told : IsTrue (c0 number).told) (w : Where) (reading : IsJournalReading start ((c0 number).now Journal) w) (none : w.bodies ≡ []) where
     abbrev so_far : Leads g ((c0 number).now Recipes).read ((c0 number).now Journal) w start old (memory_of first) (memory_of memory) t0 t records
     so_far = along.exact told w reading none
 
@@ -67,7 +67,7 @@ module _ (c0 c d : ℕ → Cloud) (number before mid now : ℕ) (g : Ground) (st
 
     pub exactly : NextAs g ((c0 number).now Recipes).read ((c0 number).now Journal) (with_bodies w so_far.bodies) old (memory_of memory) t new (memory_of after) u result
     exactly =
-        subst (λ (a : Areas). (v : Where) → IsReading old (a Journal) v → nat_lt records of ≡ nat_lt (length v.bodies) (records_of v.start.checkpoint)
+        subst (λ (a : Areas). (v : Where) → IsJournalReading old (a Journal) v → nat_lt records of ≡ nat_lt (length v.bodies) (records_of v.start.checkpoint)
         → NextAs g (a Recipes).read (a Journal) v old (memory_of memory) t new (memory_of after) u result) along.stays.now
         (step (told_on (c0 number) (c number) along.call.told told)) (with_bodies w so_far.bodies) so_far.reading inside_is
 
@@ -100,7 +100,7 @@ module _ (c0 c d : ℕ → Cloud) (number before mid now : ℕ) (g : Ground) (st
   }
 
   -- the end
-  pub all_taken : StepAs (Ok false) → IsTrue (c0 number).told → (w : Where) → IsReading start ((c0 number).now Journal) w → w.bodies ≡ []
+  pub all_taken : StepAs (Ok false) → IsTrue (c0 number).told → (w : Where) → IsJournalReading start ((c0 number).now Journal) w → w.bodies ≡ []
       → AllAs g ((c0 number).now Recipes).read ((c0 number).now Journal) w start (memory_of first) t0 new (memory_of after) u (Ok records)
   all_taken step told w reading none =
       let f = so_far (Ok false) step told w reading none in
@@ -112,7 +112,7 @@ module _ (c0 c d : ℕ → Cloud) (number before mid now : ℕ) (g : Ground) (st
       )
 
   -- an Err
-  pub not_taken : (error : OpenErr) → StepAs (Err error) → IsTrue (c0 number).told → (w : Where) → IsReading start ((c0 number).now Journal) w → w.bodies ≡ []
+  pub not_taken : (error : OpenErr) → StepAs (Err error) → IsTrue (c0 number).told → (w : Where) → IsJournalReading start ((c0 number).now Journal) w → w.bodies ≡ []
       → AllAs g ((c0 number).now Recipes).read ((c0 number).now Journal) w start (memory_of first) t0 new (memory_of after) u (Err error)
   not_taken Fault step told w reading none = tt
   not_taken (Damaged at byte) step told w reading none = λ last.
@@ -128,6 +128,6 @@ module _ (c0 c d : ℕ → Cloud) (number before mid now : ℕ) (g : Ground) (st
   counted_on result call counts = counted_behind result c0 c d number before mid now along.call along.counts counts
 
 -- The steps so far, and what the buffer has of the area of recipes.
-pub record Looking (c0 c : ℕ → Cloud) (number before now : ℕ) (g : Ground) (start journal : State) (first memory : CloudMemory) (t0 t : Taking) (records : ℕ) (given buffer : List ℕ) (window : Window) : Type 0 where
+pub record Looking (c0 c : ℕ → Cloud) (number before now : ℕ) (g : Ground) (start journal : JournalState) (first memory : CloudMemory) (t0 t : Taking) (records : ℕ) (given buffer : List ℕ) (window : Window) : Type 0 where
   pub along : Along c0 c number before now g start journal first memory t0 t records (length given) (length buffer)
   pub shows : Shows (c number) window buffer

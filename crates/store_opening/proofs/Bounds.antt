@@ -2,15 +2,15 @@
 use Rattle.std.proofs.Common.{◌≡◌, ◌↔◌, ℕ, ◌+◌, ◌*◌, ◌-◌, ◌^◌, ◌<◌, ◌≤◌, min, Bool, true, false, IsTrue, IsSome, List, Option, Some, None, Result, Err, refl, sym, ◌∙◌, ap, subst, arith}
 use Rattle.std.proofs.lemmas.Bool.{false≢true}
 use Rattle.std.specs.List.{sum_by}
-use Rattle.spent_table.specs.declared.Spent.{Spent}
-use Rattle.spent_table.specs.Spending.{reached}
-use Rattle.half_journal.specs.declared.errors.OpenErr.{OpenErr}
-use Rattle.half_journal.specs.declared.errors.OpenErr.TheVariants.{Damaged}
-use Rattle.half_journal.specs.Openings.{OnFault}
-use Rattle.record_checks.specs.CloudMemory.Memory.{Memory}
-use Rattle.record_checks.specs.declared.damage.Damage.{Damage}
-use Rattle.record_checks.specs.declared.ground.Ground.{Ground}
-use Rattle.record_checks.specs.declared.taking.Taking.{Taking}
+use Rattle.record_laws.specs.SpentTable.Spent.{Spent}
+use Rattle.record_laws.specs.SpentTable.Spending.{reached}
+use Rattle.cloud_disk.specs.HalfJournal.errors.OpenErr.{OpenErr}
+use Rattle.cloud_disk.specs.HalfJournal.errors.OpenErr.TheVariants.{Damaged}
+use Rattle.cloud_disk.specs.HalfJournal.Openings.{OnFault}
+use Rattle.record_laws.specs.RecordChecks.CloudMemory.Memory.{Memory}
+use Rattle.record_laws.specs.RecordChecks.damage.Damage.{Damage}
+use Rattle.record_laws.specs.RecordChecks.ground.Ground.{Ground}
+use Rattle.record_laws.specs.RecordChecks.taking.Taking.{Taking}
 use Rattle.store_opening.specs.Exact.{Closes, Within, SharesPast, RecipesPast, shares_bound, recipes_bound}
 use Rattle.store_opening.specs.Steps.{IsTraced, IsOfRecords}
 

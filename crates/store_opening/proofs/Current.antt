@@ -1,13 +1,13 @@
 -- A journal has one current half.
 use Rattle.std.proofs.Common.{◌≡◌, inl, inr, ℕ, zero, suc, ◌+◌, ◌-◌, ◌%◌, ◌≤◌, List, Option, Some, None, sym, ◌∙◌, ap, subst, arith}
 use Rattle.std.proofs.lemmas.Bool.{false≢true}
-use Rattle.journal_start.specs.declared.start.Checkpoint.{Checkpoint}
-use Rattle.journal_start.specs.declared.start.Start.{Start}
-use Rattle.journal_start.specs.Ranges.{IsBehind}
-use Rattle.journal_start.specs.Spelling.{epoch_of, region_of}
-use Rattle.journal_halves.specs.Halves.{HasStart, IsCurrent}
-use Rattle.journal_halves.proofs.Current.{one_start, begun_half}
-use Rattle.journal_halves.specs.Beginnings.{IsUnbegun}
+use Rattle.cloud_disk.specs.JournalStart.start.Checkpoint.{Checkpoint}
+use Rattle.cloud_disk.specs.JournalStart.start.Start.{Start}
+use Rattle.cloud_disk.specs.JournalStart.Ranges.{IsBehind}
+use Rattle.cloud_disk.specs.JournalStart.Spelling.{epoch_of, region_of}
+use Rattle.cloud_disk.specs.JournalHalves.Halves.{HasStart, IsCurrent}
+use Rattle.cloud_disk.proofs.JournalHalves.Current.{one_start, begun_half}
+use Rattle.cloud_disk.specs.JournalHalves.Beginnings.{IsUnbegun}
 
 -- two epochs can't both be the later one
 one_epoch : (a b : ℕ) → a ≤ 2 → b ≤ 2 → a ≡ (b + 1) % 3 → b ≡ (a + 1) % 3 → ⊥

@@ -1,22 +1,22 @@
 -- All records of a journal, into a memory of no commands.
 use Rattle.std.proofs.Common.{◌≡◌, ℕ, List, Result, Ok, Err, sym, ap, subst}
-use Rattle.cd_edges.specs.Disk.{Store}
-use Rattle.journal_halves.specs.Journals.{Where}
-use Rattle.half_journal.specs.declared.errors.OpenErr.{OpenErr}
-use Rattle.half_journal.specs.declared.errors.OpenErr.TheVariants.{Fault, NotBegun, Damaged, OtherStore}
-use Rattle.half_journal.specs.declared.journal.Stage.{Stage}
-use Rattle.half_journal.specs.Openings.{OnFault}
-use Rattle.half_journal.specs.States.{State}
-use Rattle.record_checks.specs.CloudMemory.Fitting.{FitsRecords}
-use Rattle.record_checks.specs.CloudMemory.Memory.{Memory}
-use Rattle.record_checks.specs.CloudMemory.Steps.{begun}
-use Rattle.record_checks.proofs.MemoryProofs.Fitting.{begun_fits}
-use Rattle.record_checks.specs.declared.ground.Ground.{Ground}
-use Rattle.record_checks.specs.declared.taking.Taking.{Taking}
-use Rattle.record_checks.specs.Noting.{nothing_noted}
+use Rattle.cloud_disk.specs.CdEdges.Disk.{Store}
+use Rattle.cloud_disk.specs.JournalHalves.Journals.{Where}
+use Rattle.cloud_disk.specs.HalfJournal.errors.OpenErr.{OpenErr}
+use Rattle.cloud_disk.specs.HalfJournal.errors.OpenErr.TheVariants.{Fault, NotBegun, Damaged, OtherStore}
+use Rattle.cloud_disk.specs.HalfJournal.journal.Stage.{Stage}
+use Rattle.cloud_disk.specs.HalfJournal.Openings.{OnFault}
+use Rattle.cloud_disk.specs.HalfJournal.States.{JournalState}
+use Rattle.record_laws.specs.RecordChecks.CloudMemory.Fitting.{FitsRecords}
+use Rattle.record_laws.specs.RecordChecks.CloudMemory.Memory.{Memory}
+use Rattle.record_laws.specs.RecordChecks.CloudMemory.Steps.{begun}
+use Rattle.record_laws.proofs.RecordChecks.MemoryProofs.Fitting.{begun_fits}
+use Rattle.record_laws.specs.RecordChecks.ground.Ground.{Ground}
+use Rattle.record_laws.specs.RecordChecks.taking.Taking.{Taking}
+use Rattle.record_laws.specs.RecordChecks.Noting.{nothing_noted}
 use Rattle.store_opening.specs.Exact.{Closes, number_behind}
 use Rattle.store_opening.specs.Roomy.{SpendWithin}
-use Rattle.store_opening.specs.Steps.{IsTraced, From, AllAs, HasEnded}
+use Rattle.store_opening.specs.Steps.{IsTraced, From, AllAs, HasChainEnded}
 use Rattle.store_opening.proofs.Roomy.{begun_within}
 
 pub traced_begun : (g : Ground) (users : ℕ) (m : Memory) (t : Taking) → m ≡ begun users g.region → t ≡ nothing_noted → IsTraced g m t
@@ -27,8 +27,8 @@ traced_begun g users m t same none = record {
   spent = subst (λ (x : Memory). SpendWithin g.rooms x.spent) (sym same) (begun_within g.rooms users);
 }
 
-module _ (g : Ground) (recipes : List ℕ) (store : Store) (w : Where) (before : State) (m0 : Memory) (t0 : Taking) (users : ℕ) (same : m0 ≡ begun users g.region) (none : t0 ≡ nothing_noted)
-    (after : State) (mid : Memory) (u : Taking) where
+module _ (g : Ground) (recipes : List ℕ) (store : Store) (w : Where) (before : JournalState) (m0 : Memory) (t0 : Taking) (users : ℕ) (same : m0 ≡ begun users g.region) (none : t0 ≡ nothing_noted)
+    (after : JournalState) (mid : Memory) (u : Taking) where
   from_begun : (new : Memory) (answer : Result ℕ OpenErr) → From g recipes store new before 0 m0 t0 answer → From g recipes store new before 0 (begun users g.region) nothing_noted answer
   from_begun new answer from =
       subst (λ (t : Taking). From g recipes store new before 0 (begun users g.region) t answer) none (subst (λ (m : Memory). From g recipes store new before 0 m t0 answer) same from)
@@ -37,7 +37,7 @@ module _ (g : Ground) (recipes : List ℕ) (store : Store) (w : Where) (before :
       → From g recipes store mid before 0 (begun users g.region) nothing_noted answer
   all_closed records number answer all is closes = from_begun mid answer (all.1 answer (subst (λ (n : ℕ). Closes g mid u n answer) is closes))
 
-  pub all_ended : (records : ℕ) → AllAs g recipes store w before m0 t0 after mid u (Ok records) → HasEnded after store w
+  pub all_ended : (records : ℕ) → AllAs g recipes store w before m0 t0 after mid u (Ok records) → HasChainEnded after store w
   all_ended records all = record { bodies = all.0.0; ended = all.0.2 }
 
   pub all_failed : (error : OpenErr) (new : Memory) → AllAs g recipes store w before m0 t0 after mid u (Err error)
@@ -48,7 +48,7 @@ module _ (g : Ground) (recipes : List ℕ) (store : Store) (w : Where) (before :
   all_failed (OtherStore found asked at) new all = absurd all
 
 -- the same of another stage
-pub restaged_end : (state : State) (stage : Stage) (store : Store) (w : Where) → HasEnded state store w → HasEnded (record state { stage = stage }) store w
+pub restaged_end : (state : JournalState) (stage : Stage) (store : Store) (w : Where) → HasChainEnded state store w → HasChainEnded (record state { stage = stage }) store w
 restaged_end state stage store w h = let e = h.ended in record { bodies = h.bodies; ended = record { half = e.half; start = e.start; is_current = e.is_current; read = e.read; full = e.full } }
 
 -- an answer that isn't a failed call's

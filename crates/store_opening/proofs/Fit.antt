@@ -2,18 +2,18 @@
 use Rattle.std.proofs.Common.{◌≡◌, ◌≤◌, Bool, true, false, List, [], ◌∷◌, Option, Some, None, ap, subst}
 use Rattle.std.specs.Prelude.{All}
 use Rattle.std.proofs.lemmas.List.Elements.{All-nil, All-cons, All-head, All-tail}
-use Rattle.cd_base.specs.declared.ids.UserId.{UserId}
-use Rattle.message_fields.specs.Shares.{share_limit}
-use Rattle.record_body.specs.declared.body.PutItem.{PutItem}
-use Rattle.record_body.specs.Spelling.{FitsPlaced, FitsItem}
-use Rattle.cd_base.specs.declared.place.Place.{Place}
-use Rattle.spent_table.specs.declared.Spent.{Spent}
-use Rattle.record_checks.specs.CloudMemory.Fitting.{FitsPart, FitsRecords, AreItemsPlaced}
-use Rattle.record_checks.specs.CloudMemory.Memory.{Memory}
-use Rattle.record_checks.specs.CloudMemory.Steps.{with_item, with_items}
-use Rattle.record_checks.proofs.MemoryProofs.Fitting.{filled_fits, spends_fits, has_place}
-use Rattle.record_checks.specs.declared.ground.Ground.{Ground}
-use Rattle.record_checks.specs.Checks.{spends_behind, AreRight}
+use Rattle.cloud_disk.specs.CdBase.ids.UserId.{UserId}
+use Rattle.record_laws.specs.MessageFields.Shares.{share_limit}
+use Rattle.cloud_disk.specs.RecordBody.body.PutItem.{PutItem}
+use Rattle.cloud_disk.specs.RecordBody.Spelling.{FitsPlaced, FitsItem}
+use Rattle.cloud_disk.specs.CdBase.place.Place.{Place}
+use Rattle.record_laws.specs.SpentTable.Spent.{Spent}
+use Rattle.record_laws.specs.RecordChecks.CloudMemory.Fitting.{FitsPart, FitsRecords, AreItemsPlaced}
+use Rattle.record_laws.specs.RecordChecks.CloudMemory.Memory.{Memory}
+use Rattle.record_laws.specs.RecordChecks.CloudMemory.Steps.{with_item, with_items}
+use Rattle.record_laws.proofs.RecordChecks.MemoryProofs.Fitting.{filled_fits, spends_fits, has_place}
+use Rattle.record_laws.specs.RecordChecks.ground.Ground.{Ground}
+use Rattle.record_laws.specs.RecordChecks.Checks.{spends_behind, AreRight}
 
 abbrev place_or : Place → Option Place → Place
 place_or other None = other

@@ -1,36 +1,36 @@
 -- What an opening gives over areas that stand for a list.
 use Rattle.std.proofs.Common.{◌≡◌, ◌⊎◌, inl, inr, ℕ, Bool, true, false, IsTrue, List, [], length, Result, Ok, Err, IfOk, OnOk, refl, sym, ◌∙◌, ap, subst}
 use Rattle.std.proofs.lemmas.List.{length-map}
-use Rattle.cd_edges.specs.declared.area.Area.TheVariants.{Journal, Shares, Recipes}
-use Rattle.cd_edges.specs.Disk.{Image, Cloud, reads}
-use Rattle.journal_start.specs.declared.start.Header.{Header}
-use Rattle.journal_start.specs.declared.start.Start.{Start}
-use Rattle.journal_halves.specs.Halves.{half_of, half_limit}
-use Rattle.journal_halves.specs.Journals.{Where, all_bodies, HasChain}
-use Rattle.commit_journal.specs.Records.{IsJournal}
-use Rattle.half_journal.specs.declared.errors.OpenErr.{OpenErr}
-use Rattle.half_journal.specs.declared.errors.OpenErr.TheVariants.{Fault, NotBegun, Damaged, OtherStore}
-use Rattle.half_journal.specs.Openings.{OnFault}
-use Rattle.journal_halves.specs.Beginnings.{IsUnbegun}
-use Rattle.half_journal.specs.States.{State, IsEnded}
-use Rattle.record_bodies.specs.Spelling.{body_bytes}
-use Rattle.user_dedup.specs.declared.command.Command.{Command}
-use Rattle.user_dedup.specs.Cloud.{counted}
-use Rattle.cloud_areas.specs.Standing.{where_of, region_in, number_at, HasList, StandsFor}
+use Rattle.cloud_disk.specs.CdEdges.area.Area.TheVariants.{Journal, Shares, Recipes}
+use Rattle.cloud_disk.specs.CdEdges.Disk.{Image, Cloud, reads}
+use Rattle.cloud_disk.specs.JournalStart.start.Header.{Header}
+use Rattle.cloud_disk.specs.JournalStart.start.Start.{Start}
+use Rattle.cloud_disk.specs.JournalHalves.Halves.{half_of, half_limit}
+use Rattle.cloud_disk.specs.JournalHalves.Journals.{Where, all_bodies, HasChain}
+use Rattle.cloud_disk.specs.CommitJournal.Records.{IsJournal}
+use Rattle.cloud_disk.specs.HalfJournal.errors.OpenErr.{OpenErr}
+use Rattle.cloud_disk.specs.HalfJournal.errors.OpenErr.TheVariants.{Fault, NotBegun, Damaged, OtherStore}
+use Rattle.cloud_disk.specs.HalfJournal.Openings.{OnFault}
+use Rattle.cloud_disk.specs.JournalHalves.Beginnings.{IsUnbegun}
+use Rattle.cloud_disk.specs.HalfJournal.States.{JournalState, IsJournalEnded}
+use Rattle.cloud_disk.specs.RecordBodies.Spelling.{body_bytes}
+use Rattle.cloud_disk.specs.UserDedup.command.Command.{Command}
+use Rattle.cloud_disk.specs.UserDedup.Cloud.{counted}
+use Rattle.cloud_disk.specs.CloudAreas.Standing.{where_of, region_in, number_at, HasList, StandsFor}
 use Rattle.cloud_disk.specs.Disk.{Disk, AreEnds, IsOn}
-use Rattle.record_checks.specs.CloudMemory.Memory.{Memory}
+use Rattle.record_laws.specs.RecordChecks.CloudMemory.Memory.{Memory}
 use Rattle.record_laws.specs.Leaving.{MayHold, IsLeftIn}
 use Rattle.record_laws.proofs.Chain.{left_ends, left_stands}
 use Rattle.store_opening.specs.Exact.{ReplaysAll, number_behind, Opens, Unbegun, NoStart, Other, New, Read}
 use Rattle.store_opening.specs.Spared.{IsReadWhole, IsLoaded, IsOkOrFault, MayBegin}
-use Rattle.store_opening.specs.Steps.{IsFound}
+use Rattle.store_opening.specs.Steps.{IsListFound}
 use Rattle.store_opening.proofs.Stated.{Laws}
 use Rattle.store_opening.proofs.Current.{same_half, same_start, not_unbegun}
 use Rattle.store_opening.proofs.Lawful.{all_lawful, all_is_left}
 use Rattle.store_opening.proofs.OneStart.{unbegun_whole, current_whole}
 
 -- a journal that was read to its end has its chain
-ended_chain : (journal : State) (cloud : Cloud) (w : Where) → IsEnded journal (cloud.now Journal) w → HasChain (cloud.now Journal).read w
+ended_chain : (journal : JournalState) (cloud : Cloud) (w : Where) → IsJournalEnded journal (cloud.now Journal) w → HasChain (cloud.now Journal).read w
 ended_chain journal cloud w e = record {
   current = e.is_current;
   chain_is = subst (λ (h : ℕ). IsJournal (all_bodies w) (half_of h (cloud.now Journal).read)) e.half e.read.chain_is;
@@ -42,8 +42,8 @@ ok_count n = Ok n
 count_of : (a b : ℕ) → ok_count a ≡ ok_count b → a ≡ b
 count_of a b e = cc
 
-pub found : (laws : Laws) (header : Header) (list : List Command) (journal : State) (m : Memory) (commands : ℕ) (cloud : Cloud) → IsTrue cloud.told → IsReadWhole header journal m commands cloud
-    → StandsFor (reads cloud.now) header list → MayHold header list → journal.limit ≡ half_limit header.rooms → IsFound header list journal m commands cloud
+pub found : (laws : Laws) (header : Header) (list : List Command) (journal : JournalState) (m : Memory) (commands : ℕ) (cloud : Cloud) → IsTrue cloud.told → IsReadWhole header journal m commands cloud
+    → StandsFor (reads cloud.now) header list → MayHold header list → journal.limit ≡ half_limit header.rooms → IsListFound header list journal m commands cloud
 found laws header list journal m commands cloud told r stands may limit =
     let image = reads cloud.now in
     let h = laws.chain_of image header list r.w stands (ended_chain journal cloud r.w r.ended) in
@@ -59,7 +59,7 @@ found laws header list journal m commands cloud told r stands may limit =
         sound = may.sound;
         on_disk = r.on_disk;
         limit = limit;
-        ended = subst (IsEnded journal (cloud.now Journal)) (sym h.bytes) r.ended;
+        ended = subst (IsJournalEnded journal (cloud.now Journal)) (sym h.bytes) r.ended;
         is_chain = h.is_chain;
         holds = h.holds;
       };
@@ -67,13 +67,13 @@ found laws header list journal m commands cloud told r stands may limit =
     }
 
 -- the ends of the memory are ends of the disk
-pub ends_of : (header : Header) (list : List Command) (disk : Disk) (m : Memory) (commands : ℕ) (cloud : Cloud) (f : IsFound header list disk.journal m commands cloud) → disk.shares.area ≡ Shares → disk.recipes.area ≡ Recipes
+pub ends_of : (header : Header) (list : List Command) (disk : Disk) (m : Memory) (commands : ℕ) (cloud : Cloud) (f : IsListFound header list disk.journal m commands cloud) → disk.shares.area ≡ Shares → disk.recipes.area ≡ Recipes
     → AreEnds header list f.c disk m.shares_end m.recipes_end cloud
 ends_of header list disk m commands cloud f shares recipes =
     let e = left_ends header.shape (cloud.now Recipes).read header.rooms.users (region_in f.c) list f.c.records m f.left f.read.holds.rooms in
     record { read = f.read; shares_area = shares; recipes_area = recipes; shares = e.shares; recipes = e.recipes }
 
-pub loaded_by : (header : Header) (list : List Command) (journal : State) (disk : Disk) (m : Memory) (commands : ℕ) (cloud : Cloud) (f : IsFound header list journal m commands cloud) → IsOn header list f.c disk cloud
+pub loaded_by : (header : Header) (list : List Command) (journal : JournalState) (disk : Disk) (m : Memory) (commands : ℕ) (cloud : Cloud) (f : IsListFound header list journal m commands cloud) → IsOn header list f.c disk cloud
     → (commands ≡ counted list) × IsLoaded header list disk m cloud
 loaded_by header list journal disk m commands cloud f on = (
   f.counted_is,
@@ -140,7 +140,7 @@ module _ (laws : Laws) (header : Header) (begin : Bool) (image : Image) (new : M
 
 -- ---- of each answer
 
-pub found_after : (laws : Laws) (header : Header) (list : List Command) (journal : State) (m : Memory) (result : Result ℕ OpenErr) (cloud : Cloud) → IsTrue cloud.told → IfOk result (λ (commands : ℕ). IsReadWhole header journal m commands cloud)
-    → OnOk result (StandsFor (reads cloud.now) header list) → MayHold header list → journal.limit ≡ half_limit header.rooms → IfOk result (λ (commands : ℕ). IsFound header list journal m commands cloud)
+pub found_after : (laws : Laws) (header : Header) (list : List Command) (journal : JournalState) (m : Memory) (result : Result ℕ OpenErr) (cloud : Cloud) → IsTrue cloud.told → IfOk result (λ (commands : ℕ). IsReadWhole header journal m commands cloud)
+    → OnOk result (StandsFor (reads cloud.now) header list) → MayHold header list → journal.limit ≡ half_limit header.rooms → IfOk result (λ (commands : ℕ). IsListFound header list journal m commands cloud)
 found_after laws header list journal m (Ok commands) cloud told r stands may limit = found laws header list journal m commands cloud told r stands may limit
 found_after laws header list journal m (Err e) cloud told r stands may limit = tt

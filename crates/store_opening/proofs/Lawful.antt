@@ -5,32 +5,32 @@ use Rattle.std.proofs.Math.Seq.{take-append-add}
 use Rattle.std.proofs.lemmas.Bool.{ne_eqb}
 use Rattle.std.proofs.lemmas.List.{drop_at}
 use Rattle.std.proofs.lemmas.List.Elements.{All-head, All-tail}
-use Rattle.cd_edges.specs.declared.area.Area.TheVariants.{Journal, Recipes}
-use Rattle.cd_edges.specs.Disk.{Image}
-use Rattle.commit_journal.specs.Records.{sized, chain, IsJournal}
-use Rattle.commit_journal.specs.Frames.{IsClosed, IsRecord}
-use Rattle.commit_journal.proofs.Headed.{one_record}
-use Rattle.commit_journal.proofs.Unique.{undamaged, whole_record}
-use Rattle.journal_start.specs.declared.start.Header.{Header}
-use Rattle.journal_start.specs.declared.start.Start.{Start}
-use Rattle.journal_start.specs.Spelling.{start_bytes, records_of, commands_of}
-use Rattle.journal_halves.specs.Halves.{half_len, half_of, half_limit}
-use Rattle.journal_halves.specs.Findings.{part_of}
-use Rattle.half_journal.specs.declared.errors.OpenErr.{OpenErr}
-use Rattle.record_bodies.specs.Spelling.{Body, body_bytes, FitsBody}
-use Rattle.user_dedup.specs.declared.command.Command.{Command}
-use Rattle.cloud_areas.specs.Standing.{Chain, region_in, IsChain, Holds}
-use Rattle.cloud_areas.proofs.Room.{half_is_enough}
-use Rattle.record_checks.specs.CloudMemory.Memory.{Memory}
-use Rattle.record_checks.specs.declared.damage.Damage.{Damage}
-use Rattle.record_checks.specs.declared.ground.Ground.{Ground}
-use Rattle.record_checks.specs.declared.taking.Taking.{Taking}
-use Rattle.record_checks.specs.Judging.{Judges}
-use Rattle.record_checks.specs.Noting.{nothing_noted, IsNoted}
-use Rattle.record_checks.proofs.OneAnswer.{one_answer}
+use Rattle.cloud_disk.specs.CdEdges.area.Area.TheVariants.{Journal, Recipes}
+use Rattle.cloud_disk.specs.CdEdges.Disk.{Image}
+use Rattle.cloud_disk.specs.CommitJournal.Records.{sized, chain, IsJournal}
+use Rattle.cloud_disk.specs.CommitJournal.Frames.{IsClosed, IsRecord}
+use Rattle.cloud_disk.proofs.CommitJournal.Headed.{one_record}
+use Rattle.cloud_disk.proofs.CommitJournal.Unique.{undamaged, whole_record}
+use Rattle.cloud_disk.specs.JournalStart.start.Header.{Header}
+use Rattle.cloud_disk.specs.JournalStart.start.Start.{Start}
+use Rattle.cloud_disk.specs.JournalStart.Spelling.{start_bytes, records_of, commands_of}
+use Rattle.cloud_disk.specs.JournalHalves.Halves.{half_len, half_of, half_limit}
+use Rattle.cloud_disk.specs.JournalHalves.Findings.{part_of}
+use Rattle.cloud_disk.specs.HalfJournal.errors.OpenErr.{OpenErr}
+use Rattle.cloud_disk.specs.RecordBodies.Spelling.{Body, body_bytes, FitsBody}
+use Rattle.cloud_disk.specs.UserDedup.command.Command.{Command}
+use Rattle.cloud_disk.specs.CloudAreas.Standing.{Chain, region_in, IsChain, Holds}
+use Rattle.cloud_disk.proofs.CloudAreas.Room.{half_is_enough}
+use Rattle.record_laws.specs.RecordChecks.CloudMemory.Memory.{Memory}
+use Rattle.record_laws.specs.RecordChecks.damage.Damage.{Damage}
+use Rattle.record_laws.specs.RecordChecks.ground.Ground.{Ground}
+use Rattle.record_laws.specs.RecordChecks.taking.Taking.{Taking}
+use Rattle.record_laws.specs.RecordChecks.Judging.{Judges}
+use Rattle.record_laws.specs.RecordChecks.Noting.{nothing_noted, IsNoted}
+use Rattle.record_laws.proofs.RecordChecks.OneAnswer.{one_answer}
 use Rattle.record_laws.specs.Leaving.{MayHold, front_left, IsLeftIn, EndsWithinRows}
 use Rattle.record_laws.proofs.Chain.{all_left, left_bounds}
-use Rattle.record_laws.specs.Fronts.{is_inside, marks_of, IsNext, PassesWith}
+use Rattle.record_laws.specs.Fronts.{is_inside, marks_of, IsNextRecord, PassesWith}
 use Rattle.store_opening.specs.Exact.{ground_of, number_behind, ReadsFor, Recipe, Nothing, Closes, Within, SharesPast, RecipesPast, shares_bound, recipes_bound, Replays, Ended, Early, Taken, Refused, Broken, ReplaysAll}
 use Rattle.store_opening.proofs.Stated.{Laws}
 use Rattle.store_opening.proofs.Opened.{not_open, not_broken}
@@ -141,7 +141,7 @@ module _ (laws : Laws) (header : Header) (image : Image) (list : List Command) (
   ground = ground_of header c.start image
 
   -- with what is read for it a record passes
-  passes : (before : List Body) (body : Body) (read : List ℕ) → IsNext header image list c before body → FitsBody body
+  passes : (before : List Body) (body : Body) (read : List ℕ) → IsNextRecord header image list c before body → FitsBody body
       → ReadsFor ground (is_inside c before) (front_left header image c before) (body_bytes body) (image Recipes) read → PassesWith header image c before body read
   passes before body read next fits (Recipe place asks) = laws.there header image list c before body place next fits asks
   passes before body read next fits (Nothing none) = laws.nowhere header image list c before body next fits none
@@ -165,7 +165,7 @@ module _ (laws : Laws) (header : Header) (image : Image) (list : List Command) (
         memory_is = last.memory_is ∙ ap (front_left header image c) (sym all);
       }
   lawful (body ∷ after) before whole fits rest gate t new answer marks journal replays =
-      let next : IsNext header image list c before body = record { may = may; holds = holds; after = after; whole = whole } in
+      let next : IsNextRecord header image list c before body = record { may = may; holds = holds; after = after; whole = whole } in
       let fit = All-head FitsBody body after fits in
       let inside = is_inside c before in let old = front_left header image c before in let left = front_left header image c (before ++ body ∷ []) in
       elim (by_record ground c.half c.start (image Recipes) new rest (body_bytes body) gate (length before) old t answer (record_first (body_bytes body) (map body_bytes after) rest journal) replays) [

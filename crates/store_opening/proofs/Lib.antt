@@ -19,3 +19,5 @@ pub mod Stated
 pub mod Stepping
 pub mod Synced
 pub mod Traced
+pub mod UserDedup
+pub mod CommitJournal

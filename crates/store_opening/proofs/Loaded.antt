@@ -1,37 +1,37 @@
 -- A journal that is read up to its start, over the areas of a cloud.
 use Rattle.std.proofs.Common.{◌≡◌, ℕ, ◌+◌, ◌*◌, ◌≤◌, List, [], ◌∷◌, length, drop, Result, ◌∙◌, ap, subst, arith, length-append}
-use Rattle.cd_edges.specs.declared.area.Area.TheVariants.{Journal, Shares, Recipes}
-use Rattle.cd_edges.specs.Disk.{Store, Areas, Cloud, reads}
-use Rattle.commit_journal.specs.Records.{chain}
-use Rattle.journal_start.specs.declared.start.Header.{Header}
-use Rattle.journal_start.specs.declared.start.Start.{Start}
-use Rattle.journal_start.specs.Spelling.{start_bytes, region_of}
-use Rattle.journal_halves.specs.Halves.{half_len}
-use Rattle.journal_halves.specs.Journals.{Where}
-use Rattle.journal_halves.specs.Findings.{part_of}
-use Rattle.half_journal.specs.declared.errors.OpenErr.{OpenErr}
-use Rattle.half_journal.specs.States.{State, IsReading}
-use Rattle.record_checks.specs.CloudMemory.Memory.{Memory}
-use Rattle.record_checks.specs.CloudMemory.Steps.{begun}
-use Rattle.record_checks.specs.declared.ground.Ground.{Ground}
-use Rattle.record_checks.specs.Noting.{nothing_noted}
+use Rattle.cloud_disk.specs.CdEdges.area.Area.TheVariants.{Journal, Shares, Recipes}
+use Rattle.cloud_disk.specs.CdEdges.Disk.{Store, Areas, Cloud, reads}
+use Rattle.cloud_disk.specs.CommitJournal.Records.{chain}
+use Rattle.cloud_disk.specs.JournalStart.start.Header.{Header}
+use Rattle.cloud_disk.specs.JournalStart.start.Start.{Start}
+use Rattle.cloud_disk.specs.JournalStart.Spelling.{start_bytes, region_of}
+use Rattle.cloud_disk.specs.JournalHalves.Halves.{half_len}
+use Rattle.cloud_disk.specs.JournalHalves.Journals.{Where}
+use Rattle.cloud_disk.specs.JournalHalves.Findings.{part_of}
+use Rattle.cloud_disk.specs.HalfJournal.errors.OpenErr.{OpenErr}
+use Rattle.cloud_disk.specs.HalfJournal.States.{JournalState, IsJournalReading}
+use Rattle.record_laws.specs.RecordChecks.CloudMemory.Memory.{Memory}
+use Rattle.record_laws.specs.RecordChecks.CloudMemory.Steps.{begun}
+use Rattle.record_laws.specs.RecordChecks.ground.Ground.{Ground}
+use Rattle.record_laws.specs.RecordChecks.Noting.{nothing_noted}
 use Rattle.store_opening.specs.Exact.{Replays, ReplaysAll, ground_of}
 use Rattle.store_opening.specs.Steps.{From}
 use Rattle.store_opening.proofs.Current.{region_small}
 
 -- the gate behind the start
-gate_behind : (state : State) (store : Store) (w : Where) → IsReading state store w → w.bodies ≡ [] → state.current.gate ≡ length (start_bytes w.start) + 5
+gate_behind : (state : JournalState) (store : Store) (w : Where) → IsJournalReading state store w → w.bodies ≡ [] → state.current.gate ≡ length (start_bytes w.start) + 5
 gate_behind state store w reading none =
     let gate : state.current.gate ≡ length (chain (start_bytes w.start ∷ [])) = reading.read.gate ∙ ap (λ (l : List (List ℕ)). length (chain (start_bytes w.start ∷ l))) none in
     omega (arith, gate, length-append (start_bytes w.start) [])
 
-pub region_is : (state : State) (store : Store) (w : Where) (region : ℕ) → IsReading state store w → (region_of state.start.checkpoint ≤ 1 → region ≡ region_of state.start.checkpoint) → region ≡ region_of w.start.checkpoint
+pub region_is : (state : JournalState) (store : Store) (w : Where) (region : ℕ) → IsJournalReading state store w → (region_of state.start.checkpoint ≤ 1 → region ≡ region_of state.start.checkpoint) → region ≡ region_of w.start.checkpoint
 region_is state store w region reading value =
     let small = region_small w.half w.start.header.format w.start.checkpoint reading.is_current.begun.is_start.behind in
     let same = ap (λ (s : Start). region_of s.checkpoint) reading.start in
     value (omega (arith, small, same)) ∙ same
 
-module _ (header : Header) (c0 c1 : Cloud) (state : State) (w : Where) (reading : IsReading state (c0.now Journal) w) (none : w.bodies ≡ []) (now : c1.now ≡ c0.now) where
+module _ (header : Header) (c0 c1 : Cloud) (state : JournalState) (w : Where) (reading : IsJournalReading state (c0.now Journal) w) (none : w.bodies ≡ []) (now : c1.now ≡ c0.now) where
   pub loaded_as : (g : Ground) (new : Memory) (answer : Result ℕ OpenErr) → g.shape ≡ header.shape → g.rooms ≡ header.rooms → g.region ≡ region_of w.start.checkpoint
       → g.shares_len ≡ length (c0.now Shares).read → g.recipes_len ≡ length (c0.now Recipes).read
       → From g (c1.now Recipes).read (c1.now Journal) new state 0 (begun g.rooms.users g.region) nothing_noted answer → ReplaysAll header w.half w.start (reads c0.now) new answer

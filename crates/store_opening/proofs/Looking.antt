@@ -2,11 +2,11 @@
 use Rattle.std.proofs.Common.{◌≡◌, ⊎_elim, ℕ, ◌+◌, ◌≤◌, min, IsTrue, List, length, take, drop, sym, ap, ◌∙◌, subst, arith, length-drop}
 use Rattle.std.proofs.lemmas.Bool.{cases_lt}
 use Rattle.std.proofs.lemmas.List.{take_all, take-take, drop-take, drop-drop}
-use Rattle.cd_edges.specs.declared.area.Area.TheVariants.{Recipes}
-use Rattle.cd_edges.specs.Disk.{Areas, Cloud}
-use Rattle.cd_edges.specs.Shelf.{Stays}
+use Rattle.cloud_disk.specs.CdEdges.area.Area.TheVariants.{Recipes}
+use Rattle.cloud_disk.specs.CdEdges.Disk.{Areas, Cloud}
+use Rattle.cloud_disk.specs.CdEdges.Shelf.{Stays}
 use Rattle.store_opening.specs.declared.window.Window.{Window}
-use Rattle.store_opening.specs.Windows.{IsFront, Shows}
+use Rattle.store_opening.specs.Windows.{IsFrontOfWindow, Shows}
 
 -- a part of what the buffer has
 pub found : (buffer held : List ℕ) (at n from len place : ℕ) → take n buffer ≡ take n (drop at held) → place ≡ at + from → from + len ≤ n
@@ -23,7 +23,7 @@ whole_part at size count is = ⊎_elim
     (cases_lt (length at) size)
 
 -- the front of what was read there
-pub read_there : (held buffer : List ℕ) (place len count asked few : ℕ) → IsFront held place len count buffer → asked ≤ len → few ≡ min count asked
+pub read_there : (held buffer : List ℕ) (place len count asked few : ℕ) → IsFrontOfWindow held place len count buffer → asked ≤ len → few ≡ min count asked
     → take few buffer ≡ take asked (drop place held)
 read_there held buffer place len count asked few front more is =
     sym (take-take few count buffer (omega (arith, is))) ∙ ap (take few) front.bytes ∙ take-take few count (drop place held) (omega (arith, is))
@@ -45,7 +45,7 @@ shows_still c0 c1 window buffer stays told shows = record {
 
 -- what was read just now
 pub shows_read : (c0 c1 : Cloud) (window : Window) (buffer : List ℕ) (len : ℕ) → Stays c0 c1 → c1.told ≡ c0.told → window.len ≤ length buffer
-    → (IsTrue c0.told → IsFront (c0.now Recipes).read window.at len window.len buffer) → Shows c1 window buffer
+    → (IsTrue c0.told → IsFrontOfWindow (c0.now Recipes).read window.at len window.len buffer) → Shows c1 window buffer
 shows_read c0 c1 window buffer len stays told held front =
     shows_still c0 c1 window buffer stays told (record { held = held; bytes = λ told0. (front told0).bytes })
 

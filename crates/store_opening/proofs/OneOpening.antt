@@ -1,30 +1,30 @@
 -- One answer alone comes of a journal, whatever its bytes are.
 use Rattle.std.proofs.Common.{◌≡◌, ℕ, ◌+◌, ◌*◌, Bool, true, false, List, length, take, drop, nat_lt, Option, Some, Result, Ok, Err, OnOk, refl, sym, ◌∙◌, ap, subst, arith}
-use Rattle.cd_edges.specs.declared.area.Area.TheVariants.{Journal, Recipes}
-use Rattle.cd_edges.specs.Disk.{Image}
-use Rattle.commit_journal.specs.Frames.{IsRecord}
-use Rattle.commit_journal.proofs.Headed.{one_record}
-use Rattle.commit_journal.proofs.Unique.{undamaged}
-use Rattle.file_index.specs.declared.key.Entry.{Entry}
-use Rattle.record_bodies.specs.Reading.{body_at}
-use Rattle.record_bodies.specs.Spelling.{Body}
-use Rattle.record_body.specs.declared.body.BodyErr.{BodyErr}
-use Rattle.cd_base.specs.declared.place.Place.{Place}
-use Rattle.journal_start.specs.declared.start.Header.{Header}
-use Rattle.journal_start.specs.declared.start.Start.{Start}
-use Rattle.journal_start.specs.Spelling.{records_of}
-use Rattle.journal_halves.specs.Halves.{half_len}
-use Rattle.half_journal.specs.declared.errors.OpenErr.{OpenErr}
-use Rattle.half_journal.specs.declared.errors.OpenErr.TheVariants.{Damaged, OtherStore}
-use Rattle.record_checks.specs.CloudMemory.Memory.{Memory}
-use Rattle.record_checks.specs.declared.damage.Damage.{Damage}
-use Rattle.record_checks.specs.declared.ground.Ground.{Ground}
-use Rattle.record_checks.specs.declared.taking.Taking.{Taking}
-use Rattle.record_checks.specs.Checks.{Asks, ByCommit, ByDelete, AsksFor}
-use Rattle.record_checks.specs.Judging.{Judges}
-use Rattle.record_checks.specs.Judging as judging
-use Rattle.record_checks.specs.Noting.{IsNoted}
-use Rattle.record_checks.proofs.OneAnswer.{one_answer}
+use Rattle.cloud_disk.specs.CdEdges.area.Area.TheVariants.{Journal, Recipes}
+use Rattle.cloud_disk.specs.CdEdges.Disk.{Image}
+use Rattle.cloud_disk.specs.CommitJournal.Frames.{IsRecord}
+use Rattle.cloud_disk.proofs.CommitJournal.Headed.{one_record}
+use Rattle.cloud_disk.proofs.CommitJournal.Unique.{undamaged}
+use Rattle.record_laws.specs.FileIndex.key.Entry.{Entry}
+use Rattle.cloud_disk.specs.RecordBodies.Reading.{body_at}
+use Rattle.cloud_disk.specs.RecordBodies.Spelling.{Body}
+use Rattle.cloud_disk.specs.RecordBody.body.BodyErr.{BodyErr}
+use Rattle.cloud_disk.specs.CdBase.place.Place.{Place}
+use Rattle.cloud_disk.specs.JournalStart.start.Header.{Header}
+use Rattle.cloud_disk.specs.JournalStart.start.Start.{Start}
+use Rattle.cloud_disk.specs.JournalStart.Spelling.{records_of}
+use Rattle.cloud_disk.specs.JournalHalves.Halves.{half_len}
+use Rattle.cloud_disk.specs.HalfJournal.errors.OpenErr.{OpenErr}
+use Rattle.cloud_disk.specs.HalfJournal.errors.OpenErr.TheVariants.{Damaged, OtherStore}
+use Rattle.record_laws.specs.RecordChecks.CloudMemory.Memory.{Memory}
+use Rattle.record_laws.specs.RecordChecks.damage.Damage.{Damage}
+use Rattle.record_laws.specs.RecordChecks.ground.Ground.{Ground}
+use Rattle.record_laws.specs.RecordChecks.taking.Taking.{Taking}
+use Rattle.record_laws.specs.RecordChecks.Checks.{Asks, ByCommit, ByDelete, AsksFor}
+use Rattle.record_laws.specs.RecordChecks.Judging.{Judges}
+use Rattle.record_laws.specs.RecordChecks.Judging as judging
+use Rattle.record_laws.specs.RecordChecks.Noting.{IsNoted}
+use Rattle.record_laws.proofs.RecordChecks.OneAnswer.{one_answer}
 use Rattle.store_opening.specs.Exact.{ReadsFor, Recipe, Nothing, Closes, Within, SharesPast, RecipesPast, Replays, Ended, Early, Taken, Refused, Broken, ReplaysAll, Opens, Unbegun, NoStart, Other, New, Read, IsSame}
 use Rattle.store_opening.proofs.Current.{same_half, same_start, not_unbegun}
 use Rattle.store_opening.proofs.Opened.{not_open, not_broken}

@@ -1,21 +1,21 @@
 -- The starts of a journal are damaged at one place at most.
 use Rattle.std.proofs.Common.{◌≡◌, inl, inr, ℕ, zero, suc, ◌+◌, ◌-◌, ◌%◌, ◌≤◌, true, false, List, ◌∷◌, length, Result, Ok, Err, sym, ◌∙◌, ap, subst, arith}
 use Rattle.std.proofs.lemmas.Bool.{false≢true}
-use Rattle.commit_journal.specs.Records.{IsDamage, LastGate, BadLength}
-use Rattle.commit_journal.proofs.Headed.{one_record}
-use Rattle.commit_journal.proofs.Unique.{undamaged}
-use Rattle.journal_start.specs.declared.fault.StartFault.{StartFault}
-use Rattle.journal_start.specs.declared.fault.StartFault.TheVariants.{Short, Wrong}
-use Rattle.journal_start.specs.declared.start.Start.{Start}
-use Rattle.journal_start.specs.Ranges.{IsStart}
-use Rattle.journal_start.specs.Reading.{Fields, start_at, fields_of}
-use Rattle.journal_start.specs.Spelling.{start_bytes, epoch_of}
-use Rattle.journal_start.proofs.Whole.{again}
-use Rattle.journal_halves.specs.Halves.{half_len, half_of, is_half_begun, HasStart, IsCurrent}
-use Rattle.journal_halves.proofs.Current.{one_start, begun_half}
-use Rattle.journal_halves.specs.Findings.{part_of, IsFaultAt, IsBodyDamage, IsStartDamage, IsSound, epoch_place, IsFoundDamage, InFirst, InSecond, Epochs}
-use Rattle.journal_halves.specs.Beginnings.{IsUnbegun}
-use Rattle.half_journal.proofs.Kept.{record_off}
+use Rattle.cloud_disk.specs.CommitJournal.Records.{IsDamage, LastGate, BadLength}
+use Rattle.cloud_disk.proofs.CommitJournal.Headed.{one_record}
+use Rattle.cloud_disk.proofs.CommitJournal.Unique.{undamaged}
+use Rattle.cloud_disk.specs.JournalStart.fault.StartFault.{StartFault}
+use Rattle.cloud_disk.specs.JournalStart.fault.StartFault.TheVariants.{Short, Wrong}
+use Rattle.cloud_disk.specs.JournalStart.start.Start.{Start}
+use Rattle.cloud_disk.specs.JournalStart.Ranges.{IsStart}
+use Rattle.cloud_disk.specs.JournalStart.Reading.{Fields, start_at, fields_of}
+use Rattle.cloud_disk.specs.JournalStart.Spelling.{start_bytes, epoch_of}
+use Rattle.cloud_disk.proofs.JournalStart.Whole.{again}
+use Rattle.cloud_disk.specs.JournalHalves.Halves.{half_len, half_of, is_half_begun, HasStart, IsCurrent}
+use Rattle.cloud_disk.proofs.JournalHalves.Current.{one_start, begun_half}
+use Rattle.cloud_disk.specs.JournalHalves.Findings.{part_of, IsFaultAt, IsBodyDamage, IsStartDamage, IsSound, epoch_place, IsFoundDamage, InFirst, InSecond, Epochs}
+use Rattle.cloud_disk.specs.JournalHalves.Beginnings.{IsUnbegun}
+use Rattle.cloud_disk.proofs.HalfJournal.Kept.{record_off}
 use Rattle.store_opening.proofs.Current.{epoch_small, other_before}
 
 -- the two name one place, and one byte

@@ -2,37 +2,37 @@
 use Rattle.std.proofs.Common.{◌≡◌, ◌≢◌, inl, inr, ℕ, ◌+◌, ◌*◌, ◌<◌, Bool, IsTrue, List, [], ◌∷◌, ◌++◌, length, drop, Result, Ok, Err, IfOk, OnOk, refl, sym, ◌∙◌, ap, subst, arith, append_assoc, length-append}
 use Rattle.std.specs.List.{Contains}
 use Rattle.std.proofs.lemmas.List.{append_cancel_left, drop_at}
-use Rattle.cd_edges.specs.declared.area.Area.{Area}
-use Rattle.cd_edges.specs.declared.area.Area.TheVariants.{Journal, Shares, Recipes}
-use Rattle.cd_edges.specs.Disk.{Store, Areas, Image, Cloud, IsImage, LeavesOnly, reads}
-use Rattle.cd_edges.specs.Shelf.{stable, Stays}
-use Rattle.cd_edges.proofs.Moments.{joined, stayed, weaker, at_end}
-use Rattle.commit_journal.specs.Records.{sized, chain, IsDamage, LastGate, BadLength}
-use Rattle.commit_journal.specs.Frames.{IsClosed, IsRecord}
-use Rattle.journal_start.specs.declared.start.Header.{Header}
-use Rattle.journal_start.specs.declared.start.Start.{Start}
-use Rattle.journal_start.specs.Spelling.{start_bytes, records_of, commands_of, region_of}
-use Rattle.journal_halves.specs.Halves.{half_len, half_of, IsCurrent}
-use Rattle.journal_halves.specs.Journals.{Where, HasChain}
-use Rattle.journal_halves.proofs.Laying.{split}
-use Rattle.journal_halves.specs.Findings.{part_of}
-use Rattle.half_journal.specs.declared.errors.OpenErr.{OpenErr}
-use Rattle.half_journal.specs.declared.errors.OpenErr.TheVariants.{Fault, NotBegun, Damaged, OtherStore}
-use Rattle.half_journal.specs.Openings.{IsNewOrUnbegun, MayBecome, OpensIs, OnFault}
-use Rattle.journal_halves.specs.Beginnings.{IsUnbegun}
-use Rattle.half_journal.specs.States.{State, IsReading}
-use Rattle.journal_halves.specs.Beginnings.{new_of}
-use Rattle.half_journal.specs.States as half_states
-use Rattle.user_dedup.specs.declared.command.Command.{Command}
-use Rattle.cloud_areas.specs.Standing.{StandsFor}
-use Rattle.record_checks.specs.CloudMemory.Memory.{Memory}
-use Rattle.record_checks.specs.CloudMemory.Steps.{begun}
-use Rattle.record_checks.specs.declared.ground.Ground.{Ground}
-use Rattle.record_checks.specs.declared.taking.Taking.{Taking}
+use Rattle.cloud_disk.specs.CdEdges.area.Area.{Area}
+use Rattle.cloud_disk.specs.CdEdges.area.Area.TheVariants.{Journal, Shares, Recipes}
+use Rattle.cloud_disk.specs.CdEdges.Disk.{Store, Areas, Image, Cloud, IsImage, LeavesOnly, reads}
+use Rattle.cloud_disk.specs.CdEdges.Shelf.{stable, Stays}
+use Rattle.cloud_disk.proofs.CdEdges.Moments.{joined, stayed, weaker, at_end}
+use Rattle.cloud_disk.specs.CommitJournal.Records.{sized, chain, IsDamage, LastGate, BadLength}
+use Rattle.cloud_disk.specs.CommitJournal.Frames.{IsClosed, IsRecord}
+use Rattle.cloud_disk.specs.JournalStart.start.Header.{Header}
+use Rattle.cloud_disk.specs.JournalStart.start.Start.{Start}
+use Rattle.cloud_disk.specs.JournalStart.Spelling.{start_bytes, records_of, commands_of, region_of}
+use Rattle.cloud_disk.specs.JournalHalves.Halves.{half_len, half_of, IsCurrent}
+use Rattle.cloud_disk.specs.JournalHalves.Journals.{Where, HasChain}
+use Rattle.cloud_disk.proofs.JournalHalves.Laying.{split}
+use Rattle.cloud_disk.specs.JournalHalves.Findings.{part_of}
+use Rattle.cloud_disk.specs.HalfJournal.errors.OpenErr.{OpenErr}
+use Rattle.cloud_disk.specs.HalfJournal.errors.OpenErr.TheVariants.{Fault, NotBegun, Damaged, OtherStore}
+use Rattle.cloud_disk.specs.HalfJournal.Openings.{IsNewOrUnbegun, MayBecome, OpensIs, OnFault}
+use Rattle.cloud_disk.specs.JournalHalves.Beginnings.{IsUnbegun}
+use Rattle.cloud_disk.specs.HalfJournal.States.{JournalState, IsJournalReading}
+use Rattle.cloud_disk.specs.JournalHalves.Beginnings.{new_of}
+use Rattle.cloud_disk.specs.HalfJournal.States as half_states
+use Rattle.cloud_disk.specs.UserDedup.command.Command.{Command}
+use Rattle.cloud_disk.specs.CloudAreas.Standing.{StandsFor}
+use Rattle.record_laws.specs.RecordChecks.CloudMemory.Memory.{Memory}
+use Rattle.record_laws.specs.RecordChecks.CloudMemory.Steps.{begun}
+use Rattle.record_laws.specs.RecordChecks.ground.Ground.{Ground}
+use Rattle.record_laws.specs.RecordChecks.taking.Taking.{Taking}
 use Rattle.store_opening.specs.Exact.{Closes, Within, SharesPast, RecipesPast, number_behind, Replays, Ended, Early, Taken, Refused, Broken, ReplaysAll, Opens, Unbegun, NoStart, Other, New, Read}
 use Rattle.store_opening.specs.Spared.{Spares, StandsForSome, KeepsLists, IsReadWhole}
 use Rattle.store_opening.specs.Starts.{IsStarted}
-use Rattle.store_opening.specs.Steps.{HasEnded}
+use Rattle.store_opening.specs.Steps.{HasChainEnded}
 use Rattle.store_opening.proofs.Current.{same_half, same_start, not_unbegun}
 use Rattle.store_opening.proofs.Synced.{none_behind, of_all, on_answer, same_err, always}
 
@@ -76,7 +76,7 @@ closed_front : (rest tail behind : List ℕ) (gate : ℕ) → 0 < length rest �
 closed_front [] tail behind gate some shut e = absurd (omega (arith, some))
 closed_front (x ∷ xs) tail behind gate some shut e = record { gate = x; behind = xs; shut = λ one. shut (sym (head_of x gate (xs ++ tail) behind e) ∙ one); spelled = refl }
 
-module _ (state : State) (store : Store) (w : Where) (header : Header) (reading : IsReading state store w) (none : w.bodies ≡ []) (new_chain : HasChain store.read (new_of header)) where
+module _ (state : JournalState) (store : Store) (w : Where) (header : Header) (reading : IsJournalReading state store w) (none : w.bodies ≡ []) (new_chain : HasChain store.read (new_of header)) where
   abbrev journal : List ℕ
   journal = store.read
 
@@ -124,12 +124,12 @@ opens_err header begin image new (OtherStore found wanted at) is = opens_other h
 opens_err header begin image new (Damaged at byte) is = NoStart at byte is
 opens_err header begin image new (NotBegun len) is = subst (λ (n : ℕ). Opens header begin image new (Err (NotBegun n))) (sym is.2) (Unbegun is.0 is.1)
 
-same_reads : (header : Header) (begin : Bool) (c0 c1 : Cloud) (state : State) → IsStarted header begin c0 c1 state (Ok tt) → ¬ IsUnbegun (c0.now Journal).read → (area : Area) → (c1.now area).read ≡ (c0.now area).read
+same_reads : (header : Header) (begin : Bool) (c0 c1 : Cloud) (state : JournalState) → IsStarted header begin c0 c1 state (Ok tt) → ¬ IsUnbegun (c0.now Journal).read → (area : Area) → (c1.now area).read ≡ (c0.now area).read
 same_reads header begin c0 c1 state s no_one Journal = ap (λ (x : Store). x.read) (s.begun no_one)
 same_reads header begin c0 c1 state s no_one Shares = ap (λ (x : Store). x.read) (s.others Shares (λ e. cc))
 same_reads header begin c0 c1 state s no_one Recipes = ap (λ (x : Store). x.read) (s.others Recipes (λ e. cc))
 
-module _ (header : Header) (begin : Bool) (c0 c1 : Cloud) (state : State) (s : IsStarted header begin c0 c1 state (Ok tt)) (new : Memory) (result : Result ℕ OpenErr) where
+module _ (header : Header) (begin : Bool) (c0 c1 : Cloud) (state : JournalState) (s : IsStarted header begin c0 c1 state (Ok tt)) (new : Memory) (result : Result ℕ OpenErr) where
   abbrev w : Where
   w = s.opened.w
 
@@ -156,7 +156,7 @@ module _ (header : Header) (begin : Bool) (c0 c1 : Cloud) (state : State) (s : I
 pub then_stays : (c0 c1 c2 : Cloud) (P : Image → Type 0) → LeavesOnly c0 c1 P → Stays c1 c2 → LeavesOnly c0 c2 P
 then_stays c0 c1 c2 P run stays = joined c0 c1 c2 P run (stayed c1 c2 P stays (at_end c0 c1 P run))
 
-pub spares_err : (header : Header) (begin : Bool) (c0 c1 : Cloud) (state : State) (error : OpenErr) → IsStarted header begin c0 c1 state (Err error) → IsImage c1.now (reads c1.now) → Spares {T = ℕ} header begin c0 c1 (Err error)
+pub spares_err : (header : Header) (begin : Bool) (c0 c1 : Cloud) (state : JournalState) (error : OpenErr) → IsStarted header begin c0 c1 state (Err error) → IsImage c1.now (reads c1.now) → Spares {T = ℕ} header begin c0 c1 (Err error)
 spares_err header begin c0 c1 state error s read = record {
   any_moment = s.any_moment;
   still_read = at_end c0 c1 _ s.any_moment (reads c1.now) read;
@@ -165,7 +165,7 @@ spares_err header begin c0 c1 state error s read = record {
   unasked = λ none. same_err (Unit {0}) ℕ error _ _ (s.unasked none);
 }
 
-pub spares_ok : (header : Header) (begin : Bool) (c0 c1 c2 : Cloud) (state : State) (result : Result ℕ OpenErr) → IsStarted header begin c0 c1 state (Ok tt) → Stays c1 c2 → IsImage c2.now (reads c2.now) → Spares header begin c0 c2 result
+pub spares_ok : (header : Header) (begin : Bool) (c0 c1 c2 : Cloud) (state : JournalState) (result : Result ℕ OpenErr) → IsStarted header begin c0 c1 state (Ok tt) → Stays c1 c2 → IsImage c2.now (reads c2.now) → Spares header begin c0 c2 result
 spares_ok header begin c0 c1 c2 state result s stays read =
     let run = then_stays c0 c1 c2 (MayBecome c0.now header begin) s.any_moment stays in
     record {
@@ -199,21 +199,21 @@ module _ (header : Header) (begin : Bool) (c0 c1 : Cloud) (read : IsImage c0.now
 
 -- ---- what stands after Ok
 
-module _ (header : Header) (begin : Bool) (c0 c1 c2 : Cloud) (state : State) (s : IsStarted header begin c0 c1 state (Ok tt)) (stays : Stays c1 c2)
+module _ (header : Header) (begin : Bool) (c0 c1 c2 : Cloud) (state : JournalState) (s : IsStarted header begin c0 c1 state (Ok tt)) (stays : Stays c1 c2)
     (started : (image : Image) (h : Header) → HasChain (image Journal) (new_of h) → StandsFor image h [])
     (only : (image : Image) (h : Header) (list : List Command) → StandsFor image h list → IsUnbegun (image Journal) → list ≡ []) where
-  at_area : (last : State) → HasEnded last (c1.now Journal) s.opened.w → (area : Area) → c1.now area ≡ stable (c1.now area).read
+  at_area : (last : JournalState) → HasChainEnded last (c1.now Journal) s.opened.w → (area : Area) → c1.now area ≡ stable (c1.now area).read
   at_area last h Journal = h.ended.read.synced
   at_area last h Shares = s.others Shares (λ e. cc) ∙ ap (λ (x : Store). stable x.read) (sym (s.others Shares (λ e. cc)))
   at_area last h Recipes = s.others Recipes (λ e. cc) ∙ ap (λ (x : Store). stable x.read) (sym (s.others Recipes (λ e. cc)))
 
-  pub read_whole : (last : State) (new : Memory) (result : Result ℕ OpenErr) → OnOk result (HasEnded last (c1.now Journal) s.opened.w)
+  pub read_whole : (last : JournalState) (new : Memory) (result : Result ℕ OpenErr) → OnOk result (HasChainEnded last (c1.now Journal) s.opened.w)
       → OnFault result (Unit {0}) (ReplaysAll header s.opened.w.half s.opened.w.start (reads c1.now) new result) → IfOk result (λ (commands : ℕ). IsReadWhole header last new commands c2)
   read_whole last new (Err e) ended replays = tt
   read_whole last new (Ok commands) ended replays = record {
     w = record s.opened.w { bodies = ended.bodies };
     header_is = s.opened.header_is;
-    ended = subst (λ (a : Areas). half_states.IsEnded last (a Journal) (record s.opened.w { bodies = ended.bodies })) (sym stays.now) ended.ended;
+    ended = subst (λ (a : Areas). half_states.IsJournalEnded last (a Journal) (record s.opened.w { bodies = ended.bodies })) (sym stays.now) ended.ended;
     on_disk = subst (λ (a : Areas). (area : Area) → a area ≡ stable (a area).read) (sym stays.now) (at_area last ended);
     replays = subst (λ (a : Areas). ReplaysAll header s.opened.w.half s.opened.w.start (reads a) new (Ok commands)) (sym stays.now) replays;
   }

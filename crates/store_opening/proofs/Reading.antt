@@ -1,12 +1,12 @@
 -- A record with what lies where its recipe is to lie.
 use Rattle.std.proofs.Common.{◌≡◌, ℕ, Bool, List, [], take, drop, Result, sym, subst}
-use Rattle.cd_base.specs.declared.place.Place.{Place}
-use Rattle.half_journal.specs.declared.errors.OpenErr.{OpenErr}
-use Rattle.half_journal.specs.Openings.{OnFault}
-use Rattle.record_checks.specs.CloudMemory.Memory.{Memory}
-use Rattle.record_checks.specs.declared.ground.Ground.{Ground}
-use Rattle.record_checks.specs.declared.taking.Taking.{Taking}
-use Rattle.record_checks.specs.Checks.{AsksFor}
+use Rattle.cloud_disk.specs.CdBase.place.Place.{Place}
+use Rattle.cloud_disk.specs.HalfJournal.errors.OpenErr.{OpenErr}
+use Rattle.cloud_disk.specs.HalfJournal.Openings.{OnFault}
+use Rattle.record_laws.specs.RecordChecks.CloudMemory.Memory.{Memory}
+use Rattle.record_laws.specs.RecordChecks.ground.Ground.{Ground}
+use Rattle.record_laws.specs.RecordChecks.taking.Taking.{Taking}
+use Rattle.record_laws.specs.RecordChecks.Checks.{AsksFor}
 use Rattle.store_opening.specs.Exact.{Recipe, Nothing}
 use Rattle.store_opening.specs.Steps.{BodyAs, OneAs}
 use Rattle.store_opening.proofs.Synced.{of_all, on_answer}

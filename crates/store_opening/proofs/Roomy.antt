@@ -2,19 +2,19 @@
 use Rattle.std.proofs.Common.{◌≡◌, ◌⊎◌, inl, inr, ℕ, zero, suc, ◌+◌, ◌≤◌, Bool, true, false, IsTrue, List, [], ◌∷◌, Result, Ok, Err, refl, sym, ap, subst, arith}
 use Rattle.std.specs.Prelude.{slice_set, slice_index_or, replicate, OnOk}
 use Rattle.std.proofs.lemmas.Bool.{false≢true}
-use Rattle.cd_base.specs.declared.ids.UserId.{UserId}
-use Rattle.journal_start.specs.declared.rooms.Rooms.{Rooms}
-use Rattle.record_bodies.specs.declared.body.KeptItem.{KeptItem}
-use Rattle.record_body.specs.declared.body.PutItem.{PutItem}
-use Rattle.spent_table.specs.declared.Spent.{Spent}
-use Rattle.spent_table.specs.Spending.{nothing, spent_by, both}
-use Rattle.user_dedup.specs.Spending.{limits_of}
-use Rattle.half_journal.specs.declared.errors.OpenErr.{OpenErr}
-use Rattle.record_checks.specs.CloudMemory.Memory.{Memory}
-use Rattle.record_checks.specs.CloudMemory.Steps.{with_item, with_items, with_kept, with_kepts}
-use Rattle.record_checks.specs.declared.ground.Ground.{Ground}
-use Rattle.record_checks.specs.declared.taking.Taking.{Taking}
-use Rattle.record_checks.specs.Checks.{spends_behind}
+use Rattle.cloud_disk.specs.CdBase.ids.UserId.{UserId}
+use Rattle.cloud_disk.specs.JournalStart.rooms.UserRooms.{UserRooms}
+use Rattle.cloud_disk.specs.RecordBodies.body.KeptItem.{KeptItem}
+use Rattle.cloud_disk.specs.RecordBody.body.PutItem.{PutItem}
+use Rattle.record_laws.specs.SpentTable.Spent.{Spent}
+use Rattle.record_laws.specs.SpentTable.Spending.{nothing, spent_by, both}
+use Rattle.cloud_disk.specs.UserDedup.Spending.{limits_of}
+use Rattle.cloud_disk.specs.HalfJournal.errors.OpenErr.{OpenErr}
+use Rattle.record_laws.specs.RecordChecks.CloudMemory.Memory.{Memory}
+use Rattle.record_laws.specs.RecordChecks.CloudMemory.Steps.{with_item, with_items, with_kept, with_kepts}
+use Rattle.record_laws.specs.RecordChecks.ground.Ground.{Ground}
+use Rattle.record_laws.specs.RecordChecks.taking.Taking.{Taking}
+use Rattle.record_laws.specs.RecordChecks.Checks.{spends_behind}
 use Rattle.store_opening.specs.Exact.{Closes, Within, SharesPast, RecipesPast}
 use Rattle.store_opening.specs.Roomy.{SpendWithin, IsRoomy}
 
@@ -29,7 +29,7 @@ set_each P (r ∷ rows) zero (suc j) row here none old = old
 set_each P (r ∷ rows) (suc i) zero row here none old = old
 set_each P (r ∷ rows) (suc i) (suc j) row here none old = set_each P rows i j row (λ e. here (ap suc e)) none old
 
-pub within_set : (rooms : Rooms) (rows : List Spent) (user : UserId) (row : Spent) → SpendWithin rooms rows → row.owners ≤ (limits_of rooms user).owners
+pub within_set : (rooms : UserRooms) (rows : List Spent) (user : UserId) (row : Spent) → SpendWithin rooms rows → row.owners ≤ (limits_of rooms user).owners
     → row.shares ≤ (limits_of rooms user).shares → row.recipes ≤ (limits_of rooms user).recipes → SpendWithin rooms (slice_set rows user.0 row)
 within_set rooms rows user row within owners shares recipes = record {
   owners = λ u. set_each (λ (r : Spent). r.owners ≤ (limits_of rooms u).owners) rows user.0 u.0 row
@@ -47,7 +47,7 @@ none_spent zero j = refl
 none_spent (suc users) zero = refl
 none_spent (suc users) (suc j) = none_spent users j
 
-pub begun_within : (rooms : Rooms) (users : ℕ) → SpendWithin rooms (replicate users nothing)
+pub begun_within : (rooms : UserRooms) (users : ℕ) → SpendWithin rooms (replicate users nothing)
 begun_within rooms users = record {
   owners = λ u. subst (λ (r : Spent). r.owners ≤ (limits_of rooms u).owners) (sym (none_spent users u.0)) (omega arith);
   shares = λ u. subst (λ (r : Spent). r.shares ≤ (limits_of rooms u).shares) (sym (none_spent users u.0)) (omega arith);
@@ -70,7 +70,7 @@ behind either = elim either [
   | inr is ↦ is
 ]
 
-pub behind_within : (inside : Bool) (rooms : Rooms) (user : UserId) (more : Spent) (m : Memory) → SpendWithin rooms m.spent
+pub behind_within : (inside : Bool) (rooms : UserRooms) (user : UserId) (more : Spent) (m : Memory) → SpendWithin rooms m.spent
     → IsTrue inside ⊎ ((spent_by m.spent user).owners + more.owners ≤ (limits_of rooms user).owners)
     → IsTrue inside ⊎ ((spent_by m.spent user).shares + more.shares ≤ (limits_of rooms user).shares)
     → IsTrue inside ⊎ ((spent_by m.spent user).recipes + more.recipes ≤ (limits_of rooms user).recipes)

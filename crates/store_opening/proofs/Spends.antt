@@ -3,29 +3,29 @@ use Rattle.std.proofs.Common.{◌≡◌, inr, ℕ, zero, suc, ◌+◌, ◌*◌, 
 use Rattle.std.specs.Prelude.{max, nat_lt, slice_set, slice_index_or, sum_by, if◌then◌else◌}
 use Rattle.std.proofs.lemmas.List.Sums.{sum_by-cons}
 use Rattle.std.specs.FinMap.{get}
-use Rattle.cd_base.specs.declared.ids.Fp.{Fp}
-use Rattle.cd_base.specs.declared.ids.UserId.{UserId}
-use Rattle.container_log.specs.Places.{place_of}
-use Rattle.file_index.specs.declared.key.FileKey.{FileKey}
-use Rattle.journal_start.specs.declared.rooms.Rooms.{Rooms}
-use Rattle.journal_start.specs.Ranges.{AreRooms}
-use Rattle.record_body.specs.declared.body.CommitBody.{CommitBody}
-use Rattle.record_body.specs.declared.body.PutItem.{PutItem}
-use Rattle.spent_table.specs.declared.Spent.{Spent}
-use Rattle.spent_table.specs.Spending.{nothing, spent_by, both}
-use Rattle.user_dedup.specs.Spending as limits
-use Rattle.user_dedup.specs.Spending.{limits_of, refusal}
-use Rattle.cd_base.specs.declared.rooms.Room.TheVariants as names
-use Rattle.cloud_areas.specs.Placing.{region_start}
-use Rattle.record_checks.specs.CloudMemory.rooms.New.{New}
-use Rattle.record_checks.specs.CloudMemory.Memory.{Memory}
-use Rattle.record_checks.specs.CloudMemory.News.{AreNewTo}
-use Rattle.record_checks.specs.CloudMemory.Rooms.{full_news, full_commit, full_files}
-use Rattle.record_checks.specs.CloudMemory.Steps.{with_items, with_put, with_entry, with_commit, without_entry, parts_of, spent_on, placed_len, held_len}
-use Rattle.record_checks.proofs.MemoryProofs.Adding.{parts_count, cost_held}
-use Rattle.record_checks.proofs.MemoryProofs.EndsLaw.{put_near, place_near}
-use Rattle.record_checks.proofs.MemoryProofs.Puts.{recipes_end_stays}
-use Rattle.record_checks.proofs.MemoryProofs.Taking.{fits_put, none_left, refusal_none, limit_is}
+use Rattle.cloud_disk.specs.CdBase.ids.Fp.{Fp}
+use Rattle.cloud_disk.specs.CdBase.ids.UserId.{UserId}
+use Rattle.cloud_disk.specs.ContainerLog.Places.{place_of}
+use Rattle.record_laws.specs.FileIndex.key.FileKey.{FileKey}
+use Rattle.cloud_disk.specs.JournalStart.rooms.UserRooms.{UserRooms}
+use Rattle.cloud_disk.specs.JournalStart.Ranges.{AreRooms}
+use Rattle.cloud_disk.specs.RecordBody.body.CommitBody.{CommitBody}
+use Rattle.cloud_disk.specs.RecordBody.body.PutItem.{PutItem}
+use Rattle.record_laws.specs.SpentTable.Spent.{Spent}
+use Rattle.record_laws.specs.SpentTable.Spending.{nothing, spent_by, both}
+use Rattle.cloud_disk.specs.UserDedup.Spending as limits
+use Rattle.cloud_disk.specs.UserDedup.Spending.{limits_of, refusal}
+use Rattle.cloud_disk.specs.CdBase.rooms.Room.TheVariants as names
+use Rattle.cloud_disk.specs.CloudAreas.Placing.{region_start}
+use Rattle.record_laws.specs.RecordChecks.CloudMemory.rooms.New.{New}
+use Rattle.record_laws.specs.RecordChecks.CloudMemory.Memory.{Memory}
+use Rattle.record_laws.specs.RecordChecks.CloudMemory.News.{AreNewTo}
+use Rattle.record_laws.specs.RecordChecks.CloudMemory.Rooms.{full_news, full_commit, full_files}
+use Rattle.record_laws.specs.RecordChecks.CloudMemory.Steps.{with_items, with_put, with_entry, with_commit, without_entry, parts_of, spent_on, placed_len, held_len}
+use Rattle.record_laws.proofs.RecordChecks.MemoryProofs.Adding.{parts_count, cost_held}
+use Rattle.record_laws.proofs.RecordChecks.MemoryProofs.EndsLaw.{put_near, place_near}
+use Rattle.record_laws.proofs.RecordChecks.MemoryProofs.Puts.{recipes_end_stays}
+use Rattle.record_laws.proofs.RecordChecks.MemoryProofs.Taking.{fits_put, none_left, refusal_none, limit_is}
 use Rattle.store_opening.specs.Roomy.{SpendWithin, IsRoomy}
 use Rattle.store_opening.proofs.Roomy.{items_spent, behind_within}
 
@@ -52,19 +52,19 @@ sum_bound f (r ∷ rows) limit each =
 
 -- ---- limits
 
-abbrev limit_at : Bool → Rooms → limits.Spent
+abbrev limit_at : Bool → UserRooms → limits.SpentByUser
 limit_at b rooms = if b then record { owners = rooms.owners; shares = rooms.shares; recipes = rooms.recipes } else limits.nothing
 
-shares_at : (b : Bool) (rooms : Rooms) → (limit_at b rooms).shares ≤ rooms.shares
+shares_at : (b : Bool) (rooms : UserRooms) → (limit_at b rooms).shares ≤ rooms.shares
 shares_at true rooms = omega arith
 shares_at false rooms = omega arith
 
-recipes_at : (b : Bool) (rooms : Rooms) → (limit_at b rooms).recipes ≤ rooms.recipes
+recipes_at : (b : Bool) (rooms : UserRooms) → (limit_at b rooms).recipes ≤ rooms.recipes
 recipes_at true rooms = omega arith
 recipes_at false rooms = omega arith
 
 -- both logs end far in front of the end of the last region
-pub ends_far : (rooms : Rooms) (region : ℕ) (m : Memory) → AreRooms rooms → length m.spent ≡ rooms.users → region ≤ 1 → IsRoomy rooms region m
+pub ends_far : (rooms : UserRooms) (region : ℕ) (m : Memory) → AreRooms rooms → length m.spent ≡ rooms.users → region ≤ 1 → IsRoomy rooms region m
     → (m.shares_end ≤ 60129542144) × (m.recipes_end ≤ 37580963840)
 ends_far rooms region m are users small roomy =
     let shares = sum_bound (λ (row : Spent). row.shares) m.spent rooms.shares (λ j.
@@ -78,7 +78,7 @@ ends_far rooms region m are users small roomy =
 
 -- ---- a Put
 
-pub put_roomy : (rooms : Rooms) (region : ℕ) (m : Memory) (user : UserId) (news : List New) → length m.spent ≡ rooms.users → 1 ≤ length news → AreNewTo m user news
+pub put_roomy : (rooms : UserRooms) (region : ℕ) (m : Memory) (user : UserId) (news : List New) → length m.spent ≡ rooms.users → 1 ≤ length news → AreNewTo m user news
     → full_news rooms user m news ≡ None → IsRoomy rooms region m → IsRoomy rooms region (with_put user (parts_of user m news) m)
 put_roomy rooms region m user news users some new room roomy =
     let items = parts_of user m news in let filled = with_items user m items in
@@ -107,7 +107,7 @@ put_roomy rooms region m user news users some new room roomy =
 
 -- ---- a Commit
 
-pub commit_roomy : (rooms : Rooms) (region : ℕ) (m : Memory) (names_of : List Fp) (c : CommitBody) → length m.spent ≡ rooms.users → 1 ≤ c.len
+pub commit_roomy : (rooms : UserRooms) (region : ℕ) (m : Memory) (names_of : List Fp) (c : CommitBody) → length m.spent ≡ rooms.users → 1 ≤ c.len
     → c.at ≡ place_of m.recipes_end c.len → full_commit rooms c.user m c.len ≡ None → IsRoomy rooms region m → IsRoomy rooms region (with_commit names_of c m)
 commit_roomy rooms region m names_of c users some at room roomy =
     let user = c.user in let more : Spent = record { owners = 0; shares = 0; recipes = c.len } in
@@ -134,6 +134,6 @@ commit_roomy rooms region m names_of c users some at room roomy =
 
 -- ---- a Delete
 
-pub delete_roomy : (rooms : Rooms) (region : ℕ) (m : Memory) (names_of : List Fp) (user : UserId) (key : FileKey) → IsRoomy rooms region m
+pub delete_roomy : (rooms : UserRooms) (region : ℕ) (m : Memory) (names_of : List Fp) (user : UserId) (key : FileKey) → IsRoomy rooms region m
     → IsRoomy rooms region (without_entry names_of user key m)
 delete_roomy rooms region m names_of user key roomy = record { spent = roomy.spent; ends = record { shares = roomy.ends.shares; recipes = roomy.ends.recipes } }

@@ -1,25 +1,25 @@
 -- The laws that an opening stands on, of lists and of records.
 use Rattle.std.proofs.Common.{◌≡◌, ℕ, ◌≤◌, List, [], ◌∷◌, ◌++◌, length, take, drop}
-use Rattle.cd_edges.specs.declared.area.Area.TheVariants.{Journal, Recipes}
-use Rattle.cd_edges.specs.Disk.{Image}
-use Rattle.journal_start.specs.declared.start.Header.{Header}
-use Rattle.journal_halves.specs.Journals.{Where, HasChain}
-use Rattle.record_bodies.specs.Spelling.{Body, body_bytes, FitsBody}
-use Rattle.cd_base.specs.declared.place.Place.{Place}
-use Rattle.user_dedup.specs.declared.command.Command.{Command}
-use Rattle.user_dedup.specs.Cloud.{counted}
-use Rattle.cloud_areas.specs.Standing.{Chain, region_in, number_at, Holds, HasChainOf, StandsFor}
-use Rattle.record_checks.specs.CloudMemory.Memory.{Memory}
-use Rattle.record_checks.specs.CloudMemory.Steps.{begun}
-use Rattle.record_checks.specs.declared.taking.Taking.{Taking}
-use Rattle.record_checks.specs.Noting.{IsNoted}
+use Rattle.cloud_disk.specs.CdEdges.area.Area.TheVariants.{Journal, Recipes}
+use Rattle.cloud_disk.specs.CdEdges.Disk.{Image}
+use Rattle.cloud_disk.specs.JournalStart.start.Header.{Header}
+use Rattle.cloud_disk.specs.JournalHalves.Journals.{Where, HasChain}
+use Rattle.cloud_disk.specs.RecordBodies.Spelling.{Body, body_bytes, FitsBody}
+use Rattle.cloud_disk.specs.CdBase.place.Place.{Place}
+use Rattle.cloud_disk.specs.UserDedup.command.Command.{Command}
+use Rattle.cloud_disk.specs.UserDedup.Cloud.{counted}
+use Rattle.cloud_disk.specs.CloudAreas.Standing.{Chain, region_in, number_at, Holds, HasChainOf, StandsFor}
+use Rattle.record_laws.specs.RecordChecks.CloudMemory.Memory.{Memory}
+use Rattle.record_laws.specs.RecordChecks.CloudMemory.Steps.{begun}
+use Rattle.record_laws.specs.RecordChecks.taking.Taking.{Taking}
+use Rattle.record_laws.specs.RecordChecks.Noting.{IsNoted}
 use Rattle.record_laws.specs.Leaving.{checkpoint_records, front_left}
-use Rattle.record_laws.specs.Fronts.{marks_of, IsNext, Wants, PassesWith}
+use Rattle.record_laws.specs.Fronts.{marks_of, IsNextRecord, Wants, PassesWith}
 
 pub record Laws : Type 0 where
-  pub there : (header : Header) (image : Image) (list : List Command) (c : Chain) (before : List Body) (body : Body) (place : Place) → IsNext header image list c before body → FitsBody body
+  pub there : (header : Header) (image : Image) (list : List Command) (c : Chain) (before : List Body) (body : Body) (place : Place) → IsNextRecord header image list c before body → FitsBody body
       → Wants header image c before body place → PassesWith header image c before body (take place.len (drop place.at (image Recipes)))
-  pub nowhere : (header : Header) (image : Image) (list : List Command) (c : Chain) (before : List Body) (body : Body) → IsNext header image list c before body → FitsBody body
+  pub nowhere : (header : Header) (image : Image) (list : List Command) (c : Chain) (before : List Body) (body : Body) → IsNextRecord header image list c before body → FitsBody body
       → ((place : Place) → ¬ (Wants header image c before body place)) → PassesWith header image c before body []
   pub begun_is : (header : Header) (image : Image) (c : Chain) → front_left header image c [] ≡ begun header.rooms.users (region_in c)
   pub whole : (header : Header) (image : Image) (list : List Command) (c : Chain) → Holds header image list c → checkpoint_records c ≤ length c.records

@@ -2,28 +2,28 @@
 use Rattle.std.proofs.Common.{◌≡◌, inl, inr, ℕ, ◌+◌, ◌-◌, ◌*◌, ◌<◌, Bool, true, false, List, [], ◌∷◌, ◌++◌, length, take, drop, nat_lt, Result, Ok, Err, refl, sym, ◌∙◌, ap, subst, arith, append_assoc, length-append}
 use Rattle.std.proofs.Math.Seq.{take-append-add}
 use Rattle.std.proofs.lemmas.List.{append_cancel_left, drop-drop, drop_at}
-use Rattle.cd_edges.specs.Disk.{Store}
-use Rattle.commit_journal.specs.Records.{sized, chain, AreBodies}
-use Rattle.commit_journal.specs.Frames.{IsClosed, IsRecord}
-use Rattle.commit_journal.proofs.Chain.{chain-push}
-use Rattle.journal_start.specs.declared.start.Start.{Start}
-use Rattle.journal_start.specs.Spelling.{records_of}
-use Rattle.journal_halves.specs.Halves.{half_len, half_of}
-use Rattle.journal_halves.specs.Journals.{Where, all_bodies, with_body}
-use Rattle.journal_halves.specs.Findings.{part_of}
-use Rattle.journal_halves.specs.Outcomes.{gate_at, rest_of, StepsOver}
-use Rattle.journal_halves.specs.States as records
-use Rattle.half_journal.specs.declared.errors.OpenErr.{OpenErr}
-use Rattle.half_journal.specs.declared.errors.OpenErr.TheVariants.{Fault, NotBegun, Damaged, OtherStore}
-use Rattle.half_journal.specs.declared.journal.Stage.{Stage}
-use Rattle.half_journal.specs.States.{State, IsReading, IsEnded}
-use Rattle.half_journal.specs.Outcomes.{records_place, IsDamaged}
-use Rattle.record_checks.specs.CloudMemory.Memory.{Memory}
-use Rattle.record_checks.specs.declared.ground.Ground.{Ground}
-use Rattle.record_checks.specs.declared.taking.Taking.{Taking}
-use Rattle.record_checks.specs.Judging as judging
-use Rattle.record_checks.specs.Noting as noting
-use Rattle.half_journal.specs.Openings as halves
+use Rattle.cloud_disk.specs.CdEdges.Disk.{Store}
+use Rattle.cloud_disk.specs.CommitJournal.Records.{sized, chain, AreBodies}
+use Rattle.cloud_disk.specs.CommitJournal.Frames.{IsClosed, IsRecord}
+use Rattle.cloud_disk.proofs.CommitJournal.Chain.{chain-push}
+use Rattle.cloud_disk.specs.JournalStart.start.Start.{Start}
+use Rattle.cloud_disk.specs.JournalStart.Spelling.{records_of}
+use Rattle.cloud_disk.specs.JournalHalves.Halves.{half_len, half_of}
+use Rattle.cloud_disk.specs.JournalHalves.Journals.{Where, all_bodies, with_body}
+use Rattle.cloud_disk.specs.JournalHalves.Findings.{part_of}
+use Rattle.cloud_disk.specs.JournalHalves.Outcomes.{gate_at, rest_of, IsRecordFurther}
+use Rattle.cloud_disk.specs.JournalHalves.States as records
+use Rattle.cloud_disk.specs.HalfJournal.errors.OpenErr.{OpenErr}
+use Rattle.cloud_disk.specs.HalfJournal.errors.OpenErr.TheVariants.{Fault, NotBegun, Damaged, OtherStore}
+use Rattle.cloud_disk.specs.HalfJournal.journal.Stage.{Stage}
+use Rattle.cloud_disk.specs.HalfJournal.States.{JournalState, IsJournalReading, IsJournalEnded}
+use Rattle.cloud_disk.specs.HalfJournal.Outcomes.{records_place, IsDamaged}
+use Rattle.record_laws.specs.RecordChecks.CloudMemory.Memory.{Memory}
+use Rattle.record_laws.specs.RecordChecks.ground.Ground.{Ground}
+use Rattle.record_laws.specs.RecordChecks.taking.Taking.{Taking}
+use Rattle.record_laws.specs.RecordChecks.Judging as judging
+use Rattle.record_laws.specs.RecordChecks.Noting as noting
+use Rattle.cloud_disk.specs.HalfJournal.Openings as halves
 use Rattle.store_opening.specs.Exact.{Replays, Ended, Early, Taken, Refused, Broken, ReadsFor}
 use Rattle.store_opening.specs.Steps.{From, OneAs, NextAs}
 
@@ -33,14 +33,14 @@ bodies_left : (one more : List (List ℕ)) → AreBodies (one ++ more) → AreBo
 bodies_left [] more all = all
 bodies_left (b ∷ one) more all = bodies_left one more all.1
 
-rest_at : (old : records.State) (store : Store) (bodies : List (List ℕ)) (r : records.IsReading old store bodies) → rest_of old store ≡ r.rest
+rest_at : (old : records.HalfState) (store : Store) (bodies : List (List ℕ)) (r : records.IsReading old store bodies) → rest_of old store ≡ r.rest
 rest_at old store bodies r = ap (λ (l : List ℕ). drop old.gate l) r.spelled ∙ ap (λ (n : ℕ). drop n (chain bodies ++ r.rest)) r.gate ∙ drop_at (chain bodies) r.rest (length (chain bodies)) refl
 
 record_there : (rest body behind : List ℕ) → AreBodies (body ∷ []) → 0 < length behind → rest ≡ 1 ∷ (sized body ++ behind) → IsRecord rest body
 record_there rest body [] sizes some e = absurd (omega (arith, some))
 record_there rest body (gate ∷ behind) sizes some e = record { gate = gate; behind = behind; is_body = sizes.0; spelled = e }
 
-record_at : (old new : records.State) (store : Store) (bodies : List (List ℕ)) (body : List ℕ) → records.IsReading old store bodies → new.half ≡ old.half → records.IsReading new store (bodies ++ body ∷ [])
+record_at : (old new : records.HalfState) (store : Store) (bodies : List (List ℕ)) (body : List ℕ) → records.IsReading old store bodies → new.half ≡ old.half → records.IsReading new store (bodies ++ body ∷ [])
     → IsRecord (rest_of old store) body
 record_at old new store bodies body r half f =
     let part : part_of old.half store.read ≡ part_of new.half store.read = ap (λ (h : ℕ). part_of h store.read) (sym half) in
@@ -48,7 +48,7 @@ record_at old new store bodies body r half f =
     record_there (rest_of old store) body f.rest (bodies_left bodies (body ∷ []) f.sizes) f.more
     (rest_at old store bodies r ∙ append_cancel_left (chain bodies) r.rest (1 ∷ (sized body ++ f.rest)) whole)
 
-closed_at : (old new : records.State) (store : Store) (bodies : List (List ℕ)) → records.IsReading old store bodies → new.half ≡ old.half → records.IsEnded new store bodies → IsClosed (rest_of old store)
+closed_at : (old new : records.HalfState) (store : Store) (bodies : List (List ℕ)) → records.IsReading old store bodies → new.half ≡ old.half → records.IsEnded new store bodies → IsClosed (rest_of old store)
 closed_at old new store bodies r half e =
     let j = e.chain_is in
     let front = chain bodies ++ j.gate ∷ [] in
@@ -67,12 +67,12 @@ closed_at old new store bodies r half e =
           ∙ ap (λ (n : ℕ). drop n (chain bodies ++ late)) r.gate ∙ drop_at (chain bodies) late (length (chain bodies)) refl;
     }
 
-pub restaged : (state : State) (store : Store) (w : Where) (stage : Stage) → IsReading state store w → IsReading (record state { stage = stage }) store w
+pub restaged : (state : JournalState) (store : Store) (w : Where) (stage : Stage) → IsJournalReading state store w → IsJournalReading (record state { stage = stage }) store w
 restaged state store w stage r = record { half = r.half; start = r.start; is_current = r.is_current; read = r.read; left = r.left }
 
 -- ---- one step
 
-module _ (g : Ground) (recipes : List ℕ) (store : Store) (old mid : State) (w : Where) (before : Memory) (t : Taking) (reading : IsReading old store w) where
+module _ (g : Ground) (recipes : List ℕ) (store : Store) (old mid : JournalState) (w : Where) (before : Memory) (t : Taking) (reading : IsJournalReading old store w) where
   -- the same from an equal place
   moved : (new : Memory) (half half2 : ℕ) (start start2 : Start) (rest rest2 : List ℕ) (gate gate2 records : ℕ) (m : Memory) (u : Taking) (answer : Result ℕ OpenErr) → half ≡ half2 → start ≡ start2 → rest ≡ rest2 → gate ≡ gate2
       → Replays g half start recipes new rest gate records m u answer → Replays g half2 start2 recipes new rest2 gate2 records m u answer
@@ -85,7 +85,7 @@ module _ (g : Ground) (recipes : List ℕ) (store : Store) (old mid : State) (w 
   inside_is : (inside : Bool) → inside ≡ nat_lt (length w.bodies) (records_of w.start.checkpoint) → inside ≡ nat_lt (length w.bodies) (records_of old.start.checkpoint)
   inside_is inside is = is ∙ ap (λ (s : Start). nat_lt (length w.bodies) (records_of s.checkpoint)) (sym reading.start)
 
-  module _ (inside : Bool) (is : inside ≡ nat_lt (length w.bodies) (records_of w.start.checkpoint)) (further : IsReading mid store (with_body w mid.current.body)) (over : StepsOver old.current mid.current) where
+  module _ (inside : Bool) (is : inside ≡ nat_lt (length w.bodies) (records_of w.start.checkpoint)) (further : IsJournalReading mid store (with_body w mid.current.body)) (over : IsRecordFurther old.current mid.current) where
     at_gate : IsRecord (rest_of old.current store) mid.current.body
     at_gate = record_at old.current mid.current store (all_bodies w) mid.current.body reading.read over.half further.read
 
@@ -108,7 +108,7 @@ module _ (g : Ground) (recipes : List ℕ) (store : Store) (old mid : State) (w 
         gate_is : mid.current.gate ≡ old.current.gate + (5 + length mid.current.body)
         gate_is = omega (arith, over.gate)
 
-    pub as_refused : (new_state : State) (m : Memory) (u : Taking) (error : OpenErr) → halves.OnFault {T = Unit {0}} (Err error) (Unit {0}) (OneAs g inside recipes before t mid.current.body_at mid.current.body m u (Err error))
+    pub as_refused : (new_state : JournalState) (m : Memory) (u : Taking) (error : OpenErr) → halves.OnFault {T = Unit {0}} (Err error) (Unit {0}) (OneAs g inside recipes before t mid.current.body_at mid.current.body m u (Err error))
         → NextAs g recipes store w old before t new_state m u (Err error)
     as_refused new_state m u Fault one = tt
     as_refused new_state m u (Damaged place byte) one = λ new.
@@ -119,7 +119,7 @@ module _ (g : Ground) (recipes : List ℕ) (store : Store) (old mid : State) (w 
     as_refused new_state m u (NotBegun len) one = one.judged
     as_refused new_state m u (OtherStore found asked place) one = one.judged
 
-  pub as_ended : mid.current.half ≡ old.current.half → IsEnded mid store w → NextAs g recipes store w old before t mid before t (Ok false)
+  pub as_ended : mid.current.half ≡ old.current.half → IsJournalEnded mid store w → NextAs g recipes store w old before t mid before t (Ok false)
   as_ended half ended = (
     ended,
     λ answer closes. Ended (rest_of old.current store) (gate_at old.current) (length w.bodies) t answer (closed_at old.current mid.current store (all_bodies w) reading.read half ended.read)

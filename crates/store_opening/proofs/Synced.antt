@@ -1,18 +1,18 @@
 -- A cloud behind the three syncs, and its journal opened then.
 use Rattle.std.proofs.Common.{◌≡◌, inl, inr, Bool, false, List, ℕ, Result, Ok, Err, OnOk, sym, ◌∙◌, ap, subst}
-use Rattle.cd_edges.specs.declared.area.Area.{Area}
-use Rattle.cd_edges.specs.declared.area.Area.TheVariants.{Journal, Shares, Recipes}
-use Rattle.cd_edges.specs.Disk.{Store, Areas, Image, Cloud, MayLeave, IsImage, LeavesOnly}
-use Rattle.cd_edges.specs.Shelf.{stable, Stays, HasFailed, KeepsCounts, IsCall}
-use Rattle.cd_edges.proofs.Calls.{failed_after}
-use Rattle.cd_edges.proofs.Moments.{joined, weaker, at_end}
-use Rattle.cd_edges.proofs.Torn.{only}
-use Rattle.journal_start.specs.declared.start.Header.{Header}
-use Rattle.half_journal.specs.declared.errors.OpenErr.{OpenErr}
-use Rattle.half_journal.specs.declared.errors.OpenErr.TheVariants.{Fault, NotBegun, Damaged, OtherStore}
-use Rattle.half_journal.specs.Openings.{MayBecome, OpensIs, IsOpening, OnFault, HasBegun}
-use Rattle.journal_halves.specs.Beginnings.{IsUnbegun}
-use Rattle.half_journal.specs.States.{State}
+use Rattle.cloud_disk.specs.CdEdges.area.Area.{Area}
+use Rattle.cloud_disk.specs.CdEdges.area.Area.TheVariants.{Journal, Shares, Recipes}
+use Rattle.cloud_disk.specs.CdEdges.Disk.{Store, Areas, Image, Cloud, MayLeave, IsImage, LeavesOnly}
+use Rattle.cloud_disk.specs.CdEdges.Shelf.{stable, Stays, HasFailed, KeepsCounts, IsCall}
+use Rattle.cloud_disk.proofs.CdEdges.Calls.{failed_after}
+use Rattle.cloud_disk.proofs.CdEdges.Moments.{joined, weaker, at_end}
+use Rattle.cloud_disk.proofs.CdEdges.Torn.{only}
+use Rattle.cloud_disk.specs.JournalStart.start.Header.{Header}
+use Rattle.cloud_disk.specs.HalfJournal.errors.OpenErr.{OpenErr}
+use Rattle.cloud_disk.specs.HalfJournal.errors.OpenErr.TheVariants.{Fault, NotBegun, Damaged, OtherStore}
+use Rattle.cloud_disk.specs.HalfJournal.Openings.{MayBecome, OpensIs, IsOpening, OnFault, HasBegun}
+use Rattle.cloud_disk.specs.JournalHalves.Beginnings.{IsUnbegun}
+use Rattle.cloud_disk.specs.HalfJournal.States.{JournalState}
 use Rattle.store_opening.specs.Starts.{IsStarted}
 use Rattle.store_opening.specs.Steps.{IsOfRecords}
 use Rattle.store_opening.specs.Synced.{AreSynced, BeginsSynced}
@@ -96,7 +96,7 @@ same_err T U (NotBegun len) failed other is = is
 -- ---- the journal behind the syncs
 
 module _ (header : Header) (begin : Bool) (c0 c1 : Cloud) (first : LeavesOnly c0 c1 (IsImage c0.now)) where
-  pub not_synced : (after : State) → IsStarted header begin c0 c1 after (Err Fault)
+  pub not_synced : (after : JournalState) → IsStarted header begin c0 c1 after (Err Fault)
   not_synced after = record {
     any_moment = synced_only c0 c1 header begin first;
     answer = tt;
@@ -110,7 +110,7 @@ module _ (header : Header) (begin : Bool) (c0 c1 : Cloud) (first : LeavesOnly c0
   }
 
   module _ (c2 : Cloud) (reads : (area : Area) → MayLeave (c0.now area) (c0.now area).read) (synced : AreSynced c0 c1) where
-    pub synced_started : (after : State) (result : Result (Unit {0}) OpenErr) → IsOpening header begin c1 c2 after result
+    pub synced_started : (after : JournalState) (result : Result (Unit {0}) OpenErr) → IsOpening header begin c1 c2 after result
         → (¬ IsUnbegun (c1.now Journal).read → Stays c1 c2) → (begin ≡ false → Stays c1 c2) → IsStarted header begin c0 c2 after result
     synced_started after result opening begun unasked =
         let same : (c1.now Journal).read ≡ (c0.now Journal).read = ap (λ (s : Store). s.read) (synced_at c0 c1 synced Journal) in

@@ -1,27 +1,27 @@
 -- The place fields that are noted: where none is, no blob has moved the end. And what is taken fits records.
 use Rattle.std.specs.Prelude.{All}
 use Rattle.std.proofs.Common.{◌≡◌, inr, ℕ, ◌+◌, Bool, true, false, List, [], ◌∷◌, length, max, Option, Some, None, Result, Ok, Err, refl, sym, ◌∙◌, ap, subst, arith, if◌then◌else◌, nat_lt}
-use Rattle.cd_base.specs.declared.ids.Fp.{Fp}
-use Rattle.cd_base.specs.declared.ids.UserId.{UserId}
-use Rattle.record_bodies.specs.declared.body.KeptItem.{KeptItem}
-use Rattle.record_bodies.specs.Reading.{body_at}
-use Rattle.record_bodies.specs.Spelling.{Body, FitsBody}
-use Rattle.record_body.specs.declared.body.CommitBody.{CommitBody}
-use Rattle.record_body.specs.declared.body.PutItem.{PutItem}
-use Rattle.record_body.specs.Spelling.{FitsItem, item_bytes}
-use Rattle.cd_base.specs.declared.place.Place.{Place}
-use Rattle.spent_table.specs.declared.Spent.{Spent}
-use Rattle.user_dedup.specs.Requests.{fps_of}
-use Rattle.cloud_areas.specs.Placing.{end_of}
-use Rattle.record_checks.specs.CloudMemory.Memory.{Memory}
-use Rattle.record_checks.specs.CloudMemory.Steps.{end_with, with_entry, with_item, with_items, with_kept, with_kepts, spent_on}
-use Rattle.record_checks.specs.declared.damage.Damage.{Damage}
-use Rattle.record_checks.specs.declared.ground.Ground.{Ground}
-use Rattle.record_checks.specs.declared.taking.Taking.{Taking}
-use Rattle.record_checks.specs.Checks.{damaged_at, put_items, kept_items, place_at, spends_behind, AreRight, PutFits, CommitFits}
-use Rattle.record_checks.specs.Judging.{put_left, JudgesBody, PutFault, PutPast, PutTaken, Unplaced, Entered, NotWhole, CommitPast, CommitTaken, NoEntry, NotNamed, Deleted, KeptDamaged, KeptPast, KeptTaken, SpentPast, SpentTaken, Judges, Outside, Unread, Damaged, Taken}
-use Rattle.record_checks.specs.Noting.{farther_field, put_field, kept_field, noted, IsNoted}
-use Rattle.record_checks.proofs.MemoryProofs.Fitting.{entry_fits, delete_fits, kepts_fit, spent_fits}
+use Rattle.cloud_disk.specs.CdBase.ids.Fp.{Fp}
+use Rattle.cloud_disk.specs.CdBase.ids.UserId.{UserId}
+use Rattle.cloud_disk.specs.RecordBodies.body.KeptItem.{KeptItem}
+use Rattle.cloud_disk.specs.RecordBodies.Reading.{body_at}
+use Rattle.cloud_disk.specs.RecordBodies.Spelling.{Body, FitsBody}
+use Rattle.cloud_disk.specs.RecordBody.body.CommitBody.{CommitBody}
+use Rattle.cloud_disk.specs.RecordBody.body.PutItem.{PutItem}
+use Rattle.cloud_disk.specs.RecordBody.Spelling.{FitsItem, item_bytes}
+use Rattle.cloud_disk.specs.CdBase.place.Place.{Place}
+use Rattle.record_laws.specs.SpentTable.Spent.{Spent}
+use Rattle.cloud_disk.specs.UserDedup.Requests.{fps_of}
+use Rattle.cloud_disk.specs.CloudAreas.Placing.{end_of}
+use Rattle.record_laws.specs.RecordChecks.CloudMemory.Memory.{Memory}
+use Rattle.record_laws.specs.RecordChecks.CloudMemory.Steps.{end_with, with_entry, with_item, with_items, with_kept, with_kepts, spent_on}
+use Rattle.record_laws.specs.RecordChecks.damage.Damage.{Damage}
+use Rattle.record_laws.specs.RecordChecks.ground.Ground.{Ground}
+use Rattle.record_laws.specs.RecordChecks.taking.Taking.{Taking}
+use Rattle.record_laws.specs.RecordChecks.Checks.{damaged_at, put_items, kept_items, place_at, spends_behind, AreRight, PutFits, CommitFits}
+use Rattle.record_laws.specs.RecordChecks.Judging.{put_left, JudgesBody, PutFault, PutPast, PutTaken, Unplaced, Entered, NotWhole, CommitPast, CommitTaken, NoEntry, NotNamed, Deleted, KeptDamaged, KeptPast, KeptTaken, SpentPast, SpentTaken, Judges, Outside, Unread, Damaged, Taken}
+use Rattle.record_laws.specs.RecordChecks.Noting.{farther_field, put_field, kept_field, noted, IsNoted}
+use Rattle.record_laws.proofs.RecordChecks.MemoryProofs.Fitting.{entry_fits, delete_fits, kepts_fit, spent_fits}
 use Rattle.store_opening.specs.Roomy.{SpendWithin}
 use Rattle.store_opening.specs.Steps.{IsTraced}
 use Rattle.store_opening.proofs.Fit.{behind_fits, items_fit}

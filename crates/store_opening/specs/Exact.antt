@@ -2,31 +2,31 @@
 use Rattle.std.specs.Prelude.{◌≡◌, ◌≢◌, ℕ, ◌+◌, ◌-◌, ◌*◌, ◌^◌, ◌<◌, ◌≤◌, min, nat_lt, Bool, false, IsTrue, List, [], length, take, drop, slice_index, Some, Result, Ok, Err, OnOk}
 use Rattle.std.specs.Int.{w32, to_be_bytes}
 use Rattle.std.specs.List.{sum_by}
-use Rattle.cd_edges.specs.declared.area.Area.TheVariants.{Journal, Shares, Recipes}
-use Rattle.cd_edges.specs.Disk.{Image}
-use Rattle.commit_journal.specs.Records.{IsDamage}
-use Rattle.commit_journal.specs.Frames.{IsClosed, IsRecord}
-use Rattle.cd_base.specs.declared.place.Place.{Place}
-use Rattle.spent_table.specs.declared.Spent.{Spent}
-use Rattle.journal_start.specs.declared.start.Header.{Header}
-use Rattle.journal_start.specs.declared.start.Start.{Start}
-use Rattle.journal_start.specs.Spelling.{start_bytes, commands_of, records_of, region_of}
-use Rattle.journal_halves.specs.Halves.{half_len, IsCurrent}
-use Rattle.journal_halves.specs.Findings.{part_of, IsFoundDamage}
-use Rattle.half_journal.specs.declared.errors.OpenErr.{OpenErr}
-use Rattle.half_journal.specs.declared.errors.OpenErr.TheVariants.{NotBegun, Damaged, OtherStore}
-use Rattle.journal_halves.specs.Beginnings.{IsUnbegun}
-use Rattle.half_journal.specs.Outcomes.{records_place}
-use Rattle.cloud_areas.specs.Placing.{region_start}
-use Rattle.cloud_areas.specs.Chains.{least_shares, least_recipes}
-use Rattle.record_checks.specs.CloudMemory.Memory.{Memory}
-use Rattle.record_checks.specs.CloudMemory.Steps.{begun}
-use Rattle.record_checks.specs.declared.damage.Damage.{Damage}
-use Rattle.record_checks.specs.declared.ground.Ground.{Ground}
-use Rattle.record_checks.specs.declared.taking.Taking.{Taking}
-use Rattle.record_checks.specs.Checks.{AsksFor}
-use Rattle.record_checks.specs.Judging.{Judges}
-use Rattle.record_checks.specs.Noting.{nothing_noted, IsNoted}
+use Rattle.cloud_disk.specs.CdEdges.area.Area.TheVariants.{Journal, Shares, Recipes}
+use Rattle.cloud_disk.specs.CdEdges.Disk.{Image}
+use Rattle.cloud_disk.specs.CommitJournal.Records.{IsDamage}
+use Rattle.cloud_disk.specs.CommitJournal.Frames.{IsClosed, IsRecord}
+use Rattle.cloud_disk.specs.CdBase.place.Place.{Place}
+use Rattle.record_laws.specs.SpentTable.Spent.{Spent}
+use Rattle.cloud_disk.specs.JournalStart.start.Header.{Header}
+use Rattle.cloud_disk.specs.JournalStart.start.Start.{Start}
+use Rattle.cloud_disk.specs.JournalStart.Spelling.{start_bytes, commands_of, records_of, region_of}
+use Rattle.cloud_disk.specs.JournalHalves.Halves.{half_len, IsCurrent}
+use Rattle.cloud_disk.specs.JournalHalves.Findings.{part_of, IsFoundDamage}
+use Rattle.cloud_disk.specs.HalfJournal.errors.OpenErr.{OpenErr}
+use Rattle.cloud_disk.specs.HalfJournal.errors.OpenErr.TheVariants.{NotBegun, Damaged, OtherStore}
+use Rattle.cloud_disk.specs.JournalHalves.Beginnings.{IsUnbegun}
+use Rattle.cloud_disk.specs.HalfJournal.Outcomes.{records_place}
+use Rattle.cloud_disk.specs.CloudAreas.Placing.{region_start}
+use Rattle.cloud_disk.specs.CloudAreas.Chains.{least_shares, least_recipes}
+use Rattle.record_laws.specs.RecordChecks.CloudMemory.Memory.{Memory}
+use Rattle.record_laws.specs.RecordChecks.CloudMemory.Steps.{begun}
+use Rattle.record_laws.specs.RecordChecks.damage.Damage.{Damage}
+use Rattle.record_laws.specs.RecordChecks.ground.Ground.{Ground}
+use Rattle.record_laws.specs.RecordChecks.taking.Taking.{Taking}
+use Rattle.record_laws.specs.RecordChecks.Checks.{AsksFor}
+use Rattle.record_laws.specs.RecordChecks.Judging.{Judges}
+use Rattle.record_laws.specs.RecordChecks.Noting.{nothing_noted, IsNoted}
 
 -- ---- before the records
 

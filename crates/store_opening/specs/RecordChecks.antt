@@ -1,3 +1,4 @@
 -- What record_checks says, for callers.
-pub use Rattle.record_checks.specs.declared.ground
-pub use Rattle.record_checks.specs.declared.taking
+pub use Rattle.record_laws.specs.RecordChecks.Checks
+pub use Rattle.record_laws.specs.RecordChecks.ground
+pub use Rattle.record_laws.specs.RecordChecks.taking

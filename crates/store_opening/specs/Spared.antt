@@ -1,22 +1,22 @@
 -- What an opening spares of a told cloud, and what stands after it.
 use Rattle.std.specs.Prelude.{◌≡◌, ℕ, Bool, false, IsTrue, List, Result, Ok, Err}
 use Rattle.std.specs.List.{Contains}
-use Rattle.cd_edges.specs.declared.area.Area.{Area}
-use Rattle.cd_edges.specs.declared.area.Area.TheVariants.{Journal, Shares, Recipes}
-use Rattle.cd_edges.specs.Disk.{Image, Cloud, IsImage, LeavesOnly, reads}
-use Rattle.cd_edges.specs.Shelf.{stable}
-use Rattle.journal_start.specs.declared.start.Header.{Header}
-use Rattle.journal_halves.specs.Halves.{half_limit}
-use Rattle.journal_halves.specs.Journals.{Where}
-use Rattle.half_journal.specs.declared.errors.OpenErr.{OpenErr}
-use Rattle.half_journal.specs.declared.errors.OpenErr.TheVariants.{Fault, NotBegun, Damaged, OtherStore}
-use Rattle.half_journal.specs.Openings.{MayBecome, OnFault}
-use Rattle.journal_halves.specs.Beginnings.{IsUnbegun}
-use Rattle.half_journal.specs.States.{State, IsEnded}
-use Rattle.user_dedup.specs.declared.command.Command.{Command}
-use Rattle.cloud_areas.specs.Standing.{Chain, region_in, StandsFor}
+use Rattle.cloud_disk.specs.CdEdges.area.Area.{Area}
+use Rattle.cloud_disk.specs.CdEdges.area.Area.TheVariants.{Journal, Shares, Recipes}
+use Rattle.cloud_disk.specs.CdEdges.Disk.{Image, Cloud, IsImage, LeavesOnly, reads}
+use Rattle.cloud_disk.specs.CdEdges.Shelf.{stable}
+use Rattle.cloud_disk.specs.JournalStart.start.Header.{Header}
+use Rattle.cloud_disk.specs.JournalHalves.Halves.{half_limit}
+use Rattle.cloud_disk.specs.JournalHalves.Journals.{Where}
+use Rattle.cloud_disk.specs.HalfJournal.errors.OpenErr.{OpenErr}
+use Rattle.cloud_disk.specs.HalfJournal.errors.OpenErr.TheVariants.{Fault, NotBegun, Damaged, OtherStore}
+use Rattle.cloud_disk.specs.HalfJournal.Openings.{MayBecome, OnFault}
+use Rattle.cloud_disk.specs.JournalHalves.Beginnings.{IsUnbegun}
+use Rattle.cloud_disk.specs.HalfJournal.States.{JournalState, IsJournalEnded}
+use Rattle.cloud_disk.specs.UserDedup.command.Command.{Command}
+use Rattle.cloud_disk.specs.CloudAreas.Standing.{Chain, region_in, StandsFor}
 use Rattle.cloud_disk.specs.Disk.{Disk, IsOn}
-use Rattle.record_checks.specs.CloudMemory.Memory.{Memory, Remembers, IsPlacedBy, HasEnds, Stand}
+use Rattle.record_laws.specs.RecordChecks.CloudMemory.Memory.{Memory, Remembers, IsPlacedBy, HasEnds, Stand}
 use Rattle.store_opening.specs.Exact.{ReplaysAll}
 use Rattle.store_opening.specs.Synced.{AreSynced, BeginsSynced}
 
@@ -40,10 +40,11 @@ KeepsLists header old new = (lists : List (List Command)) → ((image : Image) �
 
 -- All of each area is on the disk, and the journal was read to its end: its current half has a chain with this header, which has so many
 -- commands, and the memory is what its records leave.
-pub record IsReadWhole (header : Header) (journal : State) (m : Memory) (commands : ℕ) (cloud : Cloud) : Type 0 where
+pub record IsReadWhole (header : Header) (journal : JournalState) (m : Memory) (commands : ℕ)
+    (cloud : Cloud) : Type 0 where
   pub w : Where
   pub header_is : w.start.header ≡ header
-  pub ended : IsEnded journal (cloud.now Journal) w
+  pub ended : IsJournalEnded journal (cloud.now Journal) w
   pub on_disk : (area : Area) → cloud.now area ≡ stable (cloud.now area).read
   pub replays : ReplaysAll header w.half w.start (reads cloud.now) m (Ok commands)
 

@@ -1,20 +1,20 @@
 -- What the opening of a journal whose areas are synced first does to a told cloud. No public clause cites this module.
 use Rattle.std.specs.Prelude.{◌≡◌, ◌≢◌, Bool, false, Result, OnOk}
-use Rattle.cd_edges.specs.declared.area.Area.{Area}
-use Rattle.cd_edges.specs.declared.area.Area.TheVariants.{Journal}
-use Rattle.cd_edges.specs.Disk.{Cloud, LeavesOnly}
-use Rattle.cd_edges.specs.Shelf.{stable}
-use Rattle.journal_start.specs.declared.start.Header.{Header}
-use Rattle.journal_halves.specs.Journals.{HasChain}
-use Rattle.half_journal.specs.declared.errors.OpenErr.{OpenErr}
-use Rattle.half_journal.specs.Openings.{MayBecome, OpensIs, IsOpened, OnFault}
-use Rattle.journal_halves.specs.Beginnings.{IsUnbegun}
-use Rattle.half_journal.specs.States.{State}
-use Rattle.journal_halves.specs.Beginnings.{new_of}
+use Rattle.cloud_disk.specs.CdEdges.area.Area.{Area}
+use Rattle.cloud_disk.specs.CdEdges.area.Area.TheVariants.{Journal}
+use Rattle.cloud_disk.specs.CdEdges.Disk.{Cloud, LeavesOnly}
+use Rattle.cloud_disk.specs.CdEdges.Shelf.{stable}
+use Rattle.cloud_disk.specs.JournalStart.start.Header.{Header}
+use Rattle.cloud_disk.specs.JournalHalves.Journals.{HasChain}
+use Rattle.cloud_disk.specs.HalfJournal.errors.OpenErr.{OpenErr}
+use Rattle.cloud_disk.specs.HalfJournal.Openings.{MayBecome, OpensIs, IsOpened, OnFault}
+use Rattle.cloud_disk.specs.JournalHalves.Beginnings.{IsUnbegun}
+use Rattle.cloud_disk.specs.HalfJournal.States.{JournalState}
+use Rattle.cloud_disk.specs.JournalHalves.Beginnings.{new_of}
 use Rattle.store_opening.specs.Synced.{AreSynced, BeginsSynced}
 
 -- Each image since, the answer, and what stands after Ok.
-pub record IsStarted (header : Header) (begin : Bool) (old new : Cloud) (after : State) (result : Result (Unit {0}) OpenErr) : Type 0 where
+pub record IsStarted (header : Header) (begin : Bool) (old new : Cloud) (after : JournalState) (result : Result (Unit {0}) OpenErr) : Type 0 where
   pub any_moment : LeavesOnly old new (MayBecome old.now header begin)
   pub answer : OpensIs (old.now Journal).read header begin result
   pub opened : OnOk result (IsOpened after (new.now Journal) header)

@@ -1,26 +1,26 @@
 -- How far a journal's records were taken into the memory. No public clause cites this module.
 use Rattle.std.specs.Prelude.{◌≡◌, ℕ, ◌+◌, Bool, true, false, List, length, None, Result, Ok, Err}
-use Rattle.cd_edges.specs.Disk.{Store, Cloud, reads}
-use Rattle.journal_start.specs.declared.start.Header.{Header}
-use Rattle.journal_halves.specs.Journals.{Where, with_body}
-use Rattle.journal_halves.specs.Outcomes.{gate_at, rest_of}
-use Rattle.half_journal.specs.declared.errors.OpenErr.{OpenErr}
-use Rattle.half_journal.specs.declared.errors.OpenErr.TheVariants.{Fault, NotBegun, Damaged, OtherStore}
-use Rattle.half_journal.specs.declared.journal.Stage.{Stage}
-use Rattle.half_journal.specs.declared.journal.Stage.TheVariants.{Shut, Reading, AtEnd}
-use Rattle.half_journal.specs.States as journals
-use Rattle.user_dedup.specs.declared.command.Command.{Command}
-use Rattle.user_dedup.specs.Cloud.{counted}
-use Rattle.cloud_areas.specs.Placing.{region_start}
-use Rattle.cloud_areas.specs.Standing.{Chain, region_in}
+use Rattle.cloud_disk.specs.CdEdges.Disk.{Store, Cloud, reads}
+use Rattle.cloud_disk.specs.JournalStart.start.Header.{Header}
+use Rattle.cloud_disk.specs.JournalHalves.Journals.{Where, with_body}
+use Rattle.cloud_disk.specs.JournalHalves.Outcomes.{gate_at, rest_of}
+use Rattle.cloud_disk.specs.HalfJournal.errors.OpenErr.{OpenErr}
+use Rattle.cloud_disk.specs.HalfJournal.errors.OpenErr.TheVariants.{Fault, NotBegun, Damaged, OtherStore}
+use Rattle.cloud_disk.specs.HalfJournal.journal.Stage.{Stage}
+use Rattle.cloud_disk.specs.HalfJournal.journal.Stage.TheVariants.{Shut, Reading, AtEnd}
+use Rattle.cloud_disk.specs.HalfJournal.States as journals
+use Rattle.cloud_disk.specs.UserDedup.command.Command.{Command}
+use Rattle.cloud_disk.specs.UserDedup.Cloud.{counted}
+use Rattle.cloud_disk.specs.CloudAreas.Placing.{region_start}
+use Rattle.cloud_disk.specs.CloudAreas.Standing.{Chain, region_in}
 use Rattle.cloud_disk.specs.Disk.{IsRead}
 use Rattle.record_laws.specs.Leaving.{IsLeftIn}
-use Rattle.record_checks.specs.CloudMemory.Memory.{Memory}
-use Rattle.record_checks.specs.CloudMemory.Fitting.{FitsRecords}
-use Rattle.record_checks.specs.declared.ground.Ground.{Ground}
-use Rattle.record_checks.specs.declared.taking.Taking.{Taking}
-use Rattle.record_checks.specs.Judging.{Judges}
-use Rattle.record_checks.specs.Noting.{IsNoted}
+use Rattle.record_laws.specs.RecordChecks.CloudMemory.Memory.{Memory}
+use Rattle.record_laws.specs.RecordChecks.CloudMemory.Fitting.{FitsRecords}
+use Rattle.record_laws.specs.RecordChecks.ground.Ground.{Ground}
+use Rattle.record_laws.specs.RecordChecks.taking.Taking.{Taking}
+use Rattle.record_laws.specs.RecordChecks.Judging.{Judges}
+use Rattle.record_laws.specs.RecordChecks.Noting.{IsNoted}
 use Rattle.store_opening.specs.Roomy.{SpendWithin}
 use Rattle.store_opening.specs.Exact.{ReadsFor, Closes, number_behind, Replays}
 
@@ -45,7 +45,8 @@ OnTrue (Ok false) fact = Unit {0}
 OnTrue (Err e) fact = Unit {0}
 
 -- What comes of the records from the gate on.
-abbrev pub From : Ground → List ℕ → Store → Memory → journals.State → ℕ → Memory → Taking → Result ℕ OpenErr → Type 0
+abbrev pub From : Ground → List ℕ → Store → Memory → journals.JournalState → ℕ → Memory → Taking → Result ℕ OpenErr
+    → Type 0
 From g recipes store new journal records old t answer =
     Replays g journal.current.half journal.start recipes new (rest_of journal.current store) (gate_at journal.current) records old t answer
 
@@ -65,10 +66,10 @@ pub record OneAs (g : Ground) (inside : Bool) (recipes : List ℕ) (old : Memory
 
 -- With one record taken the rest decides; or the gate is closed behind all of the checkpoint's records, and the bounds decide; or this is
 -- the answer.
-abbrev pub NextAs : Ground → List ℕ → Store → Where → journals.State → Memory → Taking → journals.State → Memory → Taking → Result Bool OpenErr → Type 0
-NextAs g recipes store w before old t after mid u (Ok true) = ((body : List ℕ) × journals.IsReading after store (with_body w body))
+abbrev pub NextAs : Ground → List ℕ → Store → Where → journals.JournalState → Memory → Taking → journals.JournalState → Memory → Taking → Result Bool OpenErr → Type 0
+NextAs g recipes store w before old t after mid u (Ok true) = ((body : List ℕ) × journals.IsJournalReading after store (with_body w body))
     × ((new : Memory) (answer : Result ℕ OpenErr) → From g recipes store new after (length w.bodies + 1) mid u answer → From g recipes store new before (length w.bodies) old t answer)
-NextAs g recipes store w before old t after mid u (Ok false) = journals.IsEnded after store w
+NextAs g recipes store w before old t after mid u (Ok false) = journals.IsJournalEnded after store w
     × ((answer : Result ℕ OpenErr) → Closes g mid u (number_behind before.start (length w.bodies)) answer → From g recipes store mid before (length w.bodies) old t answer)
 NextAs g recipes store w before old t after mid u (Err Fault) = Unit {0}
 NextAs g recipes store w before old t after mid u (Err (Damaged at byte)) = (new : Memory) → From g recipes store new before (length w.bodies) old t (Err (Damaged at byte))
@@ -76,9 +77,10 @@ NextAs g recipes store w before old t after mid u (Err (NotBegun len)) = ⊥
 NextAs g recipes store w before old t after mid u (Err (OtherStore found asked place)) = ⊥
 
 -- All records were taken, so many, and the bounds decide; or this is the answer.
-abbrev pub AllAs : Ground → List ℕ → Store → Where → journals.State → Memory → Taking → journals.State → Memory → Taking → Result ℕ OpenErr → Type 0
+abbrev pub AllAs : Ground → List ℕ → Store → Where → journals.JournalState → Memory → Taking → journals.JournalState → Memory → Taking → Result ℕ OpenErr → Type 0
 AllAs g recipes store w before old t after mid u (Ok records) =
-    ((bodies : List (List ℕ)) × (records ≡ length bodies) × journals.IsEnded after store (record w { bodies = bodies }))
+    ((bodies : List (List ℕ)) × (records ≡ length bodies)
+    × journals.IsJournalEnded after store (record w { bodies = bodies }))
     × ((answer : Result ℕ OpenErr) → Closes g mid u (number_behind before.start records) answer → From g recipes store mid before 0 old t answer)
 AllAs g recipes store w before old t after mid u (Err Fault) = Unit {0}
 AllAs g recipes store w before old t after mid u (Err (Damaged at byte)) = (new : Memory) → From g recipes store new before 0 old t (Err (Damaged at byte))
@@ -86,9 +88,9 @@ AllAs g recipes store w before old t after mid u (Err (NotBegun len)) = ⊥
 AllAs g recipes store w before old t after mid u (Err (OtherStore found asked place)) = ⊥
 
 -- The chain was read to its end, whatever its records are.
-pub record HasEnded (journal : journals.State) (store : Store) (w : Where) : Type 0 where
+pub record HasChainEnded (journal : journals.JournalState) (store : Store) (w : Where) : Type 0 where
   pub bodies : List (List ℕ)
-  pub ended : journals.IsEnded journal store (record w { bodies = bodies })
+  pub ended : journals.IsJournalEnded journal store (record w { bodies = bodies })
 
 -- Where no place field was noted, no blob has moved the end; what the memory has fits records; and nobody has spent more than it may.
 pub record IsTraced (g : Ground) (m : Memory) (t : Taking) : Type 0 where
@@ -100,7 +102,7 @@ pub record IsTraced (g : Ground) (m : Memory) (t : Taking) : Type 0 where
 -- ---- by a list
 
 -- What was read is a chain that says the list, and the memory is the list's.
-pub record IsFound (header : Header) (list : List Command) (journal : journals.State) (m : Memory) (commands : ℕ) (cloud : Cloud) : Type 0 where
+pub record IsListFound (header : Header) (list : List Command) (journal : journals.JournalState) (m : Memory) (commands : ℕ) (cloud : Cloud) : Type 0 where
   pub c : Chain
   pub counted_is : commands ≡ counted list
   pub read : IsRead header list c journal cloud

@@ -1,9 +1,9 @@
 -- The three syncs that an opening begins with.
 use Rattle.std.specs.Prelude.{◌≡◌, ◌≢◌, List, [], ◌∷◌, ◌++◌}
-use Rattle.cd_edges.specs.declared.area.Area.{Area}
-use Rattle.cd_edges.specs.declared.area.Area.TheVariants.{Journal, Shares, Recipes}
-use Rattle.cd_edges.specs.Disk.{Areas, Cloud}
-use Rattle.cd_edges.specs.Shelf.{stable}
+use Rattle.cloud_disk.specs.CdEdges.area.Area.{Area}
+use Rattle.cloud_disk.specs.CdEdges.area.Area.TheVariants.{Journal, Shares, Recipes}
+use Rattle.cloud_disk.specs.CdEdges.Disk.{Areas, Cloud}
+use Rattle.cloud_disk.specs.CdEdges.Shelf.{stable}
 
 -- One area is synced: a crash leaves it as it reads. The others are as they were.
 pub record IsSynced (synced : Area) (old new : Areas) : Type 0 where

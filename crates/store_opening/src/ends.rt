@@ -1,17 +1,16 @@
 //! The ends of both logs, once all records are taken.
 
 ghost use Rattle.std.specs.Prelude.{◌≡◌, ◌↔◌, ◌+◌, ◌*◌, ◌≤◌, Some, IsSome, IsTrue};
-ghost use Rattle.cloud_areas.specs.Placing.{region_start};
-ghost use Rattle.half_journal.specs.declared.errors.OpenErr.TheVariants as answers;
-ghost use Rattle.half_journal.specs.Openings.{OnFault};
-ghost use Rattle.record_checks.specs.CloudMemory.Rooms.{memory_of};
-ghost use Rattle.record_checks.specs.declared.damage.Damage.{Damage as Field};
+ghost use Rattle.cloud_disk.specs.CloudAreas.Placing.{region_start};
+ghost use Rattle.cloud_disk.specs.HalfJournal.errors.OpenErr.TheVariants as answers;
+ghost use Rattle.cloud_disk.specs.HalfJournal.Openings.{OnFault};
+ghost use Rattle.record_laws.specs.RecordChecks.CloudMemory.Rooms.{memory_of};
+ghost use Rattle.record_laws.specs.RecordChecks.damage.Damage.{Damage as Field};
 ghost use Rattle.store_opening.specs.Exact.{Closes, shares_bound, recipes_bound, number_behind};
 ghost use Rattle.store_opening.specs.Steps.{IsTraced, IsOfRecords};
 
-use half_journal::OpenErr;
-use journal_start::Start;
-use record_checks::{CloudMemory, Damage, Ground, Taking};
+use cloud_disk::{OpenErr, Start};
+use record_laws::{CloudMemory, Damage, Ground, Taking};
 
 // The bytes of a region of an area of blobs.
 const REGION: u64 = 34_359_738_368;

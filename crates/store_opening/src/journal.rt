@@ -1,20 +1,17 @@
 //! The journal of a cloud whose areas are synced first.
 
 ghost use Rattle.std.specs.Prelude.{◌≡◌, ◌≤◌, IsTrue, OnOk};
-ghost use Rattle.cd_edges.specs.Shelf.{IsCall, HasFailed, KeepsCounts};
-ghost use Rattle.journal_start.specs.Ranges.{IsHeader};
-ghost use Rattle.journal_start.specs.Spelling.{region_of};
-ghost use Rattle.half_journal.specs.declared.journal.Stage.TheVariants.{Reading};
-ghost use Rattle.half_journal.specs.States.{state_of};
-ghost use Rattle.half_journal.specs.Openings.{OnFault, HasBegun};
-ghost use Rattle.half_journal.specs.Outcomes.{stage_after};
+ghost use Rattle.cloud_disk.specs.CdEdges.Shelf.{IsCall, HasFailed, KeepsCounts};
+ghost use Rattle.cloud_disk.specs.JournalStart.Ranges.{IsHeader};
+ghost use Rattle.cloud_disk.specs.JournalStart.Spelling.{region_of};
+ghost use Rattle.cloud_disk.specs.HalfJournal.journal.Stage.TheVariants.{Reading};
+ghost use Rattle.cloud_disk.specs.HalfJournal.States.{state_of};
+ghost use Rattle.cloud_disk.specs.HalfJournal.Openings.{OnFault, HasBegun};
+ghost use Rattle.cloud_disk.specs.HalfJournal.Outcomes.{stage_after};
 ghost use Rattle.store_opening.specs.Starts.{IsStarted};
 
 use crate::syncs::sync_all;
-use cd_base::CloudNo;
-use cd_edges::{Failed, Shelf};
-use half_journal::{Journal, OpenErr};
-use journal_start::Header;
+use cloud_disk::{CloudNo, Failed, Header, Journal, OpenErr, Shelf};
 
 /// Syncs the three areas, and then opens the journal, or begins it where no half is begun and `begin` is true. After an Err the
 /// journal is shut.

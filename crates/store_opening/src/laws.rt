@@ -1,10 +1,10 @@
 //! The law of openings, for the proofs of callers. The call does nothing.
 
 ghost use Rattle.std.specs.Prelude.{ℕ, Bool, Result};
-ghost use Rattle.cd_edges.specs.Disk.{Image};
-ghost use Rattle.journal_start.specs.declared.start.Header.{Header};
-ghost use Rattle.half_journal.specs.declared.errors.OpenErr.{OpenErr};
-ghost use Rattle.record_checks.specs.CloudMemory.Memory.{Memory};
+ghost use Rattle.cloud_disk.specs.CdEdges.Disk.{Image};
+ghost use Rattle.cloud_disk.specs.JournalStart.start.Header.{Header};
+ghost use Rattle.cloud_disk.specs.HalfJournal.errors.OpenErr.{OpenErr};
+ghost use Rattle.record_laws.specs.RecordChecks.CloudMemory.Memory.{Memory};
 ghost use Rattle.store_opening.specs.Exact.{Opens, IsSame};
 
 /// Whatever the bytes of a cloud's three areas are, an opening over which no device call fails has one answer alone:

@@ -13,5 +13,8 @@ mod records;
 mod syncs;
 mod window;
 
+pub use cloud_disk::{
+    BodyBuf, Header, Journal, OpenErr, RecordErr, UserRooms, WINDOW, law_of_headers,
+};
 pub use opening::reopen;
 pub use syncs::sync_all;

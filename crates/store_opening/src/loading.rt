@@ -1,31 +1,28 @@
 //! A journal that is opened, and read into an empty memory.
 
 ghost use Rattle.std.specs.Prelude.{◌≡◌, ◌≤◌, ℕ, [], length, is_ok, if◌then◌else◌, List, IsTrue, IfOk, OnOk, OnErr};
-ghost use Rattle.cd_base.specs.Limits.{recipe_limit};
-ghost use Rattle.cd_edges.specs.declared.area.Area.{Area};
-ghost use Rattle.cd_edges.specs.Disk.{reads};
-ghost use Rattle.cd_edges.specs.Shelf.{IsCall, HasFailed, KeepsCounts, Stays};
-ghost use Rattle.journal_start.specs.Spelling.{region_of};
-ghost use Rattle.journal_halves.specs.Journals.{Where};
-ghost use Rattle.half_journal.specs.declared.journal.Stage.{Stage};
-ghost use Rattle.half_journal.specs.Openings.{OnFault};
-ghost use Rattle.half_journal.specs.Outcomes.{stage_after};
-ghost use Rattle.half_journal.specs.States.{state_of, IsReading, IsEnded};
-ghost use Rattle.record_checks.specs.CloudMemory.Fitting.{FitsRecords};
-ghost use Rattle.record_checks.specs.CloudMemory.Rooms.{memory_of, HasRooms};
-ghost use Rattle.record_checks.specs.CloudMemory.Steps.{begun};
-ghost use Rattle.record_checks.specs.Noting.{nothing_noted};
+ghost use Rattle.cloud_disk.specs.CdBase.Limits.{recipe_limit};
+ghost use Rattle.cloud_disk.specs.CdEdges.area.Area.{Area};
+ghost use Rattle.cloud_disk.specs.CdEdges.Disk.{reads};
+ghost use Rattle.cloud_disk.specs.CdEdges.Shelf.{IsCall, HasFailed, KeepsCounts, Stays};
+ghost use Rattle.cloud_disk.specs.JournalStart.Spelling.{region_of};
+ghost use Rattle.cloud_disk.specs.JournalHalves.Journals.{Where};
+ghost use Rattle.cloud_disk.specs.HalfJournal.journal.Stage.{Stage};
+ghost use Rattle.cloud_disk.specs.HalfJournal.Openings.{OnFault};
+ghost use Rattle.cloud_disk.specs.HalfJournal.Outcomes.{stage_after};
+ghost use Rattle.cloud_disk.specs.HalfJournal.States.{state_of, IsJournalReading, IsJournalEnded};
+ghost use Rattle.record_laws.specs.RecordChecks.CloudMemory.Fitting.{FitsRecords};
+ghost use Rattle.record_laws.specs.RecordChecks.CloudMemory.Rooms.{memory_of, HasRooms};
+ghost use Rattle.record_laws.specs.RecordChecks.CloudMemory.Steps.{begun};
+ghost use Rattle.record_laws.specs.RecordChecks.Noting.{nothing_noted};
 ghost use Rattle.store_opening.specs.Roomy.{IsRoomy};
 ghost use Rattle.store_opening.specs.Exact.{ReplaysAll, Closes, number_behind};
-ghost use Rattle.store_opening.specs.Steps.{From, HasEnded, IsTraced, IsOfRecords};
+ghost use Rattle.store_opening.specs.Steps.{From, HasChainEnded, IsTraced, IsOfRecords};
 
 use crate::ends::{close, number_of};
 use crate::records::take_all;
-use cd_base::CloudNo;
-use cd_edges::{Area, Failed, Shelf};
-use half_journal::{Journal, OpenErr};
-use journal_start::Header;
-use record_checks::{CloudMemory, Ground, Taking};
+use cloud_disk::{Area, CloudNo, Failed, Header, Journal, OpenErr, Shelf};
+use record_laws::{CloudMemory, Ground, Taking};
 
 // What is known before the records, whose blobs lie in this region.
 fn survey<V: Shelf>(
@@ -100,14 +97,14 @@ fn read_records<V: Shelf>(
     requires begun { memory_of memory.old ≡ begun ground.now.rooms.users ground.now.region }
     requires buffer { recipe_limit ≤ length buffer.old }
     ensures exact { IsTrue (V.cloud_at shelf.old cloud.0).told → (w : Where)
-        → IsReading (state_of journal.old) ((V.cloud_at shelf.old cloud.0).now Area.Journal) w → w.bodies ≡ []
+        → IsJournalReading (state_of journal.old) ((V.cloud_at shelf.old cloud.0).now Area.Journal) w → w.bodies ≡ []
         → OnFault result (Unit {0})
         (From ground.now ((V.cloud_at shelf.old cloud.0).now Area.Recipes).read
         ((V.cloud_at shelf.old cloud.0).now Area.Journal) (memory_of memory.new) (state_of journal.old) 0
         (begun ground.now.rooms.users ground.now.region) nothing_noted result) }
     ensures ended { IsTrue (V.cloud_at shelf.old cloud.0).told → (w : Where)
-        → IsReading (state_of journal.old) ((V.cloud_at shelf.old cloud.0).now Area.Journal) w → w.bodies ≡ []
-        → OnOk result (HasEnded (state_of journal.new) ((V.cloud_at shelf.old cloud.0).now Area.Journal) w) }
+        → IsJournalReading (state_of journal.old) ((V.cloud_at shelf.old cloud.0).now Area.Journal) w → w.bodies ≡ []
+        → OnOk result (HasChainEnded (state_of journal.new) ((V.cloud_at shelf.old cloud.0).now Area.Journal) w) }
     ensures fit { OnOk result (FitsRecords (memory_of memory.new)) }
     ensures roomy { OnOk result (IsRoomy ground.now.rooms ground.now.region (memory_of memory.new)) }
     ensures start { (state_of journal.new).start ≡ (state_of journal.old).start }
@@ -146,13 +143,13 @@ pub(crate) fn load<V: Shelf>(
     requires rooms { HasRooms header.now.rooms memory.old }
     requires buffer { recipe_limit ≤ length buffer.old }
     ensures exact { IsTrue (V.cloud_at shelf.old cloud.0).told → (w : Where)
-        → IsReading (state_of journal.old) ((V.cloud_at shelf.old cloud.0).now Area.Journal) w → w.bodies ≡ []
+        → IsJournalReading (state_of journal.old) ((V.cloud_at shelf.old cloud.0).now Area.Journal) w → w.bodies ≡ []
         → OnFault result (Unit {0})
         (ReplaysAll header.now w.half w.start (reads (V.cloud_at shelf.old cloud.0).now)
         (memory_of memory.new) result) }
     ensures ended { IsTrue (V.cloud_at shelf.old cloud.0).told → (w : Where)
-        → IsReading (state_of journal.old) ((V.cloud_at shelf.old cloud.0).now Area.Journal) w → w.bodies ≡ []
-        → OnOk result (HasEnded (state_of journal.new) ((V.cloud_at shelf.old cloud.0).now Area.Journal) w) }
+        → IsJournalReading (state_of journal.old) ((V.cloud_at shelf.old cloud.0).now Area.Journal) w → w.bodies ≡ []
+        → OnOk result (HasChainEnded (state_of journal.new) ((V.cloud_at shelf.old cloud.0).now Area.Journal) w) }
     ensures fit { OnOk result (FitsRecords (memory_of memory.new)) }
     ensures roomy { OnOk result (IsRoomy header.now.rooms (region_of (state_of journal.old).start.checkpoint)
         (memory_of memory.new)) }

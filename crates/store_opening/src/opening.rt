@@ -1,39 +1,36 @@
 //! The opening of a cloud.
 
 ghost use Rattle.std.specs.Prelude.{◌≡◌, ◌≤◌, ℕ, List, [], length, IsTrue, IfOk, OnOk, OnErr};
-ghost use Rattle.cd_base.specs.Limits.{recipe_limit};
-ghost use Rattle.cd_edges.specs.Disk.{reads};
-ghost use Rattle.cd_edges.specs.Shelf.{IsCall, HasFailed, KeepsCounts};
-ghost use Rattle.container_log.specs.States.{HasStaged};
-ghost use Rattle.journal_start.specs.Ranges.{IsHeader};
-ghost use Rattle.journal_start.specs.Spelling.{region_of};
-ghost use Rattle.journal_halves.specs.Halves.{half_limit};
-ghost use Rattle.half_journal.specs.declared.journal.Stage.{Stage};
-ghost use Rattle.half_journal.specs.Openings.{OnFault, HasBegun};
-ghost use Rattle.half_journal.specs.Outcomes.{stage_after};
-ghost use Rattle.half_journal.specs.States.{state_of};
+ghost use Rattle.cloud_disk.specs.CdBase.Limits.{recipe_limit};
+ghost use Rattle.cloud_disk.specs.CdEdges.Disk.{reads};
+ghost use Rattle.cloud_disk.specs.CdEdges.Shelf.{IsCall, HasFailed, KeepsCounts};
+ghost use Rattle.cloud_disk.specs.ContainerLog.States.{HasStaged};
+ghost use Rattle.cloud_disk.specs.JournalStart.Ranges.{IsHeader};
+ghost use Rattle.cloud_disk.specs.JournalStart.Spelling.{region_of};
+ghost use Rattle.cloud_disk.specs.JournalHalves.Halves.{half_limit};
+ghost use Rattle.cloud_disk.specs.HalfJournal.journal.Stage.{Stage};
+ghost use Rattle.cloud_disk.specs.HalfJournal.Openings.{OnFault, HasBegun};
+ghost use Rattle.cloud_disk.specs.HalfJournal.Outcomes.{stage_after};
+ghost use Rattle.cloud_disk.specs.HalfJournal.States.{state_of};
 ghost use Rattle.cloud_disk.specs.Disk.{ended_at};
-ghost use Rattle.record_checks.specs.CloudMemory.Fitting.{FitsRecords};
-ghost use Rattle.record_checks.specs.CloudMemory.Rooms.{memory_of, HasRooms};
+ghost use Rattle.record_laws.specs.RecordChecks.CloudMemory.Fitting.{FitsRecords};
+ghost use Rattle.record_laws.specs.RecordChecks.CloudMemory.Rooms.{memory_of, HasRooms};
 ghost use Rattle.store_opening.specs.Exact.{Opens};
 ghost use Rattle.store_opening.specs.Roomy.{IsRoomy};
 ghost use Rattle.store_opening.specs.Spared.{Spares, KeepsLists, IsReadWhole, IsFor, IsLoaded, MayBegin, IsOkOrFault};
-ghost use Rattle.store_opening.specs.Steps.{IsFound};
+ghost use Rattle.store_opening.specs.Steps.{IsListFound};
 ghost use Rattle.record_laws.specs.Leaving.{MayHold};
-ghost use Rattle.cd_edges.specs.declared.area.Area.{Area};
-ghost use Rattle.user_dedup.specs.declared.command.Command.{Command};
-ghost use Rattle.user_dedup.specs.Cloud.{counted};
-ghost use Rattle.cloud_areas.specs.Standing.{StandsFor};
+ghost use Rattle.cloud_disk.specs.CdEdges.area.Area.{Area};
+ghost use Rattle.cloud_disk.specs.UserDedup.command.Command.{Command};
+ghost use Rattle.cloud_disk.specs.UserDedup.Cloud.{counted};
+ghost use Rattle.cloud_disk.specs.CloudAreas.Standing.{StandsFor};
 
 use crate::journal::open_journal;
 use crate::loading::load;
-use cd_base::CloudNo;
-use cd_edges::Shelf;
-use cloud_areas::laws::{law_of_numbers, law_of_standing};
-use cloud_disk::CloudDisk;
-use half_journal::{Journal, OpenErr};
-use journal_start::Header;
-use record_checks::CloudMemory;
+use cloud_disk::{
+    CloudDisk, CloudNo, Header, Journal, OpenErr, Shelf, law_of_numbers, law_of_standing,
+};
+use record_laws::CloudMemory;
 use record_laws::taking::{law_of_fronts, law_of_lawful_records};
 
 // Opens the journal of synced areas or begins it, and takes each record into the memory. After an Err the journal is shut.
@@ -64,7 +61,7 @@ fn open_all<V: Shelf>(
     ensures found { IsTrue (V.cloud_at shelf.old cloud.0).told → (list : List Command)
         → StandsFor (reads (V.cloud_at shelf.old cloud.0).now) header.now list → MayHold header.now list
         → (state_of journal.old).limit ≡ half_limit header.now.rooms
-        → IfOk result (λ commands. IsFound header.now list (state_of journal.new) (memory_of memory.new) commands
+        → IfOk result (λ commands. IsListFound header.now list (state_of journal.new) (memory_of memory.new) commands
         (V.cloud_at shelf.new cloud.0)) }
     ensures whole { IsTrue (V.cloud_at shelf.old cloud.0).told → (list : List Command)
         → StandsFor (reads (V.cloud_at shelf.old cloud.0).now) header.now list → MayHold header.now list

@@ -2,27 +2,25 @@
 
 ghost use Rattle.std.specs.Prelude.{◌≡◌, ◌+◌, ◌≤◌, ◌<◌, ◌^◌, [], length, take, drop, nat_lt, is_ok, if◌then◌else◌};
 ghost use Rattle.std.specs.Prelude.{IsTrue, MatchResult, OnOk, Ok, Err};
-ghost use Rattle.cd_base.specs.Limits.{recipe_limit};
-ghost use Rattle.cd_edges.specs.declared.area.Area.{Area};
-ghost use Rattle.cd_edges.specs.Shelf.{IsCall, HasFailed, KeepsCounts, Stays};
-ghost use Rattle.commit_journal.specs.Records.{IsBody};
-ghost use Rattle.half_journal.specs.declared.journal.Stage.{Stage};
-ghost use Rattle.half_journal.specs.Openings.{OnFault};
-ghost use Rattle.half_journal.specs.Outcomes.{stage_after};
-ghost use Rattle.half_journal.specs.States.{state_of, IsReading};
-ghost use Rattle.journal_start.specs.Spelling.{records_of};
-ghost use Rattle.journal_halves.specs.Journals.{Where};
-ghost use Rattle.record_checks.specs.CloudMemory.Rooms.{memory_of, HasRooms};
-ghost use Rattle.record_checks.specs.Judging.{Judges};
-ghost use Rattle.record_checks.specs.Noting.{IsNoted};
+ghost use Rattle.cloud_disk.specs.CdBase.Limits.{recipe_limit};
+ghost use Rattle.cloud_disk.specs.CdEdges.area.Area.{Area};
+ghost use Rattle.cloud_disk.specs.CdEdges.Shelf.{IsCall, HasFailed, KeepsCounts, Stays};
+ghost use Rattle.cloud_disk.specs.CommitJournal.Records.{IsJournalBody};
+ghost use Rattle.cloud_disk.specs.HalfJournal.journal.Stage.{Stage};
+ghost use Rattle.cloud_disk.specs.HalfJournal.Openings.{OnFault};
+ghost use Rattle.cloud_disk.specs.HalfJournal.Outcomes.{stage_after};
+ghost use Rattle.cloud_disk.specs.HalfJournal.States.{state_of, IsJournalReading};
+ghost use Rattle.cloud_disk.specs.JournalStart.Spelling.{records_of};
+ghost use Rattle.cloud_disk.specs.JournalHalves.Journals.{Where};
+ghost use Rattle.record_laws.specs.RecordChecks.CloudMemory.Rooms.{memory_of, HasRooms};
+ghost use Rattle.record_laws.specs.RecordChecks.Judging.{Judges};
+ghost use Rattle.record_laws.specs.RecordChecks.Noting.{IsNoted};
 ghost use Rattle.store_opening.specs.Steps.{BodyAs, OneAs, NextAs, AllAs, IsTraced, IsOfRecords, OnTrue, stage_of};
 ghost use Rattle.store_opening.specs.Windows.{Shows};
 
 use crate::window::Window;
-use cd_base::{CloudNo, Place};
-use cd_edges::{Area, Failed, Shelf};
-use half_journal::{Journal, JournalErr, OpenErr};
-use record_checks::{CloudMemory, Damage, Ground, Taking, recipe_of, take};
+use cloud_disk::{Area, CloudNo, Failed, Journal, OpenErr, Place, RecordErr, Shelf};
+use record_laws::{CloudMemory, Damage, Ground, Taking, recipe_of, take};
 
 // Takes the record with this body, which begins at a place of the journal, with these bytes where its recipe lies.
 fn take_bytes(
@@ -35,7 +33,7 @@ fn take_bytes(
     read: &[u8],
 ) -> Result<(), Damage>
     requires rooms { HasRooms ground.now.rooms memory.old }
-    requires body { IsBody body.now }
+    requires body { IsJournalBody body.now }
     requires place { 5 ≤ at }
     requires end { at + length body.now < 2 ^ 64 }
     requires read { length read.now < 2 ^ 32 }
@@ -65,7 +63,7 @@ fn take_body(
     read: &[u8],
 ) -> Result<(), OpenErr>
     requires rooms { HasRooms ground.now.rooms memory.old }
-    requires body { IsBody (state_of journal.old).current.body }
+    requires body { IsJournalBody (state_of journal.old).current.body }
     requires place { 5 ≤ (state_of journal.old).current.body_at }
     requires end { (state_of journal.old).current.body_at + length (state_of journal.old).current.body < 2 ^ 64 }
     requires read { length read.now < 2 ^ 32 }
@@ -112,7 +110,7 @@ fn take_read<V: Shelf>(
     buffer: &mut [u8],
 ) -> Result<(), OpenErr>
     requires rooms { HasRooms ground.now.rooms memory.old }
-    requires body { IsBody (state_of journal.old).current.body }
+    requires body { IsJournalBody (state_of journal.old).current.body }
     requires place { 5 ≤ (state_of journal.old).current.body_at }
     requires end { (state_of journal.old).current.body_at + length (state_of journal.old).current.body < 2 ^ 64 }
     requires shows { Shows (V.cloud_at shelf.old cloud.0) window.old buffer.old }
@@ -161,7 +159,7 @@ fn take_record<V: Shelf>(
     buffer: &mut [u8],
 ) -> Result<(), OpenErr>
     requires rooms { HasRooms ground.now.rooms memory.old }
-    requires body { IsBody (state_of journal.old).current.body }
+    requires body { IsJournalBody (state_of journal.old).current.body }
     requires place { 5 ≤ (state_of journal.old).current.body_at }
     requires end { (state_of journal.old).current.body_at + length (state_of journal.old).current.body < 2 ^ 64 }
     requires buffer { recipe_limit ≤ length buffer.old }
@@ -216,7 +214,7 @@ fn take_next<V: Shelf>(
     requires buffer { recipe_limit ≤ length buffer.old }
     requires shows { Shows (V.cloud_at shelf.old cloud.0) window.old buffer.old }
     ensures exact { IsTrue (V.cloud_at shelf.old cloud.0).told → (w : Where)
-        → IsReading (state_of journal.old) ((V.cloud_at shelf.old cloud.0).now Area.Journal) w
+        → IsJournalReading (state_of journal.old) ((V.cloud_at shelf.old cloud.0).now Area.Journal) w
         → inside ≡ nat_lt (length w.bodies) (records_of w.start.checkpoint)
         → NextAs ground.now ((V.cloud_at shelf.old cloud.0).now Area.Recipes).read
         ((V.cloud_at shelf.old cloud.0).now Area.Journal) w (state_of journal.old) (memory_of memory.old) taking.old
@@ -248,8 +246,8 @@ fn take_next<V: Shelf>(
             Err(error) => Err(error),
         },
         Ok(false) => Ok(false),
-        Err(JournalErr::Damaged { at, byte }) => Err(OpenErr::Damaged { at, byte }),
-        Err(JournalErr::Failed) => Err(OpenErr::Fault),
+        Err(RecordErr::Damaged { at, byte }) => Err(OpenErr::Damaged { at, byte }),
+        Err(RecordErr::Failed) => Err(OpenErr::Fault),
     }
 }
 
@@ -267,7 +265,7 @@ pub(crate) fn take_all<V: Shelf>(
     requires rooms { HasRooms ground.now.rooms memory.old }
     requires buffer { recipe_limit ≤ length buffer.old }
     ensures exact { IsTrue (V.cloud_at shelf.old cloud.0).told → (w : Where)
-        → IsReading (state_of journal.old) ((V.cloud_at shelf.old cloud.0).now Area.Journal) w → w.bodies ≡ []
+        → IsJournalReading (state_of journal.old) ((V.cloud_at shelf.old cloud.0).now Area.Journal) w → w.bodies ≡ []
         → AllAs ground.now ((V.cloud_at shelf.old cloud.0).now Area.Recipes).read
         ((V.cloud_at shelf.old cloud.0).now Area.Journal) w (state_of journal.old) (memory_of memory.old) taking.old
         (state_of journal.new) (memory_of memory.new) taking.new result }

@@ -1,12 +1,11 @@
 //! The syncs that an opening begins with, and whatever else is to find one image of each area.
 
 ghost use Rattle.std.specs.Prelude.{IsTrue, OnOk, OnErr};
-ghost use Rattle.cd_edges.specs.Disk.{LeavesOnly, IsImage};
-ghost use Rattle.cd_edges.specs.Shelf.{IsCall, HasFailed, KeepsCounts};
+ghost use Rattle.cloud_disk.specs.CdEdges.Disk.{LeavesOnly, IsImage};
+ghost use Rattle.cloud_disk.specs.CdEdges.Shelf.{IsCall, HasFailed, KeepsCounts};
 ghost use Rattle.store_opening.specs.Synced.{AreSynced};
 
-use cd_base::CloudNo;
-use cd_edges::{Area, Failed, Shelf};
+use cloud_disk::{Area, CloudNo, Failed, Shelf};
 
 /// Syncs Journal, Shares and Recipes, in this order. A crash leaves no more than it might have left before.
 pub fn sync_all<V: Shelf>(shelf: &mut V, cloud: CloudNo) -> Result<(), Failed>

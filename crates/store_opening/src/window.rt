@@ -1,12 +1,11 @@
 //! What was read of the area of recipes last, so that recipes that lie near one another are read by one device call.
 
 ghost use Rattle.std.specs.Prelude.{◌≡◌, ◌+◌, ◌≤◌, length, take, drop, IsTrue, IfOk, IfSome, OnOk, OnErr};
-ghost use Rattle.cd_edges.specs.declared.area.Area.{Area};
-ghost use Rattle.cd_edges.specs.Shelf.{IsCall, HasFailed, KeepsCounts, Stays};
-ghost use Rattle.store_opening.specs.Windows.{IsFront, Shows};
+ghost use Rattle.cloud_disk.specs.CdEdges.area.Area.{Area};
+ghost use Rattle.cloud_disk.specs.CdEdges.Shelf.{IsCall, HasFailed, KeepsCounts, Stays};
+ghost use Rattle.store_opening.specs.Windows.{IsFrontOfWindow, Shows};
 
-use cd_base::{CloudNo, Place};
-use cd_edges::{Area, Failed, Shelf};
+use cloud_disk::{Area, CloudNo, Failed, Place, Shelf};
 
 // How many bytes are read ahead for each that was taken of what was read before.
 const AHEAD: usize = 4;
@@ -47,7 +46,7 @@ fn fetch<V: Shelf>(
 ) -> Result<usize, Failed>
     requires { len ≤ length buffer.old }
     ensures bytes { IsTrue (V.cloud_at shelf.old cloud.0).told → IfOk result (λ count.
-        IsFront ((V.cloud_at shelf.old cloud.0).now Area.Recipes).read at len count buffer.new) }
+        IsFrontOfWindow ((V.cloud_at shelf.old cloud.0).now Area.Recipes).read at len count buffer.new) }
     ensures bound { IfOk result (λ count. count ≤ length buffer.new) }
     ensures stays { Stays (V.cloud_at shelf.old cloud.0) (V.cloud_at shelf.new cloud.0) }
     ensures call { IsCall (V.cloud_at shelf.old) (V.cloud_at shelf.new) cloud.0 (V.faults shelf.old)

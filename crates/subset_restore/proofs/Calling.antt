@@ -2,8 +2,8 @@
 use Rattle.std.proofs.Common.{◌≡◌, ℕ, true, false, List, [], ◌∷◌, ◌++◌, sym, ap, ◌∙◌, subst, inl, inr}
 use Rattle.std.specs.Prelude.{IsTrue}
 use Rattle.std.specs.List.{Contains}
-use Rattle.user_dedup.specs.Link.{LinkTelling, Talk}
-use Rattle.user_dedup.proofs.Owned.{contains_here, contains_cases, contains_nothing}
+use Rattle.restore_job.specs.UserDedup.Link.{LinkTelling, Talk}
+use Rattle.restore_job.proofs.UserDedup.Owned.{contains_here, contains_cases, contains_nothing}
 use Rattle.restore_job.specs.Asking.{is_loss}
 use Rattle.restore_job.specs.declared.error.RestoreErr.{RestoreErr}
 use Rattle.restore_job.specs.declared.error.RestoreErr.TheVariants as errors

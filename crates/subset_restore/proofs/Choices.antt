@@ -2,7 +2,7 @@
 use Rattle.std.proofs.Common.{◌≡◌, ℕ, zero, suc, ◌+◌, ◌<◌, ◌≤◌, List, [], ◌∷◌, ◌++◌, length, map, slice_index, refl, sym, ap, ◌∙◌, subst, arith, inl, inr, All, append_assoc, append-nil}
 use Rattle.std.specs.List.{Contains, AllPairs}
 use Rattle.std.specs.List.Sorted.{IsStrictlyIncreasing}
-use Rattle.user_dedup.proofs.Owned.{contains_here, contains_later, contains_nothing, contains_cases}
+use Rattle.restore_job.proofs.UserDedup.Owned.{contains_here, contains_later, contains_nothing, contains_cases}
 use Rattle.subset_restore.specs.Subsets.{subsets, behind, IsSubset, IsBefore}
 use Rattle.subset_restore.proofs.Elements.{contains_front, contains_back, contains_parts, contains_mapped, From, mapped_from, all_of, of_all, Pairs, pairs_all, pairs_mapped, pairs_on, pairs_joined}
 

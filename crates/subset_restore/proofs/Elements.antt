@@ -1,7 +1,7 @@
 -- The elements of lists.
 use Rattle.std.proofs.Common.{◌≡◌, ℕ, zero, suc, ◌<◌, ◌⊎◌, List, [], ◌∷◌, ◌++◌, length, map, get_or, ap, subst, arith, inl, inr, All}
 use Rattle.std.specs.List.{Contains, AllPairs}
-use Rattle.user_dedup.proofs.Owned.{contains_here, contains_later, contains_nothing, contains_cases}
+use Rattle.restore_job.proofs.UserDedup.Owned.{contains_here, contains_later, contains_nothing, contains_cases}
 
 -- ---- where an element is
 

@@ -3,16 +3,16 @@ use Rattle.std.proofs.Common.{◌≡◌, ◌≢◌, ℕ, zero, suc, ◌+◌, ◌
 use Rattle.std.specs.Prelude.{min, find, is_none, option_map}
 use Rattle.std.specs.List.{Contains}
 use Rattle.std.proofs.lemmas.Bool.{cases_lt, cases_eq, eq-eqb, ne_eqb}
-use Rattle.cd_base.specs.Lengths.{share_len_of}
-use Rattle.cd_base.specs.declared.ids.Tag.{Tag}
-use Rattle.cd_base.specs.declared.ids.UserId.{UserId}
-use Rattle.cd_base.specs.declared.ids.Version.{Version}
-use Rattle.cd_base.specs.declared.shape.Shape.{Shape}
-use Rattle.caont_rs.specs.declared.opening.RecoverErr.{RecoverErr}
-use Rattle.recipe.specs.declared.items.Item.{Item}
-use Rattle.recipe.specs.declared.recipe.Recipe.{Recipe}
-use Rattle.user_dedup.specs.declared.command.Command.{Command}
-use Rattle.user_dedup.proofs.Owned.{contains_here, contains_later, contains_nothing, contains_cases}
+use Rattle.transcript.specs.CdBase.Lengths.{share_len_of}
+use Rattle.transcript.specs.CdBase.ids.Tag.{Tag}
+use Rattle.transcript.specs.CdBase.ids.UserId.{UserId}
+use Rattle.transcript.specs.CdBase.ids.Version.{Version}
+use Rattle.transcript.specs.CdBase.shape.Shape.{Shape}
+use Rattle.restore_job.specs.CaontRs.opening.RecoverErr.{RecoverErr}
+use Rattle.restore_job.specs.Recipe.items.Item.{Item}
+use Rattle.restore_job.specs.Recipe.recipe.Recipe.{Recipe}
+use Rattle.restore_job.specs.UserDedup.command.Command.{Command}
+use Rattle.restore_job.proofs.UserDedup.Owned.{contains_here, contains_later, contains_nothing, contains_cases}
 use Rattle.restore_job.specs.Restored
 use Rattle.restore_job.specs.Restored.{Unrestored, Given, or_else, unless, joined, behind, item_of, string_at, recipe_in, given_by, missing, difference, differing, wrong_string, wrong_strings, wrong_length, secret_opened, of_secret, secrets_opened, batch_opened, batches_opened, batch_count, items_opened, agreed, restored_file}
 use Rattle.restore_job.proofs.Ending.{never_agreed}

@@ -2,14 +2,14 @@
 use Rattle.std.proofs.Common.{◌≡◌, ◌≢◌, ℕ, ◌≤◌, ◌⊎◌, Bool, true, false, List, [], ◌∷◌, ◌++◌, map, Some, None, Result, Ok, Err, refl, sym, ap, ◌∙◌, subst, inl, inr, length, arith, append_assoc, append-nil, length-append}
 use Rattle.std.specs.Prelude.{IsTrue}
 use Rattle.std.specs.List.{Contains}
-use Rattle.cd_base.specs.declared.ids.UserId.{UserId}
-use Rattle.cd_base.specs.declared.ids.Version.{Version}
-use Rattle.cd_base.specs.declared.shape.Shape.{Shape}
-use Rattle.cd_edges.specs.Causes.{Rose}
-use Rattle.user_dedup.specs.Exec.{Peer}
-use Rattle.user_dedup.specs.Link.{LinkTelling, Talk}
-use Rattle.user_dedup.proofs.Owned.{contains_here, contains_later, contains_nothing}
-use Rattle.restore_job.specs.Asking.{Asked, LeadsAny, OnlyRead, AreRead, Readable, TellsAll, among, is_loss, is_lost}
+use Rattle.transcript.specs.CdBase.ids.UserId.{UserId}
+use Rattle.transcript.specs.CdBase.ids.Version.{Version}
+use Rattle.transcript.specs.CdBase.shape.Shape.{Shape}
+use Rattle.transcript.specs.CdEdges.Causes.{Rose}
+use Rattle.restore_job.specs.UserDedup.Exec.{Peer}
+use Rattle.restore_job.specs.UserDedup.Link.{LinkTelling, Talk}
+use Rattle.restore_job.proofs.UserDedup.Owned.{contains_here, contains_later, contains_nothing}
+use Rattle.restore_job.specs.Asking.{HasAskedClouds, LeadsAny, AreOnlyAsked, AreRead, Readable, TellsAll, among, is_loss, is_lost}
 use Rattle.restore_job.specs.Brought.{Brought}
 use Rattle.restore_job.specs.Exchanges.{LostSaid, RestoreSaid, Unlost}
 use Rattle.restore_job.specs.Reading.{Ends, ReadsBy, Restores}
@@ -23,7 +23,7 @@ use Rattle.restore_job.proofs.Wrong.{shown_caused}
 use Rattle.subset_restore.specs.Subsets.{subsets}
 use Rattle.subset_restore.specs.Tries.{Try, GoneThrough, NoneYet, Passed, Refused, HoldsRefuser, HasRefused, WasTried, refuser}
 use Rattle.subset_restore.specs.Restored.{first_bytes, first_given, restored_any}
-use Rattle.subset_restore.specs.Ends.{Sought, outcome_of, any_outcome, GivesNone, IsNone, NoneFailed, OneRestore, AllRefused, AllCaused, AllShown, CameTold, CameAlone, Came, NoneTold, NothingAlone, NoneCame, OnlyLeads, NoneBy}
+use Rattle.subset_restore.specs.Ends.{Sought, outcome_of, any_outcome, GivesNone, IsNone, NoneFailed, OneRestore, AllRefused, AllCaused, AllShown, CameTold, CameAlone, HasFileCome, NoneTold, NothingAlone, NoneCame, OnlyLeads, NoneBy}
 use Rattle.subset_restore.specs.Tracking.{Tracks, HoldsMarked, first_of}
 use Rattle.subset_restore.specs.Going.{sought, TryTold, EachTold, EachShown, EachAlone, TriesStand, AllStand, Begun, SoFar, GoesOn, Goes}
 use Rattle.subset_restore.specs.declared.refusals.Refusals.{Refusals}
@@ -122,7 +122,7 @@ tries_few all more (Refused done tries subset e gone free plain) =
 
 -- ---- what was asked
 
-no_loss : {L : Type 0} (t : LinkTelling L) (clouds : List ℕ) (old new : L) (loss : Bool) → Asked t clouds old new loss → Asked t clouds old new false
+no_loss : {L : Type 0} (t : LinkTelling L) (clouds : List ℕ) (old new : L) (loss : Bool) → HasAskedClouds t clouds old new loss → HasAskedClouds t clouds old new false
 no_loss t clouds old new loss a = record {
   asks = a.asks;
   passed = a.passed;
@@ -177,7 +177,7 @@ module _ {L : Type 0} (t : LinkTelling L) (talk : L → ℕ → Talk → Type 0)
   -- a restore from a choice of these clouds, of which none had refused
   pub record OneStep (now new : L) (subset bytes' : List ℕ) (result : Result (Unit {0}) RestoreErr) : Type 0 where
     pub among : (x : ℕ) → Contains subset x → Contains s.clouds x
-    pub asked : Asked t subset now new (is_lost result)
+    pub asked : HasAskedClouds t subset now new (is_lost result)
     pub restored : LeadsAny t subset now new (CausesAmong t now s.shape s.user (s.tag, s.version) result) (Restores s.shape s.user (s.tag, s.version) subset result bytes bytes')
     pub said : Unlost result (RestoreSaid talk now new s.shape s.user s.tag s.version subset bytes bytes' result)
     pub beside : LostSaid talk now new result
@@ -201,11 +201,11 @@ module _ {L : Type 0} (t : LinkTelling L) (talk : L → ℕ → Talk → Type 0)
   told_now these now subset same tells x has = subst (λ (f : ℕ → Bool). IsTrue (f x)) (sym (told_among t these start now same)) (tells x has)
 
   -- what stood of the tries stands behind one more
-  shown_later : (these : ℕ → Bool) (tries : List Try) (subset : List ℕ) (a b c : ℕ → Peer) → (HoldsRefuser tries subset → ⊥) → OnlyRead subset b c → EachShown t start s tries these a b → EachShown t start s tries these a c
+  shown_later : (these : ℕ → Bool) (tries : List Try) (subset : List ℕ) (a b c : ℕ → Peer) → (HoldsRefuser tries subset → ⊥) → AreOnlyAsked subset b c → EachShown t start s tries these a b → EachShown t start s tries these a c
   shown_later these tries subset a b c free only shown x has named =
       caused_later t start s subset x.refusal a b c (shown x has named) only (free_later tries subset free x has)
 
-  alone_later : (these : ℕ → Bool) (tries : List Try) (subset : List ℕ) (a b c : ℕ → Peer) → OnlyRead subset b c → EachAlone t start s tries bytes these a b → EachAlone t start s tries bytes these a c
+  alone_later : (these : ℕ → Bool) (tries : List Try) (subset : List ℕ) (a b c : ℕ → Peer) → AreOnlyAsked subset b c → EachAlone t start s tries bytes these a b → EachAlone t start s tries bytes these a c
   alone_later these tries subset a b c only alone x has tells = told_later s x.subset x.refusal bytes a b c (alone x has tells) only.read
 
   pub so_far_refused : (now new : L) (done : List (List ℕ)) (tries : List Try) (subset : List ℕ) (e : RestoreErr) → SoFar t talk s start now bytes done tries → (HoldsRefuser tries subset → ⊥)
@@ -285,7 +285,7 @@ module _ {L : Type 0} (t : LinkTelling L) (talk : L → ℕ → Talk → Type 0)
 
   came_told : (now new : L) (done : List (List ℕ)) (tries : List Try) (subset : List ℕ) (rest : List (List ℕ)) (bytes' : List ℕ) (a b c : ℕ → Peer)
       → SoFar t talk s start now bytes done tries → t.losses now ≤ t.losses new → subsets s.shape.k s.clouds ≡ done ++ subset ∷ rest
-      → OnlyRead s.clouds a b → OnlyRead subset b c → AllStand s tries bytes a b → Restores s.shape s.user (s.tag, s.version) subset (Ok tt) bytes bytes' b c
+      → AreOnlyAsked s.clouds a b → AreOnlyAsked subset b c → AllStand s tries bytes a b → Restores s.shape s.user (s.tag, s.version) subset (Ok tt) bytes bytes' b c
       → CameTold s tries done subset (t.losses start) (t.losses new) bytes bytes' a c
   came_told now new done tries subset rest bytes' a b c f later split one two told r =
       let told' : EachTold s tries bytes a c = λ x has. told_later s x.subset x.refusal bytes a b c (told.each x has) two.read in
@@ -328,7 +328,7 @@ module _ {L : Type 0} (t : LinkTelling L) (talk : L → ℕ → Talk → Type 0)
 
   pub came : (now new : L) (done : List (List ℕ)) (tries : List Try) (subset : List ℕ) (rest : List (List ℕ)) (bytes' : List ℕ) → SoFar t talk s start now bytes done tries
       → (HoldsRefuser tries subset → ⊥) → OneStep now new subset bytes' (Ok tt) → Brought s.shape subset bytes bytes' → subsets s.shape.k s.clouds ≡ done ++ subset ∷ rest
-      → Came t talk s start new bytes bytes'
+      → HasFileCome t talk s start new bytes bytes'
   came now new done tries subset rest bytes' f free step brought split = record {
     tries = tries;
     front = done;
@@ -349,7 +349,7 @@ module _ {L : Type 0} (t : LinkTelling L) (talk : L → ℕ → Talk → Type 0)
   }
 
   pub asked_behind : (now new : L) (done : List (List ℕ)) (tries : List Try) (subset bytes' : List ℕ) (result : Result (Unit {0}) RestoreErr) → SoFar t talk s start now bytes done tries
-      → OneStep now new subset bytes' result → Asked t s.clouds start new false
+      → OneStep now new subset bytes' result → HasAskedClouds t s.clouds start new false
   asked_behind now new done tries subset bytes' result f step =
       no_loss t s.clouds start new (is_lost result) (asked_on t s.clouds start now new (is_lost result) f.asked (asked_in t subset s.clouds now new (is_lost result) step.among step.asked))
 
@@ -466,7 +466,7 @@ module _ {L : Type 0} (t : LinkTelling L) (talk : L → ℕ → Talk → Type 0)
   none_by now (errors.BadPad secret at byte) plain none = none
   none_by now errors.NoMemory plain none = absurd (plain refl)
 
-  asked_as_first : (now : L) (tries : List Try) (y : Try) → Contains tries y → (done : List (List ℕ)) → SoFar t talk s start now bytes done tries → Asked t s.clouds start now (is_loss y.refusal)
+  asked_as_first : (now : L) (tries : List Try) (y : Try) → Contains tries y → (done : List (List ℕ)) → SoFar t talk s start now bytes done tries → HasAskedClouds t s.clouds start now (is_loss y.refusal)
   asked_as_first now tries y has done f = record {
     asks = f.asked.asks;
     passed = f.asked.passed;
@@ -483,7 +483,7 @@ module _ {L : Type 0} (t : LinkTelling L) (talk : L → ℕ → Talk → Type 0)
   -- all that is said of it
   pub record EndsSo (now : L) (e : RestoreErr) : Type 0 where
     pub none : NoneBy t talk s start now bytes e
-    pub asked : Asked t s.clouds start now (is_loss e)
+    pub asked : HasAskedClouds t s.clouds start now (is_loss e)
     pub named : Names (Contains s.clouds) e
 
   pub ends_so : (now : L) (tries : List Try) (e : RestoreErr) (first : List ℕ) (rest : List (List ℕ)) → SoFar t talk s start now bytes (subsets s.shape.k s.clouds) tries
@@ -568,7 +568,7 @@ module _ {L : Type 0} (t : LinkTelling L) (talk : L → ℕ → Talk → Type 0)
 
   -- what one restore says, whatever is sought beside it
   pub record Restored (old new : L) (bytes bytes' subset : List ℕ) (result : Result (Unit {0}) RestoreErr) : Type 0 where
-    pub asked : Asked t subset old new (is_lost result)
+    pub asked : HasAskedClouds t subset old new (is_lost result)
     pub restored : (clouds : List ℕ) → let s = sought shape user path version clouds in
         LeadsAny t subset old new (CausesAmong t old s.shape s.user (s.tag, s.version) result) (Restores s.shape s.user (s.tag, s.version) subset result bytes bytes')
     pub said : (clouds : List ℕ) → let s = sought shape user path version clouds in

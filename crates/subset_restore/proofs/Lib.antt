@@ -6,3 +6,6 @@ pub mod Going
 pub mod Marks
 pub mod Walking
 pub mod Calling
+pub mod RestoreJob
+pub mod CaontRs
+pub mod UserDedup

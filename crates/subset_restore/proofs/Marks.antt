@@ -3,7 +3,7 @@ use Rattle.std.proofs.Common.{◌≡◌, ℕ, zero, suc, ◌<◌, ◌⊎◌, Boo
 use Rattle.std.specs.Prelude.{IfSome, slice_set}
 use Rattle.std.specs.Bool.{MatchBool}
 use Rattle.std.proofs.lemmas.Bool.{cases_eq}
-use Rattle.user_dedup.proofs.Owned.{contains_here, contains_later, contains_nothing, contains_cases}
+use Rattle.restore_job.proofs.UserDedup.Owned.{contains_here, contains_later, contains_nothing, contains_cases}
 use Rattle.restore_job.specs.declared.error.RestoreErr.{RestoreErr}
 use Rattle.subset_restore.specs.Tries.{Try, refuser}
 use Rattle.subset_restore.specs.Tracking.{IsMarked, HoldsMarked, marked_with, first_or, first_of, Tracks}

@@ -2,12 +2,12 @@
 use Rattle.std.proofs.Common.{◌≡◌, ℕ, ◌<◌, ◌⊎◌, Bool, true, false, length, List, [], ◌∷◌, ◌++◌, Some, None, Result, Err, refl, sym, ◌∙◌, subst, inl, inr}
 use Rattle.std.specs.Prelude.{IsTrue}
 use Rattle.std.specs.List.{Contains}
-use Rattle.cd_base.specs.declared.ids.CloudNo.{CloudNo}
+use Rattle.transcript.specs.CdBase.ids.CloudNo.{CloudNo}
 use Rattle.std.proofs.lemmas.Bool.{cases_eq}
-use Rattle.user_dedup.specs.declared.command.Command.{Command}
-use Rattle.user_dedup.specs.Exec.{Peer, Stays, Settles, MaySettleAs}
-use Rattle.user_dedup.specs.Link.{LinkTelling}
-use Rattle.restore_job.specs.Asking.{MayRead, Reads, OnlyRead, StoppedAt, TellsAll, among}
+use Rattle.restore_job.specs.UserDedup.command.Command.{Command}
+use Rattle.restore_job.specs.UserDedup.Exec.{Peer, KeepsPeer, Settles, MaySettleAs}
+use Rattle.restore_job.specs.UserDedup.Link.{LinkTelling}
+use Rattle.restore_job.specs.Asking.{MayRead, Reads, AreOnlyAsked, StoppedAt, TellsAll, among}
 use Rattle.restore_job.specs.Reading.{Ends, Restores}
 use Rattle.restore_job.specs.Refusals.{Shown, ShownAmong}
 use Rattle.restore_job.specs.Restored
@@ -97,7 +97,7 @@ told_first s subset errors.NoMemory bytes a b c may r = record { ends = tt; rest
 pub may_reads : (a b c : Peer) → MayRead a b → Reads b c → Reads a c
 may_reads a b c one two = (go one.0, (may_on a b c one (inr two.0, two.1)).1)
   where
-    go : Stays a b ⊎ Settles a b → Settles a c
+    go : KeepsPeer a b ⊎ Settles a b → Settles a c
     go (inl stays) = record { list = settle_along a b c.list stays two.0.list; pending = two.0.pending }
     go (inr settles) = record { list = subst (MaySettleAs a) (sym (no_pending b c.list settles.pending two.0.list)) settles.list; pending = two.0.pending }
 
@@ -105,7 +105,7 @@ may_reads a b c one two = (go one.0, (may_on a b c one (inr two.0, two.1)).1)
 
 -- what a refusal says stands while the cloud that refused isn't asked
 pub caused_later : {L : Type 0} (t : LinkTelling L) (link : L) (s : Sought) (subset : List ℕ) (e : RestoreErr) (a b c : ℕ → Peer) → Shown t link s.shape s.user (s.tag, s.version) e a b
-    → OnlyRead subset b c → ((cloud : ℕ) → refuser e ≡ Some cloud → Contains subset cloud → ⊥) → Shown t link s.shape s.user (s.tag, s.version) e a c
+    → AreOnlyAsked subset b c → ((cloud : ℕ) → refuser e ≡ Some cloud → Contains subset cloud → ⊥) → Shown t link s.shape s.user (s.tag, s.version) e a c
 caused_later t link s subset (errors.Missing n) a b c caused only free =
     λ told. subst (λ (p : Peer). recipe_in s.shape p.list s.user (s.tag, s.version) ≡ None) (sym (only.others n.0 (free n.0 refl))) (caused told)
 caused_later t link s subset (errors.Lost n) a b c caused only free = tt

@@ -2,15 +2,15 @@
 use Rattle.std.proofs.Common.{◌≡◌, ℕ, suc, ◌+◌, ◌-◌, ◌<◌, ◌≤◌, List, [], ◌∷◌, ◌++◌, length, map, Some, None, refl, sym, ap, ◌∙◌, subst, arith, inl, inr, All, append_assoc, append-nil, length-append}
 use Rattle.std.specs.Prelude.{false}
 use Rattle.std.specs.List.{Contains}
-use Rattle.cd_base.specs.declared.ids.UserId.{UserId}
-use Rattle.cd_base.specs.declared.ids.Version.{Version}
-use Rattle.cd_base.specs.declared.shape.Shape.{Shape}
-use Rattle.user_dedup.specs.Link.{LinkTelling, Talk}
-use Rattle.user_dedup.proofs.Owned.{contains_later}
-use Rattle.restore_job.specs.Asking.{Asked}
+use Rattle.transcript.specs.CdBase.ids.UserId.{UserId}
+use Rattle.transcript.specs.CdBase.ids.Version.{Version}
+use Rattle.transcript.specs.CdBase.shape.Shape.{Shape}
+use Rattle.restore_job.specs.UserDedup.Link.{LinkTelling, Talk}
+use Rattle.restore_job.proofs.UserDedup.Owned.{contains_later}
+use Rattle.restore_job.specs.Asking.{HasAskedClouds}
 use Rattle.restore_job.specs.declared.error.RestoreErr.{RestoreErr}
 use Rattle.subset_restore.specs.Subsets.{subsets, behind}
-use Rattle.subset_restore.specs.Ends.{Came, OnlyLeads}
+use Rattle.subset_restore.specs.Ends.{HasFileCome, OnlyLeads}
 use Rattle.subset_restore.specs.Tracking.{Tracks}
 use Rattle.subset_restore.specs.Going.{sought, GoesOn, Goes}
 use Rattle.subset_restore.specs.declared.refusals.Refusals.{Refusals}
@@ -116,14 +116,14 @@ module _ {L : Type 0} (t : LinkTelling L) (talk : L → ℕ → Talk → Type 0)
 
   pub start_found : (old new : L) (bytes bytes' chosen rest clouds : List ℕ) (need : ℕ) (r r' : Refusals) → chosen ≡ [] → rest ≡ clouds → need ≡ shape.k → Tracks [] r
       → Goes t talk shape user path version old new bytes bytes' (chosen ++ rest) (behind chosen need rest) r r' went.Restored
-      → Came t talk (sought shape user path version clouds) old new bytes bytes' × Asked t clouds old new false
+      → HasFileCome t talk (sought shape user path version clouds) old new bytes bytes' × HasAskedClouds t clouds old new false
   start_found old new bytes bytes' chosen rest clouds need r r' none all k tracks goes =
       let g = from_start old new bytes bytes' chosen rest clouds need r r' went.Restored none all k tracks goes in
       (g.0 [] (sym (append-nil (subsets shape.k clouds))), g.1)
 
   pub start_lacked : (old new : L) (bytes bytes' chosen rest clouds : List ℕ) (need : ℕ) (r r' : Refusals) → chosen ≡ [] → rest ≡ clouds → need ≡ shape.k → Tracks [] r
       → Goes t talk shape user path version old new bytes bytes' (chosen ++ rest) (behind chosen need rest) r r' went.NoMemory
-      → OnlyLeads t clouds old new × Asked t clouds old new false
+      → OnlyLeads t clouds old new × HasAskedClouds t clouds old new false
   start_lacked old new bytes bytes' chosen rest clouds need r r' none all k tracks goes = from_start old new bytes bytes' chosen rest clouds need r r' went.NoMemory none all k tracks goes
 
   pub start_refused : (old new : L) (bytes bytes' chosen rest clouds : List ℕ) (need : ℕ) (r r' : Refusals) (e : RestoreErr) → chosen ≡ [] → rest ≡ clouds → need ≡ shape.k → Tracks [] r → shape.k ≤ length clouds

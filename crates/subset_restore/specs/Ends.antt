@@ -1,14 +1,14 @@
 -- How a restore from any k of some clouds ends.
 use Rattle.std.specs.Prelude.{◌≡◌, ℕ, ◌⊎◌, Bool, List, [], ◌∷◌, ◌++◌, length, Result, Ok, Err, All}
 use Rattle.std.specs.List.{Contains}
-use Rattle.cd_base.specs.declared.ids.Tag.{Tag}
-use Rattle.cd_base.specs.declared.ids.UserId.{UserId}
-use Rattle.cd_base.specs.declared.ids.Version.{Version}
-use Rattle.cd_base.specs.declared.shape.Shape.{Shape}
-use Rattle.cd_edges.specs.Causes.{Rose}
-use Rattle.user_dedup.specs.Exec.{Peer}
-use Rattle.user_dedup.specs.Link.{LinkTelling, Talk}
-use Rattle.restore_job.specs.Asking.{Asked, Leads, LeadsAny, AreRead, Readable, TellsAll, among, is_lost}
+use Rattle.transcript.specs.CdBase.ids.Tag.{Tag}
+use Rattle.transcript.specs.CdBase.ids.UserId.{UserId}
+use Rattle.transcript.specs.CdBase.ids.Version.{Version}
+use Rattle.transcript.specs.CdBase.shape.Shape.{Shape}
+use Rattle.transcript.specs.CdEdges.Causes.{Rose}
+use Rattle.restore_job.specs.UserDedup.Exec.{Peer}
+use Rattle.restore_job.specs.UserDedup.Link.{LinkTelling, Talk}
+use Rattle.restore_job.specs.Asking.{HasAskedClouds, Leads, LeadsAny, AreRead, Readable, TellsAll, among, is_lost}
 use Rattle.restore_job.specs.Brought.{Brought}
 use Rattle.restore_job.specs.Exchanges.{LostSaid, RestoreSaid, Unlost}
 use Rattle.restore_job.specs.Reading.{Ends, Restores}
@@ -70,7 +70,7 @@ pub record NoneFailed (s : Sought) (losses losses_after : ℕ) (before after : �
 -- what is to come of the other clouds is told. Each reply can be read but that which the result calls lost or strange.
 pub record OneRestore {L : Type 0} (t : LinkTelling L) (talk : L → ℕ → Talk → Type 0) (s : Sought)
     (subset old new : List ℕ) (before : L) (result : Result (Unit {0}) RestoreErr) (after : L) : Type 0 where
-  pub asked : Asked t subset before after (is_lost result)
+  pub asked : HasAskedClouds t subset before after (is_lost result)
   pub said : Unlost result (RestoreSaid talk before after s.shape s.user s.tag s.version subset old new result)
   pub beside : LostSaid talk before after result
   pub readable : Readable t before after result
@@ -134,7 +134,7 @@ pub record CameTold (s : Sought) (tries : List Try) (front : List (List ℕ)) (s
   pub just : JustRestores s (Ok tt) old new before after
 
 -- The file came: from these clouds, the first choice in order from which it wasn't refused and of which none had refused.
-pub record Came {L : Type 0} (t : LinkTelling L) (talk : L → ℕ → Talk → Type 0) (s : Sought) (start end : L)
+pub record HasFileCome {L : Type 0} (t : LinkTelling L) (talk : L → ℕ → Talk → Type 0) (s : Sought) (start end : L)
     (old new : List ℕ) : Type 0 where
   pub tries : List Try
   pub front : List (List ℕ)
@@ -191,5 +191,5 @@ NoneBy t talk s start end bytes e = NoneCame t talk s start end bytes e
 -- How it ends: the file came, or memory ran out, or no file came.
 abbrev pub AnyEnds : {L : Type 0} → LinkTelling L → (L → ℕ → Talk → Type 0) → Sought → L → L → List ℕ → List ℕ
     → Result (Unit {0}) RestoreErr → Type 0
-AnyEnds t talk s start end old new (Ok u) = Came t talk s start end old new
+AnyEnds t talk s start end old new (Ok u) = HasFileCome t talk s start end old new
 AnyEnds t talk s start end old new (Err e) = NoneBy t talk s start end old e

@@ -1,21 +1,21 @@
 -- A call under way: which choices were gone through, and what is left.
 use Rattle.std.specs.Prelude.{◌≡◌, ◌≢◌, ℕ, ◌⊎◌, Bool, List, [], ◌∷◌, ◌++◌, IsTrue, false, true, None, Err}
 use Rattle.std.specs.List.{Contains}
-use Rattle.cd_base.specs.declared.ids.UserId.{UserId}
-use Rattle.cd_base.specs.declared.ids.Version.{Version}
-use Rattle.cd_base.specs.declared.shape.Shape.{Shape}
-use Rattle.cd_edges.specs.Causes.{Rose}
-use Rattle.caont_rs.specs.Package.{tag as tag_at}
-use Rattle.user_dedup.specs.Exec.{Peer}
-use Rattle.user_dedup.specs.Link.{LinkTelling, Talk}
-use Rattle.restore_job.specs.Asking.{Asked, LeadsAny, TellsAll, among, is_loss}
+use Rattle.transcript.specs.CdBase.ids.UserId.{UserId}
+use Rattle.transcript.specs.CdBase.ids.Version.{Version}
+use Rattle.transcript.specs.CdBase.shape.Shape.{Shape}
+use Rattle.transcript.specs.CdEdges.Causes.{Rose}
+use Rattle.restore_job.specs.CaontRs.Package.{tag as tag_at}
+use Rattle.restore_job.specs.UserDedup.Exec.{Peer}
+use Rattle.restore_job.specs.UserDedup.Link.{LinkTelling, Talk}
+use Rattle.restore_job.specs.Asking.{HasAskedClouds, LeadsAny, TellsAll, among, is_loss}
 use Rattle.restore_job.specs.Reading.{Ends, ReadsBy}
 use Rattle.restore_job.specs.Refusals.{ShownAmong, Names}
 use Rattle.restore_job.specs.declared.error.RestoreErr.{RestoreErr}
 use Rattle.restore_job.specs.declared.error.RestoreErr.TheVariants as errors
 use Rattle.subset_restore.specs.Subsets.{subsets}
 use Rattle.subset_restore.specs.Tries.{Try, GoneThrough, HoldsRefuser, WasTried}
-use Rattle.subset_restore.specs.Ends.{Sought, outcome_of, AllRefused, Came, OnlyLeads}
+use Rattle.subset_restore.specs.Ends.{Sought, outcome_of, AllRefused, HasFileCome, OnlyLeads}
 use Rattle.subset_restore.specs.Tracking.{Tracks}
 use Rattle.subset_restore.specs.declared.refusals.Refusals.{Refusals}
 use Rattle.subset_restore.specs.declared.trying.Went.{Went}
@@ -102,7 +102,7 @@ pub record SoFar {L : Type 0} (t : LinkTelling L) (talk : L → ℕ → Talk →
   pub each : (subset : List ℕ) → Contains done subset → WasTried tries subset ⊎ HoldsRefuser tries subset
   pub plain : (x : Try) → Contains tries x → x.refusal ≢ errors.NoMemory
   pub named : (x : Try) → Contains tries x → Names (Contains s.clouds) x.refusal
-  pub asked : Asked t s.clouds start now false
+  pub asked : HasAskedClouds t s.clouds start now false
   pub lost : (x : Try) → Contains tries x → is_loss x.refusal ≡ true → Rose (t.losses start) (t.losses now)
   pub lossless : IsTrue (t.lossless start) → (x : Try) → Contains tries x → is_loss x.refusal ≡ false
   pub refused : AllRefused t talk s bytes start tries now
@@ -115,10 +115,11 @@ pub record SoFar {L : Type 0} (t : LinkTelling L) (talk : L → ℕ → Talk →
 abbrev pub GoesOn : {L : Type 0} → LinkTelling L → (L → ℕ → Talk → Type 0) → Sought → L → L → List ℕ → List ℕ
     → List (List ℕ) → List (List ℕ) → Refusals → Went → Type 0
 GoesOn t talk s start now bytes new done todo refusals went.Restored =
-    ((rest : List (List ℕ)) → subsets s.shape.k s.clouds ≡ (done ++ todo) ++ rest → Came t talk s start now bytes new)
-    × Asked t s.clouds start now false
+    ((rest : List (List ℕ)) → subsets s.shape.k s.clouds ≡ (done ++ todo) ++ rest
+    → HasFileCome t talk s start now bytes new)
+    × HasAskedClouds t s.clouds start now false
 GoesOn t talk s start now bytes new done todo refusals went.NoMemory =
-    OnlyLeads t s.clouds start now × Asked t s.clouds start now false
+    OnlyLeads t s.clouds start now × HasAskedClouds t s.clouds start now false
 GoesOn t talk s start now bytes new done todo refusals went.Refused =
     (tries : List Try) × SoFar t talk s start now bytes (done ++ todo) tries × Tracks tries refusals × (new ≡ bytes)
 
@@ -132,6 +133,6 @@ Goes {L} t talk shape user path version old now bytes new among todo refusals re
     → GoesOn t talk (sought shape user path version clouds) start now bytes new done todo refusals_now result
 
 -- what a link tells beside its clouds stays
-pub record Keeps {L : Type 0} (t : LinkTelling L) (old new : L) : Type 0 where
+pub record KeepsToldBeside {L : Type 0} (t : LinkTelling L) (old new : L) : Type 0 where
   pub reaches : t.reaches new ≡ t.reaches old
   pub shape : t.shape new ≡ t.shape old

@@ -1,7 +1,12 @@
+pub mod CaontRs
 pub mod Ends
 pub mod Going
+pub mod Recipe
 pub mod Refusals
+pub mod RestoreJob
 pub mod Restored
 pub mod Subsets
 pub mod Tracking
+pub mod Transcript
 pub mod Tries
+pub mod UserDedup

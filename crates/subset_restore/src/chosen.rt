@@ -1,10 +1,10 @@
 //! A choice of clouds that grows.
 
 ghost use Rattle.std.specs.Prelude.{◌≡◌, ◌<◌, [], ◌∷◌, ◌++◌, length, MatchOption};
-ghost use Rattle.cd_base.specs.Numbers.{numbers_of};
+ghost use Rattle.transcript.specs.CdBase.Numbers.{numbers_of};
 
-use cd_base::CloudNo;
 use std::marker::Model;
+use transcript::CloudNo;
 
 /// At most 16 clouds, in an array. Contracts see the list of their numbers.
 #[derive(Drop)]
@@ -15,7 +15,7 @@ pub struct Chosen {
 
 impl Model for Chosen {
     ghost use Rattle.std.specs.Prelude.{ℕ, List, take, ◌≤◌};
-    ghost use Rattle.cd_base.specs.Numbers.{numbers_of};
+    ghost use Rattle.transcript.specs.CdBase.Numbers.{numbers_of};
 
     ghost Value = { List ℕ };
 

@@ -11,4 +11,6 @@ mod trying;
 
 pub use laws::law_of_subsets;
 pub use refusal::as_refusal;
+pub use restore_job::{Link, Lost, RestoreErr, restore, tag_of};
 pub use restoring::restore_any;
+pub use transcript::{Answer, Line, Refusal, write_line};

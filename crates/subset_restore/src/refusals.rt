@@ -2,13 +2,13 @@
 
 ghost use Rattle.std.specs.Prelude.{◌≡◌, ℕ, ◌<◌, List, [], ◌∷◌, ◌++◌, length, option_map, IfSome};
 ghost use Rattle.std.specs.Bool.{MatchBool};
-ghost use Rattle.cd_base.specs.Numbers.{numbers_of};
+ghost use Rattle.transcript.specs.CdBase.Numbers.{numbers_of};
 ghost use Rattle.subset_restore.specs.Tries.{Try, refuser};
 ghost use Rattle.subset_restore.specs.Tracking.{HoldsMarked, IsMarked, Tracks, first_or, marked_with};
 
 use crate::chosen::next_cloud;
-use cd_base::CloudNo;
 use restore_job::RestoreErr;
+use transcript::CloudNo;
 
 /// The clouds that refused in a call, by their numbers, and its first refusal.
 #[derive(Clone, Copy)]

@@ -2,8 +2,8 @@
 
 ghost use Rattle.std.specs.Prelude.{◌≡◌, ◌≤◌, ◌<◌, ℕ, length, All, IsTrue, IfErr, OnErr};
 ghost use Rattle.std.specs.List.{Contains};
-ghost use Rattle.cd_base.specs.Limits.{IsPath};
-ghost use Rattle.restore_job.specs.Asking.{Asked, is_lost};
+ghost use Rattle.transcript.specs.CdBase.Limits.{IsPath};
+ghost use Rattle.restore_job.specs.Asking.{HasAskedClouds, is_lost};
 ghost use Rattle.restore_job.specs.Refusals.{Names};
 ghost use Rattle.subset_restore.specs.Ends.{AnyEnds};
 ghost use Rattle.subset_restore.specs.Going.{sought};
@@ -11,10 +11,9 @@ ghost use Rattle.subset_restore.specs.Going.{sought};
 use crate::chosen::Chosen;
 use crate::refusals::Refusals;
 use crate::trying::{Went, try_from};
-use cd_base::{Bytes, Clouds, Shape, UserId, Version};
-use restore_job::RestoreErr;
+use restore_job::{Link, RestoreErr};
 use std::alloc::Global;
-use user_dedup::Link;
+use transcript::{Bytes, Clouds, Shape, UserId, Version};
 
 /// Appends a version of a file to `out`, from any k of these clouds, which are k or more and which the link reaches.
 /// After an error `out` is as before.
@@ -50,7 +49,7 @@ pub fn restore_any<L: Link>(
 
     // Each ask was of one of these clouds and adds nothing. One is lost only where the link's count of losses rose, and
     // never where it tells that it loses nothing.
-    ensures asked { Asked L.tells clouds.now link.old link.new (is_lost result) }
+    ensures asked { HasAskedClouds L.tells clouds.now link.old link.new (is_lost result) }
 
     // A refusal names no other clouds.
     ensures named { IfErr result (Names (Contains clouds.now)) }

@@ -4,18 +4,17 @@ ghost use Rattle.std.specs.Prelude.{◌≡◌, ◌≢◌, ℕ, ◌+◌, ◌<◌,
 ghost use Rattle.std.specs.Bool.{MatchBool};
 ghost use Rattle.std.specs.List.{Contains};
 ghost use Rattle.std.specs.List.Sorted.{IsStrictlyIncreasing};
-ghost use Rattle.cd_base.specs.Limits.{IsPath};
-ghost use Rattle.cd_base.specs.Numbers.{numbers_of};
-ghost use Rattle.subset_restore.specs.Going.{Goes, Keeps};
+ghost use Rattle.transcript.specs.CdBase.Limits.{IsPath};
+ghost use Rattle.transcript.specs.CdBase.Numbers.{numbers_of};
+ghost use Rattle.subset_restore.specs.Going.{Goes, KeepsToldBeside};
 ghost use Rattle.subset_restore.specs.Tracking.{HoldsMarked};
 ghost use Rattle.subset_restore.specs.Subsets.{behind};
 
 use crate::chosen::{Chosen, next_cloud};
 use crate::refusals::Refusals;
-use cd_base::{Bytes, CloudNo, Clouds, NoMemory, Shape, UserId, Version};
-use restore_job::{RestoreErr, restore};
+use restore_job::{Link, RestoreErr, restore};
 use std::alloc::Global;
-use user_dedup::Link;
+use transcript::{Bytes, CloudNo, Clouds, NoMemory, Shape, UserId, Version};
 
 /// How it went with some choices of clouds.
 #[derive(Clone, Copy)]
@@ -67,7 +66,7 @@ fn restore_from<L: Link>(
     requires within { All (λ cloud. cloud < shape.n) named.now }
     requires path { IsPath path.now }
     requires free { HoldsMarked refusals.old.marks named.now → ⊥ }
-    ensures keeps { Keeps L.tells link.old link.new }
+    ensures keeps { KeepsToldBeside L.tells link.old link.new }
     ensures kept { result ≢ Went.Restored → out.new ≡ out.old }
     ensures goes { Goes L.tells L.talk shape user path.now version link.old link.new out.old out.new
         named.now (named.now ∷ []) refusals.old refusals.new result }
@@ -103,7 +102,7 @@ fn try_one<L: Link>(
     requires rises { IsStrictlyIncreasing (numbers_of clouds.now) }
     requires within { All (λ cloud. cloud < shape.n) (numbers_of clouds.now) }
     requires path { IsPath path.now }
-    ensures keeps { Keeps L.tells link.old link.new }
+    ensures keeps { KeepsToldBeside L.tells link.old link.new }
     ensures kept { result ≢ Went.Restored → out.new ≡ out.old }
     ensures goes { Goes L.tells L.talk shape user path.now version link.old link.new out.old out.new
         (numbers_of clouds.now) (numbers_of clouds.now ∷ []) refusals.old refusals.new result }
@@ -143,7 +142,7 @@ pub fn try_from<L: Link>(
     requires rises { IsStrictlyIncreasing (chosen.now ++ numbers_of rest.now) }
     requires within { All (λ cloud. cloud < shape.n) (chosen.now ++ numbers_of rest.now) }
     requires path { IsPath path.now }
-    ensures keeps { Keeps L.tells link.old link.new }
+    ensures keeps { KeepsToldBeside L.tells link.old link.new }
     ensures kept { result ≢ Went.Restored → out.new ≡ out.old }
     ensures goes { Goes L.tells L.talk shape user path.now version link.old link.new out.old out.new
         (chosen.now ++ numbers_of rest.now) (behind chosen.now need (numbers_of rest.now))

@@ -15,7 +15,7 @@ use cd_edges::{Area, Shelf};
 use cd_fakes::MemShelf;
 use cloud_memory::laws::law_of_fitting;
 use cloud_memory::{CloudMemory, New};
-use journal_start::{Header, Rooms};
+use journal_start::{Header, UserRooms};
 use recipe::RecipeView;
 use record_bodies::{BodyBuf, CommitBody, DeleteBody, PutItem};
 
@@ -64,7 +64,7 @@ fn write_put(body: &mut BodyBuf, user: UserId, item: PutItem) -> bool {
 // Puts a share that the user doesn't own, and writes the record. Says whether it did.
 fn put(
     memory: &mut CloudMemory,
-    rooms: &Rooms,
+    rooms: &UserRooms,
     body: &mut BodyBuf,
     user: UserId,
     share: u16,
@@ -92,7 +92,7 @@ fn put(
 // enough.
 fn enter(
     memory: &mut CloudMemory,
-    rooms: &Rooms,
+    rooms: &UserRooms,
     user: UserId,
     version: Version,
     fp: Fp,
@@ -117,7 +117,7 @@ fn enter(
 // Takes a version out that the user has.
 fn forget(
     memory: &mut CloudMemory,
-    rooms: &Rooms,
+    rooms: &UserRooms,
     user: UserId,
     tag: Tag,
     version: Version,
@@ -136,7 +136,7 @@ fn forget(
 // Commits a recipe as a version that the user doesn't have, and writes the recipe and the record. Says whether it did.
 fn commit(
     memory: &mut CloudMemory,
-    rooms: &Rooms,
+    rooms: &UserRooms,
     body: &mut BodyBuf,
     shelf: &mut MemShelf,
     user: UserId,
@@ -170,7 +170,7 @@ fn commit(
 // Deletes a version that the user has, and writes the record. Says whether it did.
 fn delete(
     memory: &mut CloudMemory,
-    rooms: &Rooms,
+    rooms: &UserRooms,
     body: &mut BodyBuf,
     user: UserId,
     tag: Tag,
@@ -196,7 +196,7 @@ fn delete(
 // Adds a command to the memory, and writes its record, and a recipe. Says whether it did.
 fn carry(
     memory: &mut CloudMemory,
-    rooms: &Rooms,
+    rooms: &UserRooms,
     body: &mut BodyBuf,
     shelf: &mut MemShelf,
     command: Command,

@@ -11,7 +11,7 @@ use cd_fakes::MemShelf;
 use checkpoints::{CloudDisk, Marks, OwnerChains, checkpoint_of_memory};
 use cloud_memory::CloudMemory;
 use journal_halves::half_limit;
-use journal_start::{Header, Rooms};
+use journal_start::{Header, UserRooms};
 use record_bodies::BodyBuf;
 use std::alloc::Global;
 use store_opening::reopen;
@@ -27,7 +27,7 @@ pub(crate) fn header() -> Header
         format: 2,
         shape: Shape { n: 4, k: 3 },
         cloud: ZERO,
-        rooms: Rooms {
+        rooms: UserRooms {
             users: 2,
             shares: 10_000,
             recipes: 1_000,

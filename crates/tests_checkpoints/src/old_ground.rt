@@ -3,7 +3,7 @@
 use cd_base::{CloudNo, Fp, NoMemory, Shape, sha256};
 use cd_edges::{Area, Shelf};
 use cd_fakes::MemShelf;
-use journal_start::Rooms;
+use journal_start::UserRooms;
 use std::alloc::Global;
 use store_migration::{MigrateErr, migrate};
 
@@ -20,8 +20,14 @@ pub(crate) fn shelf_of(alloc: Global, fails: u64) -> Result<MemShelf, NoMemory> 
 }
 
 /// Rooms of so many users, each of them with these.
-pub(crate) fn rooms_of(users: u32, shares: u64, recipes: u64, owners: u32, files: u32) -> Rooms {
-    Rooms {
+pub(crate) fn rooms_of(
+    users: u32,
+    shares: u64,
+    recipes: u64,
+    owners: u32,
+    files: u32,
+) -> UserRooms {
+    UserRooms {
         users,
         shares,
         recipes,
@@ -31,7 +37,7 @@ pub(crate) fn rooms_of(users: u32, shares: u64, recipes: u64, owners: u32, files
 }
 
 /// The rooms that are wide enough for what the tests store.
-pub(crate) fn wide() -> Rooms {
+pub(crate) fn wide() -> UserRooms {
     rooms_of(16, 1000, 1000, 10, 10)
 }
 
@@ -39,7 +45,7 @@ pub(crate) fn wide() -> Rooms {
 pub(crate) fn migrated(
     alloc: Global,
     shelf: &mut MemShelf,
-    rooms: Rooms,
+    rooms: UserRooms,
 ) -> Result<u64, MigrateErr> {
     if rooms.are_allowed() {
         migrate(alloc, shelf, ZERO, shape(), rooms)

@@ -2,7 +2,7 @@
 
 use crate::old_ground::{Old, lens, migrated, rooms_of, shelf_of, wide};
 use cd_base::{NoMemory, Room, UserId};
-use journal_start::Rooms;
+use journal_start::UserRooms;
 use std::alloc::Global;
 use std::test::Fail;
 use store_migration::{MigrateErr, OldErr};
@@ -20,7 +20,7 @@ enum Step {
 type Answer = Result<u64, MigrateErr>;
 
 // The steps, the rooms, the answer and the lengths of the areas then.
-type Row = (&'static [Step], Rooms, Answer, [u64; 3]);
+type Row = (&'static [Step], UserRooms, Answer, [u64; 3]);
 
 static ONE: [Step; 2] = [Step::Put(7, 41, true), Step::Commit(7, 1, 41)];
 

@@ -6,7 +6,7 @@ ghost use Rattle.journal_start.specs.Ranges.{AreRooms};
 use cd_base::{Bytes, CloudNo, NoMemory, Shape, UserId, Version, is_path};
 use cd_fakes::MemShelf;
 use frames::ReplyBuf;
-use journal_start::Rooms;
+use journal_start::UserRooms;
 use local_link::LocalLink;
 use std::alloc::Global;
 use std::test::Fail;
@@ -17,10 +17,10 @@ use user_dedup::Link;
 pub const PATH: &[u8] = b"a";
 
 // Rooms for a few files.
-fn rooms() -> Rooms
+fn rooms() -> UserRooms
     ensures { AreRooms result }
 {
-    Rooms {
+    UserRooms {
         users: 16,
         shares: 100_000,
         recipes: 10_000,

@@ -8,7 +8,7 @@ use cd_edges::Shelf;
 use cd_fakes::MemShelf;
 use cloud_disk::CloudDisk;
 use half_journal::{Journal, Stage};
-use journal_start::{Header, Rooms};
+use journal_start::{Header, UserRooms};
 use record_bodies::{BodyBuf, CommitBody, DeleteBody, PutItem};
 use std::alloc::Global;
 
@@ -29,7 +29,7 @@ pub(crate) fn header() -> Header
         format: 2,
         shape: Shape { n: 4, k: 3 },
         cloud: ZERO,
-        rooms: Rooms::usual(),
+        rooms: UserRooms::usual(),
     }
 }
 

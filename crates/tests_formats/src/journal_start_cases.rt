@@ -1,7 +1,7 @@
 //! Tests of journal_start.
 
 use cd_base::{CloudNo, Shape};
-use journal_start::{Checkpoint, Header, Rooms, RoomsField, Start, StartFault};
+use journal_start::{Checkpoint, Header, RoomsField, Start, StartFault, UserRooms};
 use std::test::Fail;
 
 // Cloud 2 of the shape 4, 3, in format 1.
@@ -30,7 +30,7 @@ fn header(format: u8, shape: Shape) -> Header {
         format,
         shape,
         cloud: CloudNo(2),
-        rooms: Rooms::usual(),
+        rooms: UserRooms::usual(),
     }
 }
 
@@ -211,16 +211,16 @@ static REFUSED: [(u32, u64, u64, u32, u32, RoomsField); 6] = [
 
 #[test]
 fn rooms_and_their_products(rt: HostRuntime) -> Result<(), Fail> {
-    let usual = Rooms::usual();
+    let usual = UserRooms::usual();
     assert!(rt; usual.are_allowed());
-    assert!(rt; Rooms::least().are_allowed());
+    assert!(rt; UserRooms::least().are_allowed());
     assert_eq!(rt;
-        Rooms::of(16, 536_870_912, 67_108_864, 32_768, 1_024),
+        UserRooms::of(16, 536_870_912, 67_108_864, 32_768, 1_024),
         Ok(usual)
     );
-    assert_eq!(rt; Rooms::of(1, 0, 0, 0, 0), Ok(Rooms::least()));
+    assert_eq!(rt; UserRooms::of(1, 0, 0, 0, 0), Ok(UserRooms::least()));
     for (users, shares, recipes, owners, files, field) in &REFUSED {
-        let rooms = Rooms::of(*users, *shares, *recipes, *owners, *files);
+        let rooms = UserRooms::of(*users, *shares, *recipes, *owners, *files);
         assert!(rt; rooms == Err(*field));
     }
     Ok(())

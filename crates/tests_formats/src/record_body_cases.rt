@@ -1,7 +1,7 @@
 //! Tests of record_body.
 
 use cd_base::{Fp, NoMemory, Place, Tag, UserId, Version};
-use record_body::{BodyErr, BodyView, CommitBody, FoundItem, PutItem, RecordBuf};
+use record_body::{BodyErr, CommitBody, FirstBodyView, FoundItem, PutItem, RecordBuf};
 use std::alloc::Global;
 use std::test::Fail;
 
@@ -38,29 +38,29 @@ fn entered() -> CommitBody {
 
 // The user and the first item of a Put.
 fn first_item(body: &[u8]) -> Option<(UserId, FoundItem)> {
-    match BodyView::check(body) {
-        Ok(BodyView::Put { user, items }) => {
+    match FirstBodyView::check(body) {
+        Ok(FirstBodyView::Put { user, items }) => {
             let mut items = items;
             match items.next() {
                 Some(found) => Some((user, found)),
                 None => None,
             }
         }
-        Ok(BodyView::Commit(_)) => None,
+        Ok(FirstBodyView::Commit(_)) => None,
         Err(_) => None,
     }
 }
 
 fn commit_in(body: &[u8]) -> Option<CommitBody> {
-    match BodyView::check(body) {
-        Ok(BodyView::Commit(commit)) => Some(commit),
-        Ok(BodyView::Put { .. }) => None,
+    match FirstBodyView::check(body) {
+        Ok(FirstBodyView::Commit(commit)) => Some(commit),
+        Ok(FirstBodyView::Put { .. }) => None,
         Err(_) => None,
     }
 }
 
 fn fault_in(body: &[u8]) -> Option<BodyErr> {
-    match BodyView::check(body) {
+    match FirstBodyView::check(body) {
         Ok(_view) => None,
         Err(fault) => Some(fault),
     }

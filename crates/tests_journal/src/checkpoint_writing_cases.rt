@@ -5,7 +5,7 @@ use cd_edges::{Area, Failed, Shelf};
 use cd_fakes::MemShelf;
 use half_journal::CheckpointWriter;
 use journal_halves::HALF_LEN;
-use journal_start::{Checkpoint, Header, Rooms, Start};
+use journal_start::{Checkpoint, Header, Start, UserRooms};
 use mem_disk::Note;
 use std::test::Fail;
 
@@ -24,7 +24,7 @@ fn start(records: u32) -> Start {
             format: 2,
             shape: Shape { n: 4, k: 3 },
             cloud: ZERO,
-            rooms: Rooms::usual(),
+            rooms: UserRooms::usual(),
         },
         checkpoint: Some(Checkpoint {
             epoch: 1,

@@ -6,9 +6,9 @@ ghost use Rattle.journal_start.specs.Ranges.{IsHeader};
 use cd_base::{CloudNo, NoMemory, Shape};
 use cd_edges::{Area, Shelf};
 use cd_fakes::MemShelf;
-use half_journal::{Journal, JournalErr, OpenErr, Stage};
+use half_journal::{Journal, OpenErr, RecordErr, Stage};
 use journal_halves::HALF_LEN;
-use journal_start::{Header, Rooms};
+use journal_start::{Header, UserRooms};
 use std::alloc::Global;
 
 pub(crate) const ZERO: CloudNo = CloudNo(0);
@@ -22,7 +22,7 @@ pub(crate) fn header() -> Header
         format: 2,
         shape: Shape { n: 4, k: 3 },
         cloud: ZERO,
-        rooms: Rooms::usual(),
+        rooms: UserRooms::usual(),
     }
 }
 
@@ -30,7 +30,7 @@ pub(crate) fn header() -> Header
 #[derive(Clone, Copy, PartialEq, Eq)]
 pub(crate) enum Stop {
     Open(OpenErr),
-    Next(JournalErr),
+    Next(RecordErr),
     TooMany,
 }
 
@@ -52,10 +52,10 @@ fn note(records: &mut [u8; 4], place: usize, body: &[u8]) {
 }
 
 /// The next record, where records may be to come.
-pub(crate) fn next<V: Shelf>(journal: &mut Journal, shelf: &mut V) -> Result<bool, JournalErr> {
+pub(crate) fn next<V: Shelf>(journal: &mut Journal, shelf: &mut V) -> Result<bool, RecordErr> {
     match journal.stage() {
         Stage::Reading => journal.next(shelf, ZERO),
-        Stage::Shut | Stage::AtEnd | Stage::Laying => Err(JournalErr::Failed),
+        Stage::Shut | Stage::AtEnd | Stage::Laying => Err(RecordErr::Failed),
     }
 }
 

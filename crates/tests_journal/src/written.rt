@@ -6,9 +6,9 @@ ghost use Rattle.journal_start.specs.Ranges.{IsHeader};
 use crate::ground::{Chain, Ground, Stop, ZERO, header, next, read};
 use cd_base::{CloudNo, Shape};
 use cd_edges::{Area, Shelf};
-use half_journal::{JournalErr, OpenErr};
+use half_journal::{OpenErr, RecordErr};
 use journal_halves::{FindErr, HALF_LEN};
-use journal_start::{Header, Rooms};
+use journal_start::{Header, UserRooms};
 use std::test::Fail;
 
 // The start of a new journal of cloud 0 of the shape 4, 3, in format 2 with the usual rooms: a gate, the body's length, 36
@@ -68,11 +68,11 @@ fn found_in(ground: &mut Ground, half: u8) -> Answer {
     match read(&mut ground.journal, &mut ground.shelf, false) {
         Ok(chain) => Answer::Records(count(chain)),
         Err(Stop::Open(OpenErr::Damaged { at, byte })) => damage(half, at, byte),
-        Err(Stop::Next(JournalErr::Damaged { at, byte })) => damage(half, at, byte),
+        Err(Stop::Next(RecordErr::Damaged { at, byte })) => damage(half, at, byte),
         Err(Stop::Open(OpenErr::NotBegun { len: _ })) => Answer::NotBegun,
         Err(Stop::Open(OpenErr::OtherStore { found, asked, at })) => other(half, found, asked, at),
         Err(Stop::Open(OpenErr::Fault)) => Answer::Other,
-        Err(Stop::Next(JournalErr::Failed)) => Answer::Other,
+        Err(Stop::Next(RecordErr::Failed)) => Answer::Other,
         Err(Stop::TooMany) => Answer::Other,
     }
 }
@@ -258,7 +258,7 @@ fn header_one() -> Header
         format: 1,
         shape: Shape { n: 4, k: 3 },
         cloud: ZERO,
-        rooms: Rooms::usual(),
+        rooms: UserRooms::usual(),
     }
 }
 
@@ -276,8 +276,8 @@ fn next_of_one(ground: &mut Ground, half: u8) -> Answer {
     }
     match next(&mut ground.journal, &mut ground.shelf) {
         Ok(more) => Answer::Records(more as u8),
-        Err(JournalErr::Damaged { at, byte }) => damage(half, at, byte),
-        Err(JournalErr::Failed) => Answer::Other,
+        Err(RecordErr::Damaged { at, byte }) => damage(half, at, byte),
+        Err(RecordErr::Failed) => Answer::Other,
     }
 }
 

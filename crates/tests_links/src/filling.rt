@@ -9,7 +9,7 @@ use crate::ground::{are_below, clouds_of, shape};
 use cd_base::{Bytes, CloudNo, NoMemory, UserId, Version, is_path};
 use cd_fakes::MemShelf;
 use frames::ReplyBuf;
-use journal_start::Rooms;
+use journal_start::UserRooms;
 use local_link::LocalLink;
 use rebuild::{RebuildErr, Rebuilt, rebuild};
 use restore_job::{RestoreErr, restore};
@@ -22,11 +22,11 @@ use user_dedup::Link;
 pub const TARGET: CloudNo = CloudNo(3);
 
 /// Rooms for so many files of each user, 2,000 at most.
-pub fn rooms(files: u32) -> Rooms
+pub fn rooms(files: u32) -> UserRooms
     requires { files ≤ 2000 }
     ensures { AreRooms result }
 {
-    Rooms {
+    UserRooms {
         users: 8,
         shares: 300_000,
         recipes: 300_000,

@@ -8,7 +8,7 @@ use cd_base::{Bytes, CloudNo, Clouds, NoMemory, Shape, UserId, Version, is_path}
 use cd_edges::{Area, Failed, Shelf};
 use cd_fakes::MemShelf;
 use frames::ReplyBuf;
-use journal_start::Rooms;
+use journal_start::UserRooms;
 use local_link::LocalLink;
 use restore_job::{RestoreErr, restore};
 use std::alloc::Global;
@@ -25,11 +25,11 @@ pub fn shape() -> Shape {
 }
 
 /// Rooms for so many files of each user, 100 at most.
-pub fn rooms(files: u32) -> Rooms
+pub fn rooms(files: u32) -> UserRooms
     requires { files ≤ 100 }
     ensures { AreRooms result }
 {
-    Rooms {
+    UserRooms {
         users: 16,
         shares: 100_000,
         recipes: 10_000,

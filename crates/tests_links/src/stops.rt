@@ -8,7 +8,7 @@ use crate::ground::{
 };
 use cd_base::{Bytes, CloudNo};
 use cd_fakes::MemShelf;
-use journal_start::Rooms;
+use journal_start::UserRooms;
 use local_link::{LocalLink, OpenErr};
 use std::alloc::Global;
 use std::test::Fail;
@@ -161,7 +161,7 @@ fn a_cloud_is_replaced(rt: HostRuntime) -> Result<(), Fail> {
     Ok(())
 }
 
-fn are_set(link: &mut LocalLink<'_, MemShelf>, rooms: Rooms) -> bool
+fn are_set(link: &mut LocalLink<'_, MemShelf>, rooms: UserRooms) -> bool
     requires { AreRooms rooms }
 {
     if !link.reaches(ONE) {

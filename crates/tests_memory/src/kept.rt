@@ -5,7 +5,7 @@ ghost use Rattle.cloud_memory.specs.Rooms.{HasRooms};
 use crate::lists::{File, RECIPE};
 use cd_base::{Bytes, NoMemory, Shape, Tag, UserId, Version};
 use cloud_memory::{CloudMemory, Full, New};
-use journal_start::Rooms;
+use journal_start::UserRooms;
 use recipe::RecipeView;
 use record_body::{CommitBody, PutItem};
 use std::alloc::Global;
@@ -14,7 +14,7 @@ use std::alloc::Global;
 #[derive(Drop)]
 pub struct Kept {
     pub memory: CloudMemory,
-    pub rooms: Rooms,
+    pub rooms: UserRooms,
     pub ghost within: { HasRooms rooms memory },
 }
 
@@ -43,7 +43,7 @@ pub fn recipe_in(bytes: &Bytes) -> Option<RecipeView<'_>> {
 
 impl Kept {
     /// The memory of no commands. Err comes for want of memory, and for rooms that aren't allowed.
-    pub fn make(alloc: Global, rooms: Rooms) -> Result<Kept, NoMemory> {
+    pub fn make(alloc: Global, rooms: UserRooms) -> Result<Kept, NoMemory> {
         if !rooms.are_allowed() {
             return Err(NoMemory);
         }

@@ -2,7 +2,7 @@
 
 use cd_base::{Fp, Place, Room};
 use cloud_memory::Full;
-use journal_start::Rooms;
+use journal_start::UserRooms;
 use std::alloc::{AllocError, Global};
 
 // The bytes of a container.
@@ -185,7 +185,7 @@ impl Lists {
     }
 
     /// The first room that a Put of so many shares, with so many bytes, would pass.
-    pub fn full_put(&self, rooms: &Rooms, user: u32, count: u64, bytes: u64) -> Option<Full> {
+    pub fn full_put(&self, rooms: &UserRooms, user: u32, count: u64, bytes: u64) -> Option<Full> {
         let spent = self.spent(user);
         match full(Room::Owners, spent.owners, count, u64::from(rooms.owners)) {
             Some(room) => Some(room),
@@ -194,7 +194,7 @@ impl Lists {
     }
 
     /// The first room that a Commit would pass.
-    pub fn full_commit(&self, rooms: &Rooms, user: u32) -> Option<Full> {
+    pub fn full_commit(&self, rooms: &UserRooms, user: u32) -> Option<Full> {
         let files = u64::from(self.files_of(user));
         match full(Room::Files, files, 1, u64::from(rooms.files)) {
             Some(room) => Some(room),

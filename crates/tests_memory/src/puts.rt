@@ -3,14 +3,14 @@
 use crate::kept::Kept;
 use cd_base::{Fp, NoMemory, Place, Room, Tag, UserId, Version};
 use cloud_memory::{CloudMemory, Full, New};
-use journal_start::Rooms;
+use journal_start::UserRooms;
 use record_body::PutItem;
 use std::alloc::Global;
 use std::test::Fail;
 
 // Two users, each with so many bytes of shares and two of its own fingerprints.
-fn rooms(shares: u64) -> Rooms {
-    Rooms {
+fn rooms(shares: u64) -> UserRooms {
+    UserRooms {
         users: 2,
         shares,
         recipes: 1000,
@@ -80,7 +80,7 @@ fn has_nothing(memory: &CloudMemory) -> bool {
 }
 
 fn begins_with_nothing(alloc: Global) -> Result<bool, NoMemory> {
-    let kept = Kept::make(alloc, Rooms::usual())?;
+    let kept = Kept::make(alloc, UserRooms::usual())?;
     Ok(has_nothing(&kept.memory))
 }
 

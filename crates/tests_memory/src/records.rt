@@ -2,7 +2,7 @@
 
 use crate::kept::Kept;
 use cd_base::{Fp, NoMemory, Shape, UserId};
-use journal_start::Rooms;
+use journal_start::UserRooms;
 use record_checks::{Damage, Ground, Taking, recipe_of, take};
 use std::alloc::Global;
 use std::test::Fail;
@@ -120,7 +120,7 @@ enum Row {
 // 9 users, each with two fingerprints of its own, so many bytes of shares, 61 of recipes and one file; the blobs lie in
 // this region of areas of 5,000,000 bytes.
 fn ground(shares: u64, region: u8) -> Ground {
-    let rooms = Rooms {
+    let rooms = UserRooms {
         users: 9,
         shares,
         recipes: 61,

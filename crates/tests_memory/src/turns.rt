@@ -3,7 +3,7 @@
 use crate::lists::{File, Lists, RECIPE, len_of};
 use cd_base::{Fp, NoMemory, Tag, UserId, Version};
 use cloud_memory::{Full, New};
-use journal_start::Rooms;
+use journal_start::UserRooms;
 use record_body::{CommitBody, PutItem};
 
 /// The share of a number.
@@ -26,7 +26,7 @@ fn part(lists: &mut Lists, user: u32, number: u8) -> Result<PutItem, NoMemory> {
 /// What `Kept::put_two` answers by the lists, which then have the Put.
 pub fn put_by_lists(
     lists: &mut Lists,
-    rooms: &Rooms,
+    rooms: &UserRooms,
     user: u32,
     one: u8,
     two: u8,
@@ -48,7 +48,7 @@ pub fn put_by_lists(
 /// What `Kept::commit` answers by the lists, which then have the Commit.
 pub fn commit_by_lists(
     lists: &mut Lists,
-    rooms: &Rooms,
+    rooms: &UserRooms,
     file: &File,
 ) -> Result<Option<Result<CommitBody, Full>>, NoMemory> {
     let File {

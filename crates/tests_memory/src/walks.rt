@@ -6,7 +6,7 @@ use crate::lists::{File, Lists, RECIPE};
 use crate::reads::{same_reads, unowned};
 use crate::turns::{commit_by_lists, put_by_lists, share};
 use cd_base::{Bytes, Fp, NoMemory, Place, Shape, Tag, UserId, Version, sha256};
-use journal_start::Rooms;
+use journal_start::UserRooms;
 use recipe::RecipeView;
 use record_bodies::{BodyBuf, CommitBody, DeleteBody, KeptItem, PutItem};
 use record_checks::{Ground, Taking, recipe_of, take};
@@ -274,7 +274,7 @@ fn begin_again(alloc: Global, three: &mut Three) {
     three.lists = Lists::new(alloc, REGION);
 }
 
-fn make_records(alloc: Global, rooms: Rooms) -> Result<Records, NoMemory> {
+fn make_records(alloc: Global, rooms: UserRooms) -> Result<Records, NoMemory> {
     let kept = Kept::make(alloc, rooms)?;
     let body = BodyBuf::make(alloc)?;
     Ok(Records {
@@ -286,7 +286,7 @@ fn make_records(alloc: Global, rooms: Rooms) -> Result<Records, NoMemory> {
 }
 
 fn make(alloc: Global) -> Result<Three, NoMemory> {
-    let rooms = Rooms {
+    let rooms = UserRooms {
         users: 3,
         shares: 38_000,
         recipes: 485,

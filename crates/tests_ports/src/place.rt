@@ -6,7 +6,7 @@ use cd_base::{Bytes, CloudNo, NoMemory, Shape};
 use cd_edges::{Ports, Shelf};
 use cd_fakes::{MemPorts, MemShelf};
 use frames::{Framer, ReplyBuf};
-use journal_start::Rooms;
+use journal_start::UserRooms;
 use serve_command::{Served, Server, serve_connection};
 use std::alloc::Global;
 use std::test::Fail;
@@ -21,7 +21,7 @@ fn shape() -> Shape
 
 // A closed server, with rooms for a few files.
 fn server_of(alloc: Global) -> Result<Server, NoMemory> {
-    let rooms = Rooms {
+    let rooms = UserRooms {
         users: 16,
         shares: 100_000,
         recipes: 10_000,

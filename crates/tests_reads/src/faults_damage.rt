@@ -5,7 +5,7 @@ use cd_base::{CloudNo, NoMemory, Shape};
 use cd_edges::{Area, Shelf};
 use cd_fakes::{MemShelf, MemSink, MemSource};
 use cd_top::{OpenErr, Server};
-use journal_start::Rooms;
+use journal_start::UserRooms;
 use std::alloc::Global;
 use std::test::Fail;
 
@@ -37,7 +37,7 @@ const CHANGES: [Change; 8] = [
 
 // A closed server of cloud 0, of a store of four clouds of which three give a file back.
 fn server_of(alloc: Global) -> Result<Server, NoMemory> {
-    let rooms = Rooms {
+    let rooms = UserRooms {
         users: 9,
         shares: 900,
         recipes: 900,

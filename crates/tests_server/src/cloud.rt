@@ -7,14 +7,14 @@ use cd_edges::{Area, Shelf};
 use cd_fakes::MemShelf;
 use cloud_server::{OpenErr, Server};
 use frames::ReplyBuf;
-use journal_start::Rooms;
+use journal_start::UserRooms;
 use std::alloc::Global;
 
 /// The number of the cloud.
 pub const TWO: CloudNo = CloudNo(2);
 
 /// Rooms that these tests don't fill.
-pub const WIDE: Rooms = Rooms {
+pub const WIDE: UserRooms = UserRooms {
     users: 10,
     shares: 10_000_000,
     recipes: 10_000_000,
@@ -36,11 +36,11 @@ pub fn shape() -> Shape
 pub type Row<'a> = (&'a [u8], &'a [u8]);
 
 /// A closed server with these rooms, or with the usual ones where they aren't allowed. The only error is want of memory.
-pub fn server_of(alloc: Global, rooms: Rooms) -> Result<Server, NoMemory> {
+pub fn server_of(alloc: Global, rooms: UserRooms) -> Result<Server, NoMemory> {
     if rooms.are_allowed() {
         Server::make(alloc, TWO, shape(), rooms)
     } else {
-        Server::make(alloc, TWO, shape(), Rooms::usual())
+        Server::make(alloc, TWO, shape(), UserRooms::usual())
     }
 }
 
@@ -57,7 +57,7 @@ pub struct Cloud {
 impl Cloud {
     /// An empty cloud with so much room in each area, and a closed server with these rooms. The only error is want of
     /// memory.
-    pub fn make(alloc: Global, room: u64, rooms: Rooms) -> Result<Cloud, NoMemory> {
+    pub fn make(alloc: Global, room: u64, rooms: UserRooms) -> Result<Cloud, NoMemory> {
         let shelf = MemShelf::of(alloc, 3, room, 5_000, &[])?;
         let reply = ReplyBuf::make(alloc)?;
         let server = server_of(alloc, rooms)?;

@@ -4,7 +4,7 @@ use crate::replies::{COMMITTED, MOST_NEW, NO_ENTRIES, NOT_YOURS, full_reply};
 use crate::requests::{commit_of, fps_of, list_of, put_many, recipe_of, recipe_request, share_of};
 use crate::{Cloud, WIDE};
 use cd_base::{Bytes, Fp, NoMemory, sha256};
-use journal_start::Rooms;
+use journal_start::UserRooms;
 use std::alloc::Global;
 use std::test::Fail;
 
@@ -48,7 +48,7 @@ fn come_back(alloc: Global, cloud: &mut Cloud) -> Result<bool, NoMemory> {
 #[test]
 fn the_greatest_put_and_its_shares(rt: HostRuntime) -> Result<(), Fail> {
     let a = rt.alloc();
-    let rooms = Rooms {
+    let rooms = UserRooms {
         shares: 2 * SHARES,
         ..WIDE
     };
@@ -75,7 +75,7 @@ fn lacks_a_byte(alloc: Global, cloud: &mut Cloud) -> Result<bool, NoMemory> {
 
 #[test]
 fn a_room_that_lacks_a_byte(rt: HostRuntime) -> Result<(), Fail> {
-    let rooms = Rooms {
+    let rooms = UserRooms {
         shares: LIMIT,
         ..WIDE
     };

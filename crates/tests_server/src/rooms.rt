@@ -4,7 +4,7 @@ use crate::replies::{COMMITTED, Full, TWO_NEW, full_reply};
 use crate::requests::{commit_of, put_of, recipe_of};
 use crate::{Cloud, SMALL, WIDE};
 use cd_base::{Bytes, NoMemory};
-use journal_start::Rooms;
+use journal_start::UserRooms;
 use std::alloc::Global;
 use std::test::Fail;
 
@@ -43,7 +43,7 @@ const OF_A_PUT: [(u32, u64, Full); 3] = [
 #[test]
 fn rooms_of_a_put(rt: HostRuntime) -> Result<(), Fail> {
     for (owners, shares, full) in OF_A_PUT {
-        let rooms = Rooms {
+        let rooms = UserRooms {
             shares,
             owners,
             ..WIDE
@@ -71,7 +71,7 @@ fn is_taken(alloc: Global, cloud: &mut Cloud) -> Result<bool, NoMemory> {
 
 #[test]
 fn the_least_rooms_of_two_puts(rt: HostRuntime) -> Result<(), Fail> {
-    let rooms = Rooms {
+    let rooms = UserRooms {
         shares: 8,
         owners: 4,
         ..WIDE
@@ -93,7 +93,7 @@ fn is_full(
     wanted: &[u8],
 ) -> Result<bool, Fail> {
     let (files, recipes) = limits;
-    let rooms = Rooms {
+    let rooms = UserRooms {
         files,
         recipes,
         ..WIDE

@@ -7,17 +7,17 @@ ghost use Rattle.generated_session.specs.ScriptLines.Jobs.{AreReached};
 use cd_base::{Bytes, Shape};
 use cd_fakes::{MemShelf, MemSink};
 use generated_session::{Buffers, Jobs, LocalLink, carry_out};
-use journal_start::Rooms;
+use journal_start::UserRooms;
 use session::read_line;
 use std::alloc::Global;
 use std::test::Fail;
 use transcript::Answer;
 
 // Rooms for a few files.
-fn rooms() -> Rooms
+fn rooms() -> UserRooms
     ensures { AreRooms result }
 {
-    Rooms {
+    UserRooms {
         users: 10,
         shares: 100_000,
         recipes: 10_000,

@@ -3,7 +3,7 @@
 
 use cd_base::{Bytes, NoMemory};
 use cd_edges::{Area, Shelf};
-use journal_start::Rooms;
+use journal_start::UserRooms;
 use std::alloc::Global;
 use std::test::Fail;
 use tests_server::replies::{COMMITTED, DELETED, FAULT, MISSING};
@@ -11,7 +11,7 @@ use tests_server::requests::{commit_of, delete_of, recipe_of};
 use tests_server::{Cloud, OpenErr, Row, TWO};
 
 // One user with one version at a time: a half has room for 11,816 bytes.
-const LEAST: Rooms = Rooms {
+const LEAST: UserRooms = UserRooms {
     users: 1,
     shares: 1_000,
     recipes: 10_000,

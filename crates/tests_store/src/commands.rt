@@ -7,7 +7,7 @@ ghost use Rattle.open_store.specs.Store.{IsSettled};
 
 use cd_base::{CloudNo, Fp, NoMemory, Shape, Tag, UserId, Version, sha256};
 use cd_fakes::MemShelf;
-use journal_start::{Header, Rooms};
+use journal_start::{Header, UserRooms};
 use open_store::{New, OpenStore};
 use recipe::RecipeView;
 use std::alloc::Global;
@@ -28,7 +28,7 @@ pub(crate) fn header() -> Header
         format: 2,
         shape: Shape { n: 4, k: 3 },
         cloud: ZERO,
-        rooms: Rooms {
+        rooms: UserRooms {
             users: 1,
             shares: 1000,
             recipes: 10_000_000,

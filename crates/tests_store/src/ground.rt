@@ -9,7 +9,7 @@ use cd_base::{CloudNo, Fp, NoMemory, Place, Shape, Tag, UserId, Version, sha256}
 use cd_edges::{Area, Shelf};
 use cd_fakes::MemShelf;
 use half_journal::OpenErr;
-use journal_start::{Header, Rooms};
+use journal_start::{Header, UserRooms};
 use open_store::{CloudDisk, CloudMemory, reopen};
 use record_bodies::{BodyBuf, CommitBody, DeleteBody, PutItem};
 use std::alloc::Global;
@@ -23,10 +23,10 @@ const TAG: Tag = Tag([5; 32]);
 const ONE: Version = Version(1);
 
 // The rooms of eight users, each with 15 bytes of shares.
-fn rooms() -> Rooms
+fn rooms() -> UserRooms
     ensures { AreRooms result }
 {
-    Rooms {
+    UserRooms {
         users: 8,
         shares: 15,
         recipes: 1000,

@@ -1,7 +1,7 @@
 //! Tests of command_words.
 
 use cd_base::{CloudNo, UserId, Version};
-use command_words::{Command, read_words};
+use command_words::{AskedCommand, read_words};
 use std::alloc::Global;
 use std::test::Fail;
 
@@ -108,7 +108,7 @@ fn fields_of_a_read(rt: HostRuntime) -> Result<(), Fail> {
     let alloc = rt.alloc();
     let words = words_of(alloc, "read d 4 3 7 a 1 0,2,3")?;
     match read_words(alloc, words.as_slice())? {
-        Some(Command::Read(asked)) => {
+        Some(AskedCommand::Read(asked)) => {
             assert_eq!(rt; asked.directory, "d");
             assert!(rt; asked.shape.n == 4 && asked.shape.k == 3);
             assert!(rt; asked.user == UserId(7) && asked.version == Version(1));

@@ -3,7 +3,7 @@ ghost use Rattle.std.specs.Prelude.{None};
 use cd_base::{Bytes, Clouds, NoMemory, Shape};
 use cd_edges::{Failed, Source};
 use grammar::encode;
-use journal_start::Rooms;
+use journal_start::UserRooms;
 use session::{Event, LineErr, LineReader, ScriptErr, read_header, read_line};
 use std::alloc::Global;
 use std::test::Fail;
@@ -251,7 +251,7 @@ fn header_fails(line: &[u8], place: u64, byte: Option<u8>) -> bool {
 }
 
 // Whether a first line is read as this shape and these rooms.
-fn is_header(line: &[u8], wanted: (u8, u8, Rooms)) -> bool {
+fn is_header(line: &[u8], wanted: (u8, u8, UserRooms)) -> bool {
     let (n, k, rooms) = wanted;
     match read_header(line) {
         Ok((shape, found)) => shape.n() == n && shape.k() == k && found == rooms,
@@ -280,8 +280,8 @@ fn first_lines(rt: HostRuntime) {
     for (line, place, byte) in &rows {
         assert!(rt; header_fails(line, *place, *byte), "{place}");
     }
-    assert!(rt; is_header(b"cdstore 1 16 15", (16, 15, Rooms::usual())));
-    let rooms = Rooms {
+    assert!(rt; is_header(b"cdstore 1 16 15", (16, 15, UserRooms::usual())));
+    let rooms = UserRooms {
         users: 256,
         shares: 33_554_432,
         recipes: 1001,

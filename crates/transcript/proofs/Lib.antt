@@ -5,3 +5,4 @@ pub mod Shapes
 pub mod Texts
 pub mod WordsBack
 pub mod Written
+pub mod CdEdges

@@ -1,7 +1,7 @@
 -- The words of a line are read back as the line, and each of them is solid.
 use Rattle.std.proofs.Common.{◌≡◌, Bool, true, false, [], ◌∷◌, Some, refl, arith}
-use Rattle.cd_base.specs.declared.rooms.Room.{Room}
-use Rattle.cd_base.specs.declared.rooms.Room.TheVariants as rooms
+use Rattle.grammar.specs.CdBase.rooms.Room.{Room}
+use Rattle.grammar.specs.CdBase.rooms.Room.TheVariants as rooms
 use Rattle.transcript.specs.Transcript.{room_word, news_words, target_words, refusal_words, skip_word, end_word, line_words}
 use Rattle.transcript.specs.Ranges.{FitsNews, FitsTarget, FitsRefusal, Fits}
 use Rattle.transcript.specs.Reading.{room_in, skip_in, end_in, named_by, news_named, target_named, refusal_named, line_of}

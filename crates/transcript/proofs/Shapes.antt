@@ -2,7 +2,7 @@
 use Rattle.std.proofs.Common.{◌≡◌, ℕ, ◌<◌, ◌≤◌, Bool, true, false, leb, ltb, Some, refl, ap, ◌∙◌}
 use Rattle.std.proofs.Math.Bridge.{le_prop}
 use Rattle.std.proofs.lemmas.Bool.{leb-true, ltb-true, le-leb, lt-ltb}
-use Rattle.cd_base.specs.declared.shape.Shape.{Shape}
+use Rattle.grammar.specs.CdBase.shape.Shape.{Shape}
 use Rattle.transcript.specs.ShapeOf.{shape_by, shape_of}
 
 abbrev pub with_rules : (n k : ℕ) → 2 ≤ k → k < n → n ≤ 16 → Shape

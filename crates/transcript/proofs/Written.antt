@@ -7,9 +7,9 @@ use Rattle.cd_edges.specs.declared.stream.Failed.{Failed}
 use Rattle.grammar.specs.Hexadecimal.{hex}
 use Rattle.grammar.proofs.HexadecimalLaws.{hex_append}
 use Rattle.transcript.specs.Packed.{packed_text}
-use Rattle.transcript.specs.Writing.{Writes}
+use Rattle.transcript.specs.Writing.{HasWrittenText}
 
-pub writes_none : (a : Option (List ℕ)) (n : ℕ) → Writes [] a a n n (Ok tt)
+pub writes_none : (a : Option (List ℕ)) (n : ℕ) → HasWrittenText [] a a n n (Ok tt)
 writes_none a n = record {
   all = Appends-nil a;
   front = tt;
@@ -18,7 +18,7 @@ writes_none a n = record {
 
 -- the second text behind the first one
 pub writes_join : (one two : List ℕ) (a b c : Option (List ℕ)) (n m k : ℕ) (r : Result (Unit {0}) Failed)
-    → Writes one a b n m (Ok tt) → Writes two b c m k r → Writes (one ++ two) a c n k r
+    → HasWrittenText one a b n m (Ok tt) → HasWrittenText two b c m k r → HasWrittenText (one ++ two) a c n k r
 writes_join one two a b c n m k (Ok u) first last =
     let same = first.cause.still in
     record {
@@ -45,7 +45,7 @@ writes_join one two a b c n m k (Err e) first last =
 
 -- the first text failed, so nothing of the second one was written
 pub writes_cut : (one two : List ℕ) (a b : Option (List ℕ)) (n m : ℕ) (e : Failed)
-    → Writes one a b n m (Err e) → Writes (one ++ two) a b n m (Err e)
+    → HasWrittenText one a b n m (Err e) → HasWrittenText (one ++ two) a b n m (Err e)
 writes_cut one two a b n m e first =
     let f = first.front in
     record {
@@ -56,24 +56,24 @@ writes_cut one two a b n m e first =
 
 -- what was written so far, whatever comes of the rest
 pub record Follows (all rest : List ℕ) (before now : Option (List ℕ)) (was is : ℕ) : Type 0 where
-  pub follows : (after : Option (List ℕ)) (count : ℕ) (r : Result (Unit {0}) Failed) → Writes rest now after is count r → Writes all before after was count r
+  pub follows : (after : Option (List ℕ)) (count : ℕ) (r : Result (Unit {0}) Failed) → HasWrittenText rest now after is count r → HasWrittenText all before after was count r
 
 module _ (all rest piece more : List ℕ) (start a b : Option (List ℕ)) (was n m : ℕ) (cut : rest ≡ piece ++ more) (so_far : Follows all (hex rest) start a was n) where
   digits_are : hex piece ++ hex more ≡ hex rest
   digits_are = sym (ap hex cut ∙ hex_append piece more)
 
   -- a piece more
-  pub piece_on : Writes (hex piece) a b n m (Ok tt) → Follows all (hex more) start b was m
+  pub piece_on : HasWrittenText (hex piece) a b n m (Ok tt) → Follows all (hex more) start b was m
   piece_on first = record {
-    follows = λ after count r last. so_far.follows after count r (subst (λ (l : List ℕ). Writes l a after n count r) digits_are
+    follows = λ after count r last. so_far.follows after count r (subst (λ (l : List ℕ). HasWrittenText l a after n count r) digits_are
         (writes_join (hex piece) (hex more) a b after n m count r first last));
   }
 
-  pub piece_cut : (e : Failed) → Writes (hex piece) a b n m (Err e) → Writes all start b was m (Err e)
-  piece_cut e first = so_far.follows b m (Err e) (subst (λ (l : List ℕ). Writes l a b n m (Err e)) digits_are (writes_cut (hex piece) (hex more) a b n m e first))
+  pub piece_cut : (e : Failed) → HasWrittenText (hex piece) a b n m (Err e) → HasWrittenText all start b was m (Err e)
+  piece_cut e first = so_far.follows b m (Err e) (subst (λ (l : List ℕ). HasWrittenText l a b n m (Err e)) digits_are (writes_cut (hex piece) (hex more) a b n m e first))
 
 -- no piece is left
-pub all_written : (all rest : List ℕ) (start a : Option (List ℕ)) (was n : ℕ) → length rest ≡ 0 → Follows all (hex rest) start a was n → Writes all start a was n (Ok tt)
+pub all_written : (all rest : List ℕ) (start a : Option (List ℕ)) (was n : ℕ) → length rest ≡ 0 → Follows all (hex rest) start a was n → HasWrittenText all start a was n (Ok tt)
 unfolding hex
 all_written all [] start a was n none so_far = so_far.follows a n (Ok tt) (writes_none a n)
 all_written all (x ∷ xs) start a was n none so_far = absurd cc

@@ -1,3 +1,5 @@
+pub mod CdBase
+pub mod CdEdges
 pub mod Endings
 pub mod Packed
 pub mod Ranges

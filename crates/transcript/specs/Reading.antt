@@ -3,8 +3,8 @@
 use Rattle.std.specs.Prelude.{ℕ, ◌+◌, Bool, true, false, List, [], ◌∷◌, length, take, drop, Option, Some, None, ◌==◌, if◌then◌else◌, codes}
 use Rattle.std.specs.List.{find, position_or_len, slice_split}
 use Rattle.std.specs.Str.{bytes_eq}
-use Rattle.cd_base.specs.declared.rooms.Room.{Room}
-use Rattle.cd_base.specs.declared.rooms.Room.TheVariants as rooms
+use Rattle.grammar.specs.CdBase.rooms.Room.{Room}
+use Rattle.grammar.specs.CdBase.rooms.Room.TheVariants as rooms
 use Rattle.grammar.specs.Words.{is_blank, keep}
 use Rattle.grammar.specs.Numerals.{number}
 use Rattle.grammar.specs.Hexadecimal.{unhex}

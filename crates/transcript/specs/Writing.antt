@@ -9,7 +9,7 @@ abbrev pub WritesFront : List ℕ → Option (List ℕ) → Option (List ℕ) �
 WritesFront text before now = (front : List ℕ) × (more : List ℕ) × (front ++ more ≡ text) × Appends before now front
 
 -- All of the text was written; or the sink's count of faults rose, and a front of it was.
-pub record Writes (text : List ℕ) (before now : Option (List ℕ)) (was is : ℕ) (result : Result (Unit {0}) Failed) : Type 0 where
+pub record HasWrittenText (text : List ℕ) (before now : Option (List ℕ)) (was is : ℕ) (result : Result (Unit {0}) Failed) : Type 0 where
   pub all : OnOk result (Appends before now text)
   pub front : OnErr result (WritesFront text before now)
   pub cause : HasCause was is result

@@ -3,13 +3,13 @@
 ghost use Rattle.std.specs.Prelude.{◌≡◌, ◌++◌, [], OnOk, OnErr};
 ghost use Rattle.transcript.specs.Transcript.{line_text};
 ghost use Rattle.transcript.specs.declared.line.Line.TheVariants as lines;
-ghost use Rattle.transcript.specs.Writing.{Writes};
+ghost use Rattle.transcript.specs.Writing.{HasWrittenText};
 
 use crate::gathering::{put, put_packed};
 use crate::spelling::spell;
 use crate::{Line, write_line};
-use cd_base::{Bytes, NoMemory};
 use cd_edges::{Failed, Sink};
+use grammar::{Bytes, NoMemory};
 use std::alloc::Global;
 use std::marker::Model;
 
@@ -89,7 +89,7 @@ impl Answer {
     /// Writes the text. The digits of a packed file are made in pieces of 65,536 bytes, and no memory is taken. Where the sink
     /// fails, which comes only where its count of faults rose, a front of the text was written, and nothing after it.
     pub fn write<K: Sink>(&self, sink: &mut K) -> Result<(), Failed>
-        ensures writes { Writes self.now (K.written sink.old) (K.written sink.new) (K.faults sink.old)
+        ensures writes { HasWrittenText self.now (K.written sink.old) (K.written sink.new) (K.faults sink.old)
             (K.faults sink.new) result }
     {
         match put(self.plain.as_slice(), sink) {

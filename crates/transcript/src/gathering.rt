@@ -3,7 +3,7 @@
 ghost use Rattle.std.specs.Prelude.{◌≡◌, ◌*◌, length};
 ghost use Rattle.grammar.specs.Hexadecimal.{hex};
 ghost use Rattle.transcript.specs.Packed.{packed_text};
-ghost use Rattle.transcript.specs.Writing.{Writes};
+ghost use Rattle.transcript.specs.Writing.{HasWrittenText};
 
 use cd_edges::{Failed, Sink, write_all};
 
@@ -12,7 +12,7 @@ const PIECE: usize = 32_768;
 
 /// Writes these bytes, or a front of them where the sink fails.
 pub fn put<K: Sink>(bytes: &[u8], sink: &mut K) -> Result<(), Failed>
-    ensures { Writes bytes.now (K.written sink.old) (K.written sink.new) (K.faults sink.old) (K.faults sink.new)
+    ensures { HasWrittenText bytes.now (K.written sink.old) (K.written sink.new) (K.faults sink.old) (K.faults sink.new)
         result }
 {
     match write_all(sink, bytes) {
@@ -32,7 +32,8 @@ fn spell_piece(bytes: &[u8], digits: &mut [u8])
 // Spells a piece and writes it, or a front of it.
 fn put_piece<K: Sink>(bytes: &[u8], digits: &mut [u8], sink: &mut K) -> Result<(), Failed>
     requires { length digits.old ≡ 2 * length bytes.now }
-    ensures { Writes (hex bytes.now) (K.written sink.old) (K.written sink.new) (K.faults sink.old) (K.faults sink.new)
+    ensures { HasWrittenText (hex bytes.now) (K.written sink.old) (K.written sink.new) (K.faults sink.old)
+        (K.faults sink.new)
         result }
 {
     spell_piece(bytes, digits);
@@ -41,7 +42,8 @@ fn put_piece<K: Sink>(bytes: &[u8], digits: &mut [u8], sink: &mut K) -> Result<(
 
 // Writes the digits of all bytes, piece by piece, or a front of them.
 fn put_digits<K: Sink>(bytes: &[u8], sink: &mut K) -> Result<(), Failed>
-    ensures { Writes (hex bytes.now) (K.written sink.old) (K.written sink.new) (K.faults sink.old) (K.faults sink.new)
+    ensures { HasWrittenText (hex bytes.now) (K.written sink.old) (K.written sink.new) (K.faults sink.old)
+        (K.faults sink.new)
         result }
 {
     let mut digits = [0; 2 * PIECE];
@@ -60,7 +62,7 @@ fn put_digits<K: Sink>(bytes: &[u8], sink: &mut K) -> Result<(), Failed>
 
 /// Writes what a packed file stands for, or a front of it.
 pub fn put_packed<K: Sink>(file: &[u8], sink: &mut K) -> Result<(), Failed>
-    ensures { Writes (packed_text file.now) (K.written sink.old) (K.written sink.new) (K.faults sink.old)
+    ensures { HasWrittenText (packed_text file.now) (K.written sink.old) (K.written sink.new) (K.faults sink.old)
         (K.faults sink.new) result }
 {
     if file.is_empty() {

@@ -13,7 +13,11 @@ mod words;
 mod writing;
 
 pub use answer::Answer;
+pub use cd_edges::{
+    Area, Failed, Ports, Shelf, Sink, Source, Window, receive, send_all, write_all,
+};
 pub use ending::{Ending, write_ending};
+pub use grammar::{Bytes, CloudNo, Clouds, FILE_LIMIT, NoMemory, Shape, UserId, Version};
 pub use laws::law_of_lines;
 pub use line::{Line, SkipWord};
 pub use news::News;

@@ -4,8 +4,7 @@ ghost use Rattle.std.specs.Prelude.{◌≡◌, ◌++◌, ◌∷◌, [], length, 
 ghost use Rattle.grammar.specs.Hexadecimal.{hex};
 ghost use Rattle.transcript.specs.Packed.{packed_text};
 
-use cd_base::{Bytes, NoMemory};
-use grammar::encode;
+use grammar::{Bytes, NoMemory, encode};
 
 // Appends digits and a newline. For want of memory a part of them may stand there.
 fn put_digits(file: &[u8], plain: &mut Bytes) -> Result<(), NoMemory>

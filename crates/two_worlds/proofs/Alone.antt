@@ -5,28 +5,28 @@ use Rattle.std.specs.List.{Contains}
 use Rattle.std.proofs.lemmas.Bool.{ne_eqb}
 use Rattle.std.proofs.lemmas.List.Elements.{filter-append, Contains-append_cases}
 use Rattle.std.proofs.lemmas.Grind.{flat_map-append}
-use Rattle.cd_base.specs.declared.ids.Fp.{Fp}
-use Rattle.cd_base.specs.declared.ids.UserId.{UserId}
-use Rattle.cd_base.specs.declared.shape.Shape.{Shape}
-use Rattle.journal_start.specs.declared.rooms.Rooms.{Rooms}
-use Rattle.messages.specs.declared.request.Request.{Request}
-use Rattle.messages.specs.declared.request.Request.TheVariants as requests
-use Rattle.user_dedup.specs.declared.command.Command.{Command}
-use Rattle.user_dedup.specs.declared.command.Command.TheVariants as commands
-use Rattle.user_dedup.specs.declared.view.View.{View}
-use Rattle.user_dedup.specs.Cloud.{fingerprint, no_view, view_after, is_of, user_of, commands_of, user_view, held_string, strings_of, strings_in}
-use Rattle.user_dedup.specs.Owning.{is_among, first_lacking, new_strings}
-use Rattle.user_dedup.specs.Pages.{entry_at}
-use Rattle.user_dedup.specs.Requests.{asker, fps_of}
-use Rattle.user_dedup.specs.Dedup.{Outcome, FullRoom, HeldAlike, answer_over, room_for, by_room, unless_full}
-use Rattle.user_dedup.specs.Spending.{full_for, HoldsItself}
-use Rattle.user_dedup.proofs.Owned.{contains_here, contains_later, contains_nothing, contains_cases}
-use Rattle.user_dedup.proofs.Views.{strings_among, sent_is_held, held_is, owned_is_held}
-use Rattle.user_dedup.proofs.Spending.{full_alone}
-use Rattle.user_dedup.proofs.Replies.{same_reply}
-use Rattle.user_dedup.proofs.Sound.{put_adds, commit_adds, deletes_from, by_asker}
+use Rattle.recipe.specs.CdBase.ids.Fp.{Fp}
+use Rattle.recipe.specs.CdBase.ids.UserId.{UserId}
+use Rattle.recipe.specs.CdBase.shape.Shape.{Shape}
+use Rattle.session_model.specs.JournalStart.rooms.UserRooms.{UserRooms}
+use Rattle.session_model.specs.Messages.request.Request.{Request}
+use Rattle.session_model.specs.Messages.request.Request.TheVariants as requests
+use Rattle.session_model.specs.UserDedup.command.Command.{Command}
+use Rattle.session_model.specs.UserDedup.command.Command.TheVariants as commands
+use Rattle.session_model.specs.UserDedup.view.View.{View}
+use Rattle.session_model.specs.UserDedup.Cloud.{fingerprint, no_view, view_after, is_of, user_of, commands_of, user_view, held_string, strings_of, strings_in}
+use Rattle.session_model.specs.UserDedup.Owning.{is_among, first_lacking, new_strings}
+use Rattle.session_model.specs.UserDedup.Pages.{entry_at}
+use Rattle.session_model.specs.UserDedup.Requests.{asker, fps_of}
+use Rattle.session_model.specs.UserDedup.Dedup.{Outcome, FullRoom, HeldAlike, answer_over, room_for, by_room, unless_full}
+use Rattle.session_model.specs.UserDedup.Spending.{full_for, HoldsItself}
+use Rattle.session_model.proofs.UserDedup.Owned.{contains_here, contains_later, contains_nothing, contains_cases}
+use Rattle.session_model.proofs.UserDedup.Views.{strings_among, sent_is_held, held_is, owned_is_held}
+use Rattle.session_model.proofs.UserDedup.Spending.{full_alone}
+use Rattle.session_model.proofs.UserDedup.Replies.{same_reply}
+use Rattle.session_model.proofs.UserDedup.Sound.{put_adds, commit_adds, deletes_from, by_asker}
 use Rattle.two_worlds.specs.Worlds.{sent_strings}
-use Rattle.user_dedup.specs.Exec.{served}
+use Rattle.session_model.specs.UserDedup.Exec.{served}
 
 -- strings of which no two share a SHA-256
 abbrev pub Apart : (List ℕ → Type 0) → Type 0
@@ -119,7 +119,7 @@ adds_sent shape cloud list (requests.Delete user tag version) command e x c =
 abbrev pub Among : List Command → Request → List ℕ → Type 0
 Among list request x = Contains (strings_in list) x ⊎ Contains (sent_strings request) x
 
-module _ (shape : Shape) (rooms : Rooms) (cloud : ℕ) (u : UserId) where
+module _ (shape : Shape) (rooms : UserRooms) (cloud : ℕ) (u : UserId) where
   apart_front : (list : List Command) (request : Request) → Apart (Among list request) → Apart (Contains (strings_in list))
   apart_front list request apart one other a b = apart one other (inl a) (inl b)
 

@@ -2,30 +2,30 @@
 use Rattle.std.proofs.Common.{◌≡◌, ◌≢◌, ℕ, zero, suc, ◌<◌, true, false, List, [], ◌∷◌, map, None, Ok, refl, sym, ap, subst, inl, inr, ◌⊎◌, arith}
 use Rattle.std.specs.Prelude.{All, IsTrue, IsSomeAnd}
 use Rattle.std.specs.List.{Contains}
-use Rattle.cd_base.specs.declared.ids.UserId.{UserId}
-use Rattle.cd_base.specs.declared.ids.Version.{Version}
-use Rattle.cd_base.specs.declared.shape.Shape.{Shape}
-use Rattle.cd_edges.specs.Causes.{Rose}
-use Rattle.cd_edges.specs.Disk.{Cloud}
+use Rattle.recipe.specs.CdBase.ids.UserId.{UserId}
+use Rattle.recipe.specs.CdBase.ids.Version.{Version}
+use Rattle.recipe.specs.CdBase.shape.Shape.{Shape}
+use Rattle.session_model.specs.CdEdges.Causes.{Rose}
+use Rattle.session_model.specs.CdEdges.Disk.{Cloud}
 use Rattle.rabin_chunker.specs.Cuts.{start_at, ends_after, last_end, ends}
-use Rattle.caont_rs.specs.Package.{share}
-use Rattle.file_recipe.specs.FileRecipe.{secrets}
-use Rattle.journal_start.specs.declared.rooms.Rooms.{Rooms}
-use Rattle.messages.specs.declared.request.Request.TheVariants as requests
-use Rattle.messages.specs.declared.reply.Reply.TheVariants as replies
-use Rattle.user_dedup.specs.Cloud.{strings_in}
-use Rattle.user_dedup.specs.Exec.{Peer}
-use Rattle.user_dedup.proofs.Owned.{contains_cases, contains_nothing}
-use Rattle.upload_job.specs.Upload.{FileVersion, shares_for}
-use Rattle.session_model.specs.LaneSteps.Runs.{Turn}
+use Rattle.session_model.specs.CaontRs.Package.{share}
+use Rattle.session_model.specs.FileRecipe.FileRecipe.{secrets}
+use Rattle.session_model.specs.JournalStart.rooms.UserRooms.{UserRooms}
+use Rattle.session_model.specs.Messages.request.Request.TheVariants as requests
+use Rattle.session_model.specs.Messages.reply.Reply.TheVariants as replies
+use Rattle.session_model.specs.UserDedup.Cloud.{strings_in}
+use Rattle.session_model.specs.UserDedup.Exec.{Peer}
+use Rattle.session_model.proofs.UserDedup.Owned.{contains_cases, contains_nothing}
+use Rattle.session_model.specs.UploadJob.Upload.{FileVersion, shares_for}
+use Rattle.session_model.specs.LaneSteps.Runs.{LaneTurn}
 use Rattle.session_model.specs.LocalLink.Calls.{no_commands}
-use Rattle.session.specs.declared.event.Event.{Event}
-use Rattle.session.specs.declared.event.Event.TheVariants as events
-use Rattle.session.specs.Spelling.{IsUpload}
-use Rattle.transcript.specs.declared.line.Line.{Line}
-use Rattle.transcript.specs.declared.line.Line.TheVariants as lines
-use Rattle.transcript.specs.declared.news.News.TheVariants as news
-use Rattle.session_model.specs.Vault.{Setting, Vault, Executes, new_job, opening}
+use Rattle.session_model.specs.Session.event.Event.{Event}
+use Rattle.session_model.specs.Session.event.Event.TheVariants as events
+use Rattle.session_model.specs.Session.Spelling.{IsUpload}
+use Rattle.session_model.specs.Transcript.line.Line.{Line}
+use Rattle.session_model.specs.Transcript.line.Line.TheVariants as lines
+use Rattle.session_model.specs.Transcript.news.News.TheVariants as news
+use Rattle.session_model.specs.Vault.{Setting, Vault, HasVaultExecuted, new_job, opening}
 use Rattle.session_model.specs.Steps.{Moment, quiet, moment_of, cloud_no, version_of, RestartStep}
 use Rattle.session_model.specs.Run.{Answered}
 use Rattle.session_model.specs.Kept.{IsDispersed}
@@ -93,7 +93,7 @@ module _ (v : Vault) where
 abbrev shape : Shape
 shape = record { n = 4; k = 3; several = omega arith; spare = omega arith; few = omega arith }
 
-module _ (rooms : Rooms) (clouds : ℕ → Cloud) (fresh : MayStand shape clouds) where
+module _ (rooms : UserRooms) (clouds : ℕ → Cloud) (fresh : MayStand shape clouds) where
   abbrev all_told : Setting
   all_told = record { shape = shape; rooms = rooms; told = λ c. true }
 
@@ -109,7 +109,7 @@ module _ (rooms : Rooms) (clouds : ℕ → Cloud) (fresh : MayStand shape clouds
   abbrev after_two : Vault
   after_two = record { peers = begun; jobs = new_job all_told (empty_file seven) ∷ new_job all_told (empty_file eight) ∷ [] }
 
-  abbrev listing : Turn (ℕ → Peer)
+  abbrev listing : LaneTurn (ℕ → Peer)
   listing = record { before = begun; request = requests.List seven None; reply = replies.Entries [] }
 
   abbrev calm_history : List Answered
@@ -123,7 +123,7 @@ module _ (rooms : Rooms) (clouds : ℕ → Cloud) (fresh : MayStand shape clouds
   abbrev calm_session : Session
   calm_session = record { setting = all_told; opened = true; history = calm_history; between = after_two; begun = None; last = begun }
 
-  listed : Executes all_told 0 begun (requests.List seven None) (replies.Entries []) begun
+  listed : HasVaultExecuted all_told 0 begun (requests.List seven None) (replies.Entries []) begun
   listed = record {
     does = record {
       counts = record { faults = omega arith; armings = refl };

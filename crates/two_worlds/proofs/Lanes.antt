@@ -5,21 +5,21 @@ use Rattle.std.specs.List.{Contains}
 use Rattle.std.proofs.lemmas.Bool.{eqb-true}
 use Rattle.std.proofs.lemmas.List.{map-append}
 use Rattle.std.proofs.lemmas.List.Elements.{Contains-append_left, Contains-append_right}
-use Rattle.cd_base.specs.declared.ids.UserId.{UserId}
-use Rattle.cd_edges.specs.Disk.{Cloud}
-use Rattle.messages.specs.declared.request.Request.{Request}
-use Rattle.user_dedup.specs.Requests.{asker}
-use Rattle.user_dedup.specs.Exec.{Peer}
-use Rattle.user_dedup.proofs.Owned.{contains_here, contains_later}
-use Rattle.upload_job.specs.declared.news.LaneNews.{LaneNews}
-use Rattle.upload_job.specs.Upload.{FileVersion, Work}
-use Rattle.upload_job.specs.Lane.{news_of}
-use Rattle.upload_job.specs.Lanes.{LaneView, with_state}
-use Rattle.upload_job.specs.Lanes as lanes
-use Rattle.session_model.specs.LaneSteps.Runs.{Turn, Progress, LaneRun, Tell, starting, lane_at, moved, request_of}
-use Rattle.transcript.specs.declared.line.Line.{Line}
-use Rattle.transcript.specs.declared.line.Line.TheVariants as lines
-use Rattle.session_model.specs.Vault.{Setting, JobState, Vault, Executes, lanes_of, with_lanes}
+use Rattle.recipe.specs.CdBase.ids.UserId.{UserId}
+use Rattle.session_model.specs.CdEdges.Disk.{Cloud}
+use Rattle.session_model.specs.Messages.request.Request.{Request}
+use Rattle.session_model.specs.UserDedup.Requests.{asker}
+use Rattle.session_model.specs.UserDedup.Exec.{Peer}
+use Rattle.session_model.proofs.UserDedup.Owned.{contains_here, contains_later}
+use Rattle.session_model.specs.UploadJob.news.LaneNews.{LaneNews}
+use Rattle.session_model.specs.UploadJob.Upload.{FileVersion, Work}
+use Rattle.session_model.specs.UploadJob.Lane.{news_of}
+use Rattle.session_model.specs.UploadJob.Lanes.{LaneView, with_state}
+use Rattle.session_model.specs.UploadJob.Lanes as lanes
+use Rattle.session_model.specs.LaneSteps.Runs.{LaneTurn, Progress, LaneRun, Tell, starting, lane_at, moved, request_of}
+use Rattle.session_model.specs.Transcript.line.Line.{Line}
+use Rattle.session_model.specs.Transcript.line.Line.TheVariants as lines
+use Rattle.session_model.specs.Vault.{Setting, JobState, Vault, HasVaultExecuted, lanes_of, with_lanes}
 use Rattle.session_model.specs.Steps.{Moment, executed, moment_of, LaneStep, DropStep, FinishLanes, stored_line, all_done, step_line}
 use Rattle.two_worlds.specs.Worlds.{is_own_place, is_own_job, own_job, own_line}
 use Rattle.session_model.proofs.Jobs.{Brings, versions, job_of, work_at, asks_at, lane_moved}
@@ -174,8 +174,8 @@ module _ (s : Setting) (u : UserId) (k : ℕ → Cloud) (In : ℕ → List ℕ �
       (still_last s.shape.n old.peers f.3.peers new.peers one still)
 
   -- a lane's user, whether it asks or not
-  run_user : (jobs : List JobState) (job cloud : ℕ) (v : FileVersion) → Brings s.shape jobs vs → slice_get vs (job - 1) ≡ Some v → (old : ℕ → Peer) (turns : List (Turn (ℕ → Peer))) (last : Progress) (new : ℕ → Peer)
-      → LaneRun (Executes s cloud) (starting (lane_at (lanes_of jobs job) cloud)) old turns last new
+  run_user : (jobs : List JobState) (job cloud : ℕ) (v : FileVersion) → Brings s.shape jobs vs → slice_get vs (job - 1) ≡ Some v → (old : ℕ → Peer) (turns : List (LaneTurn (ℕ → Peer))) (last : Progress) (new : ℕ → Peer)
+      → LaneRun (HasVaultExecuted s cloud) (starting (lane_at (lanes_of jobs job) cloud)) old turns last new
       → (turns ≡ []) ⊎ ((lane_at (lanes_of jobs job) cloud).work.user ≡ v.user)
   run_user jobs job cloud v brings at old [] last new run = inl refl
   run_user jobs job cloud v brings at old (t ∷ turns) last new run = inr (lane_user jobs job cloud v brings at t.request (asks_back (lanes_of jobs job) cloud t.request run.2))
@@ -202,7 +202,7 @@ module _ (s : Setting) (u : UserId) (k : ℕ → Cloud) (In : ℕ → List ℕ �
       (lane_moved s.shape old.jobs f.3.jobs job cloud f.1.lane.state f.4 vs f.9 f.10 brings)
       ∙ both
     where
-      no_turns : (p : Progress) (cloud : ℕ) (old : ℕ → Peer) (turns : List (Turn (ℕ → Peer))) (last : Progress) (new : ℕ → Peer) → turns ≡ [] → LaneRun (Executes s cloud) p old turns last new
+      no_turns : (p : Progress) (cloud : ℕ) (old : ℕ → Peer) (turns : List (LaneTurn (ℕ → Peer))) (last : Progress) (new : ℕ → Peer) → turns ≡ [] → LaneRun (HasVaultExecuted s cloud) p old turns last new
           → own_peers u k new ≡ own_peers u k old
       no_turns p cloud old [] last new none run = ap (own_peers u k) run.2
       no_turns p cloud old (t ∷ turns) last new none run = absurd (let no : t ∷ turns ≡ [] = none in cc)
@@ -232,7 +232,7 @@ module _ (s : Setting) (u : UserId) (k : ℕ → Cloud) (In : ℕ → List ℕ �
         f.4,
         map (own_line u vs) f.5,
         map (own_moment u k) f.6,
-        subst (λ (views : List LaneView). LaneRun (Executes s cloud) (starting (lane_at views cloud)) (own_peers u k old.peers) (map (own_turn u k) f.0) f.1 (own_peers u k f.3.peers)) (sym e) run,
+        subst (λ (views : List LaneView). LaneRun (HasVaultExecuted s cloud) (starting (lane_at views cloud)) (own_peers u k old.peers) (map (own_turn u k) f.0) f.1 (own_peers u k f.3.peers)) (sym e) run,
         subst (λ (views : List LaneView). Tell (lane_at views cloud) (map (own_turn u k) f.0) f.2) (sym e) (own_tell u k (lane_at (lanes_of old.jobs job) cloud) f.0 f.2 f.8),
         f.9 ∙ ap (λ (views : List LaneView). with_state views cloud f.1.lane.state) (sym e),
         ap (own_jobs u) f.10 ∙ own_with_by u vs old.jobs job f.4 brings.those own,
@@ -252,9 +252,9 @@ module _ (s : Setting) (u : UserId) (k : ℕ → Cloud) (In : ℕ → List ℕ �
             (lane_moved s.shape old.jobs f.3.jobs job cloud f.1.lane.state f.4 vs f.9 f.10 brings) known_rest,
       )
     where
-      by_user : (p : Progress) (cloud : ℕ) → cloud < s.shape.n → (old : ℕ → Peer) (turns : List (Turn (ℕ → Peer))) (last : Progress) (new : ℕ → Peer) → LaneRun (Executes s cloud) p old turns last new
+      by_user : (p : Progress) (cloud : ℕ) → cloud < s.shape.n → (old : ℕ → Peer) (turns : List (LaneTurn (ℕ → Peer))) (last : Progress) (new : ℕ → Peer) → LaneRun (HasVaultExecuted s cloud) p old turns last new
           → CalmPeers s u k In old → Still s.shape.n old new → Known In (map (moment_of cloud) turns) → (turns ≡ []) ⊎ (p.lane.work.user ≡ u)
-          → LaneRun (Executes s cloud) p (own_peers u k old) (map (own_turn u k) turns) last (own_peers u k new)
+          → LaneRun (HasVaultExecuted s cloud) p (own_peers u k old) (map (own_turn u k) turns) last (own_peers u k new)
       by_user p cloud here old turns last new run calm still known (inr same) = own_run s u k In prem cloud here p old turns last new run calm still same known
       by_user p cloud here old [] last new run calm still known (inl none) = (run.0, run.1, ap (own_peers u k) run.2)
       by_user p cloud here old (t ∷ turns) last new run calm still known (inl none) = absurd (let no : t ∷ turns ≡ [] = none in cc)

@@ -6,29 +6,29 @@ use Rattle.std.specs.List.{Contains, range_with_len}
 use Rattle.std.proofs.lemmas.Bool.{cases_eq, eqb-true}
 use Rattle.std.proofs.lemmas.List.{map-append}
 use Rattle.std.proofs.lemmas.List.Elements.{filter-append}
-use Rattle.cd_base.specs.declared.ids.CloudNo.{CloudNo}
-use Rattle.cd_base.specs.declared.ids.UserId.{UserId}
-use Rattle.cd_base.specs.declared.ids.Version.{Version}
-use Rattle.cd_edges.specs.Causes.{Rose}
-use Rattle.cd_edges.specs.Disk.{Cloud}
-use Rattle.half_journal.specs.declared.errors.OpenErr.{OpenErr}
-use Rattle.half_journal.specs.declared.errors.OpenErr.TheVariants as errors
-use Rattle.messages.specs.declared.request.Request.{Request}
-use Rattle.user_dedup.specs.declared.command.Command.{Command}
-use Rattle.user_dedup.specs.Cloud.{commands_of, user_view}
-use Rattle.user_dedup.specs.Exec.{Peer, Settles}
-use Rattle.user_dedup.proofs.Owned.{contains_cases, contains_nothing}
+use Rattle.recipe.specs.CdBase.ids.CloudNo.{CloudNo}
+use Rattle.recipe.specs.CdBase.ids.UserId.{UserId}
+use Rattle.recipe.specs.CdBase.ids.Version.{Version}
+use Rattle.session_model.specs.CdEdges.Causes.{Rose}
+use Rattle.session_model.specs.CdEdges.Disk.{Cloud}
+use Rattle.session_model.specs.HalfJournal.errors.OpenErr.{OpenErr}
+use Rattle.session_model.specs.HalfJournal.errors.OpenErr.TheVariants as errors
+use Rattle.session_model.specs.Messages.request.Request.{Request}
+use Rattle.session_model.specs.UserDedup.command.Command.{Command}
+use Rattle.session_model.specs.UserDedup.Cloud.{commands_of, user_view}
+use Rattle.session_model.specs.UserDedup.Exec.{Peer, Settles}
+use Rattle.session_model.proofs.UserDedup.Owned.{contains_cases, contains_nothing}
 use Rattle.two_worlds.proofs.Rules.{EntriesOwned, none_owned}
-use Rattle.user_dedup.specs.Cloud.{counted}
+use Rattle.session_model.specs.UserDedup.Cloud.{counted}
 use Rattle.session_model.specs.CloudServer.Serving.{ReopensAs}
-use Rattle.upload_job.specs.Upload.{FileVersion}
-use Rattle.upload_job.specs.Lanes.{LaneView}
-use Rattle.upload_job.specs.Lanes as lanes
-use Rattle.session.specs.declared.event.Event.{Event}
-use Rattle.session.specs.declared.event.Event.TheVariants as events
-use Rattle.session.specs.Spelling.{Fits}
-use Rattle.transcript.specs.declared.line.Line.{Line}
-use Rattle.transcript.specs.declared.line.Line.TheVariants as lines
+use Rattle.session_model.specs.UploadJob.Upload.{FileVersion}
+use Rattle.session_model.specs.UploadJob.Lanes.{LaneView}
+use Rattle.session_model.specs.UploadJob.Lanes as lanes
+use Rattle.session_model.specs.Session.event.Event.{Event}
+use Rattle.session_model.specs.Session.event.Event.TheVariants as events
+use Rattle.session_model.specs.Session.Spelling.{Fits}
+use Rattle.session_model.specs.Transcript.line.Line.{Line}
+use Rattle.session_model.specs.Transcript.line.Line.TheVariants as lines
 use Rattle.session_model.specs.Vault.{Setting, JobState, Vault, OneGoes, new_job, lanes_of}
 use Rattle.session_model.specs.Steps.{Moment, cloud_no, version_of, LaneStep, DropStep, lose_lines, RestartStep, IsReplaceLine, ReplaceStep, ReopensUntold, VStep, all_done}
 use Rattle.two_worlds.specs.Worlds.{own_versions, own_place, is_own_job, own_job, is_own, names_none, is_arm, own_event, own_line}

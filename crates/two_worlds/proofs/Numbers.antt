@@ -1,10 +1,10 @@
 -- The jobs of one user among those of all: their places, their numbers, and their lanes.
 use Rattle.std.proofs.Common.{◌≡◌, ℕ, zero, suc, ◌+◌, ◌-◌, ◌<◌, ◌≤◌, Bool, true, false, cond, List, [], ◌∷◌, length, map, filter, take, refl, sym, ap, ◌∙◌, subst, arith}
-use Rattle.cd_base.specs.declared.ids.UserId.{UserId}
-use Rattle.upload_job.specs.Upload.{FileVersion}
-use Rattle.upload_job.specs.Lanes.{LaneView}
-use Rattle.transcript.specs.declared.line.Line.{Line}
-use Rattle.transcript.specs.declared.line.Line.TheVariants as lines
+use Rattle.recipe.specs.CdBase.ids.UserId.{UserId}
+use Rattle.session_model.specs.UploadJob.Upload.{FileVersion}
+use Rattle.session_model.specs.UploadJob.Lanes.{LaneView}
+use Rattle.session_model.specs.Transcript.line.Line.{Line}
+use Rattle.session_model.specs.Transcript.line.Line.TheVariants as lines
 use Rattle.session_model.specs.Vault.{JobState, lanes_at, with_lanes_at, lanes_of, with_lanes}
 use Rattle.two_worlds.specs.Worlds.{is_version_of, own_versions, is_own_place, own_place, is_own_job, own_job, own_line}
 use Rattle.session_model.proofs.Jobs.{versions}

@@ -4,34 +4,34 @@ use Rattle.std.specs.Prelude.{All, IsTrue, slice_get}
 use Rattle.std.specs.List.{Contains}
 use Rattle.std.proofs.lemmas.Bool.{cases_eq, cases_lt}
 use Rattle.std.proofs.lemmas.List.Elements.{All-contains}
-use Rattle.cd_base.specs.declared.ids.Tag.{Tag}
-use Rattle.cd_base.specs.declared.ids.UserId.{UserId}
-use Rattle.cd_base.specs.declared.ids.Version.{Version}
-use Rattle.cd_edges.specs.Causes.{Rose}
-use Rattle.message_fields.specs.Keys.{key_limit}
-use Rattle.messages.specs.declared.request.Request.{Request}
-use Rattle.messages.specs.declared.reply.Reply.{Reply}
-use Rattle.messages.specs.declared.reply.Reply.TheVariants as replies
-use Rattle.user_dedup.specs.Exec.{Peer}
-use Rattle.user_dedup.proofs.Owned.{contains_here, contains_later}
-use Rattle.upload_job.specs.declared.news.LaneNews.{LaneNews}
-use Rattle.upload_job.specs.Lane.{news_of}
-use Rattle.upload_job.specs.Lanes.{LaneView, with_state}
-use Rattle.session_model.specs.LaneSteps.Runs.{Turn, Progress, LaneRun, Tell, starting, lane_at, moved, request_of, progress_after}
-use Rattle.restore_job.specs.declared.error.RestoreErr.{RestoreErr}
-use Rattle.restore_job.specs.declared.error.RestoreErr.TheVariants as errors
-use Rattle.restore_job.specs.Asking.{OnlyRead, is_lost}
-use Rattle.restore_job.specs.Reading.{Ends}
-use Rattle.restore_job.specs.Restored
-use Rattle.restore_job.specs.Restored.{Unrestored}
-use Rattle.caont_rs.specs.declared.opening.RecoverErr.TheVariants as opening
+use Rattle.recipe.specs.CdBase.ids.Tag.{Tag}
+use Rattle.recipe.specs.CdBase.ids.UserId.{UserId}
+use Rattle.recipe.specs.CdBase.ids.Version.{Version}
+use Rattle.session_model.specs.CdEdges.Causes.{Rose}
+use Rattle.session_model.specs.MessageFields.Keys.{key_limit}
+use Rattle.session_model.specs.Messages.request.Request.{Request}
+use Rattle.session_model.specs.Messages.reply.Reply.{Reply}
+use Rattle.session_model.specs.Messages.reply.Reply.TheVariants as replies
+use Rattle.session_model.specs.UserDedup.Exec.{Peer}
+use Rattle.session_model.proofs.UserDedup.Owned.{contains_here, contains_later}
+use Rattle.session_model.specs.UploadJob.news.LaneNews.{LaneNews}
+use Rattle.session_model.specs.UploadJob.Lane.{news_of}
+use Rattle.session_model.specs.UploadJob.Lanes.{LaneView, with_state}
+use Rattle.session_model.specs.LaneSteps.Runs.{LaneTurn, Progress, LaneRun, Tell, starting, lane_at, moved, request_of, progress_after}
+use Rattle.session_model.specs.RestoreJob.error.RestoreErr.{RestoreErr}
+use Rattle.session_model.specs.RestoreJob.error.RestoreErr.TheVariants as errors
+use Rattle.session_model.specs.RestoreJob.Asking.{AreOnlyAsked, is_lost}
+use Rattle.session_model.specs.RestoreJob.Reading.{Ends}
+use Rattle.session_model.specs.RestoreJob.Restored
+use Rattle.session_model.specs.RestoreJob.Restored.{Unrestored}
+use Rattle.session_model.specs.CaontRs.opening.RecoverErr.TheVariants as opening
 use Rattle.session_model.specs.SubsetRestore.Ends.{any_outcome}
 use Rattle.session_model.specs.SubsetRestore.Going.{sought}
-use Rattle.transcript.specs.declared.refusal.Refusal.{Refusal}
-use Rattle.transcript.specs.declared.refusal.Refusal.TheVariants as refusals
-use Rattle.transcript.specs.declared.line.Line.{Line}
-use Rattle.transcript.specs.declared.line.Line.TheVariants as lines
-use Rattle.session_model.specs.Vault.{Setting, Vault, Executes, lanes_of, with_lanes, served_at, with_peer}
+use Rattle.session_model.specs.Transcript.refusal.Refusal.{Refusal}
+use Rattle.session_model.specs.Transcript.refusal.Refusal.TheVariants as refusals
+use Rattle.session_model.specs.Transcript.line.Line.{Line}
+use Rattle.session_model.specs.Transcript.line.Line.TheVariants as lines
+use Rattle.session_model.specs.Vault.{Setting, Vault, HasVaultExecuted, lanes_of, with_lanes, served_at, with_peer}
 use Rattle.session_model.specs.Steps.{Moment, executed, moment_of, cloud_no, step_line, stored_line, LaneStep, DropStep, FinishLanes, IsGetLine, GetStep, EndsListing, behind_page, ListRun}
 use Rattle.session_model.proofs.With.{with_here, with_other}
 use Rattle.two_worlds.proofs.Peers.{Plain, plain, peer_after, exec_told, read_same}
@@ -55,7 +55,7 @@ module _ {S : Type 0} (next : S → Request → S) (said : S → Request → Rep
   goes_on p request off asks (inl on) = let no : false ≡ true = sym off ∙ on in cc
   goes_on p request off asks (inr none) = let no : None ≡ Some request = sym none ∙ asks in cc
 
-  pub run_once : (p : Progress) (old : S) (t1 t2 : List (Turn S)) (l1 l2 : Progress) (n1 n2 : S) → LaneRun Does p old t1 l1 n1 → LaneRun Does p old t2 l2 n2 → (t1 ≡ t2) × (l1 ≡ l2) × (n1 ≡ n2)
+  pub run_once : (p : Progress) (old : S) (t1 t2 : List (LaneTurn S)) (l1 l2 : Progress) (n1 n2 : S) → LaneRun Does p old t1 l1 n1 → LaneRun Does p old t2 l2 n2 → (t1 ≡ t2) × (l1 ≡ l2) × (n1 ≡ n2)
   run_once p old [] [] l1 l2 n1 n2 x y = (refl, x.1 ∙ sym y.1, x.2 ∙ sym y.2)
   run_once p old [] (t ∷ t2) l1 l2 n1 n2 x y = absurd (goes_on p t.request y.0 y.2 x.0)
   run_once p old (t ∷ t1) [] l1 l2 n1 n2 x y = absurd (goes_on p t.request x.0 x.2 y.0)
@@ -68,7 +68,7 @@ module _ {S : Type 0} (next : S → Request → S) (said : S → Request → Rep
       (subst (λ (q : S). LaneRun Does (progress_after p t.reply) q t2 l2 n2) (sym mid) (subst (λ (r : Reply). LaneRun Does (progress_after p r) y.3.0 t2 l2 n2) (sym reply) y.3.2)) in
       ((λ i. record { before = before i; request = request i; reply = reply i } ∷ rest.0 i), rest.1, rest.2)
 
-pub tell_once : {S : Type 0} (lane : LaneView) (turns : List (Turn S)) (one two : List LaneNews) → Tell lane turns one → Tell lane turns two → one ≡ two
+pub tell_once : {S : Type 0} (lane : LaneView) (turns : List (LaneTurn S)) (one two : List LaneNews) → Tell lane turns one → Tell lane turns two → one ≡ two
 tell_once lane [] one two x y = x ∙ sym y
 tell_once lane (t ∷ turns) one two x y =
     let head = some_same x.0 y.0 (sym x.2 ∙ y.2) in
@@ -85,13 +85,13 @@ module _ (s : Setting) (told : (c : ℕ) → c < s.shape.n → s.told c ≡ true
     abbrev said_at : (ℕ → Peer) → Request → Reply
     said_at old request = (served_at s cloud (old cloud).list request).reply
 
-    plainly : (old new : ℕ → Peer) (request : Request) (reply : Reply) → Rested old → (Rose (old cloud).faults (new cloud).faults → ⊥) → Executes s cloud old request reply new
+    plainly : (old new : ℕ → Peer) (request : Request) (reply : Reply) → Rested old → (Rose (old cloud).faults (new cloud).faults → ⊥) → HasVaultExecuted s cloud old request reply new
         → Plain (served_at s cloud) (old cloud) request reply (new cloud)
     plainly old new request reply rested still x =
         plain s.shape (served_at s cloud) (old cloud) request reply (new cloud) (rested cloud) still
         (exec_told s.shape (s.told cloud) (served_at s cloud) (old cloud) request reply (new cloud) (told cloud below) x.does)
 
-    pub executes_so : (old new : ℕ → Peer) (request : Request) (reply : Reply) → Rested old → Still s.shape.n old new → Executes s cloud old request reply new → Does next_at said_at old request reply new
+    pub executes_so : (old new : ℕ → Peer) (request : Request) (reply : Reply) → Rested old → Still s.shape.n old new → HasVaultExecuted s cloud old request reply new → Does next_at said_at old request reply new
     executes_so old new request reply rested still x =
         let p = plainly old new request reply rested (still cloud below) x in (p.reply_is, (λ i c. at c i))
       where
@@ -102,21 +102,21 @@ module _ (s : Setting) (told : (c : ℕ) → c < s.shape.n → s.told c ≡ true
           | inr ne ↦ x.others c ne ∙ sym (with_other old cloud (peer_after (served_at s cloud) (old cloud) request) c ne)
         ]
 
-    pub rested_executes : (old new : ℕ → Peer) (request : Request) (reply : Reply) → Rested old → Still s.shape.n old new → Executes s cloud old request reply new → Rested new
+    pub rested_executes : (old new : ℕ → Peer) (request : Request) (reply : Reply) → Rested old → Still s.shape.n old new → HasVaultExecuted s cloud old request reply new → Rested new
     rested_executes old new request reply rested still x c = elim (cases_eq c cloud) [
       | inl same ↦ subst (λ (d : ℕ). (new d).pending ≡ None) (sym same) (ap (λ (q : Peer). q.pending) (plainly old new request reply rested (still cloud below) x).after)
       | inr ne ↦ ap (λ (q : Peer). q.pending) (x.others c ne) ∙ rested c
     ]
 
     pub executes_once : (old one two : ℕ → Peer) (request : Request) (r1 r2 : Reply) → Rested old → Still s.shape.n old one → Still s.shape.n old two
-        → Executes s cloud old request r1 one → Executes s cloud old request r2 two → (r1 ≡ r2) × (one ≡ two)
+        → HasVaultExecuted s cloud old request r1 one → HasVaultExecuted s cloud old request r2 two → (r1 ≡ r2) × (one ≡ two)
     executes_once old one two request r1 r2 rested still1 still2 x y =
         let p = executes_so old one request r1 rested still1 x in
         let q = executes_so old two request r2 rested still2 y in
         (p.0 ∙ sym q.0, p.1 ∙ sym q.1)
 
-    run_so : (p : Progress) (old : ℕ → Peer) (turns : List (Turn (ℕ → Peer))) (last : Progress) (new : ℕ → Peer) → Rested old → Still s.shape.n old new
-        → LaneRun (Executes s cloud) p old turns last new → LaneRun (Does next_at said_at) p old turns last new
+    run_so : (p : Progress) (old : ℕ → Peer) (turns : List (LaneTurn (ℕ → Peer))) (last : Progress) (new : ℕ → Peer) → Rested old → Still s.shape.n old new
+        → LaneRun (HasVaultExecuted s cloud) p old turns last new → LaneRun (Does next_at said_at) p old turns last new
     run_so p old [] last new rested still run = run
     run_so p old (t ∷ turns) last new rested still run =
         let one = executes_up s cloud old run.3.0 t.request t.reply run.3.1 in
@@ -132,8 +132,8 @@ module _ (s : Setting) (told : (c : ℕ) → c < s.shape.n → s.told c ≡ true
           ),
         )
 
-    rested_run : (p : Progress) (old : ℕ → Peer) (turns : List (Turn (ℕ → Peer))) (last : Progress) (new : ℕ → Peer) → Rested old → Still s.shape.n old new
-        → LaneRun (Executes s cloud) p old turns last new → Rested new
+    rested_run : (p : Progress) (old : ℕ → Peer) (turns : List (LaneTurn (ℕ → Peer))) (last : Progress) (new : ℕ → Peer) → Rested old → Still s.shape.n old new
+        → LaneRun (HasVaultExecuted s cloud) p old turns last new → Rested new
     rested_run p old [] last new rested still run = subst Rested (sym run.2) rested
     rested_run p old (t ∷ turns) last new rested still run =
         let one = executes_up s cloud old run.3.0 t.request t.reply run.3.1 in
@@ -201,7 +201,7 @@ module _ (s : Setting) (told : (c : ℕ) → c < s.shape.n → s.told c ≡ true
       let first2 = still_first s.shape.n old.peers y.3.peers n2.peers rest2 still2 in
       let same = run_once (next_at cloud here) (said_at cloud here) start old.peers x.0 y.0 x.1 y.1 x.3.peers y.3.peers
       (run_so cloud here start old.peers x.0 x.1 x.3.peers rested first1 x.7) (run_so cloud here start old.peers y.0 y.1 y.3.peers rested first2 y.7) in
-      let told_same = tell_once (lane_at views cloud) x.0 x.2 y.2 x.8 (subst (λ (t : List (Turn (ℕ → Peer))). Tell (lane_at views cloud) t y.2) (sym same.0) y.8) in
+      let told_same = tell_once (lane_at views cloud) x.0 x.2 y.2 x.8 (subst (λ (t : List (LaneTurn (ℕ → Peer))). Tell (lane_at views cloud) t y.2) (sym same.0) y.8) in
       let after = x.9 ∙ ap (λ (p : Progress). with_state views cloud p.lane.state) same.1 ∙ sym y.9 in
       let mid = vaults x.3 y.3 same.2 (x.10 ∙ ap (with_lanes old.jobs job) after ∙ sym y.10) in
       let one = run_up s cloud start old.peers x.0 x.1 x.3.peers x.7 in
@@ -245,7 +245,7 @@ module _ (s : Setting) (told : (c : ℕ) → c < s.shape.n → s.told c ≡ true
   full_page cloud page l x full = let less = x.0 in omega (arith, less, full)
 
   module _ (user : UserId) (cloud : ℕ) (below : cloud < s.shape.n) where
-    list_up : (above : Option (Tag × Version)) (old : ℕ → Peer) (turns : List (Turn (ℕ → Peer))) (listed : Result (List (Tag × Version)) Refusal) (new : ℕ → Peer)
+    list_up : (above : Option (Tag × Version)) (old : ℕ → Peer) (turns : List (LaneTurn (ℕ → Peer))) (listed : Result (List (Tag × Version)) Refusal) (new : ℕ → Peer)
         → ListRun s user cloud above old turns listed new → Up old new
     list_up above old [] listed new run = absurd run
     list_up above old (t ∷ turns) listed new run =
@@ -255,18 +255,18 @@ module _ (s : Setting) (told : (c : ℕ) → c < s.shape.n → s.told c ≡ true
           | inr x ↦ up_join old run.2.0 new one (list_up (slice_get x.0 (length x.0 - 1)) run.2.0 turns x.1 new x.5)
         ]
 
-    abbrev Behind : Reply → List (Turn (ℕ → Peer)) → (ℕ → Peer) → Result (List (Tag × Version)) Refusal → (ℕ → Peer) → Type 0
+    abbrev Behind : Reply → List (LaneTurn (ℕ → Peer)) → (ℕ → Peer) → Result (List (Tag × Version)) Refusal → (ℕ → Peer) → Type 0
     Behind reply turns mid listed new =
         (EndsListing cloud reply listed × (turns ≡ []) × (new ≡ mid))
         ⊎ ((page : List (Tag × Version)) × (rest : Result (List (Tag × Version)) Refusal)
         × (reply ≡ replies.Entries page) × (length page ≡ key_limit) × (listed ≡ behind_page page rest)
         × ListRun s user cloud (slice_get page (length page - 1)) mid turns rest new)
 
-    behind_up : (reply : Reply) (turns : List (Turn (ℕ → Peer))) (mid : ℕ → Peer) (listed : Result (List (Tag × Version)) Refusal) (new : ℕ → Peer) → Behind reply turns mid listed new → Up mid new
+    behind_up : (reply : Reply) (turns : List (LaneTurn (ℕ → Peer))) (mid : ℕ → Peer) (listed : Result (List (Tag × Version)) Refusal) (new : ℕ → Peer) → Behind reply turns mid listed new → Up mid new
     behind_up reply turns mid listed new (inl x) = up_same mid new x.2
     behind_up reply turns mid listed new (inr x) = list_up (slice_get x.0 (length x.0 - 1)) mid turns x.1 new x.5
 
-    pub list_once : (above : Option (Tag × Version)) (old : ℕ → Peer) (t1 t2 : List (Turn (ℕ → Peer))) (l1 l2 : Result (List (Tag × Version)) Refusal) (n1 n2 : ℕ → Peer)
+    pub list_once : (above : Option (Tag × Version)) (old : ℕ → Peer) (t1 t2 : List (LaneTurn (ℕ → Peer))) (l1 l2 : Result (List (Tag × Version)) Refusal) (n1 n2 : ℕ → Peer)
         → Rested old → Still s.shape.n old n1 → Still s.shape.n old n2 → ListRun s user cloud above old t1 l1 n1 → ListRun s user cloud above old t2 l2 n2
         → (t1 ≡ t2) × (l1 ≡ l2) × (n1 ≡ n2) × Rested n1
     list_once above old [] t2 l1 l2 n1 n2 rested still1 still2 x y = absurd x
@@ -278,7 +278,7 @@ module _ (s : Setting) (told : (c : ℕ) → c < s.shape.n → s.told c ≡ true
         let first1 = still_first s.shape.n old x.2.0 n1 up1 still1 in
         let first2 = still_first s.shape.n old y.2.0 n2 up2 still2 in
         let same = executes_once cloud below old x.2.0 y.2.0 t.request t.reply v.reply rested first1 first2 x.2.1
-        (subst (λ (r : Request). Executes s cloud old r v.reply y.2.0) (sym request) y.2.1) in
+        (subst (λ (r : Request). HasVaultExecuted s cloud old r v.reply y.2.0) (sym request) y.2.1) in
         let one = executes_up s cloud old x.2.0 t.request t.reply x.2.1 in
         let two = executes_up s cloud old y.2.0 v.request v.reply y.2.1 in
         let there = rested_executes cloud below old x.2.0 t.request t.reply rested first1 x.2.1 in
@@ -339,7 +339,7 @@ module _ (s : Setting) (told : (c : ℕ) → c < s.shape.n → s.told c ≡ true
   get_line o clouds (Err (errors.BadShare cloud secret a b)) file line peers is found still within e = absurd e
   get_line o clouds (Err errors.NoMemory) file line peers is found still within e = absurd (let no : None ≡ Some is.0 = is.1 in cc)
 
-  read_still : (clouds : List ℕ) → All (λ cloud. cloud < s.shape.n) clouds → (old new : ℕ → Peer) → Rested old → Still s.shape.n old new → OnlyRead clouds old new → new ≡ old
+  read_still : (clouds : List ℕ) → All (λ cloud. cloud < s.shape.n) clouds → (old new : ℕ → Peer) → Rested old → Still s.shape.n old new → AreOnlyAsked clouds old new → new ≡ old
   read_still clouds within old new rested still read = λ i c. at c i
     where
       at : (c : ℕ) → new c ≡ old c

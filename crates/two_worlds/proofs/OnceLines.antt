@@ -4,26 +4,26 @@ use Rattle.std.specs.Prelude.{min}
 use Rattle.std.specs.Bool.{MatchBool}
 use Rattle.std.specs.List.{Contains, range_with_len}
 use Rattle.std.proofs.lemmas.Bool.{cases_eq}
-use Rattle.cd_base.specs.declared.ids.CloudNo.{CloudNo}
-use Rattle.cd_edges.specs.Causes.{Rose}
-use Rattle.half_journal.specs.declared.errors.OpenErr.{OpenErr}
-use Rattle.half_journal.specs.declared.errors.OpenErr.TheVariants as errors
-use Rattle.messages.specs.declared.request.Request.TheVariants as requests
-use Rattle.messages.specs.declared.reply.Reply.{Reply}
-use Rattle.messages.specs.declared.reply.Reply.TheVariants as replies
-use Rattle.user_dedup.specs.Exec.{Peer}
-use Rattle.user_dedup.proofs.Owned.{contains_cases, contains_nothing}
-use Rattle.user_dedup.specs.Cloud.{counted}
+use Rattle.recipe.specs.CdBase.ids.CloudNo.{CloudNo}
+use Rattle.session_model.specs.CdEdges.Causes.{Rose}
+use Rattle.session_model.specs.HalfJournal.errors.OpenErr.{OpenErr}
+use Rattle.session_model.specs.HalfJournal.errors.OpenErr.TheVariants as errors
+use Rattle.session_model.specs.Messages.request.Request.TheVariants as requests
+use Rattle.session_model.specs.Messages.reply.Reply.{Reply}
+use Rattle.session_model.specs.Messages.reply.Reply.TheVariants as replies
+use Rattle.session_model.specs.UserDedup.Exec.{Peer}
+use Rattle.session_model.proofs.UserDedup.Owned.{contains_cases, contains_nothing}
+use Rattle.session_model.specs.UserDedup.Cloud.{counted}
 use Rattle.session_model.specs.CloudServer.Serving.{ReopensAs}
 use Rattle.session_model.specs.LocalLink.Calls.{Armed}
 use Rattle.session_model.specs.KeptFiles.Kept.{key_of}
-use Rattle.upload_job.specs.Lanes as lanes
-use Rattle.session.specs.declared.event.Event.{Event}
-use Rattle.session.specs.declared.event.Event.TheVariants as events
-use Rattle.session.specs.Spelling.{Fits, AreClouds}
-use Rattle.session.specs.Scripts.{AreLines, jobs_after}
-use Rattle.transcript.specs.declared.line.Line.{Line}
-use Rattle.transcript.specs.declared.line.Line.TheVariants as lines
+use Rattle.session_model.specs.UploadJob.Lanes as lanes
+use Rattle.session_model.specs.Session.event.Event.{Event}
+use Rattle.session_model.specs.Session.event.Event.TheVariants as events
+use Rattle.session_model.specs.Session.Spelling.{Fits, AreClouds}
+use Rattle.session_model.specs.Session.Scripts.{AreLines, jobs_after}
+use Rattle.session_model.specs.Transcript.line.Line.{Line}
+use Rattle.session_model.specs.Transcript.line.Line.TheVariants as lines
 use Rattle.session_model.specs.Vault.{Setting, Vault, OneGoes, lanes_of}
 use Rattle.session_model.specs.Steps.{Moment, executed, moment_of, cloud_no, list_lines, IsRestartLine, ReopensUntold, RestartStep, IsReplaceLine, ReplaceStep, IsDeleteLine, VStep, all_done}
 use Rattle.session_model.specs.Run.{Answered, Turns, script_of}

@@ -3,23 +3,23 @@ use Rattle.std.proofs.Common.{◌≡◌, ◌≢◌, ℕ, ◌<◌, ◌≤◌, tru
 use Rattle.std.specs.Prelude.{IfSome}
 use Rattle.std.specs.List.{Contains}
 use Rattle.std.proofs.lemmas.Bool.{cases_eq, cases_lt}
-use Rattle.cd_base.specs.declared.ids.UserId.{UserId}
-use Rattle.cd_edges.specs.Causes.{Rose}
-use Rattle.cd_edges.specs.Disk.{Cloud}
-use Rattle.messages.specs.declared.request.Request.{Request}
-use Rattle.messages.specs.declared.request.Request.TheVariants as requests
-use Rattle.messages.specs.declared.reply.Reply.{Reply}
-use Rattle.user_dedup.specs.declared.command.Command.{Command}
-use Rattle.user_dedup.specs.Cloud.{fingerprint, strings_in}
-use Rattle.user_dedup.specs.Requests.{asker}
-use Rattle.user_dedup.specs.Exec.{Peer}
-use Rattle.user_dedup.proofs.Owned.{contains_here, contains_later, contains_nothing}
-use Rattle.upload_job.specs.declared.news.LaneNews.{LaneNews}
-use Rattle.upload_job.specs.Upload.{Work}
-use Rattle.upload_job.specs.Lane.{LaneState, Asking, Sending, Committing, Done, Refused, lane_request, unflagged}
-use Rattle.upload_job.specs.Lanes.{LaneView}
-use Rattle.session_model.specs.LaneSteps.Runs.{Turn, Progress, LaneRun, Tell, progress_after, moved}
-use Rattle.session_model.specs.Vault.{Setting, Vault, Executes, served_at}
+use Rattle.recipe.specs.CdBase.ids.UserId.{UserId}
+use Rattle.session_model.specs.CdEdges.Causes.{Rose}
+use Rattle.session_model.specs.CdEdges.Disk.{Cloud}
+use Rattle.session_model.specs.Messages.request.Request.{Request}
+use Rattle.session_model.specs.Messages.request.Request.TheVariants as requests
+use Rattle.session_model.specs.Messages.reply.Reply.{Reply}
+use Rattle.session_model.specs.UserDedup.command.Command.{Command}
+use Rattle.session_model.specs.UserDedup.Cloud.{fingerprint, strings_in}
+use Rattle.session_model.specs.UserDedup.Requests.{asker}
+use Rattle.session_model.specs.UserDedup.Exec.{Peer}
+use Rattle.session_model.proofs.UserDedup.Owned.{contains_here, contains_later, contains_nothing}
+use Rattle.session_model.specs.UploadJob.news.LaneNews.{LaneNews}
+use Rattle.session_model.specs.UploadJob.Upload.{Work}
+use Rattle.session_model.specs.UploadJob.Lane.{LaneState, Asking, Sending, Committing, Done, Refused, lane_request, unflagged}
+use Rattle.session_model.specs.UploadJob.Lanes.{LaneView}
+use Rattle.session_model.specs.LaneSteps.Runs.{LaneTurn, Progress, LaneRun, Tell, progress_after, moved}
+use Rattle.session_model.specs.Vault.{Setting, Vault, HasVaultExecuted, served_at}
 use Rattle.session_model.specs.Steps.{Moment, executed, moment_of}
 use Rattle.two_worlds.specs.Worlds.{sent_strings}
 use Rattle.two_worlds.proofs.Alone.{Apart, Among}
@@ -37,7 +37,7 @@ own_vault u k v = record { peers = own_peers u k v.peers; jobs = own_jobs u v.jo
 abbrev pub own_moment : UserId → (ℕ → Cloud) → Moment → Moment
 own_moment u k m = record { peers = own_peers u k m.peers; event = m.event }
 
-abbrev pub own_turn : UserId → (ℕ → Cloud) → Turn (ℕ → Peer) → Turn (ℕ → Peer)
+abbrev pub own_turn : UserId → (ℕ → Cloud) → LaneTurn (ℕ → Peer) → LaneTurn (ℕ → Peer)
 own_turn u k t = record { before = own_peers u k t.before; request = t.request; reply = t.reply }
 
 -- ---- counts that don't rise
@@ -70,13 +70,13 @@ pub up_same : (old new : ℕ → Peer) → new ≡ old → Up old new
 up_same old new e c = subst (λ (q : ℕ → Peer). (old c).faults ≤ (q c).faults) (sym e) (let same : (old c).faults ≤ (old c).faults = omega arith in same)
 
 module _ (s : Setting) where
-  pub executes_up : (cloud : ℕ) (old new : ℕ → Peer) (request : Request) (reply : Reply) → Executes s cloud old request reply new → Up old new
+  pub executes_up : (cloud : ℕ) (old new : ℕ → Peer) (request : Request) (reply : Reply) → HasVaultExecuted s cloud old request reply new → Up old new
   executes_up cloud old new request reply x c = elim (cases_eq c cloud) [
     | inl same ↦ subst (λ (d : ℕ). (old d).faults ≤ (new d).faults) (sym same) x.does.counts.faults
     | inr ne ↦ subst (λ (q : Peer). (old c).faults ≤ q.faults) (sym (x.others c ne)) (let same : (old c).faults ≤ (old c).faults = omega arith in same)
   ]
 
-  pub run_up : (cloud : ℕ) (p : Progress) (old : ℕ → Peer) (turns : List (Turn (ℕ → Peer))) (last : Progress) (new : ℕ → Peer) → LaneRun (Executes s cloud) p old turns last new → Up old new
+  pub run_up : (cloud : ℕ) (p : Progress) (old : ℕ → Peer) (turns : List (LaneTurn (ℕ → Peer))) (last : Progress) (new : ℕ → Peer) → LaneRun (HasVaultExecuted s cloud) p old turns last new → Up old new
   run_up cloud p old [] last new run = up_same old new run.2
   run_up cloud p old (t ∷ turns) last new run =
       up_join old run.3.0 new (executes_up cloud old run.3.0 t.request t.reply run.3.1) (run_up cloud (progress_after p t.reply) run.3.0 turns last new run.3.2)
@@ -128,13 +128,13 @@ module _ (s : Setting) (u : UserId) (k : ℕ → Cloud) (In : ℕ → List ℕ �
   ]
 
   module _ (prem : Premises) (cloud : ℕ) (below : cloud < s.shape.n) where
-    plain_executes : (old new : ℕ → Peer) (request : Request) (reply : Reply) → CalmPeers old → (Rose (old cloud).faults (new cloud).faults → ⊥) → Executes s cloud old request reply new
+    plain_executes : (old new : ℕ → Peer) (request : Request) (reply : Reply) → CalmPeers old → (Rose (old cloud).faults (new cloud).faults → ⊥) → HasVaultExecuted s cloud old request reply new
         → Plain (served_at s cloud) (old cloud) request reply (new cloud)
     plain_executes old new request reply calm still x =
         plain s.shape (served_at s cloud) (old cloud) request reply (new cloud) (calm.each cloud).pending still
         (exec_told s.shape (s.told cloud) (served_at s cloud) (old cloud) request reply (new cloud) (prem.told cloud below) x.does)
 
-    pub calm_executes : (old new : ℕ → Peer) (request : Request) (reply : Reply) → CalmPeers old → Still s.shape.n old new → Executes s cloud old request reply new → CalmPeers new
+    pub calm_executes : (old new : ℕ → Peer) (request : Request) (reply : Reply) → CalmPeers old → Still s.shape.n old new → HasVaultExecuted s cloud old request reply new → CalmPeers new
     calm_executes old new request reply calm still x = record {
       each = λ c. elim (cases_eq c cloud) [
         | inl same ↦ subst (λ (d : ℕ). IsCalmPeer s.shape u (new d)) (sym same)
@@ -144,7 +144,7 @@ module _ (s : Setting) (u : UserId) (k : ℕ → Cloud) (In : ℕ → List ℕ �
       beyond = λ c over. ap (λ (q : Peer). q.list) (x.others c (λ same. let e : c ≡ cloud = same in omega (arith, e, over, below))) ∙ calm.beyond c over;
     }
 
-    pub other_executes : (old new : ℕ → Peer) (request : Request) (reply : Reply) → CalmPeers old → Still s.shape.n old new → Executes s cloud old request reply new → (asker request).0 ≢ u.0
+    pub other_executes : (old new : ℕ → Peer) (request : Request) (reply : Reply) → CalmPeers old → Still s.shape.n old new → HasVaultExecuted s cloud old request reply new → (asker request).0 ≢ u.0
         → own_peers u k new ≡ own_peers u k old
     other_executes old new request reply calm still x other = λ i c. at c i
       where
@@ -155,8 +155,8 @@ module _ (s : Setting) (u : UserId) (k : ℕ → Cloud) (In : ℕ → List ℕ �
           | inr ne ↦ ap (own_peer u (k c)) (x.others c ne)
         ]
 
-    pub own_executes : (old new : ℕ → Peer) (request : Request) (reply : Reply) → CalmPeers old → Still s.shape.n old new → Executes s cloud old request reply new → asker request ≡ u
-        → KnownAt In (executed old cloud request reply) → Executes s cloud (own_peers u k old) request reply (own_peers u k new)
+    pub own_executes : (old new : ℕ → Peer) (request : Request) (reply : Reply) → CalmPeers old → Still s.shape.n old new → HasVaultExecuted s cloud old request reply new → asker request ≡ u
+        → KnownAt In (executed old cloud request reply) → HasVaultExecuted s cloud (own_peers u k old) request reply (own_peers u k new)
     own_executes old new request reply calm still x same known = record {
       does = as_exec s u (k cloud) cloud (own_peer u (k cloud) (old cloud)) request reply (own_peer u (k cloud) (new cloud)) (prem.told cloud below)
           (own_exec s u (k cloud) cloud (old cloud) request reply (new cloud) (plain_executes old new request reply calm (still cloud below) x) same apart) refl;
@@ -170,7 +170,7 @@ module _ (s : Setting) (u : UserId) (k : ℕ → Cloud) (In : ℕ → List ℕ �
         apart : Apart (Among (old cloud).list request)
         apart one other a b = prem.apart cloud below one other (among one a) (among other b)
 
-    pub calm_run : (p : Progress) (old : ℕ → Peer) (turns : List (Turn (ℕ → Peer))) (last : Progress) (new : ℕ → Peer) → LaneRun (Executes s cloud) p old turns last new
+    pub calm_run : (p : Progress) (old : ℕ → Peer) (turns : List (LaneTurn (ℕ → Peer))) (last : Progress) (new : ℕ → Peer) → LaneRun (HasVaultExecuted s cloud) p old turns last new
         → CalmPeers old → Still s.shape.n old new → CalmPeers new
     calm_run p old [] last new run calm still = subst CalmPeers (sym run.2) calm
     calm_run p old (t ∷ turns) last new run calm still =
@@ -180,7 +180,7 @@ module _ (s : Setting) (u : UserId) (k : ℕ → Cloud) (In : ℕ → List ℕ �
         (calm_executes old run.3.0 t.request t.reply calm (still_first s.shape.n old run.3.0 new rest still) run.3.1)
         (still_last s.shape.n old run.3.0 new one still)
 
-    pub other_run : (p : Progress) (old : ℕ → Peer) (turns : List (Turn (ℕ → Peer))) (last : Progress) (new : ℕ → Peer) → LaneRun (Executes s cloud) p old turns last new
+    pub other_run : (p : Progress) (old : ℕ → Peer) (turns : List (LaneTurn (ℕ → Peer))) (last : Progress) (new : ℕ → Peer) → LaneRun (HasVaultExecuted s cloud) p old turns last new
         → CalmPeers old → Still s.shape.n old new → p.lane.work.user.0 ≢ u.0 → own_peers u k new ≡ own_peers u k old
     other_run p old [] last new run calm still other = ap (own_peers u k) run.2
     other_run p old (t ∷ turns) last new run calm still other =
@@ -193,9 +193,9 @@ module _ (s : Setting) (u : UserId) (k : ℕ → Cloud) (In : ℕ → List ℕ �
         ∙ other_executes old run.3.0 t.request t.reply calm first run.3.1
         (λ same. other (sym (ap (λ (w : UserId). w.0) (lane_asker p.lane.work p.lane.state t.request run.2)) ∙ same))
 
-    pub own_run : (p : Progress) (old : ℕ → Peer) (turns : List (Turn (ℕ → Peer))) (last : Progress) (new : ℕ → Peer) → LaneRun (Executes s cloud) p old turns last new
+    pub own_run : (p : Progress) (old : ℕ → Peer) (turns : List (LaneTurn (ℕ → Peer))) (last : Progress) (new : ℕ → Peer) → LaneRun (HasVaultExecuted s cloud) p old turns last new
         → CalmPeers old → Still s.shape.n old new → p.lane.work.user ≡ u → Known In (map (moment_of cloud) turns)
-        → LaneRun (Executes s cloud) p (own_peers u k old) (map (own_turn u k) turns) last (own_peers u k new)
+        → LaneRun (HasVaultExecuted s cloud) p (own_peers u k old) (map (own_turn u k) turns) last (own_peers u k new)
     own_run p old [] last new run calm still same known = (run.0, run.1, ap (own_peers u k) run.2)
     own_run p old (t ∷ turns) last new run calm still same known =
         let rest = run_up s cloud (progress_after p t.reply) run.3.0 turns last new run.3.2 in
@@ -217,10 +217,10 @@ module _ (s : Setting) (u : UserId) (k : ℕ → Cloud) (In : ℕ → List ℕ �
 
 module _ (u : UserId) (k : ℕ → Cloud) where
   -- what turns tell
-  pub own_tell : (lane : LaneView) (turns : List (Turn (ℕ → Peer))) (news : List LaneNews) → Tell lane turns news → Tell lane (map (own_turn u k) turns) news
+  pub own_tell : (lane : LaneView) (turns : List (LaneTurn (ℕ → Peer))) (news : List LaneNews) → Tell lane turns news → Tell lane (map (own_turn u k) turns) news
   own_tell lane [] news x = x
   own_tell lane (t ∷ turns) news x = (x.0, x.1, x.2, own_tell (moved lane t.reply) turns x.1 x.3, x.4)
 
-  pub own_moments : (cloud : ℕ) (turns : List (Turn (ℕ → Peer))) → map (own_moment u k) (map (moment_of cloud) turns) ≡ map (moment_of cloud) (map (own_turn u k) turns)
+  pub own_moments : (cloud : ℕ) (turns : List (LaneTurn (ℕ → Peer))) → map (own_moment u k) (map (moment_of cloud) turns) ≡ map (moment_of cloud) (map (own_turn u k) turns)
   own_moments cloud [] = refl
   own_moments cloud (t ∷ turns) = ap (λ (l : List Moment). moment_of cloud (own_turn u k t) ∷ l) (own_moments cloud turns)

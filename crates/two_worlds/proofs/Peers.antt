@@ -3,20 +3,20 @@ use Rattle.std.proofs.Common.{◌≡◌, ◌≢◌, ℕ, ◌≤◌, Bool, true, 
 use Rattle.std.specs.Prelude.{option_to_list, IsSomeAnd}
 use Rattle.std.specs.Bool.{MatchBool}
 use Rattle.std.proofs.lemmas.Bool.{cases_eq}
-use Rattle.cd_base.specs.declared.ids.UserId.{UserId}
-use Rattle.cd_base.specs.declared.shape.Shape.{Shape}
-use Rattle.cd_edges.specs.Causes.{Rose}
-use Rattle.cd_edges.specs.Disk.{Cloud}
-use Rattle.messages.specs.declared.request.Request.{Request}
-use Rattle.messages.specs.declared.reply.Reply.{Reply}
-use Rattle.user_dedup.specs.declared.command.Command.{Command}
-use Rattle.user_dedup.specs.Cloud.{user_of, commands_of, user_view}
-use Rattle.user_dedup.specs.Requests.{asker}
-use Rattle.user_dedup.specs.Dedup.{Outcome}
-use Rattle.user_dedup.specs.Exec.{Peer, MaySettleAs, Settles, Stays, CountsOn, Exec, ExecTold, ExecUntold}
-use Rattle.user_dedup.proofs.Sound.{by_asker}
+use Rattle.recipe.specs.CdBase.ids.UserId.{UserId}
+use Rattle.recipe.specs.CdBase.shape.Shape.{Shape}
+use Rattle.session_model.specs.CdEdges.Causes.{Rose}
+use Rattle.session_model.specs.CdEdges.Disk.{Cloud}
+use Rattle.session_model.specs.Messages.request.Request.{Request}
+use Rattle.session_model.specs.Messages.reply.Reply.{Reply}
+use Rattle.session_model.specs.UserDedup.command.Command.{Command}
+use Rattle.session_model.specs.UserDedup.Cloud.{user_of, commands_of, user_view}
+use Rattle.session_model.specs.UserDedup.Requests.{asker}
+use Rattle.session_model.specs.UserDedup.Dedup.{Outcome}
+use Rattle.session_model.specs.UserDedup.Exec.{Peer, MaySettleAs, Settles, KeepsPeer, CountsOn, Exec, ExecTold, ExecUntold}
+use Rattle.session_model.proofs.UserDedup.Sound.{by_asker}
 use Rattle.two_worlds.proofs.Rules.{EntriesOwned, owned_more}
-use Rattle.restore_job.specs.Asking.{Reads, MayRead}
+use Rattle.session_model.specs.RestoreJob.Asking.{Reads, MayRead}
 use Rattle.session_model.specs.Vault.{Setting, served_at}
 use Rattle.two_worlds.proofs.Alone.{Apart, Among, served_alike, served_adds, own_behind, other_behind}
 
@@ -138,11 +138,11 @@ module _ (s : Setting) (u : UserId) (k : Cloud) (cloud : ℕ) where
 pub read_same : (p q : Peer) → p.pending ≡ None → (Rose p.faults q.faults → ⊥) → MayRead p q → q ≡ p
 read_same p q none still x = same_peer p q (lists x.0) (pendings x.0) (no_rise p.faults q.faults x.1.faults still) x.1.armings
   where
-    lists : Stays p q ⊎ Settles p q → q.list ≡ p.list
+    lists : KeepsPeer p q ⊎ Settles p q → q.list ≡ p.list
     lists (inl stays) = stays.list
     lists (inr settles) = settled_as p q.list none settles.list
 
-    pendings : Stays p q ⊎ Settles p q → q.pending ≡ p.pending
+    pendings : KeepsPeer p q ⊎ Settles p q → q.pending ≡ p.pending
     pendings (inl stays) = stays.pending
     pendings (inr settles) = settles.pending ∙ sym none
 

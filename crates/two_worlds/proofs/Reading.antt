@@ -4,34 +4,34 @@ use Rattle.std.specs.Prelude.{All, slice_get, IfErr}
 use Rattle.std.specs.List.{Contains}
 use Rattle.std.proofs.lemmas.Bool.{cases_lt}
 use Rattle.std.proofs.lemmas.List.Elements.{All-contains, Contains-get_or, Contains-append_left, Contains-append_right, Contains-append_cases}
-use Rattle.cd_base.specs.declared.ids.Tag.{Tag}
-use Rattle.cd_base.specs.declared.ids.UserId.{UserId}
-use Rattle.cd_base.specs.declared.ids.Version.{Version}
-use Rattle.cd_edges.specs.Causes.{Rose}
-use Rattle.cd_edges.specs.Disk.{Cloud}
-use Rattle.messages.specs.declared.request.Request.{Request}
-use Rattle.messages.specs.declared.request.Request.TheVariants as requests
-use Rattle.messages.specs.declared.reply.Reply.{Reply}
-use Rattle.messages.specs.declared.reply.Reply.TheVariants as replies
-use Rattle.user_dedup.specs.Cloud.{strings_in}
-use Rattle.user_dedup.specs.Requests.{asker}
-use Rattle.user_dedup.specs.Exec.{Peer}
-use Rattle.user_dedup.proofs.Owned.{contains_here, contains_later, contains_nothing, contains_cases}
-use Rattle.session_model.specs.LaneSteps.Runs.{Turn}
-use Rattle.restore_job.specs.declared.error.RestoreErr.{RestoreErr}
-use Rattle.restore_job.specs.declared.error.RestoreErr.TheVariants as errors
-use Rattle.restore_job.specs.Asking.{Reads, OnlyRead, AreRead, StoppedAt}
-use Rattle.restore_job.specs.Reading.{Ends, ReadsBy}
-use Rattle.restore_job.specs.Refusals.{Names, Causes}
-use Rattle.restore_job.specs.Restored.{Unrestored}
+use Rattle.recipe.specs.CdBase.ids.Tag.{Tag}
+use Rattle.recipe.specs.CdBase.ids.UserId.{UserId}
+use Rattle.recipe.specs.CdBase.ids.Version.{Version}
+use Rattle.session_model.specs.CdEdges.Causes.{Rose}
+use Rattle.session_model.specs.CdEdges.Disk.{Cloud}
+use Rattle.session_model.specs.Messages.request.Request.{Request}
+use Rattle.session_model.specs.Messages.request.Request.TheVariants as requests
+use Rattle.session_model.specs.Messages.reply.Reply.{Reply}
+use Rattle.session_model.specs.Messages.reply.Reply.TheVariants as replies
+use Rattle.session_model.specs.UserDedup.Cloud.{strings_in}
+use Rattle.session_model.specs.UserDedup.Requests.{asker}
+use Rattle.session_model.specs.UserDedup.Exec.{Peer}
+use Rattle.session_model.proofs.UserDedup.Owned.{contains_here, contains_later, contains_nothing, contains_cases}
+use Rattle.session_model.specs.LaneSteps.Runs.{LaneTurn}
+use Rattle.session_model.specs.RestoreJob.error.RestoreErr.{RestoreErr}
+use Rattle.session_model.specs.RestoreJob.error.RestoreErr.TheVariants as errors
+use Rattle.session_model.specs.RestoreJob.Asking.{Reads, AreOnlyAsked, AreRead, StoppedAt}
+use Rattle.session_model.specs.RestoreJob.Reading.{Ends, ReadsBy}
+use Rattle.session_model.specs.RestoreJob.Refusals.{Names, Causes}
+use Rattle.session_model.specs.RestoreJob.Restored.{Unrestored}
 use Rattle.session_model.specs.SubsetRestore.Ends.{outcome_of, any_outcome}
 use Rattle.session_model.specs.SubsetRestore.Going.{sought}
 use Rattle.session_model.specs.SubsetRestore.Subsets.{subsets}
 use Rattle.session_model.specs.KeptFiles.Kept.{key_of}
-use Rattle.transcript.specs.declared.refusal.Refusal.{Refusal}
-use Rattle.transcript.specs.declared.line.Line.{Line}
-use Rattle.transcript.specs.declared.line.Line.TheVariants as lines
-use Rattle.upload_job.specs.Upload.{FileVersion}
+use Rattle.session_model.specs.Transcript.refusal.Refusal.{Refusal}
+use Rattle.session_model.specs.Transcript.line.Line.{Line}
+use Rattle.session_model.specs.Transcript.line.Line.TheVariants as lines
+use Rattle.session_model.specs.UploadJob.Upload.{FileVersion}
 use Rattle.session_model.specs.Vault.{Setting}
 use Rattle.session_model.specs.Steps.{Moment, executed, moment_of, cloud_no, told_so, IsGetLine, NoneFrom, ComesBy, Gets, GetStep, ListRun, entry_line, list_lines, IsDeleteLine, DeleteStep}
 use Rattle.two_worlds.specs.Worlds.{own_line}
@@ -70,7 +70,7 @@ all_with P Q xs each all i d below = each (get_or xs i d) (Contains-get_or xs i 
 
 module _ (s : Setting) (u : UserId) (k : ℕ → Cloud) (In : ℕ → List ℕ → Type 0) (prem : Premises s u k In) where
   -- clouds that were only read are as they were
-  pub read_calm : (clouds : List ℕ) → All (λ cloud. cloud < s.shape.n) clouds → (old new : ℕ → Peer) → CalmPeers s u k In old → Still s.shape.n old new → OnlyRead clouds old new → new ≡ old
+  pub read_calm : (clouds : List ℕ) → All (λ cloud. cloud < s.shape.n) clouds → (old new : ℕ → Peer) → CalmPeers s u k In old → Still s.shape.n old new → AreOnlyAsked clouds old new → new ≡ old
   read_calm clouds within old new calm still read = λ i c. at c i
     where
       at : (c : ℕ) → new c ≡ old c
@@ -225,7 +225,7 @@ module _ (s : Setting) (u : UserId) (k : ℕ → Cloud) (In : ℕ → List ℕ �
   -- ---- a list
 
   module _ (cloud : ℕ) (below : cloud < s.shape.n) where
-    pub list_up : (user : UserId) (above : Option (Tag × Version)) (old : ℕ → Peer) (turns : List (Turn (ℕ → Peer))) (listed : Result (List (Tag × Version)) Refusal) (new : ℕ → Peer)
+    pub list_up : (user : UserId) (above : Option (Tag × Version)) (old : ℕ → Peer) (turns : List (LaneTurn (ℕ → Peer))) (listed : Result (List (Tag × Version)) Refusal) (new : ℕ → Peer)
         → ListRun s user cloud above old turns listed new → Up old new
     list_up user above old [] listed new run = absurd run
     list_up user above old (t ∷ turns) listed new run =
@@ -235,7 +235,7 @@ module _ (s : Setting) (u : UserId) (k : ℕ → Cloud) (In : ℕ → List ℕ �
           | inr x ↦ up_join old run.2.0 new one (list_up user (slice_get x.0 (length x.0 - 1)) run.2.0 turns x.1 new x.5)
         ]
 
-    pub calm_list : (user : UserId) (above : Option (Tag × Version)) (old : ℕ → Peer) (turns : List (Turn (ℕ → Peer))) (listed : Result (List (Tag × Version)) Refusal) (new : ℕ → Peer)
+    pub calm_list : (user : UserId) (above : Option (Tag × Version)) (old : ℕ → Peer) (turns : List (LaneTurn (ℕ → Peer))) (listed : Result (List (Tag × Version)) Refusal) (new : ℕ → Peer)
         → ListRun s user cloud above old turns listed new → CalmPeers s u k In old → Still s.shape.n old new → CalmPeers s u k In new
     calm_list user above old [] listed new run calm still = absurd run
     calm_list user above old (t ∷ turns) listed new run calm still =
@@ -253,7 +253,7 @@ module _ (s : Setting) (u : UserId) (k : ℕ → Cloud) (In : ℕ → List ℕ �
     list_asker : (user : UserId) (above : Option (Tag × Version)) (request : Request) → request ≡ requests.List user above → asker request ≡ user
     list_asker user above request e = ap asker e
 
-    pub other_list : (user : UserId) → user.0 ≢ u.0 → (above : Option (Tag × Version)) (old : ℕ → Peer) (turns : List (Turn (ℕ → Peer))) (listed : Result (List (Tag × Version)) Refusal) (new : ℕ → Peer)
+    pub other_list : (user : UserId) → user.0 ≢ u.0 → (above : Option (Tag × Version)) (old : ℕ → Peer) (turns : List (LaneTurn (ℕ → Peer))) (listed : Result (List (Tag × Version)) Refusal) (new : ℕ → Peer)
         → ListRun s user cloud above old turns listed new → CalmPeers s u k In old → Still s.shape.n old new → own_peers u k new ≡ own_peers u k old
     other_list user other above old [] listed new run calm still = absurd run
     other_list user other above old (t ∷ turns) listed new run calm still =
@@ -271,7 +271,7 @@ module _ (s : Setting) (u : UserId) (k : ℕ → Cloud) (In : ℕ → List ℕ �
               ∙ other_executes s u k In prem cloud below old run.2.0 t.request t.reply calm first run.2.1 ne
         ]
 
-    pub own_list : (above : Option (Tag × Version)) (old : ℕ → Peer) (turns : List (Turn (ℕ → Peer))) (listed : Result (List (Tag × Version)) Refusal) (new : ℕ → Peer)
+    pub own_list : (above : Option (Tag × Version)) (old : ℕ → Peer) (turns : List (LaneTurn (ℕ → Peer))) (listed : Result (List (Tag × Version)) Refusal) (new : ℕ → Peer)
         → ListRun s u cloud above old turns listed new → CalmPeers s u k In old → Still s.shape.n old new → Known In (map (moment_of cloud) turns)
         → ListRun s u cloud above (own_peers u k old) (map (own_turn u k) turns) listed (own_peers u k new)
     own_list above old [] listed new run calm still known = absurd run

@@ -5,31 +5,31 @@ use Rattle.std.specs.List.{Contains}
 use Rattle.std.proofs.lemmas.Bool.{cases_eq, cases_lt, eqb-true}
 use Rattle.std.proofs.lemmas.List.{map-append}
 use Rattle.std.proofs.lemmas.List.Elements.{All-contains, All-weaker, Contains-append_left, Contains-append_right}
-use Rattle.cd_base.specs.declared.ids.Fp.{Fp}
-use Rattle.cd_base.specs.declared.ids.Tag.{Tag}
-use Rattle.cd_base.specs.declared.ids.UserId.{UserId}
-use Rattle.cd_base.specs.declared.ids.Version.{Version}
-use Rattle.cd_base.specs.declared.shape.Shape.{Shape}
-use Rattle.cd_edges.specs.Causes.{Rose}
-use Rattle.cd_edges.specs.Disk.{Cloud}
-use Rattle.caont_rs.specs.Package.{share}
-use Rattle.file_recipe.specs.FileRecipe.{secrets, recipe_bytes}
-use Rattle.messages.specs.declared.reply.Reply.{Reply}
-use Rattle.user_dedup.specs.declared.command.Command.{Command}
-use Rattle.user_dedup.specs.declared.file_list.FileEntry.{FileEntry}
-use Rattle.user_dedup.specs.declared.view.View.{View}
-use Rattle.user_dedup.specs.Cloud.{fingerprint, commands_of, held_string, strings_in, is_of}
-use Rattle.user_dedup.specs.Pages.{entry_at}
-use Rattle.user_dedup.specs.Exec.{Peer, Exec, Settles}
-use Rattle.user_dedup.proofs.Owned.{contains_here, contains_later, contains_nothing, contains_cases}
-use Rattle.user_dedup.proofs.Views.{strings_among, sent_is_held, held_is}
-use Rattle.upload_job.specs.Upload.{FileVersion}
-use Rattle.session_model.specs.LaneSteps.Runs.{Turn, Progress, LaneRun, progress_after, request_of}
-use Rattle.restore_job.specs.declared.error.RestoreErr.{RestoreErr}
-use Rattle.restore_job.specs.declared.error.RestoreErr.TheVariants as refusals
-use Rattle.restore_job.specs.Refusals.{Names}
-use Rattle.restore_job.specs.Asking.{Reads, MayRead, AreRead}
-use Rattle.restore_job.specs.Restored.{Unrestored, restored_file, given_by, missing}
+use Rattle.recipe.specs.CdBase.ids.Fp.{Fp}
+use Rattle.recipe.specs.CdBase.ids.Tag.{Tag}
+use Rattle.recipe.specs.CdBase.ids.UserId.{UserId}
+use Rattle.recipe.specs.CdBase.ids.Version.{Version}
+use Rattle.recipe.specs.CdBase.shape.Shape.{Shape}
+use Rattle.session_model.specs.CdEdges.Causes.{Rose}
+use Rattle.session_model.specs.CdEdges.Disk.{Cloud}
+use Rattle.session_model.specs.CaontRs.Package.{share}
+use Rattle.session_model.specs.FileRecipe.FileRecipe.{secrets, recipe_bytes}
+use Rattle.session_model.specs.Messages.reply.Reply.{Reply}
+use Rattle.session_model.specs.UserDedup.command.Command.{Command}
+use Rattle.session_model.specs.UserDedup.file_list.FileEntry.{FileEntry}
+use Rattle.session_model.specs.UserDedup.view.View.{View}
+use Rattle.session_model.specs.UserDedup.Cloud.{fingerprint, commands_of, held_string, strings_in, is_of}
+use Rattle.session_model.specs.UserDedup.Pages.{entry_at}
+use Rattle.session_model.specs.UserDedup.Exec.{Peer, Exec, Settles}
+use Rattle.session_model.proofs.UserDedup.Owned.{contains_here, contains_later, contains_nothing, contains_cases}
+use Rattle.session_model.proofs.UserDedup.Views.{strings_among, sent_is_held, held_is}
+use Rattle.session_model.specs.UploadJob.Upload.{FileVersion}
+use Rattle.session_model.specs.LaneSteps.Runs.{LaneTurn, Progress, LaneRun, progress_after, request_of}
+use Rattle.session_model.specs.RestoreJob.error.RestoreErr.{RestoreErr}
+use Rattle.session_model.specs.RestoreJob.error.RestoreErr.TheVariants as refusals
+use Rattle.session_model.specs.RestoreJob.Refusals.{Names}
+use Rattle.session_model.specs.RestoreJob.Asking.{Reads, MayRead, AreRead}
+use Rattle.session_model.specs.RestoreJob.Restored.{Unrestored, restored_file, given_by, missing}
 use Rattle.session_model.specs.KeptFiles.Kept.{Keeps, key_of}
 use Rattle.session_model.specs.Rebuild.error.SkipWhy.{SkipWhy}
 use Rattle.session_model.specs.Rebuild.error.RebuildErr.{RebuildErr}
@@ -37,14 +37,14 @@ use Rattle.session_model.specs.Rebuild.error.RebuildErr.TheVariants as errors
 use Rattle.session_model.specs.Rebuild.skips.Skip.{Skip}
 use Rattle.session_model.specs.Rebuild.skips.Rebuilt.{Rebuilt}
 use Rattle.session_model.specs.Rebuild.Found.{Finding, skip_of, name_opened, name_judged, version_with, version_named, unless_skipped, recipes_differ, version_under, keys_in, finding_under, findings, first_of}
-use Rattle.session_model.specs.Rebuild.Rebuilding.{Progressed, nothing_yet, last_said, lane_of, BringsOne, BringsAll, ReadStopped, asked_for, EndsAs, IsFront, LeavesBut, Rebuilds, RunsTo}
+use Rattle.session_model.specs.Rebuild.Rebuilding.{Progressed, nothing_yet, last_said, lane_of, BringsOne, BringsAll, ReadStopped, asked_for, EndsAs, IsFrontOfList, LeavesBut, Rebuilds, RunsTo}
 use Rattle.session_model.specs.Rebuild.Over.{HandsOn, ReadCaused, is_lost}
 use Rattle.session_model.specs.Rebuild.Over as rebuilding
 use Rattle.session_model.specs.Rebuild.Turns.{EndsLane, LaneEnded, LaneGoes, LanesGo, OfReply, SaidLast, goes_to}
 use Rattle.session_model.specs.Rebuild.Standing.{entry_in, HasEntry, HasOther}
 use Rattle.session_model.specs.Rebuild.Kept.{HasVersion, HasAnother, SkipCaused, Refills}
-use Rattle.transcript.specs.declared.line.Line.{Line}
-use Rattle.transcript.specs.declared.line.Line.TheVariants as lines
+use Rattle.session_model.specs.Transcript.line.Line.{Line}
+use Rattle.session_model.specs.Transcript.line.Line.TheVariants as lines
 use Rattle.session_model.specs.Vault.{Setting, served_at, with_peer}
 use Rattle.session_model.specs.Steps.{Moment, executed, quiet, told_so, cloud_no, skip_line, AreRebuildLines, turn_moment, target_moments, AllTold, RebuildStep}
 use Rattle.two_worlds.specs.Worlds.{own_line, sent_strings}
@@ -54,35 +54,35 @@ use Rattle.two_worlds.proofs.Restored.{version_alike, findings_alike}
 use Rattle.session_model.proofs.With.{with_here, with_other, all_counts, run_all, one_all, brought}
 use Rattle.two_worlds.proofs.Own.{own_peers, own_moment, Still, Known, KnownAt, known_first, known_rest, Premises, CalmPeers, lane_asker, apart_lists}
 
-abbrev pub own_one : UserId → Cloud → Turn Peer → Turn Peer
+abbrev pub own_one : UserId → Cloud → LaneTurn Peer → LaneTurn Peer
 own_one u k t = record { before = own_peer u k t.before; request = t.request; reply = t.reply }
 
 -- ---- what doesn't speak of lists
 
 module _ (u : UserId) (k : Cloud) where
-  pub same_last : (turns : List (Turn Peer)) → last_said (map (own_one u k) turns) ≡ last_said turns
+  pub same_last : (turns : List (LaneTurn Peer)) → last_said (map (own_one u k) turns) ≡ last_said turns
   same_last [] = refl
   same_last (t ∷ []) = refl
   same_last (t ∷ v ∷ turns) = same_last (v ∷ turns)
 
-  own_goes : (p : Progress) (turns : List (Turn Peer)) → LaneGoes p turns → LaneGoes p (map (own_one u k) turns)
+  own_goes : (p : Progress) (turns : List (LaneTurn Peer)) → LaneGoes p turns → LaneGoes p (map (own_one u k) turns)
   own_goes p [] x = x
   own_goes p (t ∷ turns) x = (x.0, x.1, own_goes (progress_after p t.reply) turns x.2)
 
-  own_lanes_go : (shape : Shape) (user : UserId) (target : ℕ) (versions : List FileVersion) (turns : List (Turn Peer)) → LanesGo shape user target versions turns
+  own_lanes_go : (shape : Shape) (user : UserId) (target : ℕ) (versions : List FileVersion) (turns : List (LaneTurn Peer)) → LanesGo shape user target versions turns
       → LanesGo shape user target versions (map (own_one u k) turns)
   own_lanes_go shape user target [] turns x = ap (map (own_one u k)) x
   own_lanes_go shape user target (v ∷ versions) turns x =
       (map (own_one u k) x.0, map (own_one u k) x.1, ap (map (own_one u k)) x.2 ∙ map-append (own_one u k) x.0 x.1, x.3, own_goes (lane_of shape target v) x.0 x.4, own_lanes_go shape user target versions x.1 x.5)
 
-  same_goes : (p : Progress) (turns : List (Turn Peer)) → goes_to p (map (own_one u k) turns) ≡ goes_to p turns
+  same_goes : (p : Progress) (turns : List (LaneTurn Peer)) → goes_to p (map (own_one u k) turns) ≡ goes_to p turns
   same_goes p [] = refl
   same_goes p (t ∷ turns) = same_goes (progress_after p t.reply) turns
 
-  own_end : (p : Progress) (turns : List (Turn Peer)) → LaneEnded p turns → LaneEnded p (map (own_one u k) turns)
+  own_end : (p : Progress) (turns : List (LaneTurn Peer)) → LaneEnded p turns → LaneEnded p (map (own_one u k) turns)
   own_end p turns x = subst (λ (q : Progress). IsTrue q.stopped ⊎ (request_of q.lane ≡ None)) (sym (same_goes p turns)) x
 
-  own_ends : (shape : Shape) (user : UserId) (target : ℕ) (turns : List (Turn Peer)) → EndsLane shape user target turns → EndsLane shape user target (map (own_one u k) turns)
+  own_ends : (shape : Shape) (user : UserId) (target : ℕ) (turns : List (LaneTurn Peer)) → EndsLane shape user target turns → EndsLane shape user target (map (own_one u k) turns)
   own_ends shape user target turns x = record {
     front = map (own_one u k) x.front;
     lane = map (own_one u k) x.lane;
@@ -93,7 +93,7 @@ module _ (u : UserId) (k : Cloud) where
     ended = own_end (lane_of shape target x.version) x.lane x.ended;
   }
 
-  own_ended : (r : Result Rebuilt RebuildErr) (shape : Shape) (user : UserId) (target : ℕ) (turns : List (Turn Peer)) → OfReply r (EndsLane shape user target turns)
+  own_ended : (r : Result Rebuilt RebuildErr) (shape : Shape) (user : UserId) (target : ℕ) (turns : List (LaneTurn Peer)) → OfReply r (EndsLane shape user target turns)
       → OfReply r (EndsLane shape user target (map (own_one u k) turns))
   own_ended (Ok x) shape user target turns y = tt
   own_ended (Err (errors.FromRestore e)) shape user target turns y = tt
@@ -107,7 +107,7 @@ module _ (u : UserId) (k : Cloud) where
   own_ended (Err (errors.TargetStrange kind)) shape user target turns y = tt
   own_ended (Err errors.NoMemory) shape user target turns y = tt
 
-  own_said : (r : Result Rebuilt RebuildErr) (turns : List (Turn Peer)) → SaidLast r turns → SaidLast r (map (own_one u k) turns)
+  own_said : (r : Result Rebuilt RebuildErr) (turns : List (LaneTurn Peer)) → SaidLast r turns → SaidLast r (map (own_one u k) turns)
   own_said (Ok x) turns said = said
   own_said (Err (errors.FromRestore e)) turns said = said
   own_said (Err errors.TargetLost) turns said = said
@@ -180,7 +180,7 @@ module _ (u : UserId) (k : ℕ → Cloud) where
       by_test c true e = ap (λ (d : ℕ). own_peer u (k d) p) (eqb-true c target e)
       by_test c false e = refl
 
-  own_target_moments : (old : ℕ → Peer) (target : ℕ) (turns : List (Turn Peer)) (end : Peer)
+  own_target_moments : (old : ℕ → Peer) (target : ℕ) (turns : List (LaneTurn Peer)) (end : Peer)
       → map (own_moment u k) (target_moments old target turns end) ≡ target_moments (own_peers u k old) target (map (own_one u (k target)) turns) (own_peer u (k target) end)
   own_target_moments old target [] end = ap (λ (peers : ℕ → Peer). quiet peers) (own_with old target end)
   own_target_moments old target (t ∷ turns) end =
@@ -240,7 +240,7 @@ front_for : (user : UserId) (front rest : List Finding) → AreFor user (front +
 front_for user [] rest x = tt
 front_for user (f ∷ front) rest x = (x.0, front_for user front rest x.1)
 
-pub found_for : (shape : Shape) (lists : ℕ → List Command) (from : List ℕ) (user : UserId) (found : List Finding) → IsFront found (findings shape lists from user) → AreFor user found
+pub found_for : (shape : Shape) (lists : ℕ → List Command) (from : List ℕ) (user : UserId) (found : List Finding) → IsFrontOfList found (findings shape lists from user) → AreFor user found
 found_for shape lists from user found front =
     front_for user found front.rest (subst (AreFor user) front.split (under_all shape lists from user (keys_in shape (lists (first_of from)) user)))
 
@@ -248,14 +248,14 @@ found_for shape lists from user found front =
 
 module _ (s : Setting) (u : UserId) (k : ℕ → Cloud) (In : ℕ → List ℕ → Type 0) (prem : Premises s u k In) (target : ℕ) (below : target < s.shape.n) where
   -- what is known of the target before one of its turns
-  pub record KnownTurn (t : Turn Peer) : Type 0 where
+  pub record KnownTurn (t : LaneTurn Peer) : Type 0 where
     pub lists : (x : List ℕ) → Contains (strings_in t.before.list) x → In target x
     pub sent : (x : List ℕ) → Contains (sent_strings t.request) x → In target x
 
-  abbrev pub KnownTurns : List (Turn Peer) → Type 0
-  KnownTurns turns = (t : Turn Peer) → Contains turns t → KnownTurn t
+  abbrev pub KnownTurns : List (LaneTurn Peer) → Type 0
+  KnownTurns turns = (t : LaneTurn Peer) → Contains turns t → KnownTurn t
 
-  pub known_turns : (old : ℕ → Peer) (turns : List (Turn Peer)) (end : Peer) → Known In (target_moments old target turns end) → KnownTurns turns
+  pub known_turns : (old : ℕ → Peer) (turns : List (LaneTurn Peer)) (end : Peer) → Known In (target_moments old target turns end) → KnownTurns turns
   known_turns old [] end known t has = absurd (contains_nothing t has)
   known_turns old (v ∷ turns) end known t has = elim (contains_cases v turns t has) [
     | inl same ↦ subst KnownTurn same (record {
@@ -266,10 +266,10 @@ module _ (s : Setting) (u : UserId) (k : ℕ → Cloud) (In : ℕ → List ℕ �
     | inr later ↦ known_turns old turns end (known_rest In (turn_moment old target v) (target_moments old target turns end) known) t later
   ]
 
-  first_turns : (one two : List (Turn Peer)) → KnownTurns (one ++ two) → KnownTurns one
+  first_turns : (one two : List (LaneTurn Peer)) → KnownTurns (one ++ two) → KnownTurns one
   first_turns one two known t has = known t (Contains-append_left one two t has)
 
-  last_turns : (one two : List (Turn Peer)) → KnownTurns (one ++ two) → KnownTurns two
+  last_turns : (one two : List (LaneTurn Peer)) → KnownTurns (one ++ two) → KnownTurns two
   last_turns one two known t has = known t (Contains-append_right one two t has)
 
   rose_before : (a b c : ℕ) → b ≤ c → (Rose a c → ⊥) → Rose a b → ⊥
@@ -278,12 +278,12 @@ module _ (s : Setting) (u : UserId) (k : ℕ → Cloud) (In : ℕ → List ℕ �
   rose_behind : (a b c : ℕ) → a ≤ b → (Rose a c → ⊥) → Rose b c → ⊥
   rose_behind a b c up still rose = still (omega (arith, up, rose))
 
-  run_counts : (p : Progress) (old : Peer) (turns : List (Turn Peer)) (last : Progress) (new : Peer) → LaneRun (Exec s.shape true (served_at s target)) p old turns last new → old.faults ≤ new.faults
+  run_counts : (p : Progress) (old : Peer) (turns : List (LaneTurn Peer)) (last : Progress) (new : Peer) → LaneRun (Exec s.shape true (served_at s target)) p old turns last new → old.faults ≤ new.faults
   run_counts p old turns last new run = (all_counts s target old turns new (run_all s target (prem.told target below) p old turns last new run)).faults
 
   -- ---- a lane
 
-  calm_peer_run : (p : Progress) (old : Peer) (turns : List (Turn Peer)) (last : Progress) (new : Peer) → LaneRun (Exec s.shape true (served_at s target)) p old turns last new
+  calm_peer_run : (p : Progress) (old : Peer) (turns : List (LaneTurn Peer)) (last : Progress) (new : Peer) → LaneRun (Exec s.shape true (served_at s target)) p old turns last new
       → IsCalmPeer s.shape u old → (Rose old.faults new.faults → ⊥) → IsCalmPeer s.shape u new
   calm_peer_run p old [] last new run calm still = subst (IsCalmPeer s.shape u) (sym run.2) calm
   calm_peer_run p old (t ∷ turns) last new run calm still =
@@ -293,7 +293,7 @@ module _ (s : Setting) (u : UserId) (k : ℕ → Cloud) (In : ℕ → List ℕ �
       (calm_exec s u (k target) target old t.request t.reply run.3.0 first calm)
       (rose_behind old.faults run.3.0.faults new.faults run.3.1.counts.faults still)
 
-  other_peer_run : (p : Progress) → p.lane.work.user.0 ≢ u.0 → (old : Peer) (turns : List (Turn Peer)) (last : Progress) (new : Peer) → LaneRun (Exec s.shape true (served_at s target)) p old turns last new
+  other_peer_run : (p : Progress) → p.lane.work.user.0 ≢ u.0 → (old : Peer) (turns : List (LaneTurn Peer)) (last : Progress) (new : Peer) → LaneRun (Exec s.shape true (served_at s target)) p old turns last new
       → IsCalmPeer s.shape u old → (Rose old.faults new.faults → ⊥) → own_peer u (k target) new ≡ own_peer u (k target) old
   other_peer_run p other old [] last new run calm still = ap (own_peer u (k target)) run.2
   other_peer_run p other old (t ∷ turns) last new run calm still =
@@ -305,7 +305,7 @@ module _ (s : Setting) (u : UserId) (k : ℕ → Cloud) (In : ℕ → List ℕ �
       ∙ other_exec s u (k target) target old t.request t.reply run.3.0 first
       (λ same. other (sym (ap (λ (w : UserId). w.0) (lane_asker p.lane.work p.lane.state t.request run.2)) ∙ same))
 
-  own_peer_run : (p : Progress) → p.lane.work.user ≡ u → (old : Peer) (turns : List (Turn Peer)) (last : Progress) (new : Peer) → LaneRun (Exec s.shape true (served_at s target)) p old turns last new
+  own_peer_run : (p : Progress) → p.lane.work.user ≡ u → (old : Peer) (turns : List (LaneTurn Peer)) (last : Progress) (new : Peer) → LaneRun (Exec s.shape true (served_at s target)) p old turns last new
       → IsCalmPeer s.shape u old → (Rose old.faults new.faults → ⊥) → KnownTurns turns
       → LaneRun (Exec s.shape true (served_at s target)) p (own_peer u (k target) old) (map (own_one u (k target)) turns) last (own_peer u (k target) new)
   own_peer_run p same old [] last new run calm still known = (run.0, run.1, ap (own_peer u (k target)) run.2)
@@ -335,28 +335,28 @@ module _ (s : Setting) (u : UserId) (k : ℕ → Cloud) (In : ℕ → List ℕ �
 
   -- ---- one version
 
-  abbrev Brings : Finding → Progressed → Peer → List (Turn Peer) → Progressed → Peer → Type 0
+  abbrev Brings : Finding → Progressed → Peer → List (LaneTurn Peer) → Progressed → Peer → Type 0
   Brings f r old turns after new = BringsOne s.shape target (served_at s target) f.key f.found r old turns after new
 
-  one_counts : (f : Finding) (r : Progressed) (old : Peer) (turns : List (Turn Peer)) (after : Progressed) (new : Peer) → Brings f r old turns after new → old.faults ≤ new.faults
+  one_counts : (f : Finding) (r : Progressed) (old : Peer) (turns : List (LaneTurn Peer)) (after : Progressed) (new : Peer) → Brings f r old turns after new → old.faults ≤ new.faults
   one_counts f r old turns after new x =
       (all_counts s target old turns new (one_all s target (prem.told target below) f.key f.found r old turns after new x)).faults
 
-  calm_one : (key : Tag × Version) (found : Result FileVersion SkipWhy) (r : Progressed) (old : Peer) (turns : List (Turn Peer)) (after : Progressed) (new : Peer)
+  calm_one : (key : Tag × Version) (found : Result FileVersion SkipWhy) (r : Progressed) (old : Peer) (turns : List (LaneTurn Peer)) (after : Progressed) (new : Peer)
       → BringsOne s.shape target (served_at s target) key found r old turns after new
       → IsCalmPeer s.shape u old → (Rose old.faults new.faults → ⊥) → IsCalmPeer s.shape u new
   calm_one key (Err why) r old turns after new x calm still = subst (IsCalmPeer s.shape u) (sym x.2) calm
   calm_one key (Ok v) r old turns after new x calm still = calm_peer_run (lane_of s.shape target v) old turns x.0 new x.2 calm still
 
   other_one : (user : UserId) → user.0 ≢ u.0 → (key : Tag × Version) (found : Result FileVersion SkipWhy) → ((v : FileVersion) → found ≡ Ok v → v.user ≡ user)
-      → (r : Progressed) (old : Peer) (turns : List (Turn Peer)) (after : Progressed) (new : Peer) → BringsOne s.shape target (served_at s target) key found r old turns after new
+      → (r : Progressed) (old : Peer) (turns : List (LaneTurn Peer)) (after : Progressed) (new : Peer) → BringsOne s.shape target (served_at s target) key found r old turns after new
       → IsCalmPeer s.shape u old → (Rose old.faults new.faults → ⊥) → own_peer u (k target) new ≡ own_peer u (k target) old
   other_one user other key (Err why) is r old turns after new x calm still = ap (own_peer u (k target)) x.2
   other_one user other key (Ok v) is r old turns after new x calm still =
       other_peer_run (lane_of s.shape target v) (λ same. other (sym (ap (λ (w : UserId). w.0) (is v refl)) ∙ same)) old turns x.0 new x.2 calm still
 
   own_brings_one : (key : Tag × Version) (found : Result FileVersion SkipWhy) → ((v : FileVersion) → found ≡ Ok v → v.user ≡ u)
-      → (r : Progressed) (old : Peer) (turns : List (Turn Peer)) (after : Progressed) (new : Peer) → BringsOne s.shape target (served_at s target) key found r old turns after new
+      → (r : Progressed) (old : Peer) (turns : List (LaneTurn Peer)) (after : Progressed) (new : Peer) → BringsOne s.shape target (served_at s target) key found r old turns after new
       → IsCalmPeer s.shape u old → (Rose old.faults new.faults → ⊥) → KnownTurns turns
       → BringsOne s.shape target (served_at s target) key found r (own_peer u (k target) old) (map (own_one u (k target)) turns) after (own_peer u (k target) new)
   own_brings_one key (Err why) is r old turns after new x calm still known = (x.0, ap (map (own_one u (k target))) x.1, ap (own_peer u (k target)) x.2)
@@ -365,20 +365,20 @@ module _ (s : Setting) (u : UserId) (k : ℕ → Cloud) (In : ℕ → List ℕ �
 
   -- ---- all
 
-  abbrev pub BringsThem : List Finding → Progressed → Peer → List (Turn Peer) → Progressed → Peer → Type 0
+  abbrev pub BringsThem : List Finding → Progressed → Peer → List (LaneTurn Peer) → Progressed → Peer → Type 0
   BringsThem fs r old turns after new = BringsAll s.shape target (served_at s target) fs r old turns after new
 
-  them_counts : (fs : List Finding) (r : Progressed) (old : Peer) (turns : List (Turn Peer)) (after : Progressed) (new : Peer) → BringsThem fs r old turns after new → old.faults ≤ new.faults
+  them_counts : (fs : List Finding) (r : Progressed) (old : Peer) (turns : List (LaneTurn Peer)) (after : Progressed) (new : Peer) → BringsThem fs r old turns after new → old.faults ≤ new.faults
   them_counts fs r old turns after new x = (all_counts s target old turns new (brought s target (prem.told target below) fs r old turns after new x)).faults
 
-  abbrev Behind : Option Reply → List Finding → Progressed → Peer → List (Turn Peer) → Progressed → Peer → Type 0
+  abbrev Behind : Option Reply → List Finding → Progressed → Peer → List (LaneTurn Peer) → Progressed → Peer → Type 0
   Behind o fs next mid rest after new = MatchOption o (BringsThem fs next mid rest after new) (λ said. (rest ≡ []) × (after ≡ next) × (new ≡ mid))
 
-  behind_counts : (o : Option Reply) (fs : List Finding) (next : Progressed) (mid : Peer) (rest : List (Turn Peer)) (after : Progressed) (new : Peer) → Behind o fs next mid rest after new → mid.faults ≤ new.faults
+  behind_counts : (o : Option Reply) (fs : List Finding) (next : Progressed) (mid : Peer) (rest : List (LaneTurn Peer)) (after : Progressed) (new : Peer) → Behind o fs next mid rest after new → mid.faults ≤ new.faults
   behind_counts None fs next mid rest after new x = them_counts fs next mid rest after new x
   behind_counts (Some said) fs next mid rest after new x = subst (λ (q : Peer). mid.faults ≤ q.faults) (sym x.2) (let e : mid.faults ≤ mid.faults = omega arith in e)
 
-  pub calm_brings : (fs : List Finding) (r : Progressed) (old : Peer) (turns : List (Turn Peer)) (after : Progressed) (new : Peer) → BringsThem fs r old turns after new
+  pub calm_brings : (fs : List Finding) (r : Progressed) (old : Peer) (turns : List (LaneTurn Peer)) (after : Progressed) (new : Peer) → BringsThem fs r old turns after new
       → IsCalmPeer s.shape u old → (Rose old.faults new.faults → ⊥) → IsCalmPeer s.shape u new
   calm_brings [] r old turns after new x calm still = subst (IsCalmPeer s.shape u) (sym x.2) calm
   calm_brings (f ∷ fs) r old turns after new x calm still =
@@ -394,7 +394,7 @@ module _ (s : Setting) (u : UserId) (k : ℕ → Cloud) (In : ℕ → List ℕ �
       by_stop None y c st again = again y c st
       by_stop (Some said) y c st again = subst (IsCalmPeer s.shape u) (sym y.2) c
 
-  pub other_brings : (user : UserId) → user.0 ≢ u.0 → (fs : List Finding) → AreFor user fs → (r : Progressed) (old : Peer) (turns : List (Turn Peer)) (after : Progressed) (new : Peer)
+  pub other_brings : (user : UserId) → user.0 ≢ u.0 → (fs : List Finding) → AreFor user fs → (r : Progressed) (old : Peer) (turns : List (LaneTurn Peer)) (after : Progressed) (new : Peer)
       → BringsThem fs r old turns after new → IsCalmPeer s.shape u old → (Rose old.faults new.faults → ⊥) → own_peer u (k target) new ≡ own_peer u (k target) old
   other_brings user other [] are r old turns after new x calm still = ap (own_peer u (k target)) x.2
   other_brings user other (f ∷ fs) are r old turns after new x calm still =
@@ -412,7 +412,7 @@ module _ (s : Setting) (u : UserId) (k : ℕ → Cloud) (In : ℕ → List ℕ �
       by_stop None y c st again = again y c st
       by_stop (Some said) y c st again = ap (own_peer u (k target)) y.2
 
-  pub own_brings : (fs : List Finding) → AreFor u fs → (r : Progressed) (old : Peer) (turns : List (Turn Peer)) (after : Progressed) (new : Peer)
+  pub own_brings : (fs : List Finding) → AreFor u fs → (r : Progressed) (old : Peer) (turns : List (LaneTurn Peer)) (after : Progressed) (new : Peer)
       → BringsThem fs r old turns after new → IsCalmPeer s.shape u old → (Rose old.faults new.faults → ⊥) → KnownTurns turns
       → BringsThem fs r (own_peer u (k target) old) (map (own_one u (k target)) turns) after (own_peer u (k target) new)
   own_brings [] are r old turns after new x calm still known = (x.0, ap (map (own_one u (k target))) x.1, ap (own_peer u (k target)) x.2)
@@ -520,7 +520,7 @@ module _ (s : Setting) (u : UserId) (k : ℕ → Cloud) (In : ℕ → List ℕ �
   known_target m has = known_all m (Contains-append_right (quiet old) (target_moments old target x.turns (new target)) m has)
 
   -- the last of these moments has the clouds as they are behind the rebuild
-  last_moment : (turns : List (Turn Peer)) → Contains (target_moments old target turns (new target)) (record { peers = with_peer old target (new target); event = None })
+  last_moment : (turns : List (LaneTurn Peer)) → Contains (target_moments old target turns (new target)) (record { peers = with_peer old target (new target); event = None })
   last_moment [] = contains_here (record { peers = with_peer old target (new target); event = None }) []
   last_moment (t ∷ turns) = contains_later (turn_moment old target t) (target_moments old target turns (new target)) _ (last_moment turns)
 
@@ -542,7 +542,7 @@ module _ (s : Setting) (u : UserId) (k : ℕ → Cloud) (In : ℕ → List ℕ �
   same_findings : findings s.shape (λ c. (own_peers u k new c).list) from u ≡ findings s.shape (λ c. (new c).list) from u
   same_findings = findings_alike s.shape u (λ c. (new c).list) (λ c. (after.each c).owned) apart from
 
-  own_front : IsFront r.found (findings s.shape (λ c. (own_peers u k new c).list) from u)
+  own_front : IsFrontOfList r.found (findings s.shape (λ c. (own_peers u k new c).list) from u)
   own_front = record { rest = r.front.rest; split = same_findings ∙ r.front.split }
 
   own_brought : BringsAll s.shape target (served_at s target) r.found nothing_yet (own_peer u (k target) (old target)) (map (own_one u (k target)) x.turns) r.last (own_peer u (k target) (new target))
@@ -590,7 +590,7 @@ module _ (s : Setting) (u : UserId) (k : ℕ → Cloud) (In : ℕ → List ℕ �
         (ends_there (findings s.shape (λ c. (new c).list) from u) x.result r.ends);
   }
 
-  runs_there : (q : Result Rebuilt RebuildErr) (turns : List (Turn Peer)) → is_lost q ≡ false → AreRebuildLines u target q answers
+  runs_there : (q : Result Rebuilt RebuildErr) (turns : List (LaneTurn Peer)) → is_lost q ≡ false → AreRebuildLines u target q answers
       → Rebuilds s.shape u target (served_at s target) from turns q (own_peers u k old) (own_peers u k new)
       → RunsTo s.shape u target (served_at s target) from q turns (own_peers u k old) (own_peer u (k target) (new target)) (own_peers u k new)
   runs_there (Ok rebuilt) turns found ls y = y

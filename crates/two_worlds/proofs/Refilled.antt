@@ -4,24 +4,24 @@ use Rattle.std.specs.Prelude.{All, MatchOption, IsTrue, find, is_none, option_ma
 use Rattle.std.specs.List.{Contains}
 use Rattle.std.proofs.lemmas.Bool.{cases_eq, cases_lt}
 use Rattle.std.proofs.lemmas.List.Elements.{All-contains}
-use Rattle.cd_base.specs.declared.ids.Tag.{Tag}
-use Rattle.cd_base.specs.declared.ids.UserId.{UserId}
-use Rattle.cd_base.specs.declared.ids.Version.{Version}
-use Rattle.cd_base.specs.declared.shape.Shape.{Shape}
-use Rattle.cd_edges.specs.Causes.{Rose}
-use Rattle.messages.specs.declared.request.Request.{Request}
-use Rattle.messages.specs.declared.reply.Reply.{Reply}
-use Rattle.messages.specs.declared.reply.Reply.TheVariants as replies
-use Rattle.user_dedup.specs.declared.command.Command.{Command}
-use Rattle.user_dedup.specs.Cloud.{held_string}
-use Rattle.user_dedup.specs.Exec.{Peer, Exec}
-use Rattle.user_dedup.proofs.Owned.{contains_here, contains_later, contains_cases}
-use Rattle.upload_job.specs.Upload.{FileVersion}
-use Rattle.session_model.specs.LaneSteps.Runs.{Turn, Progress, LaneRun, progress_after}
-use Rattle.restore_job.specs.declared.error.RestoreErr.{RestoreErr}
-use Rattle.restore_job.specs.declared.error.RestoreErr.TheVariants as refusals
-use Rattle.restore_job.specs.Asking.{is_loss}
-use Rattle.restore_job.specs.Restored.{Missing, no_recipe, recipe_in, given_by, missing, agreed, unless, restored_file}
+use Rattle.recipe.specs.CdBase.ids.Tag.{Tag}
+use Rattle.recipe.specs.CdBase.ids.UserId.{UserId}
+use Rattle.recipe.specs.CdBase.ids.Version.{Version}
+use Rattle.recipe.specs.CdBase.shape.Shape.{Shape}
+use Rattle.session_model.specs.CdEdges.Causes.{Rose}
+use Rattle.session_model.specs.Messages.request.Request.{Request}
+use Rattle.session_model.specs.Messages.reply.Reply.{Reply}
+use Rattle.session_model.specs.Messages.reply.Reply.TheVariants as replies
+use Rattle.session_model.specs.UserDedup.command.Command.{Command}
+use Rattle.session_model.specs.UserDedup.Cloud.{held_string}
+use Rattle.session_model.specs.UserDedup.Exec.{Peer, Exec}
+use Rattle.session_model.proofs.UserDedup.Owned.{contains_here, contains_later, contains_cases}
+use Rattle.session_model.specs.UploadJob.Upload.{FileVersion}
+use Rattle.session_model.specs.LaneSteps.Runs.{LaneTurn, Progress, LaneRun, progress_after}
+use Rattle.session_model.specs.RestoreJob.error.RestoreErr.{RestoreErr}
+use Rattle.session_model.specs.RestoreJob.error.RestoreErr.TheVariants as refusals
+use Rattle.session_model.specs.RestoreJob.Asking.{is_loss}
+use Rattle.session_model.specs.RestoreJob.Restored.{Missing, no_recipe, recipe_in, given_by, missing, agreed, unless, restored_file}
 use Rattle.session_model.specs.Rebuild.error.SkipWhy.{SkipWhy}
 use Rattle.session_model.specs.Rebuild.error.RebuildErr.{RebuildErr}
 use Rattle.session_model.specs.Rebuild.error.RebuildErr.TheVariants as errors
@@ -30,11 +30,11 @@ use Rattle.session_model.specs.Rebuild.skips.Rebuilt.{Rebuilt}
 use Rattle.session_model.specs.Rebuild.Found.{Finding, name_opened, name_judged, unless_skipped, recipes_differ, version_named, version_under, keys_in, finding_under, findings}
 use Rattle.session_model.specs.Rebuild.Rebuilding.{Progressed, nothing_yet, last_said, lane_ended, lane_of, BringsOne, BringsAll, StopsAs, ReadStopped, EndsAs, Rebuilds, RunsTo}
 use Rattle.session_model.specs.Rebuild.Over.{is_lost}
-use Rattle.transcript.specs.declared.refusal.Refusal.{Refusal}
-use Rattle.transcript.specs.declared.refusal.Refusal.TheVariants as why
-use Rattle.transcript.specs.declared.refusal.TargetWhy.TheVariants as target_whys
-use Rattle.transcript.specs.declared.line.Line.{Line}
-use Rattle.transcript.specs.declared.line.Line.TheVariants as lines
+use Rattle.session_model.specs.Transcript.refusal.Refusal.{Refusal}
+use Rattle.session_model.specs.Transcript.refusal.Refusal.TheVariants as why
+use Rattle.session_model.specs.Transcript.refusal.TargetWhy.TheVariants as target_whys
+use Rattle.session_model.specs.Transcript.line.Line.{Line}
+use Rattle.session_model.specs.Transcript.line.Line.TheVariants as lines
 use Rattle.session_model.specs.Vault.{Setting, served_at}
 use Rattle.session_model.specs.Steps.{Moment, cloud_no, skip_line, AreRebuildLines, rebuild_moments, AllTold, RebuildStep}
 use Rattle.session_model.proofs.With.{all_counts, run_all, one_all, brought}
@@ -102,10 +102,10 @@ module _ (s : Setting) (target : ℕ) (told : s.told target ≡ true) where
   rose_behind : (a b c : ℕ) → a ≤ b → (Rose a c → ⊥) → Rose b c → ⊥
   rose_behind a b c up still rose = still (omega (arith, up, rose))
 
-  counts_run : (p : Progress) (old : Peer) (turns : List (Turn Peer)) (last : Progress) (new : Peer) → LaneRun (Exec s.shape true (served_at s target)) p old turns last new → old.faults ≤ new.faults
+  counts_run : (p : Progress) (old : Peer) (turns : List (LaneTurn Peer)) (last : Progress) (new : Peer) → LaneRun (Exec s.shape true (served_at s target)) p old turns last new → old.faults ≤ new.faults
   counts_run p old turns last new run = (all_counts s target old turns new (run_all s target told p old turns last new run)).faults
 
-  run_so : (p : Progress) (old : Peer) (turns : List (Turn Peer)) (last : Progress) (new : Peer) → old.pending ≡ None → (Rose old.faults new.faults → ⊥)
+  run_so : (p : Progress) (old : Peer) (turns : List (LaneTurn Peer)) (last : Progress) (new : Peer) → old.pending ≡ None → (Rose old.faults new.faults → ⊥)
       → LaneRun (Exec s.shape true (served_at s target)) p old turns last new → LaneRun (Does next_of said_of) p old turns last new × (new.pending ≡ None)
   run_so p old [] last new none still run = (run, ap (λ (q : Peer). q.pending) run.2 ∙ none)
   run_so p old (t ∷ turns) last new none still run =
@@ -114,13 +114,13 @@ module _ (s : Setting) (target : ℕ) (told : s.told target ≡ true) where
       let rest = run_so (progress_after p t.reply) run.3.0 turns last new (ap (λ (q : Peer). q.pending) first.after) (rose_behind old.faults run.3.0.faults new.faults run.3.1.counts.faults still) run.3.2 in
       ((run.0, run.1, run.2, (run.3.0, (first.reply_is, first.after), rest.0)), rest.1)
 
-  abbrev One : Tag × Version → Result FileVersion SkipWhy → Progressed → Peer → List (Turn Peer) → Progressed → Peer → Type 0
+  abbrev One : Tag × Version → Result FileVersion SkipWhy → Progressed → Peer → List (LaneTurn Peer) → Progressed → Peer → Type 0
   One key found r old turns after new = BringsOne s.shape target (served_at s target) key found r old turns after new
 
-  abbrev pub Them : List Finding → Progressed → Peer → List (Turn Peer) → Progressed → Peer → Type 0
+  abbrev pub Them : List Finding → Progressed → Peer → List (LaneTurn Peer) → Progressed → Peer → Type 0
   Them fs r old turns after new = BringsAll s.shape target (served_at s target) fs r old turns after new
 
-  one_once : (key : Tag × Version) (found : Result FileVersion SkipWhy) (r : Progressed) (old : Peer) (t1 t2 : List (Turn Peer)) (a1 a2 : Progressed) (n1 n2 : Peer)
+  one_once : (key : Tag × Version) (found : Result FileVersion SkipWhy) (r : Progressed) (old : Peer) (t1 t2 : List (LaneTurn Peer)) (a1 a2 : Progressed) (n1 n2 : Peer)
       → old.pending ≡ None → (Rose old.faults n1.faults → ⊥) → (Rose old.faults n2.faults → ⊥) → One key found r old t1 a1 n1 → One key found r old t2 a2 n2
       → (t1 ≡ t2) × (a1 ≡ a2) × (n1 ≡ n2) × (n1.pending ≡ None)
   one_once key (Err e) r old t1 t2 a1 a2 n1 n2 none s1 s2 x y = (x.1 ∙ sym y.1, x.0 ∙ sym y.0, x.2 ∙ sym y.2, ap (λ (q : Peer). q.pending) x.2 ∙ none)
@@ -131,14 +131,14 @@ module _ (s : Setting) (target : ℕ) (told : s.told target ≡ true) where
       let said = some_same x.1 y.1 (sym x.3 ∙ ap last_said same.0 ∙ y.3) in
       (same.0, x.4 ∙ (λ i. lane_ended key (same.1 i).lane.state (said i) r) ∙ sym y.4, same.2, p.1)
 
-  abbrev Rest : Option Reply → List Finding → Progressed → Peer → List (Turn Peer) → Progressed → Peer → Type 0
+  abbrev Rest : Option Reply → List Finding → Progressed → Peer → List (LaneTurn Peer) → Progressed → Peer → Type 0
   Rest o fs next mid rest after new = MatchOption o (Them fs next mid rest after new) (λ said. (rest ≡ []) × (after ≡ next) × (new ≡ mid))
 
-  rest_counts : (o : Option Reply) (fs : List Finding) (next : Progressed) (mid : Peer) (rest : List (Turn Peer)) (after : Progressed) (new : Peer) → Rest o fs next mid rest after new → mid.faults ≤ new.faults
+  rest_counts : (o : Option Reply) (fs : List Finding) (next : Progressed) (mid : Peer) (rest : List (LaneTurn Peer)) (after : Progressed) (new : Peer) → Rest o fs next mid rest after new → mid.faults ≤ new.faults
   rest_counts None fs next mid rest after new x = (all_counts s target mid rest new (brought s target told fs next mid rest after new x)).faults
   rest_counts (Some said) fs next mid rest after new x = subst (λ (q : Peer). mid.faults ≤ q.faults) (sym x.2) (let e : mid.faults ≤ mid.faults = omega arith in e)
 
-  pub all_once : (fs : List Finding) (r : Progressed) (old : Peer) (t1 t2 : List (Turn Peer)) (a1 a2 : Progressed) (n1 n2 : Peer)
+  pub all_once : (fs : List Finding) (r : Progressed) (old : Peer) (t1 t2 : List (LaneTurn Peer)) (a1 a2 : Progressed) (n1 n2 : Peer)
       → old.pending ≡ None → (Rose old.faults n1.faults → ⊥) → (Rose old.faults n2.faults → ⊥) → Them fs r old t1 a1 n1 → Them fs r old t2 a2 n2
       → (t1 ≡ t2) × (a1 ≡ a2) × (n1 ≡ n2) × (n1.pending ≡ None)
   all_once [] r old t1 t2 a1 a2 n1 n2 none s1 s2 x y = (x.1 ∙ sym y.1, x.0 ∙ sym y.0, x.2 ∙ sym y.2, ap (λ (q : Peer). q.pending) x.2 ∙ none)
@@ -163,7 +163,7 @@ module _ (s : Setting) (target : ℕ) (told : s.told target ≡ true) where
       by_stop (Some said) none s1 s2 a b again = (a.0 ∙ sym b.0, a.1 ∙ sym b.1, a.2 ∙ sym b.2, ap (λ (q : Peer). q.pending) a.2 ∙ none)
 
   -- where the target's reply stopped it, more findings would have changed nothing
-  pub extends : (front more : List Finding) (r : Progressed) (old : Peer) (turns : List (Turn Peer)) (after : Progressed) (new : Peer) (said : Reply)
+  pub extends : (front more : List Finding) (r : Progressed) (old : Peer) (turns : List (LaneTurn Peer)) (after : Progressed) (new : Peer) (said : Reply)
       → r.stop ≡ None → after.stop ≡ Some said → Them front r old turns after new → Them (front ++ more) r old turns after new
   extends [] more r old turns after new said going stopped x = absurd (let no : None ≡ Some said = sym going ∙ ap (λ (p : Progressed). p.stop) (sym x.0) ∙ stopped in cc)
   extends (f ∷ front) more r old turns after new said going stopped x =

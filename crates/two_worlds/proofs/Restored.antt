@@ -5,29 +5,29 @@ use Rattle.std.specs.List.{Contains, flat_map}
 use Rattle.std.proofs.lemmas.List.Elements.{All-contains}
 use Rattle.sha2.specs.Sha256.{sha256 as sha256_of}
 use Rattle.sha2.proofs.Facts256.{length-sha256}
-use Rattle.cd_base.specs.Lengths.{share_len_of}
-use Rattle.cd_base.specs.declared.ids.Fp.{Fp}
-use Rattle.cd_base.specs.declared.ids.Tag.{Tag}
-use Rattle.cd_base.specs.declared.ids.UserId.{UserId}
-use Rattle.cd_base.specs.declared.ids.Version.{Version}
-use Rattle.cd_base.specs.declared.shape.Shape.{Shape}
-use Rattle.caont_rs.specs.Opening.{opened}
-use Rattle.message_fields.specs.Fingerprints.{batch_limit}
+use Rattle.recipe.specs.CdBase.Lengths.{share_len_of}
+use Rattle.recipe.specs.CdBase.ids.Fp.{Fp}
+use Rattle.recipe.specs.CdBase.ids.Tag.{Tag}
+use Rattle.recipe.specs.CdBase.ids.UserId.{UserId}
+use Rattle.recipe.specs.CdBase.ids.Version.{Version}
+use Rattle.recipe.specs.CdBase.shape.Shape.{Shape}
+use Rattle.session_model.specs.CaontRs.Opening.{opened}
+use Rattle.session_model.specs.MessageFields.Fingerprints.{batch_limit}
 use Rattle.recipe.specs.Reading.{recipe_at}
 use Rattle.recipe.specs.declared.items.Item.{Item}
 use Rattle.recipe.specs.declared.recipe.Recipe.{Recipe}
-use Rattle.user_dedup.specs.declared.command.Command.{Command}
-use Rattle.user_dedup.specs.declared.file_list.FileEntry.{FileEntry}
-use Rattle.user_dedup.specs.declared.view.View.{View}
-use Rattle.user_dedup.specs.Cloud.{commands_of, user_view, held_string, strings_in}
-use Rattle.user_dedup.specs.Owning.{fps_in}
-use Rattle.user_dedup.specs.Pages.{is_at, entry_at, key_of, sorted_keys}
-use Rattle.user_dedup.specs.Requests.{fps_of, fps_read}
-use Rattle.user_dedup.proofs.Owned.{contains_here, contains_later, contains_nothing}
-use Rattle.user_dedup.proofs.Views.{found_passes}
-use Rattle.user_dedup.proofs.Views.{held_is}
+use Rattle.session_model.specs.UserDedup.command.Command.{Command}
+use Rattle.session_model.specs.UserDedup.file_list.FileEntry.{FileEntry}
+use Rattle.session_model.specs.UserDedup.view.View.{View}
+use Rattle.session_model.specs.UserDedup.Cloud.{commands_of, user_view, held_string, strings_in}
+use Rattle.session_model.specs.UserDedup.Owning.{fps_in}
+use Rattle.session_model.specs.UserDedup.Pages.{is_at, entry_at, key_of, sorted_keys}
+use Rattle.session_model.specs.UserDedup.Requests.{fps_of, fps_read}
+use Rattle.session_model.proofs.UserDedup.Owned.{contains_here, contains_later, contains_nothing}
+use Rattle.session_model.proofs.UserDedup.Views.{found_passes}
+use Rattle.session_model.proofs.UserDedup.Views.{held_is}
 use Rattle.two_worlds.proofs.Rules.{EntriesOwned}
-use Rattle.restore_job.specs.Restored.{Unrestored, ShareLength, Missing, Given, no_recipe, item_of, string_at, recipe_read, recipe_in, given_by, missing, differing, or_else, unless, behind, wrong_string, wrong_strings, wrong_length, secret_opened, of_secret, secrets_opened, batch_opened, batches_opened, batch_count, items_opened, agreed, restored_file}
+use Rattle.session_model.specs.RestoreJob.Restored.{Unrestored, ShareLength, Missing, Given, no_recipe, item_of, string_at, recipe_read, recipe_in, given_by, missing, differing, or_else, unless, behind, wrong_string, wrong_strings, wrong_length, secret_opened, of_secret, secrets_opened, batch_opened, batches_opened, batch_count, items_opened, agreed, restored_file}
 use Rattle.session_model.specs.SubsetRestore.Subsets.{subsets}
 use Rattle.session_model.specs.SubsetRestore.Restored.{first_given, restored_any}
 use Rattle.session_model.specs.Rebuild.Found.{name_opened, name_judged, unless_skipped, recipes_differ, version_named, version_under, keys_in, finding_under, findings, first_of}

@@ -4,23 +4,23 @@ use Rattle.std.specs.Prelude.{All}
 use Rattle.std.specs.List.{Contains}
 use Rattle.std.proofs.lemmas.Bool.{cases_eq}
 use Rattle.std.proofs.lemmas.List.Elements.{All-weaker, All-contains, Contains-append_left, Contains-push_cases}
-use Rattle.cd_base.specs.declared.ids.UserId.{UserId}
-use Rattle.cd_base.specs.declared.shape.Shape.{Shape}
-use Rattle.messages.specs.declared.request.Request.{Request}
-use Rattle.messages.specs.declared.request.Request.TheVariants as requests
-use Rattle.user_dedup.specs.declared.command.Command.{Command}
-use Rattle.user_dedup.specs.declared.command.Command.TheVariants as commands
-use Rattle.user_dedup.specs.declared.file_list.FileEntry.{FileEntry}
-use Rattle.user_dedup.specs.declared.view.View.{View}
-use Rattle.user_dedup.specs.Cloud.{fingerprint, no_view, user_of, view_after, user_view, without_entry}
-use Rattle.user_dedup.specs.Owning.{first_lacking, FindsLacking, new_strings}
-use Rattle.user_dedup.specs.Pages.{entry_at}
-use Rattle.user_dedup.specs.Requests.{fps_of}
-use Rattle.user_dedup.specs.Dedup.{answer_over}
-use Rattle.user_dedup.proofs.Owned.{finds, contains_nothing}
-use Rattle.user_dedup.proofs.Deleting.{entries_left, own_named}
-use Rattle.user_dedup.proofs.Sound.{put_adds, commit_adds, deletes_from, contained}
-use Rattle.user_dedup.proofs.Views.{own_adds, others_stay}
+use Rattle.recipe.specs.CdBase.ids.UserId.{UserId}
+use Rattle.recipe.specs.CdBase.shape.Shape.{Shape}
+use Rattle.session_model.specs.Messages.request.Request.{Request}
+use Rattle.session_model.specs.Messages.request.Request.TheVariants as requests
+use Rattle.session_model.specs.UserDedup.command.Command.{Command}
+use Rattle.session_model.specs.UserDedup.command.Command.TheVariants as commands
+use Rattle.session_model.specs.UserDedup.file_list.FileEntry.{FileEntry}
+use Rattle.session_model.specs.UserDedup.view.View.{View}
+use Rattle.session_model.specs.UserDedup.Cloud.{fingerprint, no_view, user_of, view_after, user_view, without_entry}
+use Rattle.session_model.specs.UserDedup.Owning.{first_lacking, FindsLacking, new_strings}
+use Rattle.session_model.specs.UserDedup.Pages.{entry_at}
+use Rattle.session_model.specs.UserDedup.Requests.{fps_of}
+use Rattle.session_model.specs.UserDedup.Dedup.{answer_over}
+use Rattle.session_model.proofs.UserDedup.Owned.{finds, contains_nothing}
+use Rattle.session_model.proofs.UserDedup.Deleting.{entries_left, own_named}
+use Rattle.session_model.proofs.UserDedup.Sound.{put_adds, commit_adds, deletes_from, contained}
+use Rattle.session_model.proofs.UserDedup.Views.{own_adds, others_stay}
 
 -- where a view's user enters a version, nothing is lacking
 abbrev NamesOwned : Shape → View → Command → Type 0

@@ -4,40 +4,40 @@ use Rattle.std.specs.Prelude.{All, IsTrue, IfErr, slice_get}
 use Rattle.std.specs.Bool.{MatchBool}
 use Rattle.std.specs.List.{Contains, range_with_len}
 use Rattle.std.proofs.lemmas.List.Elements.{All-contains}
-use Rattle.cd_base.specs.declared.ids.Tag.{Tag}
-use Rattle.cd_base.specs.declared.ids.UserId.{UserId}
-use Rattle.cd_base.specs.declared.ids.Version.{Version}
-use Rattle.cd_base.specs.declared.shape.Shape.{Shape}
-use Rattle.journal_start.specs.declared.rooms.Rooms.{Rooms}
-use Rattle.messages.specs.declared.request.Request.{Request}
-use Rattle.messages.specs.declared.request.Request.TheVariants as requests
-use Rattle.messages.specs.declared.reply.Reply.{Reply}
-use Rattle.user_dedup.specs.Exec.{Peer, Exec}
-use Rattle.user_dedup.proofs.Owned.{contains_here, contains_later, contains_cases}
+use Rattle.recipe.specs.CdBase.ids.Tag.{Tag}
+use Rattle.recipe.specs.CdBase.ids.UserId.{UserId}
+use Rattle.recipe.specs.CdBase.ids.Version.{Version}
+use Rattle.recipe.specs.CdBase.shape.Shape.{Shape}
+use Rattle.session_model.specs.JournalStart.rooms.UserRooms.{UserRooms}
+use Rattle.session_model.specs.Messages.request.Request.{Request}
+use Rattle.session_model.specs.Messages.request.Request.TheVariants as requests
+use Rattle.session_model.specs.Messages.reply.Reply.{Reply}
+use Rattle.session_model.specs.UserDedup.Exec.{Peer, Exec}
+use Rattle.session_model.proofs.UserDedup.Owned.{contains_here, contains_later, contains_cases}
 use Rattle.session_model.specs.CloudServer.Serving.{ReopensAs}
-use Rattle.upload_job.specs.Lanes as lanes
-use Rattle.session_model.specs.LaneSteps.Runs.{Turn, Progress, LaneRun, progress_after}
-use Rattle.restore_job.specs.declared.error.RestoreErr.{RestoreErr}
-use Rattle.restore_job.specs.declared.error.RestoreErr.TheVariants as refusals
-use Rattle.restore_job.specs.Refusals.{Names, Causes}
+use Rattle.session_model.specs.UploadJob.Lanes as lanes
+use Rattle.session_model.specs.LaneSteps.Runs.{LaneTurn, Progress, LaneRun, progress_after}
+use Rattle.session_model.specs.RestoreJob.error.RestoreErr.{RestoreErr}
+use Rattle.session_model.specs.RestoreJob.error.RestoreErr.TheVariants as refusals
+use Rattle.session_model.specs.RestoreJob.Refusals.{Names, Causes}
 use Rattle.session_model.specs.Rebuild.error.RebuildErr.{RebuildErr}
 use Rattle.session_model.specs.Rebuild.error.RebuildErr.TheVariants as errors
 use Rattle.session_model.specs.Rebuild.skips.Rebuilt.{Rebuilt}
 use Rattle.session_model.specs.Rebuild.Over.{HandsOn, ReadCaused}
 use Rattle.session_model.specs.Rebuild.Over as rebuilding
 use Rattle.session_model.specs.KeptFiles.Kept.{key_of}
-use Rattle.session.specs.declared.event.Event.{Event}
-use Rattle.session.specs.declared.event.Event.TheVariants as events
-use Rattle.session.specs.Spelling.{Fits}
-use Rattle.session.specs.Scripts.{AreLines, jobs_after}
-use Rattle.transcript.specs.declared.refusal.Refusal.{Refusal}
-use Rattle.transcript.specs.declared.line.Line.{Line}
-use Rattle.session_model.specs.Vault.{Setting, Vault, Executes, ExecutesAll, OneGoes, served_at, lanes_of}
+use Rattle.session_model.specs.Session.event.Event.{Event}
+use Rattle.session_model.specs.Session.event.Event.TheVariants as events
+use Rattle.session_model.specs.Session.Spelling.{Fits}
+use Rattle.session_model.specs.Session.Scripts.{AreLines, jobs_after}
+use Rattle.session_model.specs.Transcript.refusal.Refusal.{Refusal}
+use Rattle.session_model.specs.Transcript.line.Line.{Line}
+use Rattle.session_model.specs.Vault.{Setting, Vault, HasVaultExecuted, ExecutesAll, OneGoes, served_at, lanes_of}
 use Rattle.session_model.specs.Steps.{Moment, told_so, LaneStep, DropStep, FinishLanes, GetStep, ListRun, ReopensUntold, RestartStep, IsReplaceLine, ReplaceStep, AllTold, RebuildStep, VStep}
 use Rattle.session_model.specs.Run.{Answered, Turns, script_of}
 use Rattle.two_worlds.proofs.Lines.{in_range}
 
-module _ (shape : Shape) (rooms : Rooms) (one two : ℕ → Bool) (yes_one : (c : ℕ) → c < shape.n → one c ≡ true) (yes_two : (c : ℕ) → c < shape.n → two c ≡ true) where
+module _ (shape : Shape) (rooms : UserRooms) (one two : ℕ → Bool) (yes_one : (c : ℕ) → c < shape.n → one c ≡ true) (yes_two : (c : ℕ) → c < shape.n → two c ≡ true) where
   abbrev s : Setting
   s = record { shape = shape; rooms = rooms; told = one }
 
@@ -54,15 +54,15 @@ module _ (shape : Shape) (rooms : Rooms) (one two : ℕ → Bool) (yes_one : (c 
     exec_there : (p : Peer) (request : Request) (reply : Reply) (q : Peer) → Exec shape (one cloud) (served_at s cloud) p request reply q → Exec shape (two cloud) (served_at t cloud) p request reply q
     exec_there p request reply q x = subst (λ (b : Bool). Exec shape b (served_at s cloud) p request reply q) (same cloud below) x
 
-    executes_there : (old new : ℕ → Peer) (request : Request) (reply : Reply) → Executes s cloud old request reply new → Executes t cloud old request reply new
+    executes_there : (old new : ℕ → Peer) (request : Request) (reply : Reply) → HasVaultExecuted s cloud old request reply new → HasVaultExecuted t cloud old request reply new
     executes_there old new request reply x = record { does = exec_there (old cloud) request reply (new cloud) x.does; others = x.others }
 
-    run_there : (p : Progress) (old : ℕ → Peer) (turns : List (Turn (ℕ → Peer))) (last : Progress) (new : ℕ → Peer) → LaneRun (Executes s cloud) p old turns last new → LaneRun (Executes t cloud) p old turns last new
+    run_there : (p : Progress) (old : ℕ → Peer) (turns : List (LaneTurn (ℕ → Peer))) (last : Progress) (new : ℕ → Peer) → LaneRun (HasVaultExecuted s cloud) p old turns last new → LaneRun (HasVaultExecuted t cloud) p old turns last new
     run_there p old [] last new run = run
     run_there p old (u ∷ turns) last new run =
         (run.0, run.1, run.2, (run.3.0, executes_there old run.3.0 u.request u.reply run.3.1, run_there (progress_after p u.reply) run.3.0 turns last new run.3.2))
 
-    list_there : (user : UserId) (above : Option (Tag × Version)) (old : ℕ → Peer) (turns : List (Turn (ℕ → Peer))) (listed : Result (List (Tag × Version)) Refusal) (new : ℕ → Peer)
+    list_there : (user : UserId) (above : Option (Tag × Version)) (old : ℕ → Peer) (turns : List (LaneTurn (ℕ → Peer))) (listed : Result (List (Tag × Version)) Refusal) (new : ℕ → Peer)
         → ListRun s user cloud above old turns listed new → ListRun t user cloud above old turns listed new
     list_there user above old [] listed new run = run
     list_there user above old (u ∷ turns) listed new run =
@@ -72,7 +72,7 @@ module _ (shape : Shape) (rooms : Rooms) (one two : ℕ → Bool) (yes_one : (c 
           | inr x ↦ (run.0, run.1, (run.2.0, there, inr (x.0, x.1, x.2, x.3, x.4, list_there user (slice_get x.0 (length x.0 - 1)) run.2.0 turns x.1 new x.5)))
         ]
 
-    all_there : (old : Peer) (turns : List (Turn Peer)) (new : Peer) → ExecutesAll s cloud old turns new → ExecutesAll t cloud old turns new
+    all_there : (old : Peer) (turns : List (LaneTurn Peer)) (new : Peer) → ExecutesAll s cloud old turns new → ExecutesAll t cloud old turns new
     all_there old [] new x = x
     all_there old (u ∷ turns) new x = (x.0, (x.1.0, exec_there old u.request u.reply x.1.0 x.1.1, all_there x.1.0 turns new x.1.2))
 

@@ -5,17 +5,17 @@ use Rattle.std.specs.List.{Contains}
 use Rattle.std.proofs.lemmas.Bool.{or_parts}
 use Rattle.std.proofs.lemmas.List.{length-append}
 use Rattle.std.proofs.lemmas.List.Elements.{filter-append, Contains-append_left, Contains-append_right}
-use Rattle.cd_base.specs.declared.ids.UserId.{UserId}
-use Rattle.cd_base.specs.declared.shape.Shape.{Shape}
-use Rattle.cd_edges.specs.Causes.{Rose}
-use Rattle.cd_edges.specs.Disk.{Cloud}
-use Rattle.user_dedup.proofs.Owned.{contains_here, contains_later}
-use Rattle.upload_job.specs.Upload.{FileVersion}
-use Rattle.session.specs.declared.event.Event.{Event}
-use Rattle.session.specs.declared.event.Event.TheVariants as events
-use Rattle.session.specs.Spelling.{Fits, IsTyped}
-use Rattle.session.specs.Scripts.{AreLines, jobs_after}
-use Rattle.transcript.specs.declared.line.Line.{Line}
+use Rattle.recipe.specs.CdBase.ids.UserId.{UserId}
+use Rattle.recipe.specs.CdBase.shape.Shape.{Shape}
+use Rattle.session_model.specs.CdEdges.Causes.{Rose}
+use Rattle.session_model.specs.CdEdges.Disk.{Cloud}
+use Rattle.session_model.proofs.UserDedup.Owned.{contains_here, contains_later}
+use Rattle.session_model.specs.UploadJob.Upload.{FileVersion}
+use Rattle.session_model.specs.Session.event.Event.{Event}
+use Rattle.session_model.specs.Session.event.Event.TheVariants as events
+use Rattle.session_model.specs.Session.Spelling.{Fits, IsTyped}
+use Rattle.session_model.specs.Session.Scripts.{AreLines, jobs_after}
+use Rattle.session_model.specs.Transcript.line.Line.{Line}
 use Rattle.session_model.specs.Vault.{Setting, Vault}
 use Rattle.session_model.specs.Steps.{VStep, version_of}
 use Rattle.session_model.specs.Run.{Answered, Turns, script_of, moments_of}

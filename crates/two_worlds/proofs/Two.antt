@@ -4,13 +4,13 @@ use Rattle.std.specs.Prelude.{IfSome, IsSomeAnd, MatchOption, min, bytes_eq}
 use Rattle.std.specs.List.{Contains}
 use Rattle.std.proofs.lemmas.Slice.Eq.{bytes_eq-Decides}
 use Rattle.std.proofs.lemmas.List.Elements.{Contains-append_left}
-use Rattle.cd_base.specs.declared.ids.UserId.{UserId}
-use Rattle.cd_base.specs.declared.shape.Shape.{Shape}
-use Rattle.cd_edges.specs.Causes.{Rose}
-use Rattle.cd_edges.specs.Disk.{Cloud}
-use Rattle.user_dedup.specs.Exec.{Peer}
+use Rattle.recipe.specs.CdBase.ids.UserId.{UserId}
+use Rattle.recipe.specs.CdBase.shape.Shape.{Shape}
+use Rattle.session_model.specs.CdEdges.Causes.{Rose}
+use Rattle.session_model.specs.CdEdges.Disk.{Cloud}
+use Rattle.session_model.specs.UserDedup.Exec.{Peer}
 use Rattle.two_worlds.proofs.Rules.{none_owned}
-use Rattle.session.specs.Scripts.{AreLines}
+use Rattle.session_model.specs.Session.Scripts.{AreLines}
 use Rattle.session_model.specs.Vault.{opening}
 use Rattle.session_model.specs.Steps.{Execution}
 use Rattle.session_model.specs.Run.{Turns, script_of, moments_of}

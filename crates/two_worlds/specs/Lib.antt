@@ -1,1 +1,4 @@
+pub mod Session
+pub mod Transcript
+pub mod UploadJob
 pub mod Worlds

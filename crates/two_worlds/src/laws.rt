@@ -1,7 +1,7 @@
 //! What follows of a session over told clouds for each of its users. The calls do nothing.
 
 ghost use Rattle.std.specs.Prelude.{ℕ};
-ghost use Rattle.cd_edges.specs.Disk.{Cloud};
+ghost use Rattle.session_model.specs.CdEdges.Disk.{Cloud};
 ghost use Rattle.session_model.specs.Headline.{Session};
 ghost use Rattle.two_worlds.specs.Worlds.{TwoWorlds, Alike};
 

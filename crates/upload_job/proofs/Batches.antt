@@ -4,7 +4,7 @@ use Rattle.std.specs.List.{flat_map}
 use Rattle.std.proofs.lemmas.List.{length-drop, length-take, drop_all, take_min, take-append-drop}
 use Rattle.std.proofs.lemmas.List.Concat.{flat_map-cons}
 use Rattle.std.specs.Prelude.{slice_get}
-use Rattle.message_fields.specs.Fingerprints.{IsBatch}
+use Rattle.user_dedup.specs.MessageFields.Fingerprints.{IsBatch}
 use Rattle.upload_job.specs.Upload.{batches_from, in_batches}
 use Rattle.upload_job.specs.Lane.{Asking, Committing, onward}
 

@@ -7,22 +7,22 @@ use Rattle.std.proofs.lemmas.List.{length-map, length-append, get_or_default, ge
 use Rattle.std.proofs.lemmas.List.FromFn.{fill_by_all, get_or-map-range_with_len, length-map-range_with_len}
 use Rattle.std.proofs.lemmas.List.Elements.{All-nil}
 use Rattle.sha2.specs.Sha256.{sha256}
-use Rattle.cd_base.specs.declared.ids.Tag.{Tag}
-use Rattle.cd_base.specs.declared.ids.Fp.{Fp}
-use Rattle.cd_base.specs.declared.shape.Shape.{Shape}
-use Rattle.cd_base.specs.Lengths.{share_len_of}
-use Rattle.caont_rs.specs.Package.{share, tag}
-use Rattle.caont_rs.proofs.Opened.{length-share}
+use Rattle.user_dedup.specs.CdBase.ids.Tag.{Tag}
+use Rattle.user_dedup.specs.CdBase.ids.Fp.{Fp}
+use Rattle.user_dedup.specs.CdBase.shape.Shape.{Shape}
+use Rattle.user_dedup.specs.CdBase.Lengths.{share_len_of}
+use Rattle.file_recipe.specs.CaontRs.Package.{share, tag}
+use Rattle.file_recipe.proofs.CaontRs.Opened.{length-share}
 use Rattle.file_recipe.specs.declared.cloud_file.CloudFile.{CloudFile}
 use Rattle.file_recipe.specs.FileRecipe.{secrets, shares_at, item_of}
 use Rattle.file_recipe.specs.Clouds.{cloud_file, dispersed}
 use Rattle.file_recipe.proofs.Secrets.{IsSecret, secret_at, secrets_few}
 use Rattle.user_dedup.specs.Owning.{new_strings}
-use Rattle.upload_job.specs.declared.lane.FileKey.{FileKey}
+use Rattle.upload_job.specs.declared.lane.VersionKey.{VersionKey}
 use Rattle.upload_job.specs.declared.lane.Lane.{Lane}
 use Rattle.upload_job.specs.Upload.{FileVersion, work_of, wanted_for, in_batches}
 use Rattle.upload_job.specs.Lanes.{LaneView, begun, idle, lanes_begun, lane_begun}
-use Rattle.upload_job.specs.Index.{IsIn, AreIn, AreNamed, AreLanes, IsBegun, IsIdle, IsAlone, EachNamed, EachBegun, pieces, shares_in, lane_in, lanes_in}
+use Rattle.upload_job.specs.Index.{IsInShares, AreIn, AreNamed, AreLanes, IsBegun, IsIdle, IsAlone, EachNamed, EachBegun, pieces, shares_in, lane_in, lanes_in}
 use Rattle.upload_job.proofs.Laning.{length-lanes_in}
 
 -- ---- one lane after the other
@@ -99,7 +99,7 @@ each_named s path file files e few = λ i f lt.
 
 -- ---- the lanes as contracts see them
 
-begun_in : (s : Shape) (v : FileVersion) (key : FileKey) (j : ℕ) (lane : Lane) → key.user ≡ v.user → key.tag.0 ≡ tag s v.path → key.version ≡ v.number → IsBegun s.k (cloud_file s j v.path v.file) lane
+begun_in : (s : Shape) (v : FileVersion) (key : VersionKey) (j : ℕ) (lane : Lane) → key.user ≡ v.user → key.tag.0 ≡ tag s v.path → key.version ≡ v.number → IsBegun s.k (cloud_file s j v.path v.file) lane
     → lane_in key lane ≡ begun (work_of s v j)
 unfolding shares_at
 begun_in s v key j lane user tagged number is =
@@ -108,7 +108,7 @@ begun_in s v key j lane user tagged number is =
     let wanted : shares_in (shares_at s j v.file) lane.wanted.items ≡ wanted_for s j v.file = is.wanted ∙ ap (new_strings []) (pieces_all s j (secrets v.file)) in
     rw (is.recipe, items, is.shares, wanted, is.stage, mark, user, number) refl
 
-get-lanes_in : (key : FileKey) (lanes : List Lane) (i : ℕ) (d : LaneView) (l : Lane) → i < length lanes → get_or (lanes_in key lanes) i d ≡ lane_in key (get_or lanes i l)
+get-lanes_in : (key : VersionKey) (lanes : List Lane) (i : ℕ) (d : LaneView) (l : Lane) → i < length lanes → get_or (lanes_in key lanes) i d ≡ lane_in key (get_or lanes i l)
 get-lanes_in key [] i d l lt = absurd (omega arith)
 get-lanes_in key (m ∷ lanes) zero d l lt = refl
 get-lanes_in key (m ∷ lanes) (suc i) d l lt = get-lanes_in key lanes i d l (omega arith)
@@ -128,7 +128,7 @@ some_of (x ∷ xs) lt = x
 pub are_lanes : (k : ℕ) (files : List CloudFile) (lanes : List Lane) → length lanes ≡ length files → EachBegun k files lanes → AreLanes lanes
 are_lanes k files lanes e each = are_from lanes (λ i l lt. begun_inside k (get_or files i (some_of files (omega arith))) (get_or lanes i l) (each i (some_of files (omega arith)) l lt))
 
-pub all_begun : (s : Shape) (v : FileVersion) (key : FileKey) (files : List CloudFile) (lanes : List Lane) → key.user ≡ v.user → key.tag.0 ≡ tag s v.path → key.version ≡ v.number
+pub all_begun : (s : Shape) (v : FileVersion) (key : VersionKey) (files : List CloudFile) (lanes : List Lane) → key.user ≡ v.user → key.tag.0 ≡ tag s v.path → key.version ≡ v.number
     → files ≡ dispersed s v.path v.file → length lanes ≡ length files → EachBegun s.k files lanes → lanes_in key lanes ≡ lanes_begun s v
 all_begun s v key files lanes user tagged number e len each =
     let size : length files ≡ s.n = ap (λ (xs : List CloudFile). length xs) e ∙ length-dispersed s v.path v.file in
@@ -143,14 +143,14 @@ all_begun s v key files lanes user tagged number e len each =
 
 -- ---- one lane alone
 
-idle_in : (s : Shape) (v : FileVersion) (key : FileKey) (lane : Lane) → key.user ≡ v.user → key.tag.0 ≡ tag s v.path → key.version ≡ v.number → IsIdle lane → lane_in key lane ≡ idle s v
+idle_in : (s : Shape) (v : FileVersion) (key : VersionKey) (lane : Lane) → key.user ≡ v.user → key.tag.0 ≡ tag s v.path → key.version ≡ v.number → IsIdle lane → lane_in key lane ≡ idle s v
 unfolding in_batches
 idle_in s v key lane user tagged number is =
     let mark : key.tag ≡ record { 0 = tag s v.path } = ap (λ (b : List ℕ). let t : Tag = record { 0 = b } in t) tagged in
     rw (is.recipe, is.items, is.wanted, is.stage, mark, user, number) refl
 
 idle_inside : (lane : Lane) → IsIdle lane → AreIn lane.shares lane.wanted.items
-idle_inside lane is = subst (AreIn lane.shares) (sym is.wanted) (All-nil (IsIn lane.shares))
+idle_inside lane is = subst (AreIn lane.shares) (sym is.wanted) (All-nil (IsInShares lane.shares))
 
 not_same : (a b : ℕ) (t : Bool) → eqb a b ≡ t → a ≢ b → eqb a b ≡ false
 not_same a b true e ne = absurd (ne (eqb-true a b e))
@@ -169,7 +169,7 @@ are_alone s c f lanes is = are_from lanes (λ i l lt. elim (alone_at s c f lanes
   | inr b ↦ idle_inside (get_or lanes i l) b.1
 ])
 
-pub one_begun : (s : Shape) (v : FileVersion) (key : FileKey) (c : ℕ) (f : CloudFile) (lanes : List Lane) → key.user ≡ v.user → key.tag.0 ≡ tag s v.path → key.version ≡ v.number
+pub one_begun : (s : Shape) (v : FileVersion) (key : VersionKey) (c : ℕ) (f : CloudFile) (lanes : List Lane) → key.user ≡ v.user → key.tag.0 ≡ tag s v.path → key.version ≡ v.number
     → f ≡ cloud_file s c v.path v.file → IsAlone s c f lanes → lanes_in key lanes ≡ lane_begun s v c
 one_begun s v key c f lanes user tagged number e is =
     let d : LaneView = idle s v in

@@ -3,11 +3,11 @@ use Rattle.std.proofs.Common.{◌≡◌, ℕ, zero, suc, ◌+◌, ◌<◌, List,
 use Rattle.std.specs.Prelude.{All}
 use Rattle.std.proofs.lemmas.List.{drop_more}
 use Rattle.std.proofs.lemmas.List.Elements.{All-head, All-tail}
-use Rattle.cd_base.specs.declared.ids.CloudNo.{CloudNo}
-use Rattle.cd_base.specs.Numbers.{numbers_of}
-use Rattle.upload_job.specs.declared.lane.FileKey.{FileKey}
+use Rattle.user_dedup.specs.CdBase.ids.CloudNo.{CloudNo}
+use Rattle.user_dedup.specs.CdBase.Numbers.{numbers_of}
+use Rattle.upload_job.specs.declared.lane.VersionKey.{VersionKey}
 use Rattle.upload_job.specs.declared.lane.Lane.{Lane}
-use Rattle.upload_job.specs.declared.lane.Stage.TheVariants as stages
+use Rattle.upload_job.specs.declared.lane.LaneStage.TheVariants as stages
 use Rattle.upload_job.specs.Lane.{Done}
 use Rattle.upload_job.specs.Lanes.{LaneView, with_state, entered_at}
 use Rattle.upload_job.specs.Index.{AreLanes, lane_in, lanes_in, moved_to, staged_at, done_at}
@@ -17,7 +17,7 @@ length-staged_at [] i = refl
 length-staged_at (lane ∷ lanes) zero = refl
 length-staged_at (lane ∷ lanes) (suc i) = omega (arith, length-staged_at lanes i)
 
-staged_in : (key : FileKey) (lanes : List Lane) (i : ℕ) → lanes_in key (staged_at lanes i stages.Done) ≡ with_state (lanes_in key lanes) i Done
+staged_in : (key : VersionKey) (lanes : List Lane) (i : ℕ) → lanes_in key (staged_at lanes i stages.Done) ≡ with_state (lanes_in key lanes) i Done
 staged_in key [] i = refl
 staged_in key (lane ∷ lanes) zero = refl
 staged_in key (lane ∷ lanes) (suc i) = ap (λ (l : List LaneView). lane_in key lane ∷ l) (staged_in key lanes i)
@@ -27,7 +27,7 @@ staged_lanes [] i are = are
 staged_lanes (lane ∷ lanes) zero are = are
 staged_lanes (lane ∷ lanes) (suc i) are = (are.0, staged_lanes lanes i are.1)
 
-pub done_in : (key : FileKey) (lanes : List Lane) (clouds : List ℕ) → lanes_in key (done_at lanes clouds) ≡ entered_at (lanes_in key lanes) clouds
+pub done_in : (key : VersionKey) (lanes : List Lane) (clouds : List ℕ) → lanes_in key (done_at lanes clouds) ≡ entered_at (lanes_in key lanes) clouds
 done_in key lanes [] = refl
 done_in key lanes (cloud ∷ clouds) = done_in key (staged_at lanes cloud stages.Done) clouds ∙ ap (λ (l : List LaneView). entered_at l clouds) (staged_in key lanes cloud)
 

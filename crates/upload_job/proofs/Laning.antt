@@ -3,11 +3,11 @@ use Rattle.std.proofs.Common.{◌≡◌, ◌↔◌, ℕ, zero, suc, ◌<◌, Boo
 use Rattle.std.specs.Prelude.{All, IsSome, slice_get}
 use Rattle.std.proofs.lemmas.List.{get_or_default, length-map}
 use Rattle.std.proofs.lemmas.List.Elements.{All-nil, All-cons}
-use Rattle.messages.specs.declared.request.Request.{Request}
-use Rattle.upload_job.specs.declared.lane.FileKey.{FileKey}
+use Rattle.user_dedup.specs.Messages.request.Request.{Request}
+use Rattle.upload_job.specs.declared.lane.VersionKey.{VersionKey}
 use Rattle.upload_job.specs.declared.lane.Lane.{Lane}
-use Rattle.upload_job.specs.declared.lane.Stage.{Stage}
-use Rattle.upload_job.specs.declared.lane.Stage.TheVariants as stages
+use Rattle.upload_job.specs.declared.lane.LaneStage.{LaneStage}
+use Rattle.upload_job.specs.declared.lane.LaneStage.TheVariants as stages
 use Rattle.upload_job.specs.declared.news.LaneNews.{LaneNews}
 use Rattle.upload_job.specs.declared.news.LaneErr.{LaneErr}
 use Rattle.upload_job.specs.Upload.{in_batches}
@@ -15,7 +15,7 @@ use Rattle.upload_job.specs.Lane.{LaneState, Done, onward, lane_request}
 use Rattle.upload_job.specs.Lanes.{LaneView, request_at, IsAsked, IsDoneAt, Answers, AnswersAt}
 use Rattle.upload_job.specs.Index.{AreIn, AreLanes, shares_in, lane_in, lanes_in, state_in, moved_to, next_in}
 
-pub length-lanes_in : (key : FileKey) (lanes : List Lane) → length (lanes_in key lanes) ≡ length lanes
+pub length-lanes_in : (key : VersionKey) (lanes : List Lane) → length (lanes_in key lanes) ≡ length lanes
 length-lanes_in key lanes = length-map lanes (lane_in key)
 
 pub inside_at : (lanes : List Lane) (i : ℕ) (l : Lane) → AreLanes lanes → i < length lanes → AreIn (get_or lanes i l).shares (get_or lanes i l).wanted.items
@@ -27,7 +27,7 @@ inside_at (m ∷ lanes) (suc i) l h lt = inside_at lanes i l h.1 (omega arith)
 abbrev pub request_of : LaneView → Option Request
 request_of lane = lane_request lane.work lane.state
 
-request_in : (key : FileKey) (lanes : List Lane) (i : ℕ) (l : Lane) → i < length lanes → request_at (lanes_in key lanes) i ≡ request_of (lane_in key (get_or lanes i l))
+request_in : (key : VersionKey) (lanes : List Lane) (i : ℕ) (l : Lane) → i < length lanes → request_at (lanes_in key lanes) i ≡ request_of (lane_in key (get_or lanes i l))
 request_in key [] i l lt = absurd (omega arith)
 request_in key (m ∷ lanes) zero l lt = refl
 request_in key (m ∷ lanes) (suc i) l lt = request_in key lanes i l (omega arith)
@@ -40,23 +40,23 @@ asked_below (l ∷ lanes) (suc i) some = let lt = asked_below lanes i some in om
 -- ---- an answer to one lane
 
 -- the lane has the same to bring, and stands there
-pub record Moves (key : FileKey) (l m : Lane) (state : LaneState) : Type 0 where
+pub record Moves (key : VersionKey) (l m : Lane) (state : LaneState) : Type 0 where
   pub recipe : m.recipe ≡ l.recipe
   pub items : m.items ≡ l.items
   pub shares : m.shares ≡ l.shares
   pub wanted : m.wanted ≡ l.wanted
   pub stands : state_in (shares_in l.shares l.wanted.items) m.stage ≡ state
 
-moved : (key : FileKey) (l m : Lane) (state : LaneState) → Moves key l m state → lane_in key m ≡ record { work = (lane_in key l).work; state = state }
+moved : (key : VersionKey) (l m : Lane) (state : LaneState) → Moves key l m state → lane_in key m ≡ record { work = (lane_in key l).work; state = state }
 moved key l m state h = rw (h.recipe, h.items, h.shares, h.wanted, h.stands) refl
 
-answers_in : (key : FileKey) (lanes : List Lane) (i : ℕ) (l m : Lane) (content : List ℕ) (result : Result LaneNews LaneErr) (state : LaneState) → i < length lanes
+answers_in : (key : VersionKey) (lanes : List Lane) (i : ℕ) (l m : Lane) (content : List ℕ) (result : Result LaneNews LaneErr) (state : LaneState) → i < length lanes
     → Answers (lane_in key (get_or lanes i l)) content result state → Moves key (get_or lanes i l) m state → AnswersAt (lanes_in key lanes) i content result (lanes_in key (set lanes i m))
 answers_in key [] i l m content result state lt a n = absurd (omega arith)
 answers_in key (o ∷ lanes) zero l m content result state lt a n = (state, a, ap (λ (x : LaneView). x ∷ lanes_in key lanes) (moved key o m state n))
 answers_in key (o ∷ lanes) (suc i) l m content result state lt a n = (lanes_in key (set lanes i m), answers_in key lanes i l m content result state (omega arith) a n, refl)
 
-moves_to : (key : FileKey) (l : Lane) (next : Option Stage) → Moves key l (moved_to l next) (next_in (shares_in l.shares l.wanted.items) (lane_in key l).state next)
+moves_to : (key : VersionKey) (l : Lane) (next : Option LaneStage) → Moves key l (moved_to l next) (next_in (shares_in l.shares l.wanted.items) (lane_in key l).state next)
 moves_to key l None = record { recipe = refl; items = refl; shares = refl; wanted = refl; stands = refl }
 moves_to key l (Some stage) = record { recipe = refl; items = refl; shares = refl; wanted = refl; stands = refl }
 
@@ -79,13 +79,13 @@ not_done : (bs : List (List (List ℕ))) → onward bs ≡ Done → ⊥
 not_done [] e = cc
 not_done (b ∷ bs) e = cc
 
-pub done_state : (all : List (List ℕ)) (stage : Stage) → (state_in all stage ≡ Done) ↔ (stage ≡ stages.Done)
+pub done_state : (all : List (List ℕ)) (stage : LaneStage) → (state_in all stage ≡ Done) ↔ (stage ≡ stages.Done)
 done_state all (stages.Bringing from) = (λ e. absurd (not_done (in_batches (drop from all)) e), λ e. cc)
 done_state all (stages.Sending from flags) = (λ e. cc, λ e. cc)
 done_state all stages.Done = (λ e. refl, λ e. refl)
 done_state all stages.Refused = (λ e. cc, λ e. cc)
 
-done_here : (key : FileKey) (lanes : List Lane) (i : ℕ) (l : Lane) → i < length lanes → ((get_or lanes i l).stage ≡ stages.Done) ↔ IsDoneAt (lanes_in key lanes) i
+done_here : (key : VersionKey) (lanes : List Lane) (i : ℕ) (l : Lane) → i < length lanes → ((get_or lanes i l).stage ≡ stages.Done) ↔ IsDoneAt (lanes_in key lanes) i
 done_here key [] i l lt = absurd (omega arith)
 done_here key (o ∷ lanes) zero l lt =
     let at = done_state (shares_in o.shares o.wanted.items) o.stage in
@@ -93,7 +93,7 @@ done_here key (o ∷ lanes) zero l lt =
 done_here key (o ∷ lanes) (suc i) l lt = done_here key lanes i l (omega arith)
 
 -- one lane of the job
-pub done_seen : (key : FileKey) (lanes : List Lane) (views : List LaneView) (i : ℕ) (l : Lane) → lanes_in key lanes ≡ views → i < length lanes → l ≡ get_or lanes i l → (l.stage ≡ stages.Done) ↔ IsDoneAt views i
+pub done_seen : (key : VersionKey) (lanes : List Lane) (views : List LaneView) (i : ℕ) (l : Lane) → lanes_in key lanes ≡ views → i < length lanes → l ≡ get_or lanes i l → (l.stage ≡ stages.Done) ↔ IsDoneAt views i
 done_seen key lanes views i l seen lt at =
     subst (λ (xs : List LaneView). (l.stage ≡ stages.Done) ↔ IsDoneAt xs i) seen
     (subst (λ (m : Lane). (m.stage ≡ stages.Done) ↔ IsDoneAt (lanes_in key lanes) i) (sym at) (done_here key lanes i l lt))
@@ -101,7 +101,7 @@ done_seen key lanes views i l seen lt at =
 all_head : {A : Type 0} (P : A → Type 0) (x : A) (xs : List A) → All P (x ∷ xs) → P x × All P xs
 all_head P x xs h = (h 0 x (omega arith), λ k d lt. h (suc k) d (omega arith))
 
-pub done_in : (key : FileKey) (lanes : List Lane) → All (λ (l : Lane). l.stage ≡ stages.Done) lanes ↔ All (λ (l : LaneView). l.state ≡ Done) (lanes_in key lanes)
+pub done_in : (key : VersionKey) (lanes : List Lane) → All (λ (l : Lane). l.stage ≡ stages.Done) lanes ↔ All (λ (l : LaneView). l.state ≡ Done) (lanes_in key lanes)
 done_in key [] = (λ a. All-nil (λ (l : LaneView). l.state ≡ Done), λ a. All-nil (λ (l : Lane). l.stage ≡ stages.Done))
 done_in key (o ∷ lanes) =
     let rest = done_in key lanes in
@@ -123,18 +123,18 @@ asked_no (Some r) more before now out e h = absurd (let no : true ≡ false = sy
 -- ---- in a call
 
 -- what a call finds at a place of the lanes that contracts see
-pub below_seen : (key : FileKey) (lanes : List Lane) (seen : List LaneView) (i : ℕ) → lanes_in key lanes ≡ seen → i < length seen → i < length lanes
+pub below_seen : (key : VersionKey) (lanes : List Lane) (seen : List LaneView) (i : ℕ) → lanes_in key lanes ≡ seen → i < length seen → i < length lanes
 below_seen key lanes seen i view lt = let len = length-lanes_in key lanes in let same = ap (λ (ys : List LaneView). length ys) view in omega arith
 
 pub inside_here : (lanes : List Lane) (i : ℕ) (l : Lane) → AreLanes lanes → i < length lanes → l ≡ get_or lanes i l → AreIn l.shares l.wanted.items
 inside_here lanes i l are lt here = subst (λ (m : Lane). AreIn m.shares m.wanted.items) (sym here) (inside_at lanes i l are lt)
 
-pub request_found : (key : FileKey) (lanes : List Lane) (seen : List LaneView) (i : ℕ) (l : Lane) → lanes_in key lanes ≡ seen → i < length lanes → l ≡ get_or lanes i l → request_of (lane_in key l) ≡ request_at seen i
+pub request_found : (key : VersionKey) (lanes : List Lane) (seen : List LaneView) (i : ℕ) (l : Lane) → lanes_in key lanes ≡ seen → i < length lanes → l ≡ get_or lanes i l → request_of (lane_in key l) ≡ request_at seen i
 request_found key lanes seen i l view lt here =
     ap (λ (m : Lane). request_of (lane_in key m)) here ∙ sym (request_in key lanes i l lt) ∙ ap (λ (xs : List LaneView). request_at xs i) view
 
 -- an answer to the lane at a place, which is moved there
-pub answered : (key : FileKey) (lanes : List Lane) (seen : List LaneView) (i : ℕ) (l old m : Lane) (next : Option Stage) (content : List ℕ) (result : Result LaneNews LaneErr)
+pub answered : (key : VersionKey) (lanes : List Lane) (seen : List LaneView) (i : ℕ) (l old m : Lane) (next : Option LaneStage) (content : List ℕ) (result : Result LaneNews LaneErr)
     → lanes_in key lanes ≡ seen → i < length lanes → l ≡ get_or lanes i l → old ≡ get_or lanes i old → m ≡ moved_to old next
     → Answers (lane_in key l) content result (next_in (shares_in l.shares l.wanted.items) (lane_in key l).state next)
     → AnswersAt seen i content result (lanes_in key (set lanes i m))
@@ -146,15 +146,15 @@ answered key lanes seen i l old m next content result view lt here there e h =
     (answers_in key lanes i l m content result (next_in (shares_in at.shares at.wanted.items) (lane_in key at).state next) lt one
     (subst (λ (o : Lane). Moves key at o (next_in (shares_in at.shares at.wanted.items) (lane_in key at).state next)) (sym same) (moves_to key at next)))
 
-moved-shares : (l : Lane) (next : Option Stage) → (moved_to l next).shares ≡ l.shares
+moved-shares : (l : Lane) (next : Option LaneStage) → (moved_to l next).shares ≡ l.shares
 moved-shares l None = refl
 moved-shares l (Some stage) = refl
 
-moved-wanted : (l : Lane) (next : Option Stage) → (moved_to l next).wanted ≡ l.wanted
+moved-wanted : (l : Lane) (next : Option LaneStage) → (moved_to l next).wanted ≡ l.wanted
 moved-wanted l None = refl
 moved-wanted l (Some stage) = refl
 
-pub are_moved : (lanes : List Lane) (i : ℕ) (old m : Lane) (next : Option Stage) → AreLanes lanes → i < length lanes → old ≡ get_or lanes i old → m ≡ moved_to old next → AreLanes (set lanes i m)
+pub are_moved : (lanes : List Lane) (i : ℕ) (old m : Lane) (next : Option LaneStage) → AreLanes lanes → i < length lanes → old ≡ get_or lanes i old → m ≡ moved_to old next → AreLanes (set lanes i m)
 are_moved lanes i old m next are lt there e =
     lanes_set lanes i old m are lt (ap (λ (o : Lane). o.shares) e ∙ moved-shares old next ∙ ap (λ (o : Lane). o.shares) there)
     (ap (λ (o : Lane). o.wanted) e ∙ moved-wanted old next ∙ ap (λ (o : Lane). o.wanted) there)

@@ -7,3 +7,9 @@ pub mod Ending
 pub mod Laning
 pub mod Begun
 pub mod Naming
+pub mod UserDedup
+pub mod FileRecipe
+pub mod CaontRs
+pub mod Messages
+pub mod MessageFields
+pub mod RecipeLaws

@@ -1,11 +1,11 @@
 -- The recipe names the lane's shares.
 use Rattle.std.proofs.Common.{◌≡◌, ℕ, ◌≤◌, List, [], ◌∷◌, length, map, Ok, refl, ap, ◌∙◌}
-use Rattle.cd_base.specs.declared.ids.Fp.{Fp}
-use Rattle.cd_base.specs.declared.shape.Shape.{Shape}
-use Rattle.cd_base.specs.Limits.{IsPath}
-use Rattle.caont_rs.specs.Package.{share}
-use Rattle.recipe.specs.Reading.{recipe_at}
-use Rattle.recipe.proofs.Written.{again}
+use Rattle.user_dedup.specs.CdBase.ids.Fp.{Fp}
+use Rattle.user_dedup.specs.CdBase.shape.Shape.{Shape}
+use Rattle.user_dedup.specs.CdBase.Limits.{IsPath}
+use Rattle.file_recipe.specs.CaontRs.Package.{share}
+use Rattle.user_dedup.specs.Recipe.Reading.{recipe_at}
+use Rattle.user_dedup.proofs.RecipeLaws.Written.{again}
 use Rattle.file_recipe.specs.FileRecipe.{secrets, item_of, recipe_of, recipe_bytes}
 use Rattle.file_recipe.proofs.Recipes.{recipe_fits}
 use Rattle.user_dedup.specs.Cloud.{fingerprint}

@@ -1,17 +1,17 @@
 -- Which content answers a lane.
 use Rattle.std.proofs.Common.{ℕ, ◌<◌, ◌≤◌, List, length, Some, None, Result, Option, refl, sym, ap, ◌∙◌, subst, arith, length-append}
-use Rattle.cd_base.specs.declared.ids.Tag.{Tag}
-use Rattle.cd_base.specs.declared.ids.Version.{Version}
-use Rattle.messages.specs.declared.reply.Reply.{Reply}
-use Rattle.messages.specs.declared.reply.Reply.TheVariants as replies
-use Rattle.messages.specs.Replies.{reply_bytes, FitsReply}
+use Rattle.user_dedup.specs.CdBase.ids.Tag.{Tag}
+use Rattle.user_dedup.specs.CdBase.ids.Version.{Version}
+use Rattle.user_dedup.specs.Messages.reply.Reply.{Reply}
+use Rattle.user_dedup.specs.Messages.reply.Reply.TheVariants as replies
+use Rattle.user_dedup.specs.Messages.Replies.{reply_bytes, FitsReply}
 use Rattle.upload_job.specs.declared.lane.Step.{Step}
 use Rattle.upload_job.specs.declared.turn.Turn.{Turn}
 use Rattle.upload_job.specs.declared.news.LaneNews.{LaneNews}
 use Rattle.upload_job.specs.declared.news.LaneErr.{LaneErr}
 use Rattle.upload_job.specs.Upload.{Work}
 use Rattle.upload_job.specs.Lane.{LaneState, Asking, Sending, Committing, Done, Refused, IsAnswer}
-use Rattle.upload_job.specs.Lanes.{LaneView, Says, Answers}
+use Rattle.upload_job.specs.Lanes.{LaneView, IsReplyToLane, Answers}
 use Rattle.upload_job.specs.Index.{IsOneReply, IsNoReply, StepIs, TurnsBy, next_in}
 
 no_recipe : (w : Work) (state : LaneState) (bytes : List ℕ) → IsAnswer w state (replies.Recipe bytes) → ⊥
@@ -62,10 +62,10 @@ long_is_none content long = λ lane reply says.
     omega arith
 
 -- what no step was made of is strange
-pub strange_step : (lane : LaneView) (content : List ℕ) (reply : Reply) → IsOneReply content reply → (IsAnswer lane.work lane.state reply → ⊥) → (other : Reply) → Says lane content other → ⊥
+pub strange_step : (lane : LaneView) (content : List ℕ) (reply : Reply) → IsOneReply content reply → (IsAnswer lane.work lane.state reply → ⊥) → (other : Reply) → IsReplyToLane lane content other → ⊥
 strange_step lane content reply read none other says = none (subst (IsAnswer lane.work lane.state) (read.one other says.is) says.answers)
 
-refused_turn : (w : Work) (all : List (List ℕ)) (state : LaneState) (content : List ℕ) (turn : Turn) → ((other : Reply) → Says (record { work = w; state = state }) content other → ⊥) → TurnsBy content None turn
+refused_turn : (w : Work) (all : List (List ℕ)) (state : LaneState) (content : List ℕ) (turn : Turn) → ((other : Reply) → IsReplyToLane (record { work = w; state = state }) content other → ⊥) → TurnsBy content None turn
     → Answers (record { work = w; state = state }) content turn.result (next_in all state turn.next)
 refused_turn w all state content turn none by =
     subst (λ (r : Result LaneNews LaneErr). Answers (record { work = w; state = state }) content r (next_in all state turn.next)) (sym by.0)

@@ -5,13 +5,13 @@ use Rattle.std.proofs.lemmas.Grind.{flat_map-append}
 use Rattle.std.specs.Int.{w16, w32, to_be_bytes}
 use Rattle.std.proofs.lemmas.List.{append-nil, take-map, drop-map, length-map}
 use Rattle.std.proofs.lemmas.List.Folds.{flat_map-map}
-use Rattle.cd_base.specs.declared.ids.UserId.{UserId}
-use Rattle.messages.specs.Requests.{request_bytes}
-use Rattle.messages.specs.declared.request.Request.TheVariants.{Query}
-use Rattle.cd_base.specs.declared.ids.Fp.{Fp}
-use Rattle.message_fields.specs.Shares.{share_bytes}
+use Rattle.user_dedup.specs.CdBase.ids.UserId.{UserId}
+use Rattle.user_dedup.specs.Messages.Requests.{request_bytes}
+use Rattle.user_dedup.specs.Messages.request.Request.TheVariants.{Query}
+use Rattle.user_dedup.specs.CdBase.ids.Fp.{Fp}
+use Rattle.user_dedup.specs.MessageFields.Shares.{share_bytes}
 use Rattle.user_dedup.specs.Cloud.{fingerprint}
-use Rattle.upload_job.specs.declared.wanted.Wanted.{Wanted}
+use Rattle.upload_job.specs.declared.wanted.WantedShare.{WantedShare}
 use Rattle.upload_job.specs.Lane.{unflagged}
 use Rattle.upload_job.specs.Index.{AreIn, share_in, shares_in}
 
@@ -55,28 +55,28 @@ sent_all old out ss fs i le h = h ∙ ap (λ (x : List (List ℕ)). old ++ flat_
 
 -- ---- fingerprints
 
-fps_named : (shares : List ℕ) (ws : List Wanted) → AreIn shares ws → map (λ (w : Wanted). w.fp) ws ≡ map fingerprint (shares_in shares ws)
+fps_named : (shares : List ℕ) (ws : List WantedShare) → AreIn shares ws → map (λ (w : WantedShare). w.fp) ws ≡ map fingerprint (shares_in shares ws)
 fps_named shares [] h = refl
 fps_named shares (w ∷ ws) h =
-    ap (λ (f : Fp). f ∷ map (λ (w : Wanted). w.fp) ws) (h 0 w (omega arith)).named
+    ap (λ (f : Fp). f ∷ map (λ (w : WantedShare). w.fp) ws) (h 0 w (omega arith)).named
     ∙ ap (λ (fs : List Fp). fingerprint (share_in shares w) ∷ fs) (fps_named shares ws (λ k d lt. h (suc k) d (omega arith)))
 
-pub batch_shares : (shares : List ℕ) (from : ℕ) (ws : List Wanted) → shares_in shares (take 256 (drop from ws)) ≡ take 256 (drop from (shares_in shares ws))
+pub batch_shares : (shares : List ℕ) (from : ℕ) (ws : List WantedShare) → shares_in shares (take 256 (drop from ws)) ≡ take 256 (drop from (shares_in shares ws))
 batch_shares shares from ws = sym (take-map (share_in shares) 256 (drop from ws)) ∙ ap (take 256) (sym (drop-map (share_in shares) from ws))
 
-pub batch_fps : (shares : List ℕ) (from : ℕ) (ws : List Wanted) → AreIn shares (take 256 (drop from ws)) → map (λ (w : Wanted). w.fp) (take 256 (drop from ws)) ≡ map fingerprint (take 256 (drop from (shares_in shares ws)))
+pub batch_fps : (shares : List ℕ) (from : ℕ) (ws : List WantedShare) → AreIn shares (take 256 (drop from ws)) → map (λ (w : WantedShare). w.fp) (take 256 (drop from ws)) ≡ map fingerprint (take 256 (drop from (shares_in shares ws)))
 batch_fps shares from ws h = fps_named shares (take 256 (drop from ws)) h ∙ ap (map fingerprint) (batch_shares shares from ws)
 
-pub query_spelled : (out head : List ℕ) (user : UserId) (batch : List Wanted) → head ≡ (out ++ 2 ∷ to_be_bytes w32 user.0) ++ to_be_bytes w16 (length batch)
-    → head ++ flat_map (λ (w : Wanted). w.fp.0) batch ≡ out ++ request_bytes (Query user (map (λ (w : Wanted). w.fp) batch))
+pub query_spelled : (out head : List ℕ) (user : UserId) (batch : List WantedShare) → head ≡ (out ++ 2 ∷ to_be_bytes w32 user.0) ++ to_be_bytes w16 (length batch)
+    → head ++ flat_map (λ (w : WantedShare). w.fp.0) batch ≡ out ++ request_bytes (Query user (map (λ (w : WantedShare). w.fp) batch))
 query_spelled out head user batch e =
-    let len : length (map (λ (w : Wanted). w.fp) batch) ≡ length batch = length-map batch (λ (w : Wanted). w.fp) in
-    let fps : flat_map (λ (fp : Fp). fp.0) (map (λ (w : Wanted). w.fp) batch) ≡ flat_map (λ (w : Wanted). w.fp.0) batch = flat_map-map (λ (fp : Fp). fp.0) (λ (w : Wanted). w.fp) batch in
-    ap (λ (x : List ℕ). x ++ flat_map (λ (w : Wanted). w.fp.0) batch) e
-    ∙ append_assoc (out ++ 2 ∷ to_be_bytes w32 user.0) (to_be_bytes w16 (length batch)) (flat_map (λ (w : Wanted). w.fp.0) batch)
-    ∙ append_assoc out (2 ∷ to_be_bytes w32 user.0) (to_be_bytes w16 (length batch) ++ flat_map (λ (w : Wanted). w.fp.0) batch)
-    ∙ ap (λ (n : ℕ). out ++ ((2 ∷ to_be_bytes w32 user.0) ++ (to_be_bytes w16 n ++ flat_map (λ (w : Wanted). w.fp.0) batch))) (sym len)
-    ∙ ap (λ (x : List ℕ). out ++ ((2 ∷ to_be_bytes w32 user.0) ++ (to_be_bytes w16 (length (map (λ (w : Wanted). w.fp) batch)) ++ x))) (sym fps)
+    let len : length (map (λ (w : WantedShare). w.fp) batch) ≡ length batch = length-map batch (λ (w : WantedShare). w.fp) in
+    let fps : flat_map (λ (fp : Fp). fp.0) (map (λ (w : WantedShare). w.fp) batch) ≡ flat_map (λ (w : WantedShare). w.fp.0) batch = flat_map-map (λ (fp : Fp). fp.0) (λ (w : WantedShare). w.fp) batch in
+    ap (λ (x : List ℕ). x ++ flat_map (λ (w : WantedShare). w.fp.0) batch) e
+    ∙ append_assoc (out ++ 2 ∷ to_be_bytes w32 user.0) (to_be_bytes w16 (length batch)) (flat_map (λ (w : WantedShare). w.fp.0) batch)
+    ∙ append_assoc out (2 ∷ to_be_bytes w32 user.0) (to_be_bytes w16 (length batch) ++ flat_map (λ (w : WantedShare). w.fp.0) batch)
+    ∙ ap (λ (n : ℕ). out ++ ((2 ∷ to_be_bytes w32 user.0) ++ (to_be_bytes w16 n ++ flat_map (λ (w : WantedShare). w.fp.0) batch))) (sym len)
+    ∙ ap (λ (x : List ℕ). out ++ ((2 ∷ to_be_bytes w32 user.0) ++ (to_be_bytes w16 (length (map (λ (w : WantedShare). w.fp) batch)) ++ x))) (sym fps)
 
 -- what is written into an empty list
 pub into_none : (out now bytes : List ℕ) → out ≡ [] → now ≡ out ++ bytes → now ≡ bytes

@@ -10,33 +10,33 @@ use Rattle.std.proofs.lemmas.Slice.Eq.{bytes_eq-Decides}
 use Rattle.std.proofs.lemmas.List.{map-append, length-drop}
 use Rattle.std.proofs.lemmas.List.Elements.{All-nil, All-push}
 use Rattle.std.proofs.lemmas.List.Folds.{list_any-append}
-use Rattle.cd_base.specs.declared.ids.Fp.{Fp}
-use Rattle.cd_base.specs.Lengths.{share_len_of}
-use Rattle.recipe.specs.declared.items.Item.{Item}
+use Rattle.user_dedup.specs.CdBase.ids.Fp.{Fp}
+use Rattle.user_dedup.specs.CdBase.Lengths.{share_len_of}
+use Rattle.user_dedup.specs.Recipe.items.Item.{Item}
 use Rattle.user_dedup.specs.Cloud.{fingerprint}
 use Rattle.user_dedup.specs.Owning.{is_among, new_strings}
-use Rattle.upload_job.specs.declared.wanted.Wanted.{Wanted}
-use Rattle.upload_job.specs.Index.{IsIn, AreIn, IsNamed, AreNamed, share_in, shares_in, pieces, noted}
+use Rattle.upload_job.specs.declared.wanted.WantedShare.{WantedShare}
+use Rattle.upload_job.specs.Index.{IsInShares, AreIn, AreSharesNamed, AreNamed, share_in, shares_in, pieces, noted}
 use Rattle.upload_job.proofs.Batches.{drop_sum}
 
 abbrev pub cmp : List ℕ → List ℕ → Ordering
 cmp = slice_cmp nat_cmp
 
 -- up to item i, whose share begins at `start`
-pub record Along (k : ℕ) (items : List Item) (shares : List ℕ) (i start : ℕ) (seen : BTreeSet (List ℕ)) (wanted : List Wanted) : Type 0 where
+pub record Along (k : ℕ) (items : List Item) (shares : List ℕ) (i start : ℕ) (seen : BTreeSet (List ℕ)) (wanted : List WantedShare) : Type 0 where
   pub within : start ≤ length shares
   pub named : AreNamed k (drop i items) (drop start shares)
   pub inside : AreIn shares wanted
-  pub keys : (q : List ℕ) → contains cmp seen q ≡ is_among (map (λ (w : Wanted). w.fp) wanted) (record { 0 = q })
-  pub rest : shares_in shares wanted ++ new_strings (map (λ (w : Wanted). w.fp) wanted) (pieces k (drop i items) (drop start shares)) ≡ new_strings [] (pieces k items shares)
+  pub keys : (q : List ℕ) → contains cmp seen q ≡ is_among (map (λ (w : WantedShare). w.fp) wanted) (record { 0 = q })
+  pub rest : shares_in shares wanted ++ new_strings (map (λ (w : WantedShare). w.fp) wanted) (pieces k (drop i items) (drop start shares)) ≡ new_strings [] (pieces k items shares)
 
-pub along_none : (k : ℕ) (items : List Item) (shares : List ℕ) (seen : BTreeSet (List ℕ)) (wanted : List Wanted) → AreNamed k items shares → seen.keys ≡ [] → wanted ≡ [] → Along k items shares 0 0 seen wanted
+pub along_none : (k : ℕ) (items : List Item) (shares : List ℕ) (seen : BTreeSet (List ℕ)) (wanted : List WantedShare) → AreNamed k items shares → seen.keys ≡ [] → wanted ≡ [] → Along k items shares 0 0 seen wanted
 along_none k items shares seen wanted named none empty =
-    subst (λ (ws : List Wanted). Along k items shares 0 0 seen ws) (sym empty)
+    subst (λ (ws : List WantedShare). Along k items shares 0 0 seen ws) (sym empty)
     (record {
       within = omega arith;
       named = named;
-      inside = All-nil (IsIn shares);
+      inside = All-nil (IsInShares shares);
       keys = λ q. ap (λ (ks : List (List ℕ)). contains cmp (record { keys = ks }) q) none;
       rest = refl;
     })
@@ -68,7 +68,7 @@ keys_old seen now own fp h keys has q =
 -- ---- one more
 
 -- the share of the next item
-pub record IsNext (k : ℕ) (items : List Item) (shares : List ℕ) (i start : ℕ) (w : Wanted) : Type 0 where
+pub record IsNext (k : ℕ) (items : List Item) (shares : List ℕ) (i start : ℕ) (w : WantedShare) : Type 0 where
   pub item : Item
   pub lt : i < length items
   pub at : item ≡ get_or items i item
@@ -78,7 +78,7 @@ pub record IsNext (k : ℕ) (items : List Item) (shares : List ℕ) (i start : �
   pub some : 1 ≤ share_len_of k item.secret_len
   pub short : share_len_of k item.secret_len ≤ 8208
 
-pub next_named : (k : ℕ) (items : List Item) (shares : List ℕ) (i start : ℕ) (seen : BTreeSet (List ℕ)) (wanted : List Wanted) (d : Item) → Along k items shares i start seen wanted → i < length items → IsNamed k (get_or items i d) (drop start shares)
+pub next_named : (k : ℕ) (items : List Item) (shares : List ℕ) (i start : ℕ) (seen : BTreeSet (List ℕ)) (wanted : List WantedShare) (d : Item) → Along k items shares i start seen wanted → i < length items → AreSharesNamed k (get_or items i d) (drop start shares)
 next_named k items shares i start seen wanted d h lt = (subst (λ (xs : List Item). AreNamed k xs (drop start shares)) (drop-cons items i d lt) h.named).0
 
 rest_old : (own : List Fp) (sent all : List (List ℕ)) (p : List ℕ) (ps : List (List ℕ)) → is_among own (fingerprint p) ≡ true → sent ++ new_strings own (p ∷ ps) ≡ all → sent ++ new_strings own ps ≡ all
@@ -90,16 +90,16 @@ rest_new own sent all p ps e h =
     ∙ ap (λ (b : Bool). sent ++ cond b (new_strings own ps) (p ∷ new_strings (own ++ fingerprint p ∷ []) ps)) (sym e) ∙ h
 
 -- what is known of the next share
-pub record Next (k : ℕ) (items : List Item) (shares : List ℕ) (i : ℕ) (seen : BTreeSet (List ℕ)) (wanted : List Wanted) (w : Wanted) : Type 0 where
+pub record Next (k : ℕ) (items : List Item) (shares : List ℕ) (i : ℕ) (seen : BTreeSet (List ℕ)) (wanted : List WantedShare) (w : WantedShare) : Type 0 where
   pub piece : List ℕ
   pub lies : share_in shares w ≡ piece
   pub fp : w.fp ≡ fingerprint piece
-  pub is_in : IsIn shares w
+  pub is_in : IsInShares shares w
   pub named : AreNamed k (drop (i + 1) items) (drop w.end shares)
-  pub among : is_among (map (λ (x : Wanted). x.fp) wanted) (fingerprint piece) ≡ contains cmp seen w.fp.0
-  pub rest : shares_in shares wanted ++ new_strings (map (λ (x : Wanted). x.fp) wanted) (piece ∷ pieces k (drop (i + 1) items) (drop w.end shares)) ≡ new_strings [] (pieces k items shares)
+  pub among : is_among (map (λ (x : WantedShare). x.fp) wanted) (fingerprint piece) ≡ contains cmp seen w.fp.0
+  pub rest : shares_in shares wanted ++ new_strings (map (λ (x : WantedShare). x.fp) wanted) (piece ∷ pieces k (drop (i + 1) items) (drop w.end shares)) ≡ new_strings [] (pieces k items shares)
 
-next_of : (k : ℕ) (items : List Item) (shares : List ℕ) (i start : ℕ) (seen : BTreeSet (List ℕ)) (wanted : List Wanted) (w : Wanted) → Along k items shares i start seen wanted → IsNext k items shares i start w → Next k items shares i seen wanted w
+next_of : (k : ℕ) (items : List Item) (shares : List ℕ) (i start : ℕ) (seen : BTreeSet (List ℕ)) (wanted : List WantedShare) (w : WantedShare) → Along k items shares i start seen wanted → IsNext k items shares i start w → Next k items shares i seen wanted w
 next_of k items shares i start seen wanted w h n =
     let it : Item = n.item in
     let len : ℕ = share_len_of k it.secret_len in
@@ -124,42 +124,42 @@ next_of k items shares i start seen wanted w h n =
         named = fp ∙ ap fingerprint (sym lies);
       };
       named = subst (AreNamed k (drop (i + 1) items)) after named.1;
-      among = ap (is_among (map (λ (x : Wanted). x.fp) wanted)) (sym fp) ∙ sym (h.keys w.fp.0);
+      among = ap (is_among (map (λ (x : WantedShare). x.fp) wanted)) (sym fp) ∙ sym (h.keys w.fp.0);
       rest =
-          let before = subst (λ (xs : List Item). shares_in shares wanted ++ new_strings (map (λ (x : Wanted). x.fp) wanted) (pieces k xs (drop start shares)) ≡ new_strings [] (pieces k items shares)) cons h.rest in
-          subst (λ (ys : List ℕ). shares_in shares wanted ++ new_strings (map (λ (x : Wanted). x.fp) wanted) (piece ∷ pieces k (drop (i + 1) items) ys) ≡ new_strings [] (pieces k items shares)) after before;
+          let before = subst (λ (xs : List Item). shares_in shares wanted ++ new_strings (map (λ (x : WantedShare). x.fp) wanted) (pieces k xs (drop start shares)) ≡ new_strings [] (pieces k items shares)) cons h.rest in
+          subst (λ (ys : List ℕ). shares_in shares wanted ++ new_strings (map (λ (x : WantedShare). x.fp) wanted) (piece ∷ pieces k (drop (i + 1) items) ys) ≡ new_strings [] (pieces k items shares)) after before;
     }
 
-more_by : (k : ℕ) (items : List Item) (shares : List ℕ) (i start : ℕ) (seen now : BTreeSet (List ℕ)) (wanted : List Wanted) (w : Wanted) (b : Bool) → Along k items shares i start seen wanted → Next k items shares i seen wanted w
+more_by : (k : ℕ) (items : List Item) (shares : List ℕ) (i start : ℕ) (seen now : BTreeSet (List ℕ)) (wanted : List WantedShare) (w : WantedShare) (b : Bool) → Along k items shares i start seen wanted → Next k items shares i seen wanted w
     → Updates cmp seen now w.fp.0 true → contains cmp seen w.fp.0 ≡ b → Along k items shares (i + 1) w.end now (noted b wanted w)
 more_by k items shares i start seen now wanted w true h n up e = record {
   within = n.is_in.within;
   named = n.named;
   inside = h.inside;
-  keys = keys_old seen now (map (λ (x : Wanted). x.fp) wanted) w.fp up h.keys e;
-  rest = rest_old (map (λ (x : Wanted). x.fp) wanted) (shares_in shares wanted) (new_strings [] (pieces k items shares)) n.piece (pieces k (drop (i + 1) items) (drop w.end shares)) (n.among ∙ e) n.rest;
+  keys = keys_old seen now (map (λ (x : WantedShare). x.fp) wanted) w.fp up h.keys e;
+  rest = rest_old (map (λ (x : WantedShare). x.fp) wanted) (shares_in shares wanted) (new_strings [] (pieces k items shares)) n.piece (pieces k (drop (i + 1) items) (drop w.end shares)) (n.among ∙ e) n.rest;
 }
 more_by k items shares i start seen now wanted w false h n up e =
-    let own : List Fp = map (λ (x : Wanted). x.fp) wanted in
+    let own : List Fp = map (λ (x : WantedShare). x.fp) wanted in
     let later : List (List ℕ) = pieces k (drop (i + 1) items) (drop w.end shares) in
-    let fps : map (λ (x : Wanted). x.fp) (wanted ++ w ∷ []) ≡ own ++ w.fp ∷ [] = map-append (λ (x : Wanted). x.fp) wanted (w ∷ []) in
+    let fps : map (λ (x : WantedShare). x.fp) (wanted ++ w ∷ []) ≡ own ++ w.fp ∷ [] = map-append (λ (x : WantedShare). x.fp) wanted (w ∷ []) in
     let sent : shares_in shares (wanted ++ w ∷ []) ≡ shares_in shares wanted ++ n.piece ∷ [] = map-append (share_in shares) wanted (w ∷ []) ∙ ap (λ (x : List ℕ). shares_in shares wanted ++ x ∷ []) n.lies in
     record {
       within = n.is_in.within;
       named = n.named;
-      inside = All-push (IsIn shares) wanted w h.inside n.is_in;
+      inside = All-push (IsInShares shares) wanted w h.inside n.is_in;
       keys = λ q. keys_new seen now own w.fp up h.keys q ∙ ap (λ (o : List Fp). is_among o (record { 0 = q })) (sym fps);
       rest =
-          ap (λ (xs : List (List ℕ)). xs ++ new_strings (map (λ (x : Wanted). x.fp) (wanted ++ w ∷ [])) later) sent
+          ap (λ (xs : List (List ℕ)). xs ++ new_strings (map (λ (x : WantedShare). x.fp) (wanted ++ w ∷ [])) later) sent
           ∙ ap (λ (o : List Fp). (shares_in shares wanted ++ n.piece ∷ []) ++ new_strings o later) fps
           ∙ ap (λ (f : Fp). (shares_in shares wanted ++ n.piece ∷ []) ++ new_strings (own ++ f ∷ []) later) n.fp
           ∙ rest_new own (shares_in shares wanted) (new_strings [] (pieces k items shares)) n.piece later (n.among ∙ e) n.rest;
     }
 
-pub along_more : (k : ℕ) (items : List Item) (shares : List ℕ) (i start : ℕ) (seen now : BTreeSet (List ℕ)) (wanted new : List Wanted) (w : Wanted) → Along k items shares i start seen wanted → IsNext k items shares i start w
+pub along_more : (k : ℕ) (items : List Item) (shares : List ℕ) (i start : ℕ) (seen now : BTreeSet (List ℕ)) (wanted new : List WantedShare) (w : WantedShare) → Along k items shares i start seen wanted → IsNext k items shares i start w
     → new ≡ noted (contains cmp seen w.fp.0) wanted w → Updates cmp seen now w.fp.0 true → Along k items shares (i + 1) w.end now new
 along_more k items shares i start seen now wanted new w h n e up =
-    subst (λ (xs : List Wanted). Along k items shares (i + 1) w.end now xs) (sym e)
+    subst (λ (xs : List WantedShare). Along k items shares (i + 1) w.end now xs) (sym e)
     (more_by k items shares i start seen now wanted w (contains cmp seen w.fp.0) h (next_of k items shares i start seen wanted w h n) up refl)
 
 -- ---- how long a share is

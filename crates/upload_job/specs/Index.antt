@@ -1,45 +1,45 @@
 -- How a job keeps its lanes: where the wanted shares lie, and up to which of them the lane has come.
 use Rattle.std.specs.Prelude.{◌≡◌, ◌≢◌, ℕ, zero, suc, ◌+◌, ◌<◌, ◌≤◌, Bool, true, false, List, [], ◌∷◌, ◌++◌, length, map, take, drop, slice_range, slice_index_or, All, Option, Some, None, Ok, Err}
-use Rattle.cd_base.specs.declared.shape.Shape.{Shape}
-use Rattle.cd_base.specs.Lengths.{share_len_of}
-use Rattle.cd_base.specs.Limits.{secret_limit}
-use Rattle.message_fields.specs.Fingerprints.{batch_limit}
-use Rattle.message_fields.specs.Shares.{share_limit}
-use Rattle.messages.specs.declared.reply.Reply.{Reply}
-use Rattle.messages.specs.Replies.{IsReply}
-use Rattle.recipe.specs.declared.items.Item.{Item}
-use Rattle.recipe.specs.Spelling.{spelling, item_limit}
+use Rattle.user_dedup.specs.CdBase.shape.Shape.{Shape}
+use Rattle.user_dedup.specs.CdBase.Lengths.{share_len_of}
+use Rattle.user_dedup.specs.CdBase.Limits.{secret_limit}
+use Rattle.user_dedup.specs.MessageFields.Fingerprints.{batch_limit}
+use Rattle.user_dedup.specs.MessageFields.Shares.{share_limit}
+use Rattle.user_dedup.specs.Messages.reply.Reply.{Reply}
+use Rattle.user_dedup.specs.Messages.Replies.{IsReply}
+use Rattle.user_dedup.specs.Recipe.items.Item.{Item}
+use Rattle.user_dedup.specs.Recipe.Spelling.{spelling, item_limit}
 use Rattle.file_recipe.specs.declared.cloud_file.CloudFile.{CloudFile}
 use Rattle.user_dedup.specs.Cloud.{fingerprint}
 use Rattle.user_dedup.specs.Owning.{new_strings}
-use Rattle.upload_job.specs.declared.wanted.Wanted.{Wanted}
-use Rattle.upload_job.specs.declared.lane.FileKey.{FileKey}
+use Rattle.upload_job.specs.declared.wanted.WantedShare.{WantedShare}
+use Rattle.upload_job.specs.declared.lane.VersionKey.{VersionKey}
 use Rattle.upload_job.specs.declared.lane.Lane.{Lane}
-use Rattle.upload_job.specs.declared.lane.Stage.{Stage}
-use Rattle.upload_job.specs.declared.lane.Stage.TheVariants as stages
+use Rattle.upload_job.specs.declared.lane.LaneStage.{LaneStage}
+use Rattle.upload_job.specs.declared.lane.LaneStage.TheVariants as stages
 use Rattle.upload_job.specs.declared.lane.Step.{Step}
 use Rattle.upload_job.specs.Upload.{Work, in_batches}
 use Rattle.upload_job.specs.Lane.{LaneState, Sending, Done, Refused, onward, lane_after, news_of, IsAnswer}
 use Rattle.upload_job.specs.declared.turn.Turn.{Turn}
 use Rattle.upload_job.specs.declared.news.LaneErr.TheVariants as errors
-use Rattle.upload_job.specs.Lanes.{LaneView, Says, first_byte}
+use Rattle.upload_job.specs.Lanes.{LaneView, IsReplyToLane, first_byte}
 
 -- ---- the wanted shares
 
 -- the share lies there, has this fingerprint, and is one that a message may have
-pub record IsIn (shares : List ℕ) (w : Wanted) : Type 0 where
+pub record IsInShares (shares : List ℕ) (w : WantedShare) : Type 0 where
   pub some : w.start < w.end
   pub within : w.end ≤ length shares
   pub short : w.end ≤ w.start + share_limit
   pub named : w.fp ≡ fingerprint (slice_range shares w.start w.end)
 
-abbrev pub AreIn : List ℕ → List Wanted → Type 0
-AreIn shares wanted = All (IsIn shares) wanted
+abbrev pub AreIn : List ℕ → List WantedShare → Type 0
+AreIn shares wanted = All (IsInShares shares) wanted
 
-abbrev pub share_in : List ℕ → Wanted → List ℕ
+abbrev pub share_in : List ℕ → WantedShare → List ℕ
 share_in shares w = slice_range shares w.start w.end
 
-abbrev pub shares_in : List ℕ → List Wanted → List (List ℕ)
+abbrev pub shares_in : List ℕ → List WantedShare → List (List ℕ)
 shares_in shares wanted = map (share_in shares) wanted
 
 -- the shares that lie one after another, as long as the items say
@@ -48,7 +48,7 @@ pieces k [] shares = []
 pieces k (i ∷ is) shares = take (share_len_of k i.secret_len) shares ∷ pieces k is (drop (share_len_of k i.secret_len) shares)
 
 -- there are so many bytes, and each item names its share
-pub record IsNamed (k : ℕ) (i : Item) (shares : List ℕ) : Type 0 where
+pub record AreSharesNamed (k : ℕ) (i : Item) (shares : List ℕ) : Type 0 where
   pub some : 1 ≤ i.secret_len
   pub few : i.secret_len ≤ secret_limit
   pub room : share_len_of k i.secret_len ≤ length shares
@@ -56,22 +56,22 @@ pub record IsNamed (k : ℕ) (i : Item) (shares : List ℕ) : Type 0 where
 
 abbrev pub AreNamed : ℕ → List Item → List ℕ → Type 0
 AreNamed k [] shares = Unit {0}
-AreNamed k (i ∷ is) shares = IsNamed k i shares × AreNamed k is (drop (share_len_of k i.secret_len) shares)
+AreNamed k (i ∷ is) shares = AreSharesNamed k i shares × AreNamed k is (drop (share_len_of k i.secret_len) shares)
 
 -- with one more, unless it was seen
-abbrev pub noted : Bool → List Wanted → Wanted → List Wanted
+abbrev pub noted : Bool → List WantedShare → WantedShare → List WantedShare
 noted true wanted w = wanted
 noted false wanted w = wanted ++ w ∷ []
 
 -- ---- lanes
 
-abbrev pub state_in : List (List ℕ) → Stage → LaneState
+abbrev pub state_in : List (List ℕ) → LaneStage → LaneState
 state_in all (stages.Bringing from) = onward (in_batches (drop from all))
 state_in all (stages.Sending from flags) = Sending (take batch_limit (drop from all)) flags (in_batches (drop batch_limit (drop from all)))
 state_in all stages.Done = Done
 state_in all stages.Refused = Refused
 
-abbrev pub work_in : FileKey → Lane → Work
+abbrev pub work_in : VersionKey → Lane → Work
 work_in key lane = record {
   user = key.user;
   tag = key.tag;
@@ -81,10 +81,10 @@ work_in key lane = record {
   batches = in_batches (shares_in lane.shares lane.wanted.items);
 }
 
-abbrev pub lane_in : FileKey → Lane → LaneView
+abbrev pub lane_in : VersionKey → Lane → LaneView
 lane_in key lane = record { work = work_in key lane; state = state_in (shares_in lane.shares lane.wanted.items) lane.stage }
 
-abbrev pub lanes_in : FileKey → List Lane → List LaneView
+abbrev pub lanes_in : VersionKey → List Lane → List LaneView
 lanes_in key lanes = map (lane_in key) lanes
 
 -- in each lane the wanted shares lie in those of its cloud
@@ -95,16 +95,16 @@ AreLanes (lane ∷ lanes) = AreIn lane.shares lane.wanted.items × AreLanes lane
 -- ---- a step of a lane
 
 -- where the lane stands next, or where it stands
-abbrev pub next_in : List (List ℕ) → LaneState → Option Stage → LaneState
+abbrev pub next_in : List (List ℕ) → LaneState → Option LaneStage → LaneState
 next_in all state None = state
 next_in all state (Some stage) = state_in all stage
 
-abbrev pub moved_to : Lane → Option Stage → Lane
+abbrev pub moved_to : Lane → Option LaneStage → Lane
 moved_to lane None = lane
 moved_to lane (Some stage) = record { recipe = lane.recipe; items = lane.items; shares = lane.shares; wanted = lane.wanted; stage = stage }
 
 -- the lanes, of which those of these numbers stand at this stage
-abbrev pub staged_at : List Lane → ℕ → Stage → List Lane
+abbrev pub staged_at : List Lane → ℕ → LaneStage → List Lane
 staged_at [] i stage = []
 staged_at (lane ∷ lanes) zero stage = moved_to lane (Some stage) ∷ lanes
 staged_at (lane ∷ lanes) (suc i) stage = lane ∷ staged_at lanes i stage
@@ -152,7 +152,7 @@ pub record IsAlone (shape : Shape) (cloud : ℕ) (f : CloudFile) (lanes : List L
 
 -- nothing that content may be is a reply to a lane's request
 abbrev pub IsNoReply : List ℕ → Type 0
-IsNoReply content = (lane : LaneView) (reply : Reply) → ¬ (Says lane content reply)
+IsNoReply content = (lane : LaneView) (reply : Reply) → ¬ (IsReplyToLane lane content reply)
 
 -- the content is this reply and no other
 pub record IsOneReply (content : List ℕ) (reply : Reply) : Type 0 where

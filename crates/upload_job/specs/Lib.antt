@@ -1,4 +1,11 @@
-pub mod Upload
+pub mod CaontRs
+pub mod FileRecipe
+pub mod Frames
+pub mod Index
 pub mod Lane
 pub mod Lanes
-pub mod Index
+pub mod MessageFields
+pub mod Messages
+pub mod Recipe
+pub mod Upload
+pub mod UserDedup

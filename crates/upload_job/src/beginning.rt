@@ -1,14 +1,14 @@
 //! The lanes of a new job.
 
 ghost use Rattle.std.specs.Prelude.{◌≡◌, ◌<◌, ◌≤◌, ℕ, length, All, IfOk};
-ghost use Rattle.recipe.specs.Spelling.{item_limit};
+ghost use Rattle.user_dedup.specs.Recipe.Spelling.{item_limit};
 ghost use Rattle.upload_job.specs.Index.{AreNamed, IsBegun, IsIdle, IsAlone, EachNamed, EachBegun};
 
-use crate::lane::{Lane, Stage};
+use crate::lane::{Lane, LaneStage};
 use crate::wanted::wanted_of;
-use cd_base::{Bytes, CloudNo, NoMemory, Shape};
 use file_recipe::CloudFile;
 use std::alloc::Global;
+use user_dedup::{Bytes, CloudNo, NoMemory, Shape};
 
 // The lane of a cloud's file.
 fn lane_of(alloc: Global, shape: Shape, file: CloudFile) -> Result<Lane, NoMemory>
@@ -28,7 +28,7 @@ fn lane_of(alloc: Global, shape: Shape, file: CloudFile) -> Result<Lane, NoMemor
         items: named.items.len() as u32,
         shares,
         wanted,
-        stage: Stage::Bringing { from: 0 },
+        stage: LaneStage::Bringing { from: 0 },
     })
 }
 
@@ -41,7 +41,7 @@ fn idle_lane(alloc: Global) -> Lane
         items: 0,
         shares: Bytes::new(alloc),
         wanted: Vec::new(alloc),
-        stage: Stage::Refused,
+        stage: LaneStage::Refused,
     }
 }
 

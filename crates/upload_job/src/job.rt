@@ -1,23 +1,22 @@
 //! A job: a version of a file on its way to all clouds, or to one alone.
 
 use crate::beginning::{lane_alone, lanes_of};
-use crate::lane::{FileKey, Lane, are_done, end_lanes, is_done, move_lane};
+use crate::lane::{Lane, VersionKey, are_done, end_lanes, is_done, move_lane};
 use crate::requests::put_request;
 use crate::turn::{Turn, turn_of};
 use crate::{LaneErr, LaneNews};
-use caont_rs::tag_of;
-use cd_base::{Bytes, CloudNo, Clouds, NoMemory, Shape, UserId, Version};
-use file_recipe::{disperse_file, disperse_for};
+use file_recipe::{disperse_file, disperse_for, tag_of};
 use std::alloc::Global;
 use std::marker::Model;
 use std::mem;
+use user_dedup::{Bytes, CloudNo, Clouds, NoMemory, Shape, UserId, Version};
 
 /// A version of a file on its way to all clouds, or to one alone. It keeps the shares and the recipe of each cloud that it goes to.
 /// Contracts see a list of lanes, one for each cloud in the order of their numbers: what each has to bring, and where it stands.
 #[derive(Debug, Drop)]
 pub struct Job {
     alloc: Global,
-    key: FileKey,
+    key: VersionKey,
     lanes: Vec<Lane>,
     // a request is written here, and then takes the place of what the caller has
     spare: Bytes,
@@ -37,9 +36,9 @@ impl Model for Job {
 
 impl Job {
     ghost use Rattle.std.specs.Prelude.{◌≡◌, ◌<◌, ◌≤◌, ◌≢◌, ◌↔◌, ℕ, List, false, length, All, Err, IfOk, OnErr, IsTrue, IsSome, slice_get};
-    ghost use Rattle.messages.specs.ReplyReading.{reply_at, is_of_entries};
-    ghost use Rattle.cd_base.specs.Limits.{IsPath};
-    ghost use Rattle.recipe.specs.Spelling.{file_limit};
+    ghost use Rattle.user_dedup.specs.Messages.ReplyReading.{reply_at, is_of_entries};
+    ghost use Rattle.user_dedup.specs.CdBase.Limits.{IsPath};
+    ghost use Rattle.user_dedup.specs.Recipe.Spelling.{file_limit};
     ghost use Rattle.upload_job.specs.Lane.{Done};
     ghost use Rattle.upload_job.specs.Lanes.{lanes_begun, lanes_resumed, lane_begun, request_at, IsAsked, IsDoneAt, AnswersAt};
 
@@ -63,7 +62,7 @@ impl Job {
         let lanes = lanes_of(alloc, shape, files.into_vec())?;
         Ok(Job {
             alloc,
-            key: FileKey { user, tag, version },
+            key: VersionKey { user, tag, version },
             lanes,
             spare: Bytes::new(alloc),
         })
@@ -92,7 +91,7 @@ impl Job {
         let lanes = lane_alone(alloc, shape, lane, file)?;
         Ok(Job {
             alloc,
-            key: FileKey { user, tag, version },
+            key: VersionKey { user, tag, version },
             lanes,
             spare: Bytes::new(alloc),
         })
@@ -121,7 +120,7 @@ impl Job {
         end_lanes(&mut lanes, committed.as_slice());
         Ok(Job {
             alloc,
-            key: FileKey { user, tag, version },
+            key: VersionKey { user, tag, version },
             lanes,
             spare: Bytes::new(alloc),
         })

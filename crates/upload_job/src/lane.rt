@@ -2,22 +2,21 @@
 
 ghost use Rattle.std.specs.Prelude.{◌≡◌, ◌==◌, ◌↔◌, ◌≤◌, ◌<◌, ℕ, List, length, take, drop, vec_len, IsTrue, All, Some, None};
 ghost use Rattle.std.specs.List.{list_all, count_by};
-ghost use Rattle.message_fields.specs.Fingerprints.{batch_limit};
+ghost use Rattle.user_dedup.specs.MessageFields.Fingerprints.{batch_limit};
 ghost use Rattle.upload_job.specs.Upload.{Work, in_batches};
 ghost use Rattle.upload_job.specs.Lane.{Asking, Sending, Committing, past_known, unflagged};
-ghost use Rattle.messages.specs.declared.reply.Reply.TheVariants.{Known, Stored, Lacking};
-ghost use Rattle.upload_job.specs.declared.lane.Stage.TheVariants as stages;
-ghost use Rattle.cd_base.specs.Numbers.{numbers_of};
+ghost use Rattle.user_dedup.specs.Messages.reply.Reply.TheVariants.{Known, Stored, Lacking};
+ghost use Rattle.upload_job.specs.declared.lane.LaneStage.TheVariants as stages;
+ghost use Rattle.user_dedup.specs.CdBase.Numbers.{numbers_of};
 ghost use Rattle.upload_job.specs.Index.{state_in, moved_to, staged_at, done_at, StepIs};
 
 use crate::LaneNews;
-use crate::wanted::{Wanted, batch_at};
-use cd_base::{Bytes, CloudNo, Tag, UserId, Version};
-use messages::Reply;
+use crate::wanted::{WantedShare, batch_at};
+use user_dedup::{Bytes, CloudNo, Reply, Tag, UserId, Version};
 
 /// The user, and the tag and version of the file.
 #[derive(Clone, Copy, Debug)]
-pub struct FileKey {
+pub struct VersionKey {
     pub user: UserId,
     pub tag: Tag,
     pub version: Version,
@@ -25,7 +24,7 @@ pub struct FileKey {
 
 /// Where a lane stands.
 #[derive(Debug, Drop)]
-pub enum Stage {
+pub enum LaneStage {
     /// It asks for the batch of the wanted shares from this place on. Where none is left it enters the recipe.
     Bringing { from: usize },
     /// It sends those shares of the batch from this place on whose flag is 0.
@@ -44,15 +43,15 @@ pub struct Lane {
     /// The cloud's shares, one after another.
     pub shares: Bytes,
     /// Which of them it is to have.
-    pub wanted: Vec<Wanted>,
-    pub stage: Stage,
+    pub wanted: Vec<WantedShare>,
+    pub stage: LaneStage,
 }
 
 /// What a reply tells, and where the lane stands next, if it moves.
 #[derive(Debug, Drop)]
 pub struct Step {
     pub news: LaneNews,
-    pub next: Option<Stage>,
+    pub next: Option<LaneStage>,
 }
 
 // How many of the flags are 1.
@@ -93,7 +92,7 @@ fn stays(news: LaneNews) -> Option<Step>
 }
 
 // The lane moves.
-fn moves(news: LaneNews, stage: Stage) -> Option<Step>
+fn moves(news: LaneNews, stage: LaneStage) -> Option<Step>
     ensures { result ≡ Some (record { news = news; next = Some stage }) }
 {
     Some(Step {
@@ -103,15 +102,15 @@ fn moves(news: LaneNews, stage: Stage) -> Option<Step>
 }
 
 // Past a batch of which all is known, or to sending what isn't.
-fn past(from: usize, next: usize, flags: Bytes) -> Stage
+fn past(from: usize, next: usize, flags: Bytes) -> LaneStage
     ensures { (all : List (List ℕ)) → drop next all ≡ drop batch_limit (drop from all)
         → state_in all result
         ≡ past_known (take batch_limit (drop from all)) flags (in_batches (drop batch_limit (drop from all))) }
 {
     if are_ones(flags.as_slice()) {
-        Stage::Bringing { from: next }
+        LaneStage::Bringing { from: next }
     } else {
-        Stage::Sending { from, flags }
+        LaneStage::Sending { from, flags }
     }
 }
 
@@ -140,7 +139,7 @@ fn after_query(from: usize, next: usize, asked: u16, reply: Reply) -> Option<Ste
         Reply::Known { flags } => after_known(from, next, asked, flags),
         Reply::Fault => stays(LaneNews::Fault),
         Reply::NoMemory => stays(LaneNews::NoMemory),
-        Reply::Damaged { at, byte } => moves(LaneNews::Damaged { at, byte }, Stage::Refused),
+        Reply::Damaged { at, byte } => moves(LaneNews::Damaged { at, byte }, LaneStage::Refused),
         Reply::Hello { .. } => None,
         Reply::Stored { .. } => None,
         Reply::Committed => None,
@@ -167,7 +166,7 @@ fn after_stored(next: usize, sent: u16, new: u16) -> Option<Step>
     if new <= sent {
         moves(
             LaneNews::Stored { new, sent },
-            Stage::Bringing { from: next },
+            LaneStage::Bringing { from: next },
         )
     } else {
         None
@@ -184,7 +183,7 @@ fn after_put(next: usize, sent: u16, reply: Reply) -> Option<Step>
         Reply::Stored { new } => after_stored(next, sent, new),
         Reply::Fault => stays(LaneNews::Fault),
         Reply::NoMemory => stays(LaneNews::NoMemory),
-        Reply::Damaged { at, byte } => moves(LaneNews::Damaged { at, byte }, Stage::Refused),
+        Reply::Damaged { at, byte } => moves(LaneNews::Damaged { at, byte }, LaneStage::Refused),
         Reply::Full {
             room,
             used,
@@ -197,7 +196,7 @@ fn after_put(next: usize, sent: u16, reply: Reply) -> Option<Step>
                 need,
                 limit,
             },
-            Stage::Refused,
+            LaneStage::Refused,
         ),
         Reply::Hello { .. } => None,
         Reply::Known { .. } => None,
@@ -221,7 +220,7 @@ fn after_lacking(items: u32, place: u32) -> Option<Step>
         → StepIs w all Committing (Lacking place) result }
 {
     if place < items {
-        moves(LaneNews::Lacking { place }, Stage::Bringing { from: 0 })
+        moves(LaneNews::Lacking { place }, LaneStage::Bringing { from: 0 })
     } else {
         None
     }
@@ -233,14 +232,14 @@ fn after_commit(items: u32, reply: Reply) -> Option<Step>
         → StepIs w all Committing reply result }
 {
     match reply {
-        Reply::Committed => moves(LaneNews::Committed, Stage::Done),
-        Reply::Exists => moves(LaneNews::Exists, Stage::Refused),
+        Reply::Committed => moves(LaneNews::Committed, LaneStage::Done),
+        Reply::Exists => moves(LaneNews::Exists, LaneStage::Refused),
         Reply::Lacking { place } => after_lacking(items, place),
         Reply::Fault => stays(LaneNews::Fault),
         Reply::NoMemory => stays(LaneNews::NoMemory),
-        Reply::Damaged { at, byte } => moves(LaneNews::Damaged { at, byte }, Stage::Refused),
+        Reply::Damaged { at, byte } => moves(LaneNews::Damaged { at, byte }, LaneStage::Refused),
         Reply::Rotten { named, found } => {
-            moves(LaneNews::Rotten { named, found }, Stage::Refused)
+            moves(LaneNews::Rotten { named, found }, LaneStage::Refused)
         }
         Reply::Full {
             room,
@@ -254,7 +253,7 @@ fn after_commit(items: u32, reply: Reply) -> Option<Step>
                 need,
                 limit,
             },
-            Stage::Refused,
+            LaneStage::Refused,
         ),
         Reply::Hello { .. } => None,
         Reply::Known { .. } => None,
@@ -270,7 +269,7 @@ fn after_commit(items: u32, reply: Reply) -> Option<Step>
 }
 
 // The step of a lane that asks, or enters the recipe.
-fn after_bringing(wanted: &[Wanted], items: u32, from: usize, reply: Reply) -> Option<Step>
+fn after_bringing(wanted: &[WantedShare], items: u32, from: usize, reply: Reply) -> Option<Step>
     ensures { (w : Work) (all : List (List ℕ)) → length all ≡ length wanted.now → w.items ≡ items
         → w.batches ≡ in_batches all
         → StepIs w all (state_in all (stages.Bringing from)) reply result }
@@ -284,7 +283,7 @@ fn after_bringing(wanted: &[Wanted], items: u32, from: usize, reply: Reply) -> O
 }
 
 // The step of a lane that sends.
-fn after_sending(wanted: &[Wanted], from: usize, flags: &[u8], reply: Reply) -> Option<Step>
+fn after_sending(wanted: &[WantedShare], from: usize, flags: &[u8], reply: Reply) -> Option<Step>
     ensures { (w : Work) (all : List (List ℕ)) → length all ≡ length wanted.now
         → StepIs w all (state_in all (stages.Sending from flags.now)) reply result }
 {
@@ -300,19 +299,19 @@ pub fn step_of(lane: &Lane, reply: Reply) -> Option<Step>
         → StepIs w all (state_in all lane.now.stage) reply result }
 {
     match &lane.stage {
-        Stage::Bringing { from } => {
+        LaneStage::Bringing { from } => {
             after_bringing(lane.wanted.as_slice(), lane.items, *from, reply)
         }
-        Stage::Sending { from, flags } => {
+        LaneStage::Sending { from, flags } => {
             after_sending(lane.wanted.as_slice(), *from, flags.as_slice(), reply)
         }
-        Stage::Done => None,
-        Stage::Refused => None,
+        LaneStage::Done => None,
+        LaneStage::Refused => None,
     }
 }
 
 /// Moves the lane, where it is to move.
-pub fn move_lane(lane: &mut Lane, next: Option<Stage>)
+pub fn move_lane(lane: &mut Lane, next: Option<LaneStage>)
     ensures { lane.new ≡ moved_to lane.old next }
 {
     match next {
@@ -326,10 +325,10 @@ pub fn is_done(lane: &Lane) -> bool
     ensures { IsTrue result ↔ (lane.now.stage ≡ stages.Done) }
 {
     match &lane.stage {
-        Stage::Done => true,
-        Stage::Bringing { .. } => false,
-        Stage::Sending { .. } => false,
-        Stage::Refused => false,
+        LaneStage::Done => true,
+        LaneStage::Bringing { .. } => false,
+        LaneStage::Sending { .. } => false,
+        LaneStage::Refused => false,
     }
 }
 
@@ -345,7 +344,7 @@ fn end_lane(lanes: &mut Vec<Lane>, cloud: CloudNo)
     requires { cloud.0 < length lanes.old.items }
     ensures { lanes.new.items ≡ staged_at lanes.old.items cloud.0 stages.Done }
 {
-    lanes[cloud.0 as usize].stage = Stage::Done;
+    lanes[cloud.0 as usize].stage = LaneStage::Done;
 }
 
 /// Ends the lanes of these clouds: their version is entered.

@@ -2,10 +2,10 @@
 
 ghost use Rattle.std.specs.Prelude.{◌≡◌, ◌≤◌, ℕ, List, [], length, map, Some, slice_get};
 ghost use Rattle.std.specs.List.{flat_map};
-ghost use Rattle.cd_base.specs.declared.shape.Shape.{Shape};
-ghost use Rattle.cd_base.specs.Limits.{IsPath};
-ghost use Rattle.recipe.specs.Spelling.{file_limit};
-ghost use Rattle.message_fields.specs.Fingerprints.{IsBatch};
+ghost use Rattle.user_dedup.specs.CdBase.shape.Shape.{Shape};
+ghost use Rattle.user_dedup.specs.CdBase.Limits.{IsPath};
+ghost use Rattle.user_dedup.specs.Recipe.Spelling.{file_limit};
+ghost use Rattle.user_dedup.specs.MessageFields.Fingerprints.{IsBatch};
 ghost use Rattle.user_dedup.specs.Cloud.{fingerprint};
 ghost use Rattle.user_dedup.specs.Requests.{fps_of};
 ghost use Rattle.user_dedup.specs.Owning.{AreNew};

@@ -11,5 +11,10 @@ mod requests;
 mod turn;
 mod wanted;
 
+pub use file_recipe::{CloudFile, CloudFiles, RecoverErr, disperse_file, recover, tag_of};
 pub use job::Job;
 pub use news::{LaneErr, LaneNews};
+pub use user_dedup::{
+    Entries, Framer, Item, Items, KEY_LIMIT, Left, Link, Lost, MsgErr, Recipe, Reply, ReplyBuf,
+    Request, RequestView, byte_of, bytes_of, fp_of, u16_of, u64_of, user_of,
+};

@@ -1,6 +1,6 @@
 //! What the answer of a cloud tells.
 
-use cd_base::{Fp, Room};
+use user_dedup::{Fp, Room};
 
 /// What a reply to a lane's request tells.
 #[derive(Clone, Copy, Debug, PartialEq, Eq)]

@@ -3,18 +3,18 @@
 ghost use Rattle.std.specs.Prelude.{◌≡◌, ◌∷◌, ◌++◌, ◌≤◌, ◌<◌, [], ℕ, List, length, map, OnOk, IfOk, true, ◌==◌, if◌then◌else◌};
 ghost use Rattle.std.specs.List.{flat_map};
 ghost use Rattle.std.specs.Int.{w32, to_be_bytes};
-ghost use Rattle.message_fields.specs.Fingerprints.{batch_limit};
-ghost use Rattle.message_fields.specs.Shares.{share_bytes, share_limit};
-ghost use Rattle.messages.specs.Requests.{request_bytes};
-ghost use Rattle.messages.specs.declared.request.Request.TheVariants.{Query, Put, Commit};
-ghost use Rattle.upload_job.specs.declared.lane.Stage.TheVariants as stages;
+ghost use Rattle.user_dedup.specs.MessageFields.Fingerprints.{batch_limit};
+ghost use Rattle.user_dedup.specs.MessageFields.Shares.{share_bytes, share_limit};
+ghost use Rattle.user_dedup.specs.Messages.Requests.{request_bytes};
+ghost use Rattle.user_dedup.specs.Messages.request.Request.TheVariants.{Query, Put, Commit};
+ghost use Rattle.upload_job.specs.declared.lane.LaneStage.TheVariants as stages;
 ghost use Rattle.upload_job.specs.Lane.{unflagged, lane_request};
 ghost use Rattle.upload_job.specs.Lanes.{IsAsked};
-ghost use Rattle.upload_job.specs.Index.{IsIn, AreIn, share_in, shares_in, work_in, state_in};
+ghost use Rattle.upload_job.specs.Index.{IsInShares, AreIn, share_in, shares_in, work_in, state_in};
 
-use crate::lane::{FileKey, Lane, Stage, zeros};
-use crate::wanted::{Wanted, batch_at};
-use cd_base::{Bytes, NoMemory, UserId};
+use crate::lane::{Lane, LaneStage, VersionKey, zeros};
+use crate::wanted::{WantedShare, batch_at};
+use user_dedup::{Bytes, NoMemory, UserId};
 
 fn put_head(out: &mut Bytes, kind: u8, user: UserId) -> Result<(), NoMemory>
     ensures { OnOk result (out.new ≡ out.old ++ (kind ∷ to_be_bytes w32 user.0)) }
@@ -23,7 +23,7 @@ fn put_head(out: &mut Bytes, kind: u8, user: UserId) -> Result<(), NoMemory>
     out.extend(&user.0.to_be_bytes())
 }
 
-fn put_each_fp(out: &mut Bytes, wanted: &[Wanted]) -> Result<(), NoMemory>
+fn put_each_fp(out: &mut Bytes, wanted: &[WantedShare]) -> Result<(), NoMemory>
     ensures { OnOk result (out.new ≡ out.old ++ flat_map (λ w. w.fp.0) wanted.now) }
 {
     for w in wanted {
@@ -32,7 +32,7 @@ fn put_each_fp(out: &mut Bytes, wanted: &[Wanted]) -> Result<(), NoMemory>
     Ok(())
 }
 
-fn put_query(out: &mut Bytes, user: UserId, batch: &[Wanted]) -> Result<(), NoMemory>
+fn put_query(out: &mut Bytes, user: UserId, batch: &[WantedShare]) -> Result<(), NoMemory>
     requires { length batch.now ≤ batch_limit }
     ensures { OnOk result (out.new ≡ out.old ++ request_bytes (Query user (map (λ w. w.fp) batch.now))) }
 {
@@ -50,8 +50,8 @@ fn put_share(out: &mut Bytes, share: &[u8]) -> Result<(), NoMemory>
 }
 
 // A share, where its flag is 0.
-fn put_if_lacking(out: &mut Bytes, shares: &[u8], w: Wanted, flag: u8) -> Result<(), NoMemory>
-    requires { IsIn shares.now w }
+fn put_if_lacking(out: &mut Bytes, shares: &[u8], w: WantedShare, flag: u8) -> Result<(), NoMemory>
+    requires { IsInShares shares.now w }
     ensures { OnOk result (out.new ≡ out.old ++ flat_map share_bytes
         (if flag == 0 then share_in shares.now w ∷ [] else [])) }
 {
@@ -66,7 +66,7 @@ fn put_if_lacking(out: &mut Bytes, shares: &[u8], w: Wanted, flag: u8) -> Result
 fn put_unflagged(
     out: &mut Bytes,
     shares: &[u8],
-    batch: &[Wanted],
+    batch: &[WantedShare],
     flags: &[u8],
 ) -> Result<(), NoMemory>
     requires { AreIn shares.now batch.now }
@@ -83,7 +83,7 @@ fn put_put(
     out: &mut Bytes,
     user: UserId,
     shares: &[u8],
-    batch: &[Wanted],
+    batch: &[WantedShare],
     flags: &[u8],
 ) -> Result<(), NoMemory>
     requires few { length batch.now ≤ batch_limit }
@@ -96,7 +96,7 @@ fn put_put(
     put_unflagged(out, shares, batch, flags)
 }
 
-fn put_commit(out: &mut Bytes, key: &FileKey, recipe: &[u8]) -> Result<(), NoMemory>
+fn put_commit(out: &mut Bytes, key: &VersionKey, recipe: &[u8]) -> Result<(), NoMemory>
     ensures { OnOk result (out.new ≡ out.old ++ request_bytes
         (Commit key.now.user key.now.tag key.now.version recipe.now)) }
 {
@@ -107,7 +107,7 @@ fn put_commit(out: &mut Bytes, key: &FileKey, recipe: &[u8]) -> Result<(), NoMem
 }
 
 // The request of a lane that asks, or enters the recipe.
-fn put_bringing(out: &mut Bytes, key: &FileKey, lane: &Lane, from: usize) -> Result<(), NoMemory>
+fn put_bringing(out: &mut Bytes, key: &VersionKey, lane: &Lane, from: usize) -> Result<(), NoMemory>
     requires empty { out.old ≡ [] }
     requires inside { AreIn lane.now.shares lane.now.wanted.items }
     ensures { OnOk result (IsAsked (lane_request (work_in key.now lane.now)
@@ -121,24 +121,24 @@ fn put_bringing(out: &mut Bytes, key: &FileKey, lane: &Lane, from: usize) -> Res
 }
 
 /// Writes the lane's request into an empty list, where it has one.
-pub fn put_request(out: &mut Bytes, key: &FileKey, lane: &Lane) -> Result<bool, NoMemory>
+pub fn put_request(out: &mut Bytes, key: &VersionKey, lane: &Lane) -> Result<bool, NoMemory>
     requires empty { out.old ≡ [] }
     requires inside { AreIn lane.now.shares lane.now.wanted.items }
     ensures { IfOk result (λ more. IsAsked (lane_request (work_in key.now lane.now)
         (state_in (shares_in lane.now.shares lane.now.wanted.items) lane.now.stage)) more out.old out.new) }
 {
     match &lane.stage {
-        Stage::Bringing { from } => {
+        LaneStage::Bringing { from } => {
             put_bringing(out, key, lane, *from)?;
             Ok(true)
         }
-        Stage::Sending { from, flags } => {
+        LaneStage::Sending { from, flags } => {
             let batch = batch_at(lane.wanted.as_slice(), *from);
             let shares = lane.shares.as_slice();
             put_put(out, key.user, shares, batch, flags.as_slice())?;
             Ok(true)
         }
-        Stage::Done => Ok(false),
-        Stage::Refused => Ok(false),
+        LaneStage::Done => Ok(false),
+        LaneStage::Refused => Ok(false),
     }
 }

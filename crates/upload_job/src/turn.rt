@@ -1,23 +1,21 @@
 //! What the content of a reply does to a lane.
 
 ghost use Rattle.std.specs.Prelude.{◌≡◌, ◌≢◌, ℕ, List, false, length, vec_len, IfOk, IsOk, Err};
-ghost use Rattle.messages.specs.ReplyReading.{reply_at, is_of_entries};
+ghost use Rattle.user_dedup.specs.Messages.ReplyReading.{reply_at, is_of_entries};
 ghost use Rattle.upload_job.specs.Upload.{Work, in_batches};
 ghost use Rattle.upload_job.specs.Lanes.{Answers, first_byte};
 ghost use Rattle.upload_job.specs.Index.{state_in, next_in, IsReplyRead, TurnsBy};
 
-use crate::lane::{Lane, Stage, Step, step_of};
+use crate::lane::{Lane, LaneStage, Step, step_of};
 use crate::{LaneErr, LaneNews};
-use cd_base::NoMemory;
-use frames::FRAME_LIMIT;
-use messages::{MsgErr, Reply};
 use std::alloc::Global;
+use user_dedup::{FRAME_LIMIT, MsgErr, NoMemory, Reply};
 
 /// What an answer returns, and where the lane stands next, if it moves.
 #[derive(Debug, Drop)]
 pub struct Turn {
     pub result: Result<LaneNews, LaneErr>,
-    pub next: Option<Stage>,
+    pub next: Option<LaneStage>,
 }
 
 // The reply that the content is, or None where it is none that answers a lane: those have at most 65 bytes but for flags.
@@ -59,7 +57,7 @@ fn turn_by(content: &[u8], step: Option<Step>) -> Turn
             result: Err(LaneErr::Strange {
                 kind: kind_of(content),
             }),
-            next: Some(Stage::Refused),
+            next: Some(LaneStage::Refused),
         },
     }
 }

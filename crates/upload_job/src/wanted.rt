@@ -4,18 +4,17 @@ ghost use Rattle.std.specs.Prelude.{◌≡◌, [], take, drop, OnOk, IfOk, true}
 ghost use Rattle.std.specs.Ordering.{nat_cmp};
 ghost use Rattle.std.specs.Cmp.Lexicographic.{slice_cmp};
 ghost use Rattle.std.specs.BTreeSet.{contains, Updates};
-ghost use Rattle.message_fields.specs.Fingerprints.{batch_limit};
+ghost use Rattle.user_dedup.specs.MessageFields.Fingerprints.{batch_limit};
 ghost use Rattle.user_dedup.specs.Owning.{new_strings};
 ghost use Rattle.upload_job.specs.Index.{AreNamed, AreIn, shares_in, pieces, noted};
 
-use cd_base::{Fp, NoMemory, Shape, share_len};
-use recipe::Item;
 use std::alloc::Global;
 use std::collections::BTreeSet;
+use user_dedup::{Fp, Item, NoMemory, Shape, share_len};
 
 /// A share that the cloud is to have: its fingerprint, and where it lies among the cloud's shares.
 #[derive(Clone, Copy, Debug)]
-pub struct Wanted {
+pub struct WantedShare {
     pub fp: Fp,
     pub start: usize,
     pub end: usize,
@@ -24,8 +23,8 @@ pub struct Wanted {
 // Adds a share whose fingerprint was not seen before. The set has it then.
 fn note(
     seen: &mut BTreeSet<[u8; 32]>,
-    wanted: &mut Vec<Wanted>,
-    share: Wanted,
+    wanted: &mut Vec<WantedShare>,
+    share: WantedShare,
 ) -> Result<(), NoMemory>
     ensures list { OnOk result (wanted.new.items
         ≡ noted (contains (slice_cmp nat_cmp) seen.old share.fp.0) wanted.old.items share) }
@@ -43,7 +42,7 @@ pub fn wanted_of(
     shape: Shape,
     items: &[Item],
     shares: &[u8],
-) -> Result<Vec<Wanted>, NoMemory>
+) -> Result<Vec<WantedShare>, NoMemory>
     requires { AreNamed shape.k items.now shares.now }
     ensures first { IfOk result (λ wanted. shares_in shares.now wanted.items
         ≡ new_strings [] (pieces shape.k items.now shares.now)) }
@@ -54,7 +53,7 @@ pub fn wanted_of(
     let mut start = 0;
     for item in items {
         let end = start + share_len(shape, item.secret_len) as usize;
-        let share = Wanted {
+        let share = WantedShare {
             fp: item.fp,
             start,
             end,
@@ -66,7 +65,7 @@ pub fn wanted_of(
 }
 
 /// The next shares from a place on, at most 256.
-pub fn batch_at(wanted: &[Wanted], from: usize) -> &[Wanted]
+pub fn batch_at(wanted: &[WantedShare], from: usize) -> &[WantedShare]
     ensures { result.now ≡ take batch_limit (drop from wanted.now) }
 {
     let (_, rest) = wanted.split_at(from.min(wanted.len()));

@@ -9,32 +9,32 @@ use Rattle.std.proofs.lemmas.List.{take_at, drop_at, length-take}
 use Rattle.std.proofs.lemmas.List.Elements.{All-head, All-tail}
 use Rattle.std.proofs.lemmas.Nat.{from_be_bytes-to_be_bytes_4}
 use Rattle.sha2.specs.Sha256.{sha256 as sha256_of}
-use Rattle.cd_base.specs.Numbers.{numbers_of}
-use Rattle.cd_base.specs.declared.ids.CloudNo.{CloudNo}
-use Rattle.cd_base.specs.declared.ids.Fp.{Fp}
-use Rattle.cd_base.specs.declared.shape.Shape.{Shape}
-use Rattle.cd_edges.specs.declared.area.Area.TheVariants.{Journal}
-use Rattle.cd_edges.specs.Disk.{Image}
-use Rattle.commit_journal.specs.Records.{IsDamage, LastGate, BadLength, AreBodies, IsJournal, chain, sized}
-use Rattle.commit_journal.proofs.Headed.{one_record}
-use Rattle.commit_journal.proofs.Unique.{undamaged, whole_record}
-use Rattle.journal_start.specs.declared.fault.StartFault.{StartFault}
-use Rattle.journal_start.specs.declared.start.Start.{Start}
-use Rattle.journal_start.specs.Reading.{Fields, start_at, fields_of}
-use Rattle.journal_start.specs.Spelling.{start_bytes, records_of}
-use Rattle.journal_start.proofs.Whole.{again}
-use Rattle.journal_halves.specs.Beginnings.{IsUnbegun}
-use Rattle.journal_halves.specs.Findings.{part_of, IsStartDamage, IsFoundDamage, InFirst, InSecond, Epochs}
-use Rattle.journal_halves.specs.Halves.{half_len, half_of, is_half_begun, HasStart, IsCurrent}
-use Rattle.journal_halves.specs.Journals.{Where, all_bodies, with_body}
-use Rattle.journal_halves.proofs.Current.{begun_half, one_chain, one_current}
+use Rattle.grammar.specs.CdBase.Numbers.{numbers_of}
+use Rattle.grammar.specs.CdBase.ids.CloudNo.{CloudNo}
+use Rattle.grammar.specs.CdBase.ids.Fp.{Fp}
+use Rattle.grammar.specs.CdBase.shape.Shape.{Shape}
+use Rattle.half_journal.specs.CdEdges.area.Area.TheVariants.{Journal}
+use Rattle.half_journal.specs.CdEdges.Disk.{Image}
+use Rattle.half_journal.specs.CommitJournal.Records.{IsDamage, LastGate, BadLength, AreBodies, IsJournal, chain, sized}
+use Rattle.half_journal.proofs.CommitJournal.Headed.{one_record}
+use Rattle.half_journal.proofs.CommitJournal.Unique.{undamaged, whole_record}
+use Rattle.half_journal.specs.JournalStart.fault.StartFault.{StartFault}
+use Rattle.half_journal.specs.JournalStart.start.Start.{Start}
+use Rattle.half_journal.specs.JournalStart.Reading.{Fields, start_at, fields_of}
+use Rattle.half_journal.specs.JournalStart.Spelling.{start_bytes, records_of}
+use Rattle.half_journal.proofs.JournalStart.Whole.{again}
+use Rattle.half_journal.specs.JournalHalves.Beginnings.{IsUnbegun}
+use Rattle.half_journal.specs.JournalHalves.Findings.{part_of, IsStartDamage, IsFoundDamage, InFirst, InSecond, Epochs}
+use Rattle.half_journal.specs.JournalHalves.Halves.{half_len, half_of, is_half_begun, HasStart, IsCurrent}
+use Rattle.half_journal.specs.JournalHalves.Journals.{Where, all_bodies, with_body}
+use Rattle.half_journal.proofs.JournalHalves.Current.{begun_half, one_chain, one_current}
 use Rattle.half_journal.proofs.Kept.{record_off}
 use Rattle.upload_job.specs.Lanes.{LaneView, lanes_resumed}
 use Rattle.upload_job.specs.Upload.{FileVersion}
-use Rattle.upload_spool.specs.Opens.{Notes, Say, HasRead, HasAll, IsChainDamage, IsWrongNext, IsDamagedAt, OpensIs, FindsAgain, gate_of, rest_behind, with_record, kept_file, version_in, rising, first_notes, more_notes}
+use Rattle.upload_spool.specs.Opens.{Notes, Say, HasReadSpool, HasAll, IsChainDamage, IsWrongNext, IsDamagedAt, OpensIs, FindsAgain, gate_of, rest_behind, with_record, kept_file, version_in, rising, first_notes, more_notes}
 use Rattle.upload_spool.specs.Reading.{JobFields, fields_for, is_lane}
-use Rattle.upload_spool.specs.Spools.{AreLanes, FitsKept, SpoolFor, spool_chain, spool_start, lane_bytes, job_bytes}
-use Rattle.upload_spool.specs.States.{State, IsOf}
+use Rattle.upload_spool.specs.Spools.{AreJobLanes, FitsKept, SpoolFor, spool_chain, spool_start, lane_bytes, job_bytes}
+use Rattle.upload_spool.specs.States.{SpoolState, IsOf}
 use Rattle.upload_spool.specs.declared.error.SpoolErr.{SpoolErr}
 use Rattle.upload_spool.specs.declared.error.SpoolErr.TheVariants as errors
 use Rattle.upload_spool.specs.declared.records.RecordFault.{RecordFault}
@@ -58,10 +58,10 @@ lane_below : (n : ℕ) (noted : List CloudNo) (lane : CloudNo) (more : List Clou
 lane_below n [] lane more all = All-head (λ cloud. cloud < n) lane.0 (numbers_of more) all
 lane_below n (first ∷ noted) lane more all = lane_below n noted lane more (All-tail (λ cloud. cloud < n) first.0 (numbers_of (noted ++ lane ∷ more)) all)
 
-new_lane : (shape : Shape) (noted : List CloudNo) (lane : CloudNo) (more : List CloudNo) → AreLanes shape (noted ++ lane ∷ more) → is_lane shape noted lane.0 ≡ true
+new_lane : (shape : Shape) (noted : List CloudNo) (lane : CloudNo) (more : List CloudNo) → AreJobLanes shape (noted ++ lane ∷ more) → is_lane shape noted lane.0 ≡ true
 new_lane shape noted lane more are = rw (lt-ltb lane.0 shape.n (lane_below shape.n noted lane more are.below), not_noted noted lane more are.distinct) refl
 
-lanes_say : (shape : Shape) (job : JobFields) (noted lanes : List CloudNo) → AreLanes shape (noted ++ lanes) → Say shape (Some (record { job = job; lanes = noted })) (map lane_bytes lanes) (Some (record { job = job; lanes = noted ++ lanes }))
+lanes_say : (shape : Shape) (job : JobFields) (noted lanes : List CloudNo) → AreJobLanes shape (noted ++ lanes) → Say shape (Some (record { job = job; lanes = noted })) (map lane_bytes lanes) (Some (record { job = job; lanes = noted ++ lanes }))
 lanes_say shape job noted [] are = ap (λ (l : List CloudNo). Some (record { job = job; lanes = l })) (sym (append-nil noted))
 lanes_say shape job noted (lane ∷ lanes) are =
     let longer : List CloudNo = noted ++ lane ∷ [] in
@@ -70,7 +70,7 @@ lanes_say shape job noted (lane ∷ lanes) are =
       record { job = job; lanes = longer },
       ap (more_notes first) (lane_read shape noted lane (new_lane shape noted lane lanes are)),
       subst (λ (l : List CloudNo). Say shape (Some (record { job = job; lanes = longer })) (map lane_bytes lanes) (Some (record { job = job; lanes = l }))) same
-          (lanes_say shape job longer lanes (subst (AreLanes shape) (sym same) are)),
+          (lanes_say shape job longer lanes (subst (AreJobLanes shape) (sym same) are)),
     )
 
 abbrev notes_for : FileVersion → List CloudNo → Notes
@@ -79,7 +79,7 @@ notes_for v lanes = record { job = fields_for v; lanes = lanes }
 abbrev bodies_for : FileVersion → List CloudNo → List (List ℕ)
 bodies_for v lanes = job_bytes v ∷ map lane_bytes lanes
 
-spool_says : (shape : Shape) (v : FileVersion) (lanes : List CloudNo) → FitsKept v → AreLanes shape lanes → Say shape None (bodies_for v lanes) (Some (notes_for v lanes))
+spool_says : (shape : Shape) (v : FileVersion) (lanes : List CloudNo) → FitsKept v → AreJobLanes shape lanes → Say shape None (bodies_for v lanes) (Some (notes_for v lanes))
 spool_says shape v lanes fits are = (notes_for v [], ap first_notes (job_read v fits), lanes_say shape (fields_for v) [] lanes are)
 
 -- what records say of a front, and of the others behind it
@@ -105,7 +105,7 @@ one_said shape (body ∷ bodies) before one two s t =
     one_said shape bodies (Some s.0) one two s.2 (subst (λ (n : Notes). Say shape (Some n) bodies two) (sym (same_good s.0 t.0 (sym s.1 ∙ t.1))) t.2)
 
 -- no record of a spool is wrong
-record_right : (shape : Shape) (v : FileVersion) (lanes : List CloudNo) → FitsKept v → AreLanes shape lanes → (front : List (List ℕ)) (body : List ℕ) (more : List (List ℕ)) → front ++ body ∷ more ≡ bodies_for v lanes → (notes : Option Notes)
+record_right : (shape : Shape) (v : FileVersion) (lanes : List CloudNo) → FitsKept v → AreJobLanes shape lanes → (front : List (List ℕ)) (body : List ℕ) (more : List (List ℕ)) → front ++ body ∷ more ≡ bodies_for v lanes → (notes : Option Notes)
     → Say shape None front notes → (fault : RecordFault) → with_record shape notes body ≡ Err fault → ⊥
 record_right shape v lanes fits are front body more same notes say fault e =
     let all = subst (λ (l : List (List ℕ)). Say shape None l (Some (notes_for v lanes))) (sym same) (spool_says shape v lanes fits are) in
@@ -257,7 +257,7 @@ module _ (image : Image) (shape : Shape) (v : FileVersion) (lanes : List CloudNo
       let few = front_small (length (part_of 0 journal)) (length (chain bodies)) (length rest) (ap length here ∙ length-append (chain bodies) rest) (shorter_part 0 journal) in
       (whole.gate, whole.behind, whole.shut, front_of bodies (all_bodies w) rest whole.gate whole.behind few whole.sizes whole.shut (sym here ∙ whole.spelled))
 
-  no_chain_damage : (x : Where) (notes : Option Notes) (at byte : ℕ) → HasRead shape journal x notes → IsChainDamage journal x at byte → ⊥
+  no_chain_damage : (x : Where) (notes : Option Notes) (at byte : ℕ) → HasReadSpool shape journal x notes → IsChainDamage journal x at byte → ⊥
   no_chain_damage x notes at byte read (inl damage) =
       let f = fronts_are x.half (all_bodies x) read.rest (half_alone journal x.half x.start spool.alone read.current) read.spelled in
       let rest : rest_behind journal x ≡ read.rest = ap (drop (length (chain (all_bodies x)))) read.spelled ∙ drop_at (chain (all_bodies x)) read.rest (length (chain (all_bodies x))) refl in
@@ -269,7 +269,7 @@ module _ (image : Image) (shape : Shape) (v : FileVersion) (lanes : List CloudNo
       never : (some all : ℕ) → all ≡ 0 → some < all → ⊥
       never some all none less = omega (arith, none, less)
 
-  no_wrong_next : (x : Where) (notes : Option Notes) (at byte : ℕ) → HasRead shape journal x notes → IsWrongNext shape journal x notes at byte → ⊥
+  no_wrong_next : (x : Where) (notes : Option Notes) (at byte : ℕ) → HasReadSpool shape journal x notes → IsWrongNext shape journal x notes at byte → ⊥
   no_wrong_next x notes at byte read wrong =
       let body = wrong.0 in
       let f = fronts_are x.half (all_bodies (with_body x body)) wrong.3 (half_alone journal x.half x.start spool.alone read.current) wrong.4 in
@@ -301,7 +301,7 @@ module _ (image : Image) (shape : Shape) (v : FileVersion) (lanes : List CloudNo
   not_rotten notes named found all named_is found_is (inr other) =
       other (same_print found named (found_is ∙ ap sha256_of (file_is notes all) ∙ ap (λ (n : Notes). n.job.digest) (sym (notes_are notes all)) ∙ sym named_is))
 
-  pub found_here : (answer : Result (Option (State × List LaneView)) SpoolErr) → OpensIs shape image answer → FindsAgain shape v lanes answer
+  pub found_here : (answer : Result (Option (SpoolState × List LaneView)) SpoolErr) → OpensIs shape image answer → FindsAgain shape v lanes answer
   found_here (Ok None) (inl none) = none_begun none
   found_here (Ok None) (inr all) = not_none all
   found_here (Ok (Some x)) is =
@@ -321,6 +321,6 @@ module _ (image : Image) (shape : Shape) (v : FileVersion) (lanes : List CloudNo
       is.2 (sym is.1.header_is ∙ ap (λ (s : Start). s.header) (one_current journal is.0 0 is.1.start (spool_start shape) is.1.is_current spool.has.current))
   found_here (Err (errors.Rotten named found)) is = not_rotten is.0 named found is.1 is.2 is.3 is.4
 
-pub found_again : (image : Image) (shape : Shape) (v : FileVersion) (lanes : List CloudNo) → FitsKept v → SpoolFor image shape v lanes → (answer : Result (Option (State × List LaneView)) SpoolErr) → OpensIs shape image answer
+pub found_again : (image : Image) (shape : Shape) (v : FileVersion) (lanes : List CloudNo) → FitsKept v → SpoolFor image shape v lanes → (answer : Result (Option (SpoolState × List LaneView)) SpoolErr) → OpensIs shape image answer
     → FindsAgain shape v lanes answer
 found_again image shape v lanes fits spool = found_here image shape v lanes fits spool

@@ -4,39 +4,39 @@ use Rattle.std.proofs.Math.Seq.{take-add, take-length, take-append-add}
 use Rattle.std.proofs.lemmas.Bool.{false≢true}
 use Rattle.std.specs.Int.{w32, to_be_bytes}
 use Rattle.std.proofs.lemmas.List.{length-take, length-drop, drop_at}
-use Rattle.cd_edges.specs.declared.area.Area.{Area}
-use Rattle.cd_edges.specs.declared.area.Area.TheVariants.{Journal, Shares, Recipes}
-use Rattle.cd_edges.specs.Disk.{Store, Areas, Cloud, Image, MayLeave, IsImage, LeavesOnly, IsAtArea, overwritten, reads}
-use Rattle.cd_edges.specs.Shelf.{Stays, wrote, stable}
-use Rattle.cd_edges.proofs.Moments.{joined, weaker, stayed, started, at_end}
-use Rattle.cd_edges.proofs.Torn.{only}
-use Rattle.commit_journal.specs.Records.{IsJournal, IsDamage, LastGate, BadLength, chain}
-use Rattle.commit_journal.proofs.Chain.{overwritten_within}
-use Rattle.commit_journal.proofs.Unique.{first_of}
-use Rattle.journal_start.specs.declared.start.Header.{Header}
-use Rattle.journal_start.specs.declared.start.Start.{Start}
-use Rattle.journal_start.specs.Spelling.{start_bytes}
-use Rattle.journal_halves.specs.Beginnings.{IsUnbegun, new_of}
-use Rattle.journal_halves.specs.Halves.{half_len, half_of, is_half_begun, HasStart, IsCurrent}
-use Rattle.journal_halves.specs.Findings.{part_of, IsFoundDamage, InFirst, InSecond, Epochs}
-use Rattle.journal_halves.specs.Journals.{Where, HasChain, IsEither, all_bodies, with_body}
-use Rattle.journal_halves.specs.Outcomes as steps
-use Rattle.journal_halves.specs.declared.errors.JournalErr.TheVariants as jerrors
-use Rattle.journal_halves.proofs.Current.{one_start, begun_half, one_chain}
+use Rattle.half_journal.specs.CdEdges.area.Area.{Area}
+use Rattle.half_journal.specs.CdEdges.area.Area.TheVariants.{Journal, Shares, Recipes}
+use Rattle.half_journal.specs.CdEdges.Disk.{Store, Areas, Cloud, Image, MayLeave, IsImage, LeavesOnly, IsAtArea, overwritten, reads}
+use Rattle.half_journal.specs.CdEdges.Shelf.{Stays, wrote, stable}
+use Rattle.half_journal.proofs.CdEdges.Moments.{joined, weaker, stayed, started, at_end}
+use Rattle.half_journal.proofs.CdEdges.Torn.{only}
+use Rattle.half_journal.specs.CommitJournal.Records.{IsJournal, IsDamage, LastGate, BadLength, chain}
+use Rattle.half_journal.proofs.CommitJournal.Chain.{overwritten_within}
+use Rattle.half_journal.proofs.CommitJournal.Unique.{first_of}
+use Rattle.half_journal.specs.JournalStart.start.Header.{Header}
+use Rattle.half_journal.specs.JournalStart.start.Start.{Start}
+use Rattle.half_journal.specs.JournalStart.Spelling.{start_bytes}
+use Rattle.half_journal.specs.JournalHalves.Beginnings.{IsUnbegun, new_of}
+use Rattle.half_journal.specs.JournalHalves.Halves.{half_len, half_of, is_half_begun, HasStart, IsCurrent}
+use Rattle.half_journal.specs.JournalHalves.Findings.{part_of, IsFoundDamage, InFirst, InSecond, Epochs}
+use Rattle.half_journal.specs.JournalHalves.Journals.{Where, HasChain, IsEither, all_bodies, with_body}
+use Rattle.half_journal.specs.JournalHalves.Outcomes as steps
+use Rattle.half_journal.specs.JournalHalves.errors.RecordErr.TheVariants as jerrors
+use Rattle.half_journal.proofs.JournalHalves.Current.{one_start, begun_half, one_chain}
 use Rattle.half_journal.specs.declared.errors.OpenErr.{OpenErr}
 use Rattle.half_journal.specs.declared.errors.OpenErr.TheVariants as opens
 use Rattle.half_journal.specs.Openings.{MayBecome, OpensIs, IsOpened}
 use Rattle.half_journal.specs.declared.journal.Stage.{Stage}
 use Rattle.half_journal.specs.declared.journal.Stage.TheVariants.{AtEnd, Shut}
 use Rattle.half_journal.specs.Outcomes.{NextIs, IsDamaged}
-use Rattle.half_journal.specs.States.{IsReading, IsEnded}
+use Rattle.half_journal.specs.States.{IsJournalReading, IsJournalEnded}
 use Rattle.half_journal.specs.States as half
-use Rattle.cd_base.specs.declared.shape.Shape.{Shape}
+use Rattle.grammar.specs.CdBase.shape.Shape.{Shape}
 use Rattle.upload_job.specs.Upload.{FileVersion}
 use Rattle.upload_spool.specs.Spools.{HasOpenJob, IsBegunOr, spool_header, job_bytes}
 use Rattle.upload_spool.proofs.Chains.{used}
 use Rattle.upload_spool.proofs.Lanes.{no_lanes}
-use Rattle.upload_spool.specs.States.{chosen, first_filled, Along, IsKept, HasFile, NoOpenJob, HasNone, IsNew, IsNewRead, IsNewJobOr, HasJob, IsOkOrFault, spool_error, State, IsOf, IsSpool}
+use Rattle.upload_spool.specs.States.{chosen, first_filled, Along, IsKept, HasFile, NoOpenJob, HasNone, IsNewSpool, IsNewRead, IsNewJobOr, HasJob, IsOkOrFault, spool_error, SpoolState, IsOf, IsSpool}
 use Rattle.upload_spool.proofs.Notes.{both, shares≢journal, still_alone}
 
 -- ---- which area isn't empty
@@ -174,11 +174,11 @@ opened_new read header w c none has alone = elim c.is_half [
   | inr one_is ↦ absurd (false≢true (sym alone ∙ begun_half read 1 w.start (subst (λ (h : ℕ). HasStart read h w.start) one_is c.begun)))
 ]
 
-pub new_read : (state : half.State) (cloud : Cloud) (header : Header) → IsOpened state (cloud.now Journal) header → HasChain (cloud.now Journal).read (new_of header) → is_half_begun 1 (cloud.now Journal).read ≡ false
+pub new_read : (state : half.JournalState) (cloud : Cloud) (header : Header) → IsOpened state (cloud.now Journal) header → HasChain (cloud.now Journal).read (new_of header) → is_half_begun 1 (cloud.now Journal).read ≡ false
     → IsNewRead state header cloud
 new_read state cloud header is has alone =
     let same = opened_new (cloud.now Journal).read header is.w is.reading.is_current is.none has alone in
-    record { reading = subst (IsReading state (cloud.now Journal)) same is.reading; has = has; alone = alone }
+    record { reading = subst (IsJournalReading state (cloud.now Journal)) same is.reading; has = has; alone = alone }
 
 -- the chain within its half
 part_chain : (bodies : List (List ℕ)) (bytes : List ℕ) (j : IsJournal bodies bytes) → length (chain bodies) + 1 ≤ half_len → (late : List ℕ) × (take half_len bytes ≡ chain bodies ++ j.gate ∷ late)
@@ -195,7 +195,7 @@ new_len header read has =
     let few = has.chain_is.sizes.0.few in
     omega (arith, few, length-append (to_be_bytes w32 (length (start_bytes (new_of header).start)) ++ start_bytes (new_of header).start) [], length-append (to_be_bytes w32 (length (start_bytes (new_of header).start))) (start_bytes (new_of header).start))
 
-no_more : (state : half.State) (store : Store) (header : Header) (body : List ℕ) → HasChain store.read (new_of header) → IsReading state store (with_body (new_of header) body) → ⊥
+no_more : (state : half.JournalState) (store : Store) (header : Header) (body : List ℕ) → HasChain store.read (new_of header) → IsJournalReading state store (with_body (new_of header) body) → ⊥
 no_more state store header body has reading =
     let one = all_bodies (with_body (new_of header) body) in let two = all_bodies (new_of header) in
     let part = part_chain two (half_of 0 store.read) has.chain_is (omega (arith, new_len header store.read has)) in
@@ -207,7 +207,7 @@ gate_wrong : (rest : List ℕ) (gate at byte h : ℕ) (late : List ℕ) → h �
 gate_wrong rest gate at byte h late shut is (LastGate last a b) = shut (ap (λ (l : List ℕ). get_or l 0 0) (sym is ∙ last))
 gate_wrong rest gate at byte h late shut is (BadLength tail opened none a) = shut (ap (λ (l : List ℕ). get_or l 0 0) (sym is ∙ opened))
 
-no_damage : (state : half.State) (store : Store) (header : Header) (at byte : ℕ) → HasChain store.read (new_of header) → IsReading state store (new_of header) → IsDamaged state store at byte → ⊥
+no_damage : (state : half.JournalState) (store : Store) (header : Header) (at byte : ℕ) → HasChain store.read (new_of header) → IsJournalReading state store (new_of header) → IsDamaged state store at byte → ⊥
 no_damage state store header at byte has reading (inl damage) =
     let two = all_bodies (new_of header) in
     let part = part_chain two (half_of 0 store.read) has.chain_is (omega (arith, new_len header store.read has)) in
@@ -218,15 +218,15 @@ no_damage state store header at byte has reading (inl damage) =
 no_damage state store header at byte has reading (inr early) = let more = early.1.more in omega (arith, more, reading.left)
 
 -- what the gate behind the start says
-pub next_new : (before after : half.State) (cloud last : Cloud) (header : Header) (more : Bool) → IsNewRead before header cloud → last.now ≡ cloud.now → NextIs before after (cloud.now Journal) (new_of header) (Ok more)
-    → (more ≡ false) × IsNew after header last
+pub next_new : (before after : half.JournalState) (cloud last : Cloud) (header : Header) (more : Bool) → IsNewRead before header cloud → last.now ≡ cloud.now → NextIs before after (cloud.now Journal) (new_of header) (Ok more)
+    → (more ≡ false) × IsNewSpool after header last
 next_new before after cloud last header true is same next = absurd (no_more after (cloud.now Journal) header after.current.body is.has next)
 next_new before after cloud last header false is same next = (
   refl,
-  record { ended = subst (λ (a : Areas). IsEnded after (a Journal) (new_of header)) (sym same) next; alone = subst (λ (a : Areas). is_half_begun 1 (a Journal).read ≡ false) (sym same) is.alone },
+  record { ended = subst (λ (a : Areas). IsJournalEnded after (a Journal) (new_of header)) (sym same) next; alone = subst (λ (a : Areas). is_half_begun 1 (a Journal).read ≡ false) (sym same) is.alone },
 )
 
-pub next_wrong : (before after : half.State) (cloud : Cloud) (header : Header) (at byte : ℕ) → IsNewRead before header cloud → NextIs before after (cloud.now Journal) (new_of header) (Err (jerrors.Damaged at byte)) → ⊥
+pub next_wrong : (before after : half.JournalState) (cloud : Cloud) (header : Header) (at byte : ℕ) → IsNewRead before header cloud → NextIs before after (cloud.now Journal) (new_of header) (Err (jerrors.Damaged at byte)) → ⊥
 next_wrong before after cloud header at byte is next = no_damage before (cloud.now Journal) header at byte is.has is.reading next
 
 -- ---- all of it
@@ -245,7 +245,7 @@ third_step c0 c2 c3 header file body run alone has either other = joined c0 c2 c
   | inr new ↦ inr (record { alone = still_alone (image Journal) (c2.now Journal).read at.1 alone; has = new; file_is = has (image Shares) (at.0.others Shares shares≢journal) })
 ]))
 
-pub job_kept : (state : half.State) (c2 c3 : Cloud) (header : Header) (file body : List ℕ) → is_half_begun 1 (c2.now Journal).read ≡ false → HasFile file (c2.now Shares) → IsEnded state (c3.now Journal) (with_body (new_of header) body)
+pub job_kept : (state : half.JournalState) (c2 c3 : Cloud) (header : Header) (file body : List ℕ) → is_half_begun 1 (c2.now Journal).read ≡ false → HasFile file (c2.now Shares) → IsJournalEnded state (c3.now Journal) (with_body (new_of header) body)
     → LeavesOnly c2 c3 (λ image. part_of 1 (image Journal) ≡ part_of 1 (c2.now Journal).read) → IsImage c3.now (reads c3.now) → ((area : Area) → area ≢ Journal → c3.now area ≡ c2.now area) → HasJob state header file body c3
 job_kept state c2 c3 header file body alone has ended other now others = record {
   ended = ended;
@@ -282,7 +282,7 @@ begun_kept c0 c1 c2 shape v header body stays nojob head job short none run = jo
     (run (subst (λ (a : Areas). first_filled (reads a) ≡ None) (sym stays.now) none) (subst (λ (a : Areas). NoOpenJob (a Journal)) (sym stays.now) nojob))
     (λ image is. begun_or shape v header body image head job short is))
 
-pub spool_begun : (state : State) (shape : Shape) (v : FileVersion) (header : Header) (body : List ℕ) (cloud : Cloud) → HasJob state.journal header v.file body cloud → state.shape ≡ shape → header ≡ spool_header shape → body ≡ job_bytes v
+pub spool_begun : (state : SpoolState) (shape : Shape) (v : FileVersion) (header : Header) (body : List ℕ) (cloud : Cloud) → HasJob state.journal header v.file body cloud → state.shape ≡ shape → header ≡ spool_header shape → body ≡ job_bytes v
     → IsOf state v → state.noted ≡ [] → length v.path ≤ 1024 → IsSpool state v [] cloud
 spool_begun state shape v header body cloud has same head job of none short =
     let whole : header ≡ spool_header state.shape = head ∙ ap spool_header (sym same) in
@@ -290,8 +290,8 @@ spool_begun state shape v header body cloud has same head job of none short =
       of = of;
       noted = none;
       apart = no_lanes state.shape;
-      ended = subst (λ (l : List ℕ). IsEnded state.journal (cloud.now Journal) (with_body (new_of (spool_header state.shape)) l)) job
-          (subst (λ (h : Header). IsEnded state.journal (cloud.now Journal) (with_body (new_of h) body)) whole has.ended);
+      ended = subst (λ (l : List ℕ). IsJournalEnded state.journal (cloud.now Journal) (with_body (new_of (spool_header state.shape)) l)) job
+          (subst (λ (h : Header). IsJournalEnded state.journal (cloud.now Journal) (with_body (new_of h) body)) whole has.ended);
       within = omega (arith, used state.shape v [], short);
       alone = has.alone;
       file = has.file_is;

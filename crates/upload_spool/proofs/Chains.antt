@@ -3,16 +3,16 @@ use Rattle.std.proofs.Common.{◌≡◌, ◌≢◌, ℕ, ◌+◌, ◌*◌, ◌<�
 use Rattle.std.specs.Prelude.{All}
 use Rattle.std.specs.Int.{w32, to_be_bytes}
 use Rattle.std.proofs.lemmas.List.{length-append, map-append}
-use Rattle.cd_base.specs.declared.ids.CloudNo.{CloudNo}
-use Rattle.cd_base.specs.declared.shape.Shape.{Shape}
-use Rattle.cd_edges.specs.declared.area.Area.TheVariants.{Journal, Shares}
-use Rattle.cd_edges.specs.Disk.{Image}
-use Rattle.commit_journal.specs.Records.{chain, sized}
-use Rattle.journal_start.specs.Spelling.{start_bytes}
-use Rattle.journal_halves.specs.Halves.{is_half_begun}
-use Rattle.journal_halves.specs.Journals.{Where, HasChain, IsEither, used_by, with_body}
+use Rattle.grammar.specs.CdBase.ids.CloudNo.{CloudNo}
+use Rattle.grammar.specs.CdBase.shape.Shape.{Shape}
+use Rattle.half_journal.specs.CdEdges.area.Area.TheVariants.{Journal, Shares}
+use Rattle.half_journal.specs.CdEdges.Disk.{Image}
+use Rattle.half_journal.specs.CommitJournal.Records.{chain, sized}
+use Rattle.half_journal.specs.JournalStart.Spelling.{start_bytes}
+use Rattle.half_journal.specs.JournalHalves.Halves.{is_half_begun}
+use Rattle.half_journal.specs.JournalHalves.Journals.{Where, HasChain, IsEither, used_by, with_body}
 use Rattle.upload_job.specs.Upload.{FileVersion}
-use Rattle.upload_spool.specs.Spools.{FitsKept, AreLanes, SpoolFor, HasOpenJob, IsNotedOr, spool_chain, spool_start, lane_bytes, job_bytes}
+use Rattle.upload_spool.specs.Spools.{FitsKept, AreJobLanes, SpoolFor, HasOpenJob, IsNotedOr, spool_chain, spool_start, lane_bytes, job_bytes}
 use Rattle.upload_spool.proofs.Bodies.{SameFields, same_job, job_len, same_lane}
 use Rattle.upload_spool.proofs.Lanes.{lanes_more}
 
@@ -51,7 +51,7 @@ pub noted_chain : (shape : Shape) (v : FileVersion) (lanes : List CloudNo) (lane
 noted_chain shape v lanes lane =
     ap (λ (bodies : List (List ℕ)). record { half = 0; start = spool_start shape; bodies = job_bytes v ∷ bodies }) (sym (map-append lane_bytes lanes (lane ∷ [])))
 
-pub noted : (shape : Shape) (v : FileVersion) (lanes : List CloudNo) (lane : CloudNo) (image : Image) → AreLanes shape lanes → lane.0 < shape.n → All (λ noted. noted.0 ≢ lane.0) lanes
+pub noted : (shape : Shape) (v : FileVersion) (lanes : List CloudNo) (lane : CloudNo) (image : Image) → AreJobLanes shape lanes → lane.0 < shape.n → All (λ noted. noted.0 ≢ lane.0) lanes
     → used_by (spool_chain shape v (lanes ++ lane ∷ [])) ≤ 65536
     → IsEither (spool_chain shape v lanes) (with_body (spool_chain shape v lanes) (lane_bytes lane)) (image Journal)
     → is_half_begun 1 (image Journal) ≡ false → take (length v.file) (image Shares) ≡ v.file

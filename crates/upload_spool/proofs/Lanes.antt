@@ -6,10 +6,10 @@ use Rattle.std.proofs.lemmas.Bool.{false≢true}
 use Rattle.std.proofs.lemmas.List.{map-append}
 use Rattle.std.proofs.lemmas.List.Elements.{All-head, All-tail, All-append, All-cons, All-nil}
 use Rattle.std.proofs.lemmas.Map.Steps.{length-le_from_distinct_below}
-use Rattle.cd_base.specs.declared.ids.CloudNo.{CloudNo}
-use Rattle.cd_base.specs.Numbers.{numbers_of}
-use Rattle.cd_base.specs.declared.shape.Shape.{Shape}
-use Rattle.upload_spool.specs.Spools.{AreLanes}
+use Rattle.grammar.specs.CdBase.ids.CloudNo.{CloudNo}
+use Rattle.grammar.specs.CdBase.Numbers.{numbers_of}
+use Rattle.grammar.specs.CdBase.shape.Shape.{Shape}
+use Rattle.upload_spool.specs.Spools.{AreJobLanes}
 
 any_step : (x n q : ℕ) (rest : Bool) → (b : Bool) → eqb q x ≡ b → x < n → (rest ≡ true → q < n) → (b || rest) ≡ true → q < n
 any_step x n q rest true same here there e = subst (λ (m : ℕ). m < n) (sym (eqb-true q x same)) here
@@ -55,9 +55,9 @@ none_distinct lanes none = subst (λ (l : List CloudNo). IsDistinct eqb (numbers
 pub none_below : (lanes : List CloudNo) (n : ℕ) → lanes ≡ [] → All (λ x. x < n) (numbers_of lanes)
 none_below lanes n none = subst (λ (l : List CloudNo). All (λ x. x < n) (numbers_of l)) (sym none) (All-nil (λ x. x < n))
 
-pub no_lanes : (shape : Shape) → AreLanes shape []
+pub no_lanes : (shape : Shape) → AreJobLanes shape []
 no_lanes shape = record { distinct = none_distinct [] refl; below = none_below [] shape.n refl }
 
 -- a lane below n that wasn't noted may be noted
-pub lanes_more : (shape : Shape) (lanes : List CloudNo) (lane : CloudNo) → AreLanes shape lanes → lane.0 < shape.n → All (λ noted. noted.0 ≢ lane.0) lanes → AreLanes shape (lanes ++ lane ∷ [])
+pub lanes_more : (shape : Shape) (lanes : List CloudNo) (lane : CloudNo) → AreJobLanes shape lanes → lane.0 < shape.n → All (λ noted. noted.0 ≢ lane.0) lanes → AreJobLanes shape (lanes ++ lane ∷ [])
 lanes_more shape lanes lane are below new = record { distinct = distinct_more lanes lane are.distinct new; below = below_more lanes lane shape.n are.below below }

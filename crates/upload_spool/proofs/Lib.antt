@@ -11,3 +11,4 @@ pub mod Readings
 pub mod Sizes
 pub mod Steps
 pub mod Walks
+pub mod CdEdges

@@ -3,27 +3,27 @@ use Rattle.std.proofs.Common.{◌≡◌, ◌≢◌, inl, ℕ, ◌+◌, ◌*◌, 
 use Rattle.std.specs.Prelude.{All, is_ok, is_err}
 use Rattle.std.proofs.lemmas.Bool.{false≢true}
 use Rattle.std.proofs.lemmas.List.{drop_at, length-map}
-use Rattle.cd_base.specs.Numbers.{numbers_of}
-use Rattle.cd_base.specs.declared.ids.CloudNo.{CloudNo}
-use Rattle.cd_edges.specs.declared.area.Area.{Area}
-use Rattle.cd_edges.specs.declared.area.Area.TheVariants.{Journal, Shares}
-use Rattle.cd_edges.specs.Disk.{Store, Areas, Cloud, Image, MayLeave, IsImage, SomeLeaves, LeavesOnly, IsAtArea, reads}
-use Rattle.cd_edges.specs.Shelf.{stable}
-use Rattle.cd_edges.proofs.Moments.{weaker, started, at_end}
-use Rattle.cd_edges.proofs.Torn.{only}
-use Rattle.commit_journal.specs.Records.{IsJournal, is_begun}
-use Rattle.journal_halves.specs.Findings.{part_of}
-use Rattle.journal_halves.specs.Halves.{half_of, is_half_begun}
-use Rattle.journal_halves.specs.Journals.{HasChain, IsEither, all_bodies, with_body, used_by}
-use Rattle.journal_halves.proofs.Looks.{begun_part}
+use Rattle.grammar.specs.CdBase.Numbers.{numbers_of}
+use Rattle.grammar.specs.CdBase.ids.CloudNo.{CloudNo}
+use Rattle.half_journal.specs.CdEdges.area.Area.{Area}
+use Rattle.half_journal.specs.CdEdges.area.Area.TheVariants.{Journal, Shares}
+use Rattle.half_journal.specs.CdEdges.Disk.{Store, Areas, Cloud, Image, MayLeave, IsImage, SomeLeaves, LeavesOnly, IsAtArea, reads}
+use Rattle.half_journal.specs.CdEdges.Shelf.{stable}
+use Rattle.half_journal.proofs.CdEdges.Moments.{weaker, started, at_end}
+use Rattle.half_journal.proofs.CdEdges.Torn.{only}
+use Rattle.half_journal.specs.CommitJournal.Records.{IsJournal, is_begun}
+use Rattle.half_journal.specs.JournalHalves.Findings.{part_of}
+use Rattle.half_journal.specs.JournalHalves.Halves.{half_of, is_half_begun}
+use Rattle.half_journal.specs.JournalHalves.Journals.{HasChain, IsEither, all_bodies, with_body, used_by}
+use Rattle.half_journal.proofs.JournalHalves.Looks.{begun_part}
 use Rattle.half_journal.specs.declared.journal.Stage.{Stage}
 use Rattle.half_journal.specs.declared.journal.Stage.TheVariants.{AtEnd, Shut}
 use Rattle.half_journal.specs.Outcomes.{stage_after}
-use Rattle.half_journal.specs.States.{IsEnded}
+use Rattle.half_journal.specs.States.{IsJournalEnded}
 use Rattle.half_journal.specs.States as half
 use Rattle.upload_job.specs.Upload.{FileVersion}
-use Rattle.upload_spool.specs.Spools.{AreLanes, SpoolFor, IsNotedOr, spool_chain, lane_bytes}
-use Rattle.upload_spool.specs.States.{State, IsOf, IsSpool, HasFile}
+use Rattle.upload_spool.specs.Spools.{AreJobLanes, SpoolFor, IsNotedOr, spool_chain, lane_bytes}
+use Rattle.upload_spool.specs.States.{SpoolState, IsOf, IsSpool, HasFile}
 use Rattle.upload_spool.specs.declared.spool.Spool.{Spool}
 use Rattle.upload_spool.proofs.Lanes.{few_lanes, lanes_more}
 use Rattle.upload_spool.proofs.Chains.{used, noted, noted_chain}
@@ -49,7 +49,7 @@ shares≢journal e = cc
 pub one_image : (store : Store) (image : List ℕ) → store ≡ stable store.read → MayLeave store image → image ≡ store.read
 one_image store image synced left = only store.read image (subst (λ (s : Store). MayLeave s image) synced left)
 
-pub spool_image : (state : State) (v : FileVersion) (lanes : List CloudNo) (cloud : Cloud) → IsSpool state v lanes cloud → (image : Image) → IsImage cloud.now image → SpoolFor image state.shape v lanes
+pub spool_image : (state : SpoolState) (v : FileVersion) (lanes : List CloudNo) (cloud : Cloud) → IsSpool state v lanes cloud → (image : Image) → IsImage cloud.now image → SpoolFor image state.shape v lanes
 spool_image state v lanes cloud is image left =
     let store = cloud.now Journal in
     let same : image Journal ≡ store.read = one_image store (image Journal) is.ended.read.synced (left Journal) in
@@ -66,13 +66,13 @@ spool_image state v lanes cloud is image left =
     }
 
 -- memory ran out before the first call
-pub not_noted : (state : State) (v : FileVersion) (lanes : List CloudNo) (lane : CloudNo) (cloud : Cloud) → IsSpool state v lanes cloud → LeavesOnly cloud cloud (IsNotedOr state.shape v lanes lane)
+pub not_noted : (state : SpoolState) (v : FileVersion) (lanes : List CloudNo) (lane : CloudNo) (cloud : Cloud) → IsSpool state v lanes cloud → LeavesOnly cloud cloud (IsNotedOr state.shape v lanes lane)
 not_noted state v lanes lane cloud is = started cloud _ (λ image now. inl (spool_image state v lanes cloud is image now))
 
 -- ---- one note
 
 -- there is room for one note more, where the gate isn't far
-pub room_for : (state : State) (v : FileVersion) (lanes : List CloudNo) (lane : CloudNo) (cloud : Cloud) → IsSpool state v lanes cloud → state.journal.current.gate ≤ 1258
+pub room_for : (state : SpoolState) (v : FileVersion) (lanes : List CloudNo) (lane : CloudNo) (cloud : Cloud) → IsSpool state v lanes cloud → state.journal.current.gate ≤ 1258
     → used_by (spool_chain state.shape v (lanes ++ lane ∷ [])) ≤ 65536
 room_for state v lanes lane cloud is near =
     omega (
@@ -87,7 +87,7 @@ room_for state v lanes lane cloud is near =
 pub still_alone : (bytes old : List ℕ) → part_of 1 bytes ≡ part_of 1 old → is_half_begun 1 old ≡ false → is_half_begun 1 bytes ≡ false
 still_alone bytes old same none = sym (begun_part 1 bytes) ∙ ap is_begun same ∙ begun_part 1 old ∙ none
 
-pub noted_images : (state : State) (v : FileVersion) (lanes : List CloudNo) (lane : CloudNo) (c0 c1 : Cloud) → IsSpool state v lanes c0 → lane.0 < state.shape.n → All (λ noted. noted.0 ≢ lane.0) state.noted
+pub noted_images : (state : SpoolState) (v : FileVersion) (lanes : List CloudNo) (lane : CloudNo) (c0 c1 : Cloud) → IsSpool state v lanes c0 → lane.0 < state.shape.n → All (λ noted. noted.0 ≢ lane.0) state.noted
     → state.journal.current.gate ≤ 1258
     → LeavesOnly c0 c1 (IsAtArea c0.now Journal (IsEither (spool_chain state.shape v lanes) (with_body (spool_chain state.shape v lanes) (lane_bytes lane))))
     → LeavesOnly c0 c1 (λ image. part_of 1 (image Journal) ≡ part_of 1 (c0.now Journal).read) → LeavesOnly c0 c1 (IsNotedOr state.shape v lanes lane)
@@ -96,9 +96,9 @@ noted_images state v lanes lane c0 c1 is below new near either other =
     noted state.shape v lanes lane image is.apart below (subst (All (λ noted. noted.0 ≢ lane.0)) is.noted new) (room_for state v lanes lane c0 is near) at.0.area (still_alone (image Journal) (c0.now Journal).read at.1 is.alone)
     (is.file (image Shares) (at.0.others Shares shares≢journal)))
 
-pub noted_spool : (before after : State) (v : FileVersion) (lanes : List CloudNo) (lane : CloudNo) (c0 c1 : Cloud) → IsSpool before v lanes c0 → lane.0 < before.shape.n → All (λ noted. noted.0 ≢ lane.0) before.noted
+pub noted_spool : (before after : SpoolState) (v : FileVersion) (lanes : List CloudNo) (lane : CloudNo) (c0 c1 : Cloud) → IsSpool before v lanes c0 → lane.0 < before.shape.n → All (λ noted. noted.0 ≢ lane.0) before.noted
     → before.journal.current.gate ≤ 1258
-    → IsEnded after.journal (c1.now Journal) (with_body (spool_chain before.shape v lanes) (lane_bytes lane)) → after.shape ≡ before.shape → (IsOf before v → IsOf after v) → after.noted ≡ before.noted ++ lane ∷ []
+    → IsJournalEnded after.journal (c1.now Journal) (with_body (spool_chain before.shape v lanes) (lane_bytes lane)) → after.shape ≡ before.shape → (IsOf before v → IsOf after v) → after.noted ≡ before.noted ++ lane ∷ []
     → LeavesOnly c0 c1 (λ image. part_of 1 (image Journal) ≡ part_of 1 (c0.now Journal).read) → IsImage c1.now (reads c1.now)
     → ((area : Area) → area ≢ Journal → c1.now area ≡ c0.now area) → IsSpool after v (lanes ++ lane ∷ []) c1
 noted_spool before after v lanes lane c0 c1 is below new near ended shape of more other now others =
@@ -107,8 +107,8 @@ noted_spool before after v lanes lane c0 c1 is below new near ended shape of mor
     record {
       of = of is.of;
       noted = more ∙ ap (λ (l : List CloudNo). l ++ lane ∷ []) is.noted;
-      apart = subst (λ s. AreLanes s (lanes ++ lane ∷ [])) (sym shape) (lanes_more before.shape lanes lane is.apart below (subst (All (λ noted. noted.0 ≢ lane.0)) is.noted new));
-      ended = subst (IsEnded after.journal (c1.now Journal)) chain ended;
+      apart = subst (λ s. AreJobLanes s (lanes ++ lane ∷ [])) (sym shape) (lanes_more before.shape lanes lane is.apart below (subst (All (λ noted. noted.0 ≢ lane.0)) is.noted new));
+      ended = subst (IsJournalEnded after.journal (c1.now Journal)) chain ended;
       within = subst (λ s. used_by (spool_chain s v (lanes ++ lane ∷ [])) ≤ 65536) (sym shape) (room_for before v lanes lane c0 is near);
       alone = still_alone (c1.now Journal).read (c0.now Journal).read (at_end c0 c1 _ other (reads c1.now) now) is.alone;
       file = subst (HasFile v.file) (sym (others Shares shares≢journal)) is.file;

@@ -2,27 +2,27 @@
 use Rattle.std.proofs.Common.{◌≡◌, inl, inr, ℕ, ◌≤◌, Bool, true, false, Some, None, Result, Ok, Err, List, [], ◌∷◌, ◌++◌, length, map, take, refl, sym, ap, ◌∙◌, subst, append_assoc, append-nil}
 use Rattle.std.specs.Prelude.{IsTrue}
 use Rattle.sha2.specs.Sha256.{sha256 as sha256_of}
-use Rattle.cd_base.specs.declared.ids.CloudNo.{CloudNo}
-use Rattle.cd_base.specs.declared.ids.Fp.{Fp}
-use Rattle.cd_base.specs.declared.shape.Shape.{Shape}
-use Rattle.cd_edges.specs.declared.area.Area.TheVariants.{Journal, Shares}
-use Rattle.cd_edges.specs.Disk.{Store, Areas, Cloud, Image, MayLeave, IsImage, LeavesOnly, reads}
-use Rattle.cd_edges.specs.Shelf.{Stays, Syncs, Changes, stable}
-use Rattle.cd_edges.proofs.Moments.{started, joined, weaker, at_end}
-use Rattle.cd_edges.proofs.Shrinks.{sync_goes_on}
-use Rattle.cd_edges.proofs.Torn.{only}
-use Rattle.journal_halves.specs.Halves.{is_half_begun}
-use Rattle.journal_halves.specs.Journals.{Where, HasChain, used_by}
-use Rattle.journal_halves.proofs.Current.{one_chain}
-use Rattle.half_journal.specs.States.{IsEnded}
+use Rattle.grammar.specs.CdBase.ids.CloudNo.{CloudNo}
+use Rattle.grammar.specs.CdBase.ids.Fp.{Fp}
+use Rattle.grammar.specs.CdBase.shape.Shape.{Shape}
+use Rattle.half_journal.specs.CdEdges.area.Area.TheVariants.{Journal, Shares}
+use Rattle.half_journal.specs.CdEdges.Disk.{Store, Areas, Cloud, Image, MayLeave, IsImage, LeavesOnly, reads}
+use Rattle.half_journal.specs.CdEdges.Shelf.{Stays, Syncs, Changes, stable}
+use Rattle.half_journal.proofs.CdEdges.Moments.{started, joined, weaker, at_end}
+use Rattle.half_journal.proofs.CdEdges.Shrinks.{sync_goes_on}
+use Rattle.half_journal.proofs.CdEdges.Torn.{only}
+use Rattle.half_journal.specs.JournalHalves.Halves.{is_half_begun}
+use Rattle.half_journal.specs.JournalHalves.Journals.{Where, HasChain, used_by}
+use Rattle.half_journal.proofs.JournalHalves.Current.{one_chain}
+use Rattle.half_journal.specs.States.{IsJournalEnded}
 use Rattle.half_journal.specs.States as half
 use Rattle.upload_job.specs.Lanes.{LaneView, lanes_resumed}
 use Rattle.upload_job.specs.Upload.{FileVersion}
 use Rattle.upload_spool.specs.Opens.{Notes, Say, HasAll, OpensIs, IsOpenedSpool, answer_of, kept_file, rising, first_notes, more_notes}
 use Rattle.upload_spool.specs.Reading.{JobFields, fields_for, is_lane, lane_at, lane_in, wrong_at}
-use Rattle.upload_spool.specs.Spools.{AreLanes, FitsKept, SpoolFor, spool_chain, spool_limit, lane_bytes, job_bytes}
+use Rattle.upload_spool.specs.Spools.{AreJobLanes, FitsKept, SpoolFor, spool_chain, spool_limit, lane_bytes, job_bytes}
 use Rattle.upload_spool.specs.States.{IsOf, IsSpool, state_of}
-use Rattle.upload_spool.specs.Steps.{AreKept, FoundIs, HasEnded, IsBrought, BringsIs, notes_in, fields_kept}
+use Rattle.upload_spool.specs.Steps.{AreRecordsKept, FoundIs, HasSpoolEnded, IsBrought, BringsIs, notes_in, fields_kept}
 use Rattle.upload_spool.specs.declared.error.SpoolErr.{SpoolErr}
 use Rattle.upload_spool.specs.declared.error.SpoolErr.TheVariants.{NotEmpty, Fault, Damaged, OtherStore, Rotten, NoMemory}
 use Rattle.upload_spool.specs.declared.opening.Records.{Records}
@@ -66,7 +66,7 @@ err_opens shape c0 c1 e s is = err_opens_at shape (reads c0.now) e (subst (λ (l
 abbrev pub notes_by : Records → Notes
 notes_by records = record { job = fields_kept records.job; lanes = records.noted.items }
 
-ok_opens_at : (shape : Shape) (image : Image) (records : Records) (state : half.State) (bytes : List ℕ) (x : Spool × List LaneView) → HasAll shape (image Journal) (notes_in (Some records)) → IsBrought shape records state bytes x
+ok_opens_at : (shape : Shape) (image : Image) (records : Records) (state : half.JournalState) (bytes : List ℕ) (x : Spool × List LaneView) → HasAll shape (image Journal) (notes_in (Some records)) → IsBrought shape records state bytes x
     → bytes ≡ kept_file image (notes_by records) → OpensIs shape image (answer_of (Ok (Some x)))
 ok_opens_at shape image records state bytes x has b same = (
   notes_by records,
@@ -83,12 +83,12 @@ ok_opens_at shape image records state bytes x has b same = (
 same_bytes : (c0 c1 c2 : Cloud) (records : Records) (bytes : List ℕ) → IsSyncedShares c0 c1 → c2.now Shares ≡ c1.now Shares → bytes ≡ take records.job.len (c2.now Shares).read → bytes ≡ kept_file (reads c0.now) (notes_by records)
 same_bytes c0 c1 c2 records bytes s shares is = is ∙ ap (λ (x : Store). take records.job.len x.read) shares ∙ ap (take records.job.len) (shares_read c0 c1 s)
 
-pub ok_opens : (shape : Shape) (c0 c1 c2 : Cloud) (records : Records) (state : half.State) (x : Spool × List LaneView) → IsSyncedShares c0 c1 → FoundIs shape (c1.now Journal).read (Ok (Some records)) → HasEnded shape state c1 c2 records
+pub ok_opens : (shape : Shape) (c0 c1 c2 : Cloud) (records : Records) (state : half.JournalState) (x : Spool × List LaneView) → IsSyncedShares c0 c1 → FoundIs shape (c1.now Journal).read (Ok (Some records)) → HasSpoolEnded shape state c1 c2 records
     → IsTrue c2.told → BringsIs shape records state c2 (Ok x) → OpensIs shape (reads c0.now) (answer_of (Ok (Some x)))
 ok_opens shape c0 c1 c2 records state x s found ended told b =
     ok_opens_at shape (reads c0.now) records state b.0 x (subst (λ (l : List ℕ). HasAll shape l (notes_in (Some records))) (journal_read c0 c1 s) found) b.1 (same_bytes c0 c1 c2 records b.0 s ended.shares (b.2 told))
 
-pub unbrought_opens : (shape : Shape) (c0 c1 c2 : Cloud) (records : Records) (state : half.State) (e : SpoolErr) → IsSyncedShares c0 c1 → FoundIs shape (c1.now Journal).read (Ok (Some records)) → HasEnded shape state c1 c2 records
+pub unbrought_opens : (shape : Shape) (c0 c1 c2 : Cloud) (records : Records) (state : half.JournalState) (e : SpoolErr) → IsSyncedShares c0 c1 → FoundIs shape (c1.now Journal).read (Ok (Some records)) → HasSpoolEnded shape state c1 c2 records
     → IsTrue c2.told → BringsIs shape records state c2 (Err e) → OpensIs shape (reads c0.now) (Err e)
 unbrought_opens shape c0 c1 c2 records state (Rotten named found) s has ended told b =
     let same = same_bytes c0 c1 c2 records b.0 s ended.shares (b.2 told) in
@@ -105,12 +105,12 @@ unbrought_opens shape c0 c1 c2 records state (Damaged at byte) s has ended told 
 unbrought_opens shape c0 c1 c2 records state (OtherStore found asked) s has ended told b = absurd b
 unbrought_opens shape c0 c1 c2 records state (NotEmpty area len) s has ended told b = b
 
-pub opened_spool : (shape : Shape) (records : Records) (state : half.State) (cloud : Cloud) (x : Spool × List LaneView) → AreKept shape 62 state records → BringsIs shape records state cloud (Ok x) → IsOpenedSpool shape x
+pub opened_spool : (shape : Shape) (records : Records) (state : half.JournalState) (cloud : Cloud) (x : Spool × List LaneView) → AreRecordsKept shape 62 state records → BringsIs shape records state cloud (Ok x) → IsOpenedSpool shape x
 opened_spool shape records state cloud x kept b =
     let is = b.1 in
     record {
       shape_is = is.shape_is;
-      stage = ap (λ (s : half.State). s.stage) is.journal ∙ kept.stage;
+      stage = ap (λ (s : half.JournalState). s.stage) is.journal ∙ kept.stage;
       v = record { user = records.job.user; path = records.job.path; number = records.job.version; file = b.0 };
       path = kept.path;
       few = subst (λ (n : ℕ). n ≤ 67108864) (sym is.len) kept.few;
@@ -155,7 +155,7 @@ all_said shape v lanes last fits say =
     let first : say.0 ≡ record { job = fields_for v; lanes = [] } = sym (same_good (record { job = fields_for v; lanes = [] }) say.0 (ap first_notes (sym (job_read v fits)) ∙ say.1)) in
     lanes_said shape lanes say.0 last say.2 ∙ ap (λ (n : Notes). record { job = n.job; lanes = n.lanes ++ lanes }) first
 
-pub spool_opened : (shape : Shape) (c0 c1 c2 c3 : Cloud) (records : Records) (state : half.State) (x : Spool × List LaneView) → IsSyncedShares c0 c1 → HasEnded shape state c1 c2 records → Stays c2 c3
+pub spool_opened : (shape : Shape) (c0 c1 c2 c3 : Cloud) (records : Records) (state : half.JournalState) (x : Spool × List LaneView) → IsSyncedShares c0 c1 → HasSpoolEnded shape state c1 c2 records → Stays c2 c3
     → BringsIs shape records state c2 (Ok x) → (v : FileVersion) (lanes : List CloudNo) → FitsKept v → SpoolFor (reads c0.now) shape v lanes → IsSpool (state_of x.0) v lanes c3
 spool_opened shape c0 c1 c2 c3 records state x s ended stays b v lanes fits spool =
     let is = b.1 in
@@ -170,7 +170,7 @@ spool_opened shape c0 c1 c2 c3 records state x s ended stays b v lanes fits spoo
     let user : records.job.user ≡ v.user = λ i. record { 0 = (job i).user } in
     let number : records.job.version ≡ v.number = λ i. record { 0 = (job i).number } in
     let shape_is = sym is.shape_is in
-    let ended3 : IsEnded state (c3.now Journal) (spool_chain shape v lanes) = subst (λ (a : Areas). IsEnded state (a Journal) (spool_chain shape v lanes)) (sym stays.now) (subst (IsEnded state (c2.now Journal)) chain all.ended) in
+    let ended3 : IsJournalEnded state (c3.now Journal) (spool_chain shape v lanes) = subst (λ (a : Areas). IsJournalEnded state (a Journal) (spool_chain shape v lanes)) (sym stays.now) (subst (IsJournalEnded state (c2.now Journal)) chain all.ended) in
     let shares : c3.now Shares ≡ stable (c0.now Shares).read = ap (λ (a : Areas). a Shares) stays.now ∙ ended.shares ∙ s.shares in
     record {
       of = record {
@@ -181,8 +181,8 @@ spool_opened shape c0 c1 c2 c3 records state x s ended stays b v lanes fits spoo
         digest = is.of.digest ∙ is.digest ∙ ap (λ (f : JobFields). f.digest) job;
       };
       noted = is.noted ∙ noted;
-      apart = subst (λ (h : Shape). AreLanes h lanes) shape_is spool.apart;
-      ended = subst (λ (t : half.State). IsEnded t (c3.now Journal) (spool_chain x.0.shape v lanes)) (sym is.journal) (subst (λ (h : Shape). IsEnded state (c3.now Journal) (spool_chain h v lanes)) shape_is ended3);
+      apart = subst (λ (h : Shape). AreJobLanes h lanes) shape_is spool.apart;
+      ended = subst (λ (t : half.JournalState). IsJournalEnded t (c3.now Journal) (spool_chain x.0.shape v lanes)) (sym is.journal) (subst (λ (h : Shape). IsJournalEnded state (c3.now Journal) (spool_chain h v lanes)) shape_is ended3);
       within = subst (λ (h : Shape). used_by (spool_chain h v lanes) ≤ spool_limit) shape_is spool.within;
       alone = subst (λ (l : List ℕ). is_half_begun 1 l ≡ false) (sym (ap (λ (a : Areas). (a Journal).read) stays.now ∙ same)) spool.alone;
       file = λ image left. ap (take (length v.file)) (only (c0.now Shares).read image (subst (λ (t : Store). MayLeave t image) shares left)) ∙ spool.file;

@@ -6,7 +6,7 @@ use Rattle.std.specs.List.Sorted.{IsStrictlyIncreasing}
 use Rattle.std.proofs.lemmas.Bool.{cases_lt}
 use Rattle.std.proofs.lemmas.List.{get_or_append_left}
 use Rattle.std.proofs.lemmas.List.Elements.{filter-append, All-append, All-cons, All-nil}
-use Rattle.cd_base.specs.declared.ids.CloudNo.{CloudNo}
+use Rattle.grammar.specs.CdBase.ids.CloudNo.{CloudNo}
 
 abbrev pub is_among : List CloudNo → ℕ → Bool
 is_among noted cloud = list_any (λ (lane : CloudNo). eqb lane.0 cloud) noted

@@ -6,10 +6,10 @@ use Rattle.std.proofs.lemmas.Bool.{leb-true, le-leb}
 use Rattle.std.proofs.lemmas.List.Elements.{All-head, All-tail}
 use Rattle.sha2.specs.Sha256.{sha256 as sha256_of}
 use Rattle.sha2.proofs.Facts256.{length-sha256}
-use Rattle.cd_base.specs.declared.ids.CloudNo.{CloudNo}
-use Rattle.cd_base.specs.declared.shape.Shape.{Shape}
+use Rattle.grammar.specs.CdBase.ids.CloudNo.{CloudNo}
+use Rattle.grammar.specs.CdBase.shape.Shape.{Shape}
 use Rattle.grammar.proofs.FieldLaws.{lawful_bytes, lawful_checked, wide16, wide64}
-use Rattle.message_fields.proofs.PartLaws.{lawful_kept, lawful_u32, lawful_u64}
+use Rattle.upload_job.proofs.MessageFields.PartLaws.{lawful_kept, lawful_u32, lawful_u64}
 use Rattle.upload_job.specs.Upload.{FileVersion}
 use Rattle.upload_spool.specs.Spools.{FitsKept, job_fields, job_bytes, lane_bytes}
 use Rattle.upload_spool.specs.Reading.{fields_for, is_path_len, has_no_zero, is_file_len, is_lane, path_at, job_at, lane_at, judged, job_in, lane_in}

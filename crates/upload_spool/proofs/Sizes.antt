@@ -6,15 +6,15 @@ use Rattle.std.specs.Int.{Width, w16, w32, w64, byte_len, from_be_bytes}
 use Rattle.std.proofs.lemmas.Bool.{eq-eqb, leb-true, ltb-true, ltb-false, false≢true, and_parts, not-true}
 use Rattle.std.proofs.lemmas.List.{length-drop, length-take}
 use Rattle.std.proofs.lemmas.List.Elements.{All-cons, All-nil}
-use Rattle.cd_base.specs.Limits.{IsPath}
-use Rattle.cd_base.specs.declared.ids.CloudNo.{CloudNo}
-use Rattle.cd_base.specs.declared.shape.Shape.{Shape}
+use Rattle.grammar.specs.CdBase.Limits.{IsPath}
+use Rattle.grammar.specs.CdBase.ids.CloudNo.{CloudNo}
+use Rattle.grammar.specs.CdBase.shape.Shape.{Shape}
 use Rattle.grammar.specs.Readers.{◌>>=◌, ◌▷◌, ◌▷▷◌}
 use Rattle.grammar.specs.Fields.{number_at, bytes_at, checked}
 use Rattle.grammar.proofs.Laws.{bind_ok, ok_is}
 use Rattle.grammar.proofs.FieldLaws.{guard_ok, test_ok}
-use Rattle.message_fields.specs.Parts.{made, kept}
-use Rattle.message_fields.proofs.PartLaws.{spelled_ok}
+use Rattle.upload_job.specs.MessageFields.Parts.{made, kept}
+use Rattle.upload_job.proofs.MessageFields.PartLaws.{spelled_ok}
 use Rattle.upload_spool.specs.Reading.{JobFields, one_byte, is_kind, is_path_len, has_no_zero, is_file_len, is_lane, path_at, job_at, lane_at, make_job, judged, job_in, lane_in, wrong_at}
 use Rattle.upload_spool.specs.declared.records.RecordFault.{RecordFault}
 use Rattle.upload_spool.specs.declared.records.RecordFault.TheVariants as faults

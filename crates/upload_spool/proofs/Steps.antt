@@ -4,33 +4,33 @@ use Rattle.std.specs.Prelude.{min, slice_index, IsTrue, IfOk, IfSome}
 use Rattle.std.proofs.lemmas.Bool.{false≢true}
 use Rattle.std.specs.Int.{w32, to_be_bytes}
 use Rattle.std.proofs.lemmas.List.{length-take}
-use Rattle.cd_base.specs.declared.ids.CloudNo.{CloudNo}
-use Rattle.cd_base.specs.declared.shape.Shape.{Shape}
-use Rattle.cd_edges.specs.declared.area.Area.TheVariants.{Journal, Shares}
-use Rattle.cd_edges.specs.Disk.{Store, Areas, Cloud, Image, IsImage, LeavesOnly}
-use Rattle.cd_edges.specs.Shelf.{Stays}
-use Rattle.cd_edges.proofs.Moments.{told_on, weaker}
-use Rattle.commit_journal.specs.Records.{IsDamage, IsJournal, chain, sized}
-use Rattle.commit_journal.specs.Frames.{IsClosed}
-use Rattle.commit_journal.proofs.Chain.{chain-push, length-chain-push}
-use Rattle.journal_start.specs.declared.start.Header.{Header}
-use Rattle.journal_start.specs.Spelling.{records_of}
-use Rattle.journal_halves.specs.Halves.{half_len, half_of}
-use Rattle.journal_halves.specs.Findings.{part_of}
-use Rattle.journal_halves.specs.Journals.{Where, HasChain, all_bodies, with_body}
-use Rattle.journal_halves.specs.Outcomes as halves
+use Rattle.grammar.specs.CdBase.ids.CloudNo.{CloudNo}
+use Rattle.grammar.specs.CdBase.shape.Shape.{Shape}
+use Rattle.half_journal.specs.CdEdges.area.Area.TheVariants.{Journal, Shares}
+use Rattle.half_journal.specs.CdEdges.Disk.{Store, Areas, Cloud, Image, IsImage, LeavesOnly}
+use Rattle.half_journal.specs.CdEdges.Shelf.{Stays}
+use Rattle.half_journal.proofs.CdEdges.Moments.{told_on, weaker}
+use Rattle.half_journal.specs.CommitJournal.Records.{IsDamage, IsJournal, chain, sized}
+use Rattle.half_journal.specs.CommitJournal.Frames.{IsClosed}
+use Rattle.half_journal.proofs.CommitJournal.Chain.{chain-push, length-chain-push}
+use Rattle.half_journal.specs.JournalStart.start.Header.{Header}
+use Rattle.half_journal.specs.JournalStart.Spelling.{records_of}
+use Rattle.half_journal.specs.JournalHalves.Halves.{half_len, half_of}
+use Rattle.half_journal.specs.JournalHalves.Findings.{part_of}
+use Rattle.half_journal.specs.JournalHalves.Journals.{Where, HasChain, all_bodies, with_body}
+use Rattle.half_journal.specs.JournalHalves.Outcomes as halves
 use Rattle.half_journal.specs.Outcomes.{IsDamaged, records_place}
 use Rattle.half_journal.specs.Outcomes as journal
 use Rattle.half_journal.specs.Openings.{IsOpened, OpensIs, MayBecome}
 use Rattle.half_journal.specs.declared.errors.OpenErr.TheVariants as opens
 use Rattle.half_journal.specs.declared.journal.Stage.TheVariants.{AtEnd}
-use Rattle.journal_halves.specs.Beginnings.{IsUnbegun}
-use Rattle.half_journal.specs.States.{IsReading, IsEnded}
+use Rattle.half_journal.specs.JournalHalves.Beginnings.{IsUnbegun}
+use Rattle.half_journal.specs.States.{IsJournalReading, IsJournalEnded}
 use Rattle.half_journal.specs.States as half
-use Rattle.upload_spool.specs.Opens.{Notes, Say, HasRead, HasAll, IsDamagedAt, IsChainDamage, IsFaultAt, gate_of, with_record, first_notes, more_notes}
+use Rattle.upload_spool.specs.Opens.{Notes, Say, HasReadSpool, HasAll, IsDamagedAt, IsChainDamage, IsFaultAt, gate_of, with_record, first_notes, more_notes}
 use Rattle.upload_spool.specs.Reading.{JobFields, job_in, lane_in}
 use Rattle.upload_spool.specs.Spools.{spool_header}
-use Rattle.upload_spool.specs.Steps.{IsRead, IsPending, IsAllRead, NextIs, LaneIs, LaneStepIs, MoreNoted, JobIs, IsRefused, Gives, AreNoted, AreKept, FoundIs, HasEnded, fields_kept, notes_of, notes_in, shown_fault, last_place}
+use Rattle.upload_spool.specs.Steps.{IsSpoolRead, IsPending, IsAllRead, NextIs, LaneIs, LaneStepIs, MoreNoted, JobIs, IsRefused, Gives, AreNoted, AreRecordsKept, FoundIs, HasSpoolEnded, fields_kept, notes_of, notes_in, shown_fault, last_place}
 use Rattle.upload_spool.specs.declared.opening.Records.{Records}
 use Rattle.upload_spool.specs.declared.error.SpoolErr.{SpoolErr}
 use Rattle.upload_spool.specs.declared.error.SpoolErr.TheVariants.{NotEmpty, Fault, Damaged, OtherStore, Rotten, NoMemory}
@@ -71,10 +71,10 @@ say_more shape (b ∷ bodies) before notes body more say e = (say.0, say.1, say_
 
 -- ---- a chain that was read so far
 
-spelled_at : (state : half.State) (store : Store) (w : Where) (r : IsReading state store w) → part_of w.half store.read ≡ chain (all_bodies w) ++ r.read.rest
+spelled_at : (state : half.JournalState) (store : Store) (w : Where) (r : IsJournalReading state store w) → part_of w.half store.read ≡ chain (all_bodies w) ++ r.read.rest
 spelled_at state store w r = subst (λ (h : ℕ). part_of h store.read ≡ chain (all_bodies w) ++ r.read.rest) r.half r.read.spelled
 
-pub has_read : (shape : Shape) (state : half.State) (store : Store) (notes : Option Notes) (is : IsRead shape state store notes) → HasRead shape store.read is.w notes
+pub has_read : (shape : Shape) (state : half.JournalState) (store : Store) (notes : Option Notes) (is : IsSpoolRead shape state store notes) → HasReadSpool shape store.read is.w notes
 has_read shape state store notes is = record {
   header_is = is.header_is;
   current = is.reading.is_current;
@@ -83,7 +83,7 @@ has_read shape state store notes is = record {
   say = is.say;
 }
 
-pub chain_damage : (state : half.State) (store : Store) (w : Where) (at byte : ℕ) → IsReading state store w → IsDamaged state store at byte → IsChainDamage store.read w at byte
+pub chain_damage : (state : half.JournalState) (store : Store) (w : Where) (at byte : ℕ) → IsJournalReading state store w → IsDamaged state store at byte → IsChainDamage store.read w at byte
 chain_damage state store w at byte r damaged =
     let place : (state.current.half, state.current.gate) ≡ (w.half, length (chain (all_bodies w))) = λ i. (r.half i, r.read.gate i) in
     elim damaged [
@@ -97,10 +97,10 @@ chain_damage state store w at byte r damaged =
           )
     ]
 
-pub next_damaged : (shape : Shape) (state : half.State) (store : Store) (notes : Option Notes) (at byte : ℕ) (is : IsRead shape state store notes) → IsDamaged state store at byte → IsDamagedAt shape store.read at byte
+pub next_damaged : (shape : Shape) (state : half.JournalState) (store : Store) (notes : Option Notes) (at byte : ℕ) (is : IsSpoolRead shape state store notes) → IsDamaged state store at byte → IsDamagedAt shape store.read at byte
 next_damaged shape state store notes at byte is damaged = (is.w, notes, has_read shape state store notes is, inl (chain_damage state store is.w at byte is.reading damaged))
 
-pub next_ok : (shape : Shape) (before after : half.State) (store : Store) (notes : Option Notes) (more : Bool) (is : IsRead shape before store notes) → journal.NextIs before after store is.w (Ok more)
+pub next_ok : (shape : Shape) (before after : half.JournalState) (store : Store) (notes : Option Notes) (more : Bool) (is : IsSpoolRead shape before store notes) → journal.NextIs before after store is.w (Ok more)
     → halves.StepIs before.current after.current (Ok more) → NextIs shape after store notes (Ok more)
 next_ok shape before after store notes true is next step = record {
   w = is.w;
@@ -113,7 +113,7 @@ next_ok shape before after store notes false is next step = record { w = is.w; h
 
 -- ---- a record that is judged
 
-pub pending_more : (shape : Shape) (state : half.State) (store : Store) (notes : Option Notes) (more : Notes) → IsPending shape state store notes → with_record shape notes state.current.body ≡ Ok more → IsRead shape state store (Some more)
+pub pending_more : (shape : Shape) (state : half.JournalState) (store : Store) (notes : Option Notes) (more : Notes) → IsPending shape state store notes → with_record shape notes state.current.body ≡ Ok more → IsSpoolRead shape state store (Some more)
 pending_more shape state store notes more p e = record {
   w = with_body p.w state.current.body;
   header_is = p.header_is;
@@ -130,7 +130,7 @@ fault_place place at byte (faults.Wrong wrong found) body within few e =
     let two = damage_is (Damaged at byte) (shown_fault place (faults.Wrong wrong found)) e at byte (min (min (place + 4) last_place + wrong) last_place) found refl refl in
     (cut_place place at wrong (length body) two.0 within few, two.1)
 
-pub pending_wrong : (shape : Shape) (state : half.State) (store : Store) (notes : Option Notes) (fault : RecordFault) (at byte : ℕ) → IsPending shape state store notes → with_record shape notes state.current.body ≡ Err fault
+pub pending_wrong : (shape : Shape) (state : half.JournalState) (store : Store) (notes : Option Notes) (fault : RecordFault) (at byte : ℕ) → IsPending shape state store notes → with_record shape notes state.current.body ≡ Err fault
     → IsWithin state.current.body fault → Damaged at byte ≡ shown_fault (state.current.body_at - 4) fault → IsDamagedAt shape store.read at byte
 pending_wrong shape state store notes fault at byte p e within shown =
     let body = state.current.body in let w = p.w in let r = p.reading in let rest = r.read.rest in
@@ -143,31 +143,31 @@ pending_wrong shape state store notes fault at byte p e within shown =
     (ap (λ (l : List ℕ). length l) whole) (length-append front rest) (length-chain-push (all_bodies w) body) most in
     let place : state.current.body_at - 4 ≡ gate_of w + 1 = length_place state.current.body_at (gate_of w) p.place in
     let near : gate_of w + 1 + 4 + length body < last_place = far_enough w.half (length (chain (all_bodies w))) (length body) (one_at_most w.half r.is_current.is_half) long in
-    let read : HasRead shape store.read w notes = record { header_is = p.header_is; current = r.is_current; rest = 1 ∷ (sized body ++ rest); spelled = here; say = p.say } in
+    let read : HasReadSpool shape store.read w notes = record { header_is = p.header_is; current = r.is_current; rest = 1 ∷ (sized body ++ rest); spelled = here; say = p.say } in
     (w, notes, read, inr (body, fault, e, rest, whole, fault_place (gate_of w + 1) at byte fault body within near (shown ∙ ap (λ (n : ℕ). shown_fault n fault) place)))
 
-pub job_wrong : (shape : Shape) (state : half.State) (store : Store) (at byte : ℕ) → IsPending shape state store None
+pub job_wrong : (shape : Shape) (state : half.JournalState) (store : Store) (at byte : ℕ) → IsPending shape state store None
     → (fault : RecordFault) × (job_in state.current.body ≡ Err fault) × (Damaged at byte ≡ shown_fault (state.current.body_at - 4) fault) → IsDamagedAt shape store.read at byte
 job_wrong shape state store at byte p x = pending_wrong shape state store None x.0 at byte p (ap first_notes x.1) (judged_within state.current.body _ x.0 x.1) x.2
 
-pub lane_wrong : (shape : Shape) (job : JobFields) (noted : List CloudNo) (state : half.State) (store : Store) (at byte : ℕ) → IsPending shape state store (notes_of job noted)
+pub lane_wrong : (shape : Shape) (job : JobFields) (noted : List CloudNo) (state : half.JournalState) (store : Store) (at byte : ℕ) → IsPending shape state store (notes_of job noted)
     → (fault : RecordFault) × (lane_in shape noted state.current.body ≡ Err fault) × (Damaged at byte ≡ shown_fault (state.current.body_at - 4) fault) → IsDamagedAt shape store.read at byte
 lane_wrong shape job noted state store at byte p x =
     pending_wrong shape state store (notes_of job noted) x.0 at byte p (ap (more_notes (record { job = job; lanes = noted })) x.1) (judged_within state.current.body _ x.0 x.1) x.2
 
-pub job_more : (shape : Shape) (state : half.State) (store : Store) (job : JobFields) → IsPending shape state store None → job_in state.current.body ≡ Ok job → IsRead shape state store (notes_of job [])
+pub job_more : (shape : Shape) (state : half.JournalState) (store : Store) (job : JobFields) → IsPending shape state store None → job_in state.current.body ≡ Ok job → IsSpoolRead shape state store (notes_of job [])
 job_more shape state store job p e = pending_more shape state store None (record { job = job; lanes = [] }) p (ap first_notes e)
 
-pub lane_more : (shape : Shape) (job : JobFields) (noted more : List CloudNo) (lane : CloudNo) (state : half.State) (store : Store) → IsPending shape state store (notes_of job noted) → lane_in shape noted state.current.body ≡ Ok lane.0
-    → more ≡ noted ++ lane ∷ [] → IsRead shape state store (notes_of job more)
+pub lane_more : (shape : Shape) (job : JobFields) (noted more : List CloudNo) (lane : CloudNo) (state : half.JournalState) (store : Store) → IsPending shape state store (notes_of job noted) → lane_in shape noted state.current.body ≡ Ok lane.0
+    → more ≡ noted ++ lane ∷ [] → IsSpoolRead shape state store (notes_of job more)
 lane_more shape job noted more lane state store p e same =
-    subst (λ (l : List CloudNo). IsRead shape state store (notes_of job l)) (sym same)
+    subst (λ (l : List CloudNo). IsSpoolRead shape state store (notes_of job l)) (sym same)
     (pending_more shape state store (notes_of job noted) (record { job = job; lanes = noted ++ lane ∷ [] }) p (ap (more_notes (record { job = job; lanes = noted })) e))
 
 -- ---- one lane
 
 -- a record that isn't a new lane's
-pub lane_refused : (shape : Shape) (job : JobFields) (noted more : List CloudNo) (state : half.State) (store : Store) → IsPending shape state store (notes_of job noted) → (e : SpoolErr)
+pub lane_refused : (shape : Shape) (job : JobFields) (noted more : List CloudNo) (state : half.JournalState) (store : Store) → IsPending shape state store (notes_of job noted) → (e : SpoolErr)
     → LaneIs shape noted more state.current.body state.current.body_at (Err e) → LaneStepIs shape job state store more (Err e)
 lane_refused shape job noted more state store p (Damaged at byte) is = lane_wrong shape job noted state store at byte p is
 lane_refused shape job noted more state store p NoMemory is = tt
@@ -177,7 +177,7 @@ lane_refused shape job noted more state store p (OtherStore found asked) is = ab
 lane_refused shape job noted more state store p (Rotten named found) is = absurd is
 
 -- a record that isn't there
-pub lane_unread : (shape : Shape) (job : JobFields) (noted : List CloudNo) (state : half.State) (store : Store) (e : SpoolErr) → NextIs shape state store (notes_of job noted) (Err e) → LaneStepIs shape job state store noted (Err e)
+pub lane_unread : (shape : Shape) (job : JobFields) (noted : List CloudNo) (state : half.JournalState) (store : Store) (e : SpoolErr) → NextIs shape state store (notes_of job noted) (Err e) → LaneStepIs shape job state store noted (Err e)
 lane_unread shape job noted state store (Damaged at byte) is = is
 lane_unread shape job noted state store Fault is = tt
 lane_unread shape job noted state store NoMemory is = absurd is
@@ -188,7 +188,7 @@ lane_unread shape job noted state store (Rotten named found) is = absurd is
 seven : (gate after len : ℕ) → after ≡ gate + 5 + len → len ≡ 2 → after ≡ gate + 7
 seven gate after len a b = omega (arith, a, b)
 
-pub lane_step : (shape : Shape) (noted more : List CloudNo) (lane : CloudNo) (before after : half.State) → lane_in shape noted after.current.body ≡ Ok lane.0 → more ≡ noted ++ lane ∷ []
+pub lane_step : (shape : Shape) (noted more : List CloudNo) (lane : CloudNo) (before after : half.JournalState) → lane_in shape noted after.current.body ≡ Ok lane.0 → more ≡ noted ++ lane ∷ []
     → after.current.gate ≡ before.current.gate + 5 + length after.current.body → MoreNoted shape noted more before.current.gate after.current.gate (Ok true)
 lane_step shape noted more lane before after e same gate =
     let facts = lane_facts shape noted after.current.body lane.0 e in
@@ -196,7 +196,7 @@ lane_step shape noted more lane before after e same gate =
 
 -- ---- all records
 
-pub unread : (shape : Shape) (state : half.State) (store : Store) (notes : Option Notes) (e : SpoolErr) → NextIs shape state store notes (Err e) → IsRefused shape store.read e
+pub unread : (shape : Shape) (state : half.JournalState) (store : Store) (notes : Option Notes) (e : SpoolErr) → NextIs shape state store notes (Err e) → IsRefused shape store.read e
 unread shape state store notes (Damaged at byte) is = is
 unread shape state store notes Fault is = tt
 unread shape state store notes NoMemory is = tt
@@ -204,7 +204,7 @@ unread shape state store notes (NotEmpty area len) is = is
 unread shape state store notes (OtherStore found asked) is = is
 unread shape state store notes (Rotten named found) is = is
 
-pub job_refused : (shape : Shape) (state : half.State) (store : Store) → IsPending shape state store None → (e : SpoolErr) → JobIs state.current.body state.current.body_at (Err e) → IsRefused shape store.read e
+pub job_refused : (shape : Shape) (state : half.JournalState) (store : Store) → IsPending shape state store None → (e : SpoolErr) → JobIs state.current.body state.current.body_at (Err e) → IsRefused shape store.read e
 job_refused shape state store p (Damaged at byte) is = job_wrong shape state store at byte p is
 job_refused shape state store p NoMemory is = tt
 job_refused shape state store p Fault is = tt
@@ -213,18 +213,18 @@ job_refused shape state store p (OtherStore found asked) is = is
 job_refused shape state store p (Rotten named found) is = is
 
 -- what holds of all lanes behind a job holds of the cloud before
-pub behind_job : (shape : Shape) (mid : half.State) (c0 c1 : Cloud) (job : JobFields) (Q : Store → Type 0) → Stays c0 c1 → c1.told ≡ c0.told → IsTrue c0.told → IsPending shape mid (c0.now Journal) None → job_in mid.current.body ≡ Ok job
-    → (IsTrue c1.told → IsRead shape mid (c1.now Journal) (notes_of job []) → Q (c1.now Journal)) → Q (c0.now Journal)
+pub behind_job : (shape : Shape) (mid : half.JournalState) (c0 c1 : Cloud) (job : JobFields) (Q : Store → Type 0) → Stays c0 c1 → c1.told ≡ c0.told → IsTrue c0.told → IsPending shape mid (c0.now Journal) None → job_in mid.current.body ≡ Ok job
+    → (IsTrue c1.told → IsSpoolRead shape mid (c1.now Journal) (notes_of job []) → Q (c1.now Journal)) → Q (c0.now Journal)
 behind_job shape mid c0 c1 job Q stays told_is told p e all =
     let read = job_more shape mid (c0.now Journal) job p e in
-    let there = subst (λ (a : Areas). IsRead shape mid (a Journal) (notes_of job [])) (sym stays.now) read in
+    let there = subst (λ (a : Areas). IsSpoolRead shape mid (a Journal) (notes_of job [])) (sym stays.now) read in
     subst (λ (a : Areas). Q (a Journal)) stays.now (all (told_on c0 c1 told_is told) there)
 
 pub within_reach : (old mid new body len : ℕ) → mid ≡ old + 5 + body → body ≤ 1079 → new ≤ mid + 7 * len → new ≤ old + 1084 + 7 * len
 within_reach old mid new body len a b d = omega (arith, a, b, d)
 
-pub are_kept : (shape : Shape) (before mid after : half.State) (records : Records) → mid.current.gate ≡ before.current.gate + 5 + length mid.current.body → job_in mid.current.body ≡ Ok (fields_kept records.job)
-    → AreNoted shape mid.current.gate after.current.gate records.noted.items → after.stage ≡ AtEnd → AreKept shape before.current.gate after records
+pub are_kept : (shape : Shape) (before mid after : half.JournalState) (records : Records) → mid.current.gate ≡ before.current.gate + 5 + length mid.current.body → job_in mid.current.body ≡ Ok (fields_kept records.job)
+    → AreNoted shape mid.current.gate after.current.gate records.noted.items → after.stage ≡ AtEnd → AreRecordsKept shape before.current.gate after records
 are_kept shape before mid after records gate job noted stage =
     let facts = job_facts mid.current.body (fields_kept records.job) job in
     record {
@@ -238,7 +238,7 @@ are_kept shape before mid after records gate job noted stage =
 
 -- ---- what a journal keeps
 
-pub opened_read : (shape : Shape) (header : Header) (state : half.State) (store : Store) → header ≡ spool_header shape → IsOpened state store header → IsRead shape state store None
+pub opened_read : (shape : Shape) (header : Header) (state : half.JournalState) (store : Store) → header ≡ spool_header shape → IsOpened state store header → IsSpoolRead shape state store None
 opened_read shape header state store head o = record {
   w = o.w;
   header_is = o.header_is ∙ head;
@@ -246,10 +246,10 @@ opened_read shape header state store head o = record {
   say = subst (λ (l : List (List ℕ)). Say shape None l None) (sym o.none) refl;
 }
 
-pub all_chain : (shape : Shape) (state : half.State) (store : Store) (notes : Option Notes) (a : IsAllRead shape state store notes) → HasChain store.read a.w
+pub all_chain : (shape : Shape) (state : half.JournalState) (store : Store) (notes : Option Notes) (a : IsAllRead shape state store notes) → HasChain store.read a.w
 all_chain shape state store notes a = record { current = a.ended.is_current; chain_is = subst (λ (h : ℕ). IsJournal (all_bodies a.w) (half_of h store.read)) a.ended.half a.ended.read.chain_is }
 
-pub has_all : (shape : Shape) (state : half.State) (store : Store) (notes : Option Notes) → IsAllRead shape state store notes → HasAll shape store.read notes
+pub has_all : (shape : Shape) (state : half.JournalState) (store : Store) (notes : Option Notes) → IsAllRead shape state store notes → HasAll shape store.read notes
 has_all shape state store notes a = record {
   w = a.w;
   header_is = a.header_is;
@@ -265,7 +265,7 @@ refused_found shape journal (NotEmpty area len) is = is
 refused_found shape journal (OtherStore found asked) is = absurd is
 refused_found shape journal (Rotten named found) is = is
 
-pub gives_found : (shape : Shape) (state : half.State) (store : Store) (r : Result (Option Records) SpoolErr) → Gives shape store.read (λ found. IsAllRead shape state store (notes_in found)) r → FoundIs shape store.read r
+pub gives_found : (shape : Shape) (state : half.JournalState) (store : Store) (r : Result (Option Records) SpoolErr) → Gives shape store.read (λ found. IsAllRead shape state store (notes_in found)) r → FoundIs shape store.read r
 gives_found shape state store (Ok None) is = inr (has_all shape state store None is)
 gives_found shape state store (Ok (Some records)) is = has_all shape state store (notes_in (Some records)) is
 gives_found shape state store (Err e) is = refused_found shape store.read e is
@@ -275,16 +275,16 @@ pub begun_before : (journal : List ℕ) (header : Header) → OpensIs journal he
 begun_before journal header (inl new) none = false≢true new.1
 begun_before journal header (inr has) none = current_begun journal has.0 has.1.start has.1.is_current none
 
-pub found_here : (shape : Shape) (header : Header) (before after : half.State) (c0 c1 : Cloud) (r : Result (Option Records) SpoolErr) → header ≡ spool_header shape → IsOpened before (c1.now Journal) header → (c1.now Journal).read ≡ (c0.now Journal).read
-    → IsTrue c1.told → (IsTrue c1.told → IsRead shape before (c1.now Journal) None → Gives shape (c1.now Journal).read (λ found. IsAllRead shape after (c1.now Journal) (notes_in found)) r)
+pub found_here : (shape : Shape) (header : Header) (before after : half.JournalState) (c0 c1 : Cloud) (r : Result (Option Records) SpoolErr) → header ≡ spool_header shape → IsOpened before (c1.now Journal) header → (c1.now Journal).read ≡ (c0.now Journal).read
+    → IsTrue c1.told → (IsTrue c1.told → IsSpoolRead shape before (c1.now Journal) None → Gives shape (c1.now Journal).read (λ found. IsAllRead shape after (c1.now Journal) (notes_in found)) r)
     → FoundIs shape (c0.now Journal).read r
 found_here shape header before after c0 c1 r head opened same told reads =
     subst (λ (l : List ℕ). FoundIs shape l r) same (gives_found shape after (c1.now Journal) r (reads told (opened_read shape header before (c1.now Journal) head opened)))
 
-pub ended_here : (shape : Shape) (header : Header) (before after : half.State) (c0 c1 c2 : Cloud) (r : Result (Option Records) SpoolErr) → header ≡ spool_header shape → IsOpened before (c1.now Journal) header
+pub ended_here : (shape : Shape) (header : Header) (before after : half.JournalState) (c0 c1 c2 : Cloud) (r : Result (Option Records) SpoolErr) → header ≡ spool_header shape → IsOpened before (c1.now Journal) header
     → (c1.now Journal).read ≡ (c0.now Journal).read → c1.now Shares ≡ c0.now Shares → Stays c1 c2
-    → IsTrue c1.told → (IsTrue c1.told → IsRead shape before (c1.now Journal) None → Gives shape (c1.now Journal).read (λ found. IsAllRead shape after (c1.now Journal) (notes_in found)) r)
-    → IfOk r (λ found. IfSome found (HasEnded shape after c0 c2))
+    → IsTrue c1.told → (IsTrue c1.told → IsSpoolRead shape before (c1.now Journal) None → Gives shape (c1.now Journal).read (λ found. IsAllRead shape after (c1.now Journal) (notes_in found)) r)
+    → IfOk r (λ found. IfSome found (HasSpoolEnded shape after c0 c2))
 ended_here shape header before after c0 c1 c2 (Ok None) head opened same shares stays told reads = tt
 ended_here shape header before after c0 c1 c2 (Ok (Some records)) head opened same shares stays told reads =
     let all = reads told (opened_read shape header before (c1.now Journal) head opened) in
@@ -298,7 +298,7 @@ ended_here shape header before after c0 c1 c2 (Err e) head opened same shares st
 nearer_still : (gate a b : ℕ) → gate ≤ 62 → a ≤ gate + 1084 + b → a ≤ 62 + 1084 + b
 nearer_still gate a b le near = omega (arith, le, near)
 
-pub kept_near : (shape : Shape) (gate : ℕ) (state : half.State) (r : Result (Option Records) SpoolErr) → gate ≤ 62 → IfOk r (λ found. IfSome found (AreKept shape gate state)) → IfOk r (λ found. IfSome found (AreKept shape 62 state))
+pub kept_near : (shape : Shape) (gate : ℕ) (state : half.JournalState) (r : Result (Option Records) SpoolErr) → gate ≤ 62 → IfOk r (λ found. IfSome found (AreRecordsKept shape gate state)) → IfOk r (λ found. IfSome found (AreRecordsKept shape 62 state))
 kept_near shape gate state (Ok None) le kept = tt
 kept_near shape gate state (Ok (Some records)) le kept = record {
   path = kept.path;

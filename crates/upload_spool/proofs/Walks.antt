@@ -3,16 +3,16 @@ use Rattle.std.proofs.Common.{◌≡◌, ℕ, ◌+◌, ◌-◌, ◌*◌, ◌<◌
 use Rattle.std.specs.Prelude.{All}
 use Rattle.std.specs.List.{IsDistinct}
 use Rattle.std.proofs.lemmas.List.{length-map}
-use Rattle.cd_base.specs.Numbers.{numbers_of}
-use Rattle.cd_base.specs.declared.ids.CloudNo.{CloudNo}
-use Rattle.cd_base.specs.declared.shape.Shape.{Shape}
-use Rattle.cd_edges.specs.declared.area.Area.TheVariants.{Journal}
-use Rattle.cd_edges.specs.Disk.{Store, Areas, Cloud}
-use Rattle.cd_edges.specs.Shelf.{Stays}
-use Rattle.cd_edges.proofs.Moments.{told_on}
+use Rattle.grammar.specs.CdBase.Numbers.{numbers_of}
+use Rattle.grammar.specs.CdBase.ids.CloudNo.{CloudNo}
+use Rattle.grammar.specs.CdBase.shape.Shape.{Shape}
+use Rattle.half_journal.specs.CdEdges.area.Area.TheVariants.{Journal}
+use Rattle.half_journal.specs.CdEdges.Disk.{Store, Areas, Cloud}
+use Rattle.half_journal.specs.CdEdges.Shelf.{Stays}
+use Rattle.half_journal.proofs.CdEdges.Moments.{told_on}
 use Rattle.half_journal.specs.States as half
 use Rattle.upload_spool.specs.Reading.{JobFields}
-use Rattle.upload_spool.specs.Steps.{IsRead, LaneStepIs, ReadsLane, MoreNoted, AreNoted, notes_of, IsRefused}
+use Rattle.upload_spool.specs.Steps.{IsSpoolRead, LaneStepIs, ReadsLane, MoreNoted, AreNoted, notes_of, IsRefused}
 use Rattle.upload_spool.specs.declared.error.SpoolErr.{SpoolErr}
 use Rattle.upload_spool.specs.declared.error.SpoolErr.TheVariants.{NotEmpty, Fault, Damaged, OtherStore, Rotten, NoMemory}
 use Rattle.upload_spool.proofs.Lanes.{few_lanes, distinct_more, below_more, none_distinct, none_below}
@@ -22,8 +22,8 @@ use Rattle.upload_spool.proofs.Sizes.{lane_is}
 pub none_noted : (shape : Shape) (gate : ℕ) (noted : List CloudNo) → noted ≡ [] → AreNoted shape gate gate noted
 none_noted shape gate noted none = record { distinct = none_distinct noted none; below = none_below noted shape.n none; near = omega arith }
 
-pub none_read : (shape : Shape) (state : half.State) (store : Store) (job : JobFields) (noted : List CloudNo) → noted ≡ [] → IsRead shape state store (notes_of job []) → IsRead shape state store (notes_of job noted)
-none_read shape state store job noted none is = subst (λ (l : List CloudNo). IsRead shape state store (notes_of job l)) (sym none) is
+pub none_read : (shape : Shape) (state : half.JournalState) (store : Store) (job : JobFields) (noted : List CloudNo) → noted ≡ [] → IsSpoolRead shape state store (notes_of job []) → IsSpoolRead shape state store (notes_of job noted)
+none_read shape state store job noted none is = subst (λ (l : List CloudNo). IsSpoolRead shape state store (notes_of job l)) (sym none) is
 
 nearer : (start gate after old new : ℕ) → gate ≤ start + 7 * old → after ≡ gate + 7 → new ≡ old + 1 → after ≤ start + 7 * new
 nearer start gate after old new near is more = omega (arith, near, is, more)
@@ -53,14 +53,14 @@ fewer_left shape start gate after noted more are step =
     let few : length more ≤ shape.n = subst (λ (n : ℕ). n ≤ shape.n) (length-map more (λ (cloud : CloudNo). cloud.0)) (few_lanes (numbers_of more) shape.n now.distinct now.below) in
     less_left shape.n (length noted) (length more) (one_longer noted more step.0 step.2) few
 
-pub lane_walk : (shape : Shape) (job : JobFields) (mid after : half.State) (c0 c1 : Cloud) (noted more : List CloudNo) (r s : Result Bool SpoolErr) → r ≡ s → Stays c0 c1 → c1.told ≡ c0.told → IsTrue c0.told
-    → ReadsLane shape mid after c1 noted more r → IsRead shape mid (c0.now Journal) (notes_of job noted) → LaneStepIs shape job after (c0.now Journal) more s
+pub lane_walk : (shape : Shape) (job : JobFields) (mid after : half.JournalState) (c0 c1 : Cloud) (noted more : List CloudNo) (r s : Result Bool SpoolErr) → r ≡ s → Stays c0 c1 → c1.told ≡ c0.told → IsTrue c0.told
+    → ReadsLane shape mid after c1 noted more r → IsSpoolRead shape mid (c0.now Journal) (notes_of job noted) → LaneStepIs shape job after (c0.now Journal) more s
 lane_walk shape job mid after c0 c1 noted more r s same stays told_is told reads read =
-    let here = subst (λ (a : Areas). IsRead shape mid (a Journal) (notes_of job noted)) (sym stays.now) read in
+    let here = subst (λ (a : Areas). IsSpoolRead shape mid (a Journal) (notes_of job noted)) (sym stays.now) read in
     let step = reads (told_on c0 c1 told_is told) job here in
     subst (λ (a : Areas). LaneStepIs shape job after (a Journal) more s) stays.now (subst (λ (x : Result Bool SpoolErr). LaneStepIs shape job after (c1.now Journal) more x) same step)
 
-pub walk_refused : (shape : Shape) (job : JobFields) (after : half.State) (store : Store) (more : List CloudNo) (e : SpoolErr) → LaneStepIs shape job after store more (Err e) → IsRefused shape store.read e
+pub walk_refused : (shape : Shape) (job : JobFields) (after : half.JournalState) (store : Store) (more : List CloudNo) (e : SpoolErr) → LaneStepIs shape job after store more (Err e) → IsRefused shape store.read e
 walk_refused shape job after store more (Damaged at byte) is = is
 walk_refused shape job after store more Fault is = tt
 walk_refused shape job after store more NoMemory is = tt

@@ -1,5 +1,10 @@
+pub mod CdBase
+pub mod CdEdges
+pub mod HalfJournal
 pub mod Opens
 pub mod Reading
+pub mod Recipe
 pub mod Spools
 pub mod States
 pub mod Steps
+pub mod UploadJob

@@ -3,17 +3,17 @@ use Rattle.std.specs.Prelude.{◌≡◌, ◌≢◌, ◌⊎◌, ℕ, ◌+◌, ◌
 use Rattle.std.specs.List.{list_any, range_with_len}
 use Rattle.std.specs.Int.{w32, to_be_bytes}
 use Rattle.sha2.specs.Sha256.{sha256 as sha256_of}
-use Rattle.cd_base.specs.declared.ids.CloudNo.{CloudNo}
-use Rattle.cd_base.specs.declared.shape.Shape.{Shape}
-use Rattle.cd_edges.specs.declared.area.Area.TheVariants.{Journal, Shares}
-use Rattle.cd_edges.specs.Disk.{Image}
-use Rattle.commit_journal.specs.Records.{IsDamage, chain}
-use Rattle.commit_journal.specs.Frames.{IsClosed}
-use Rattle.journal_start.specs.Spelling.{records_of}
-use Rattle.journal_halves.specs.Beginnings.{IsUnbegun}
-use Rattle.journal_halves.specs.Halves.{half_len, IsCurrent}
-use Rattle.journal_halves.specs.Findings.{part_of, IsFoundDamage}
-use Rattle.journal_halves.specs.Journals.{Where, HasChain, all_bodies, with_body}
+use Rattle.grammar.specs.CdBase.ids.CloudNo.{CloudNo}
+use Rattle.grammar.specs.CdBase.shape.Shape.{Shape}
+use Rattle.half_journal.specs.CdEdges.area.Area.TheVariants.{Journal, Shares}
+use Rattle.half_journal.specs.CdEdges.Disk.{Image}
+use Rattle.half_journal.specs.CommitJournal.Records.{IsDamage, chain}
+use Rattle.half_journal.specs.CommitJournal.Frames.{IsClosed}
+use Rattle.half_journal.specs.JournalStart.Spelling.{records_of}
+use Rattle.half_journal.specs.JournalHalves.Beginnings.{IsUnbegun}
+use Rattle.half_journal.specs.JournalHalves.Halves.{half_len, IsCurrent}
+use Rattle.half_journal.specs.JournalHalves.Findings.{part_of, IsFoundDamage}
+use Rattle.half_journal.specs.JournalHalves.Journals.{Where, HasChain, all_bodies, with_body}
 use Rattle.half_journal.specs.Openings.{HasHeader}
 use Rattle.half_journal.specs.Outcomes.{records_place}
 use Rattle.upload_job.specs.Lanes.{LaneView, lanes_resumed}
@@ -24,9 +24,9 @@ use Rattle.upload_spool.specs.declared.records.RecordFault.{RecordFault}
 use Rattle.upload_spool.specs.declared.spool.Spool.{Spool}
 use Rattle.upload_spool.specs.declared.records.RecordFault.TheVariants as faults
 use Rattle.upload_spool.specs.Spools.{spool_header}
-use Rattle.cd_base.specs.Limits.{IsPath, file_limit}
+use Rattle.grammar.specs.CdBase.Limits.{IsPath, file_limit}
 use Rattle.half_journal.specs.declared.journal.Stage.TheVariants.{AtEnd}
-use Rattle.upload_spool.specs.States.{State, IsOf, state_of}
+use Rattle.upload_spool.specs.States.{SpoolState, IsOf, state_of}
 use Rattle.upload_spool.specs.Reading.{JobFields, job_in, lane_in}
 
 -- what the records say so far: the job, and the lanes that were noted
@@ -67,7 +67,7 @@ abbrev pub rest_behind : List ℕ → Where → List ℕ
 rest_behind journal w = drop (length (chain (all_bodies w))) (part_of w.half journal)
 
 -- The current half begins with the spool's header, and these open records behind its start say this.
-pub record HasRead (shape : Shape) (journal : List ℕ) (w : Where) (notes : Option Notes) : Type 0 where
+pub record HasReadSpool (shape : Shape) (journal : List ℕ) (w : Where) (notes : Option Notes) : Type 0 where
   pub header_is : w.start.header ≡ spool_header shape
   pub current : IsCurrent journal w.half w.start
   pub rest : List ℕ
@@ -88,7 +88,7 @@ IsWrongNext shape journal w notes at byte = (body : List ℕ) × (fault : Record
 
 -- behind the records that were read one is damaged, or its body is wrong
 abbrev pub IsDamagedAt : Shape → List ℕ → ℕ → ℕ → Type 0
-IsDamagedAt shape journal at byte = (w : Where) × (notes : Option Notes) × HasRead shape journal w notes × (IsChainDamage journal w at byte ⊎ IsWrongNext shape journal w notes at byte)
+IsDamagedAt shape journal at byte = (w : Where) × (notes : Option Notes) × HasReadSpool shape journal w notes × (IsChainDamage journal w at byte ⊎ IsWrongNext shape journal w notes at byte)
 
 -- all records are read, and they say this
 pub record HasAll (shape : Shape) (journal : List ℕ) (notes : Option Notes) : Type 0 where
@@ -109,7 +109,7 @@ abbrev pub rising : Shape → List CloudNo → List ℕ
 rising shape lanes = filter (λ (cloud : ℕ). list_any (λ (lane : CloudNo). lane.0 == cloud) lanes) (range_with_len 0 shape.n)
 
 -- what is answered of what is kept, where a spool is seen as its state and a job as its lanes
-abbrev pub OpensIs : Shape → Image → Result (Option (State × List LaneView)) SpoolErr → Type 0
+abbrev pub OpensIs : Shape → Image → Result (Option (SpoolState × List LaneView)) SpoolErr → Type 0
 OpensIs shape image (Ok None) = IsUnbegun (image Journal) ⊎ HasAll shape (image Journal) None
 OpensIs shape image (Ok (Some x)) = (notes : Notes) × HasAll shape (image Journal) (Some notes) × (length (kept_file image notes) ≡ notes.job.len)
     × (sha256_of (kept_file image notes) ≡ notes.job.digest) × (x.0.shape ≡ shape) × (x.0.noted ≡ notes.lanes) × IsOf x.0 (version_in image notes)
@@ -123,7 +123,8 @@ OpensIs shape image (Err NoMemory) = Unit {0}
 OpensIs shape image (Err (NotEmpty area len)) = ⊥
 
 -- what is answered of the spool of this version and these lanes: it, and the job that goes on; or a device call or memory failed
-abbrev pub FindsAgain : Shape → FileVersion → List CloudNo → Result (Option (State × List LaneView)) SpoolErr → Type 0
+abbrev pub FindsAgain : Shape → FileVersion → List CloudNo → Result (Option (SpoolState × List LaneView)) SpoolErr
+    → Type 0
 FindsAgain shape v lanes (Ok (Some x)) = (x.0.shape ≡ shape) × (x.0.noted ≡ lanes) × IsOf x.0 v × (x.1 ≡ lanes_resumed shape v (rising shape lanes))
 FindsAgain shape v lanes (Ok None) = ⊥
 FindsAgain shape v lanes (Err Fault) = Unit {0}
@@ -134,7 +135,7 @@ FindsAgain shape v lanes (Err (OtherStore found asked)) = ⊥
 FindsAgain shape v lanes (Err (Rotten named found)) = ⊥
 
 -- what was opened, as its state and its lanes
-abbrev pub answer_of : Result (Option (Spool × List LaneView)) SpoolErr → Result (Option (State × List LaneView)) SpoolErr
+abbrev pub answer_of : Result (Option (Spool × List LaneView)) SpoolErr → Result (Option (SpoolState × List LaneView)) SpoolErr
 answer_of (Ok None) = Ok None
 answer_of (Ok (Some x)) = Ok (Some (state_of x.0, x.1))
 answer_of (Err e) = Err e

@@ -3,11 +3,11 @@
 use Rattle.std.specs.Prelude.{ℕ, zero, suc, ◌-◌, ◌==◌, ◌&&◌, not, Bool, List, [], ◌∷◌, length, slice_index, Some, Result, Ok, Err, nat_le, nat_lt}
 use Rattle.std.specs.List.{list_all, list_any}
 use Rattle.std.specs.Int.{w16, w32, w64}
-use Rattle.cd_base.specs.declared.ids.CloudNo.{CloudNo}
-use Rattle.cd_base.specs.declared.shape.Shape.{Shape}
+use Rattle.grammar.specs.CdBase.ids.CloudNo.{CloudNo}
+use Rattle.grammar.specs.CdBase.shape.Shape.{Shape}
 use Rattle.grammar.specs.Readers.{◌▷◌, ◌▷▷◌}
 use Rattle.grammar.specs.Fields.{number_at, bytes_at, checked}
-use Rattle.message_fields.specs.Parts.{made, kept, byte_as}
+use Rattle.upload_job.specs.MessageFields.Parts.{made, kept, byte_as}
 use Rattle.upload_job.specs.Upload.{FileVersion}
 use Rattle.sha2.specs.Sha256.{sha256 as sha256_of}
 use Rattle.upload_spool.specs.declared.records.JobRecord.{JobRecord}

@@ -3,19 +3,19 @@ use Rattle.std.specs.Prelude.{◌≡◌, ◌⊎◌, ℕ, ◌<◌, ◌≤◌, ◌
 use Rattle.std.specs.List.{Contains, IsDistinct}
 use Rattle.std.specs.Int.{w16, w32, w64, to_be_bytes}
 use Rattle.sha2.specs.Sha256.{sha256 as sha256_of}
-use Rattle.cd_base.specs.Limits.{IsPath, file_limit}
-use Rattle.cd_base.specs.Numbers.{numbers_of}
-use Rattle.cd_base.specs.declared.ids.CloudNo.{CloudNo}
-use Rattle.cd_base.specs.declared.ids.UserId.{UserId}
-use Rattle.cd_base.specs.declared.ids.Version.{Version}
-use Rattle.cd_base.specs.declared.shape.Shape.{Shape}
-use Rattle.cd_edges.specs.declared.area.Area.TheVariants.{Journal, Shares}
-use Rattle.cd_edges.specs.Disk.{Image}
-use Rattle.journal_start.specs.declared.start.Header.{Header}
-use Rattle.journal_start.specs.declared.start.Start.{Start}
-use Rattle.journal_start.specs.Ranges.{usual_rooms}
-use Rattle.journal_halves.specs.Halves.{is_half_begun}
-use Rattle.journal_halves.specs.Journals.{Where, HasChain, used_by}
+use Rattle.grammar.specs.CdBase.Limits.{IsPath, file_limit}
+use Rattle.grammar.specs.CdBase.Numbers.{numbers_of}
+use Rattle.grammar.specs.CdBase.ids.CloudNo.{CloudNo}
+use Rattle.grammar.specs.CdBase.ids.UserId.{UserId}
+use Rattle.grammar.specs.CdBase.ids.Version.{Version}
+use Rattle.grammar.specs.CdBase.shape.Shape.{Shape}
+use Rattle.half_journal.specs.CdEdges.area.Area.TheVariants.{Journal, Shares}
+use Rattle.half_journal.specs.CdEdges.Disk.{Image}
+use Rattle.half_journal.specs.JournalStart.start.Header.{Header}
+use Rattle.half_journal.specs.JournalStart.start.Start.{Start}
+use Rattle.half_journal.specs.JournalStart.Ranges.{usual_rooms}
+use Rattle.half_journal.specs.JournalHalves.Halves.{is_half_begun}
+use Rattle.half_journal.specs.JournalHalves.Journals.{Where, HasChain, used_by}
 use Rattle.upload_job.specs.Upload.{FileVersion}
 
 -- Each field is in its range: a path has 1 to 1,024 bytes, none of them zero, and a file 67,108,864 at most.
@@ -57,7 +57,7 @@ abbrev pub spool_limit : ℕ
 spool_limit = 65536
 
 -- They are different lanes of such a job: clouds below n.
-pub record AreLanes (shape : Shape) (lanes : List CloudNo) : Type 0 where
+pub record AreJobLanes (shape : Shape) (lanes : List CloudNo) : Type 0 where
   pub distinct : IsDistinct nat_eq (numbers_of lanes)
   pub below : All (λ cloud. cloud < shape.n) (numbers_of lanes)
 
@@ -67,7 +67,7 @@ pub record SpoolFor (image : Image) (shape : Shape) (v : FileVersion) (lanes : L
   pub alone : is_half_begun 1 (image Journal) ≡ false
   pub has : HasChain (image Journal) (spool_chain shape v lanes)
   pub within : used_by (spool_chain shape v lanes) ≤ spool_limit
-  pub apart : AreLanes shape lanes
+  pub apart : AreJobLanes shape lanes
   pub file : take (length v.file) (image Shares) ≡ v.file
 
 -- ---- an open job

@@ -2,33 +2,34 @@
 use Rattle.std.specs.Prelude.{◌≡◌, ◌≢◌, ◌⊎◌, ◌==◌, ℕ, ◌≤◌, if◌then◌else◌, false, IsTrue, List, [], ◌∷◌, ◌++◌, length, map, take, Option, Some, None, Result, Ok, Err, OnOk, IfOk}
 use Rattle.std.specs.List.{range_with_len}
 use Rattle.sha2.specs.Sha256.{sha256 as sha256_of}
-use Rattle.cd_base.specs.declared.ids.CloudNo.{CloudNo}
-use Rattle.cd_base.specs.declared.ids.UserId.{UserId}
-use Rattle.cd_base.specs.declared.ids.Version.{Version}
-use Rattle.cd_base.specs.declared.ids.Fp.{Fp}
-use Rattle.cd_base.specs.declared.shape.Shape.{Shape}
-use Rattle.cd_edges.specs.declared.area.Area.{Area}
-use Rattle.cd_edges.specs.declared.area.Area.TheVariants.{Journal, Shares, Recipes}
-use Rattle.cd_edges.specs.Disk.{Store, Areas, Cloud, Image, MayLeave, LeavesOnly, reads}
-use Rattle.cd_edges.specs.Shelf.{stable}
-use Rattle.journal_start.specs.declared.start.Header.{Header}
-use Rattle.journal_halves.specs.Beginnings.{IsUnbegun, new_of}
-use Rattle.journal_halves.specs.Halves.{is_half_begun}
-use Rattle.journal_halves.specs.Journals.{HasChain, with_body, used_by}
+use Rattle.grammar.specs.CdBase.ids.CloudNo.{CloudNo}
+use Rattle.grammar.specs.CdBase.ids.UserId.{UserId}
+use Rattle.grammar.specs.CdBase.ids.Version.{Version}
+use Rattle.grammar.specs.CdBase.ids.Fp.{Fp}
+use Rattle.grammar.specs.CdBase.shape.Shape.{Shape}
+use Rattle.half_journal.specs.CdEdges.area.Area.{Area}
+use Rattle.half_journal.specs.CdEdges.area.Area.TheVariants.{Journal, Shares, Recipes}
+use Rattle.half_journal.specs.CdEdges.Disk.{Store, Areas, Cloud, Image, MayLeave, LeavesOnly, reads}
+use Rattle.half_journal.specs.CdEdges.Shelf.{stable}
+use Rattle.half_journal.specs.JournalStart.start.Header.{Header}
+use Rattle.half_journal.specs.JournalHalves.Beginnings.{IsUnbegun, new_of}
+use Rattle.half_journal.specs.JournalHalves.Halves.{is_half_begun}
+use Rattle.half_journal.specs.JournalHalves.Journals.{HasChain, with_body, used_by}
 use Rattle.half_journal.specs.declared.journal.Stage.TheVariants.{AtEnd}
 use Rattle.half_journal.specs.declared.errors.OpenErr.{OpenErr}
 use Rattle.half_journal.specs.declared.errors.OpenErr.TheVariants as opens
-use Rattle.half_journal.specs.States.{IsEnded, IsReading}
+use Rattle.half_journal.specs.States.{IsJournalEnded, IsJournalReading}
 use Rattle.half_journal.specs.States as half
 use Rattle.upload_job.specs.Lanes.{LaneView}
 use Rattle.upload_job.specs.Upload.{FileVersion, work_of}
 use Rattle.upload_spool.specs.declared.error.SpoolErr.{SpoolErr}
 use Rattle.upload_spool.specs.declared.error.SpoolErr.TheVariants.{NotEmpty, Fault, Damaged, OtherStore, Rotten, NoMemory}
 use Rattle.upload_spool.specs.declared.spool.Spool.{Spool}
-use Rattle.upload_spool.specs.Spools.{AreLanes, HasOpenJob, IsBegunOr, IsNotedOr, spool_chain, spool_limit, job_bytes}
+use Rattle.upload_spool.specs.Spools.{AreJobLanes, HasOpenJob, IsBegunOr, IsNotedOr, spool_chain, spool_limit}
+use Rattle.upload_spool.specs.Spools.{job_bytes}
 
 -- what a spool shows
-pub record State : Type 0 where
+pub record SpoolState : Type 0 where
   pub shape : Shape
   pub user : UserId
   pub version : Version
@@ -36,9 +37,9 @@ pub record State : Type 0 where
   pub len : ℕ  -- how many bytes the file has
   pub digest : Fp  -- its SHA-256
   pub noted : List CloudNo  -- the lanes that were noted, in order
-  pub journal : half.State
+  pub journal : half.JournalState
 
-abbrev pub state_of : Spool → State
+abbrev pub state_of : Spool → SpoolState
 state_of s = record {
   shape = s.shape;
   user = s.user;
@@ -51,7 +52,7 @@ state_of s = record {
 }
 
 -- The spool keeps this version of a file, as far as a spool knows it.
-pub record IsOf (state : State) (v : FileVersion) : Type 0 where
+pub record IsOf (state : SpoolState) (v : FileVersion) : Type 0 where
   pub user : state.user ≡ v.user
   pub number : state.version ≡ v.number
   pub path : state.path ≡ v.path
@@ -63,11 +64,11 @@ abbrev pub HasFile : List ℕ → Store → Type 0
 HasFile file store = (image : List ℕ) → MayLeave store image → take (length file) image ≡ file
 
 -- The cloud keeps this version and these different lanes, all of it on the disk, and the spool stands at the end of its records.
-pub record IsSpool (state : State) (v : FileVersion) (lanes : List CloudNo) (cloud : Cloud) : Type 0 where
+pub record IsSpool (state : SpoolState) (v : FileVersion) (lanes : List CloudNo) (cloud : Cloud) : Type 0 where
   pub of : IsOf state v
   pub noted : state.noted ≡ lanes
-  pub apart : AreLanes state.shape lanes
-  pub ended : IsEnded state.journal (cloud.now Journal) (spool_chain state.shape v lanes)
+  pub apart : AreJobLanes state.shape lanes
+  pub ended : IsJournalEnded state.journal (cloud.now Journal) (spool_chain state.shape v lanes)
   pub within : used_by (spool_chain state.shape v lanes) ≤ spool_limit
   pub alone : is_half_begun 1 (cloud.now Journal).read ≡ false
   pub file : HasFile v.file (cloud.now Shares)
@@ -159,16 +160,16 @@ abbrev pub LeavesNone : Cloud → Cloud → Type 0
 LeavesNone old new = IsTrue old.told → IsUnbegun (old.now Journal).read → NoOpenJob (old.now Journal) → LeavesOnly old new (HasNone old.now)
 
 -- half 0 has the header and no record, and half 1 isn't begun
-pub record IsNew (state : half.State) (header : Header) (cloud : Cloud) : Type 0 where
-  pub ended : IsEnded state (cloud.now Journal) (new_of header)
+pub record IsNewSpool (state : half.JournalState) (header : Header) (cloud : Cloud) : Type 0 where
+  pub ended : IsJournalEnded state (cloud.now Journal) (new_of header)
   pub alone : is_half_begun 1 (cloud.now Journal).read ≡ false
 
-abbrev pub HasNew : {T E : Type 0} → half.State → Header → Cloud → Cloud → Result T E → Type 0
-HasNew after header old new result = IsTrue old.told → IsUnbegun (old.now Journal).read → OnOk result (IsNew after header new)
+abbrev pub HasNew : {T E : Type 0} → half.JournalState → Header → Cloud → Cloud → Result T E → Type 0
+HasNew after header old new result = IsTrue old.told → IsUnbegun (old.now Journal).read → OnOk result (IsNewSpool after header new)
 
 -- such a journal, read up to its start
-pub record IsNewRead (state : half.State) (header : Header) (cloud : Cloud) : Type 0 where
-  pub reading : IsReading state (cloud.now Journal) (new_of header)
+pub record IsNewRead (state : half.JournalState) (header : Header) (cloud : Cloud) : Type 0 where
+  pub reading : IsJournalReading state (cloud.now Journal) (new_of header)
   pub has : HasChain (cloud.now Journal).read (new_of header)
   pub alone : is_half_begun 1 (cloud.now Journal).read ≡ false
 
@@ -186,12 +187,13 @@ KeepsNewJob header file body old new = IsTrue old.told → first_filled (reads o
     → LeavesOnly old new (IsNewJobOr header file body)
 
 -- the same of a cloud, all of whose journal is on the disk
-pub record HasJob (state : half.State) (header : Header) (file body : List ℕ) (cloud : Cloud) : Type 0 where
-  pub ended : IsEnded state (cloud.now Journal) (with_body (new_of header) body)
+pub record HasJob (state : half.JournalState) (header : Header) (file body : List ℕ) (cloud : Cloud) : Type 0 where
+  pub ended : IsJournalEnded state (cloud.now Journal) (with_body (new_of header) body)
   pub alone : is_half_begun 1 (cloud.now Journal).read ≡ false
   pub file_is : HasFile file (cloud.now Shares)
 
-abbrev pub HasNewJob : {T E : Type 0} → half.State → Header → List ℕ → List ℕ → Cloud → Cloud → Result T E → Type 0
+abbrev pub HasNewJob : {T E : Type 0} → half.JournalState → Header → List ℕ → List ℕ → Cloud → Cloud → Result T E
+    → Type 0
 HasNewJob after header file body old new result = IsTrue old.told → first_filled (reads old.now) ≡ None
     → OnOk result (HasJob after header file body new)
 
@@ -234,11 +236,11 @@ IsNoteAnswer (Err (Rotten named found)) = ⊥
 -- ---- notes
 
 -- Whatever spool it is: each image since has the lanes before, or this one more.
-abbrev pub KeepsOrNotes : State → CloudNo → Cloud → Cloud → Type 0
+abbrev pub KeepsOrNotes : SpoolState → CloudNo → Cloud → Cloud → Type 0
 KeepsOrNotes before lane old new = IsTrue old.told → (v : FileVersion) (lanes : List CloudNo) → IsSpool before v lanes old
     → LeavesOnly old new (IsNotedOr before.shape v lanes lane)
 
-abbrev pub HasNoted : {T E : Type 0} → State → State → CloudNo → Cloud → Cloud → Result T E → Type 0
+abbrev pub HasNoted : {T E : Type 0} → SpoolState → SpoolState → CloudNo → Cloud → Cloud → Result T E → Type 0
 HasNoted before after lane old new result = IsTrue old.told → (v : FileVersion) (lanes : List CloudNo) → IsSpool before v lanes old
     → OnOk result (IsSpool after v (lanes ++ lane ∷ []) new)
 

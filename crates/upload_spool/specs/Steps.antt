@@ -1,18 +1,18 @@
 -- The steps of an opening.
 use Rattle.std.specs.Prelude.{◌≡◌, ◌≢◌, ◌⊎◌, ℕ, ◌+◌, ◌-◌, ◌*◌, ◌<◌, ◌≤◌, min, Bool, true, false, IsTrue, nat_eq, List, [], ◌∷◌, ◌++◌, length, take, All, Option, Some, None, Result, Ok, Err}
 use Rattle.std.specs.List.{IsDistinct}
-use Rattle.cd_base.specs.Limits.{IsPath, file_limit}
-use Rattle.cd_base.specs.Numbers.{numbers_of}
-use Rattle.cd_base.specs.declared.ids.CloudNo.{CloudNo}
-use Rattle.cd_base.specs.declared.ids.Fp.{Fp}
-use Rattle.cd_base.specs.declared.shape.Shape.{Shape}
-use Rattle.cd_edges.specs.declared.area.Area.TheVariants.{Journal, Shares}
-use Rattle.cd_edges.specs.Disk.{Store, Cloud}
-use Rattle.journal_halves.specs.Beginnings.{IsUnbegun}
-use Rattle.journal_halves.specs.Findings.{IsFoundDamage}
-use Rattle.journal_halves.specs.Journals.{Where, with_body}
+use Rattle.grammar.specs.CdBase.Limits.{IsPath, file_limit}
+use Rattle.grammar.specs.CdBase.Numbers.{numbers_of}
+use Rattle.grammar.specs.CdBase.ids.CloudNo.{CloudNo}
+use Rattle.grammar.specs.CdBase.ids.Fp.{Fp}
+use Rattle.grammar.specs.CdBase.shape.Shape.{Shape}
+use Rattle.half_journal.specs.CdEdges.area.Area.TheVariants.{Journal, Shares}
+use Rattle.half_journal.specs.CdEdges.Disk.{Store, Cloud}
+use Rattle.half_journal.specs.JournalHalves.Beginnings.{IsUnbegun}
+use Rattle.half_journal.specs.JournalHalves.Findings.{IsFoundDamage}
+use Rattle.half_journal.specs.JournalHalves.Journals.{Where, with_body}
 use Rattle.half_journal.specs.Openings.{HasHeader}
-use Rattle.half_journal.specs.States.{IsReading, IsEnded}
+use Rattle.half_journal.specs.States.{IsJournalReading, IsJournalEnded}
 use Rattle.half_journal.specs.States as half
 use Rattle.half_journal.specs.declared.journal.Stage.TheVariants.{AtEnd}
 use Rattle.upload_spool.specs.Opens.{Notes, Say, IsDamagedAt, HasAll, gate_of, rising}
@@ -30,30 +30,30 @@ use Rattle.upload_spool.specs.declared.records.RecordFault.{RecordFault}
 use Rattle.upload_spool.specs.declared.records.RecordFault.TheVariants as faults
 
 -- The current half begins with the spool's header, and its records so far were read and say this.
-pub record IsRead (shape : Shape) (state : half.State) (store : Store) (notes : Option Notes) : Type 0 where
+pub record IsSpoolRead (shape : Shape) (state : half.JournalState) (store : Store) (notes : Option Notes) : Type 0 where
   pub w : Where
   pub header_is : w.start.header ≡ spool_header shape
-  pub reading : IsReading state store w
+  pub reading : IsJournalReading state store w
   pub say : Say shape None w.bodies notes
 
 -- One record more was read, which isn't judged yet.
-pub record IsPending (shape : Shape) (state : half.State) (store : Store) (notes : Option Notes) : Type 0 where
+pub record IsPending (shape : Shape) (state : half.JournalState) (store : Store) (notes : Option Notes) : Type 0 where
   pub w : Where
   pub header_is : w.start.header ≡ spool_header shape
-  pub reading : IsReading state store (with_body w state.current.body)
+  pub reading : IsJournalReading state store (with_body w state.current.body)
   pub say : Say shape None w.bodies notes
   pub place : state.current.body_at ≡ gate_of w + 5
 
 -- All records were read, up to the closed gate.
-pub record IsAllRead (shape : Shape) (state : half.State) (store : Store) (notes : Option Notes) : Type 0 where
+pub record IsAllRead (shape : Shape) (state : half.JournalState) (store : Store) (notes : Option Notes) : Type 0 where
   pub w : Where
   pub header_is : w.start.header ≡ spool_header shape
-  pub ended : IsEnded state store w
+  pub ended : IsJournalEnded state store w
   pub say : Say shape None w.bodies notes
 
 -- ---- the next record
 
-abbrev pub NextIs : Shape → half.State → Store → Option Notes → Result Bool SpoolErr → Type 0
+abbrev pub NextIs : Shape → half.JournalState → Store → Option Notes → Result Bool SpoolErr → Type 0
 NextIs shape after store notes (Ok true) = IsPending shape after store notes
 NextIs shape after store notes (Ok false) = IsAllRead shape after store notes
 NextIs shape after store notes (Err (Damaged at byte)) = IsDamagedAt shape store.read at byte
@@ -64,11 +64,11 @@ NextIs shape after store notes (Err (OtherStore found asked)) = ⊥
 NextIs shape after store notes (Err (Rotten named found)) = ⊥
 
 -- whatever was read so far
-abbrev pub ReadsNext : half.State → half.State → Cloud → Result Bool SpoolErr → Type 0
-ReadsNext before after old result = IsTrue old.told → (shape : Shape) (notes : Option Notes) → IsRead shape before (old.now Journal) notes → NextIs shape after (old.now Journal) notes result
+abbrev pub ReadsNext : half.JournalState → half.JournalState → Cloud → Result Bool SpoolErr → Type 0
+ReadsNext before after old result = IsTrue old.told → (shape : Shape) (notes : Option Notes) → IsSpoolRead shape before (old.now Journal) notes → NextIs shape after (old.now Journal) notes result
 
 -- how far the gate goes
-abbrev pub GateIs : half.State → half.State → Result Bool SpoolErr → Type 0
+abbrev pub GateIs : half.JournalState → half.JournalState → Result Bool SpoolErr → Type 0
 GateIs before after (Ok true) = after.current.gate ≡ before.current.gate + 5 + length after.current.body
 GateIs before after (Ok false) = after.current.gate ≡ before.current.gate
 GateIs before after (Err e) = Unit {0}
@@ -110,8 +110,8 @@ LaneIs shape noted more body at (Err (Rotten named found)) = ⊥
 abbrev pub notes_of : JobFields → List CloudNo → Option Notes
 notes_of job lanes = Some (record { job = job; lanes = lanes })
 
-abbrev pub LaneStepIs : Shape → JobFields → half.State → Store → List CloudNo → Result Bool SpoolErr → Type 0
-LaneStepIs shape job after store noted (Ok true) = IsRead shape after store (notes_of job noted)
+abbrev pub LaneStepIs : Shape → JobFields → half.JournalState → Store → List CloudNo → Result Bool SpoolErr → Type 0
+LaneStepIs shape job after store noted (Ok true) = IsSpoolRead shape after store (notes_of job noted)
 LaneStepIs shape job after store noted (Ok false) = IsAllRead shape after store (notes_of job noted)
 LaneStepIs shape job after store noted (Err (Damaged at byte)) = IsDamagedAt shape store.read at byte
 LaneStepIs shape job after store noted (Err Fault) = Unit {0}
@@ -121,8 +121,8 @@ LaneStepIs shape job after store noted (Err (OtherStore found asked)) = ⊥
 LaneStepIs shape job after store noted (Err (Rotten named found)) = ⊥
 
 -- whatever job was read
-abbrev pub ReadsLane : Shape → half.State → half.State → Cloud → List CloudNo → List CloudNo → Result Bool SpoolErr → Type 0
-ReadsLane shape before after old noted more result = IsTrue old.told → (job : JobFields) → IsRead shape before (old.now Journal) (notes_of job noted)
+abbrev pub ReadsLane : Shape → half.JournalState → half.JournalState → Cloud → List CloudNo → List CloudNo → Result Bool SpoolErr → Type 0
+ReadsLane shape before after old noted more result = IsTrue old.told → (job : JobFields) → IsSpoolRead shape before (old.now Journal) (notes_of job noted)
     → LaneStepIs shape job after (old.now Journal) more result
 
 -- a lane more and seven bytes, or all as before
@@ -159,7 +159,7 @@ notes_in None = None
 notes_in (Some records) = notes_of (fields_kept records.job) records.noted.items
 
 -- The fields are in their ranges, the lanes are different ones below n, and the journal is at its end, not far behind that gate.
-pub record AreKept (shape : Shape) (gate : ℕ) (state : half.State) (records : Records) : Type 0 where
+pub record AreRecordsKept (shape : Shape) (gate : ℕ) (state : half.JournalState) (records : Records) : Type 0 where
   pub path : IsPath records.job.path
   pub few : records.job.len ≤ file_limit
   pub distinct : IsDistinct nat_eq (numbers_of records.noted.items)
@@ -179,7 +179,8 @@ FoundIs shape journal (Err (NotEmpty area len)) = ⊥
 FoundIs shape journal (Err (Rotten named found)) = ⊥
 
 -- The journal is at the end of the records, on the disk, and reads as before, as Shares does.
-pub record HasEnded (shape : Shape) (state : half.State) (old new : Cloud) (records : Records) : Type 0 where
+pub record HasSpoolEnded (shape : Shape) (state : half.JournalState) (old new : Cloud)
+    (records : Records) : Type 0 where
   pub all : IsAllRead shape state (new.now Journal) (notes_in (Some records))
   pub journal : (new.now Journal).read ≡ (old.now Journal).read
   pub shares : new.now Shares ≡ old.now Shares
@@ -197,7 +198,7 @@ IsReadAnswer (Err (OtherStore found asked)) = ⊥
 IsReadAnswer (Err (Rotten named found)) = ⊥
 
 -- The spool and the job are those of the records and of these bytes of a file.
-pub record IsBrought (shape : Shape) (records : Records) (state : half.State) (bytes : List ℕ) (x : Spool × List LaneView) : Type 0 where
+pub record IsBrought (shape : Shape) (records : Records) (state : half.JournalState) (bytes : List ℕ) (x : Spool × List LaneView) : Type 0 where
   pub shape_is : x.0.shape ≡ shape
   pub noted : x.0.noted.items ≡ records.noted.items
   pub journal : (state_of x.0).journal ≡ state
@@ -207,14 +208,14 @@ pub record IsBrought (shape : Shape) (records : Records) (state : half.State) (b
   pub digest : sha256_of bytes ≡ records.job.digest.0
 
 -- The file isn't the one that was kept.
-pub record IsRotten (records : Records) (bytes : List ℕ) (named found : Fp) : Type 0 where
+pub record IsSpoolRotten (records : Records) (bytes : List ℕ) (named found : Fp) : Type 0 where
   pub named_is : named ≡ records.job.digest
   pub found_is : found.0 ≡ sha256_of bytes
   pub other : (length bytes ≢ records.job.len) ⊎ (found ≢ named)
 
-abbrev pub BringsIs : Shape → Records → half.State → Cloud → Result (Spool × List LaneView) SpoolErr → Type 0
+abbrev pub BringsIs : Shape → Records → half.JournalState → Cloud → Result (Spool × List LaneView) SpoolErr → Type 0
 BringsIs shape records state cloud (Ok x) = (bytes : List ℕ) × IsBrought shape records state bytes x × (IsTrue cloud.told → bytes ≡ take records.job.len (cloud.now Shares).read)
-BringsIs shape records state cloud (Err (Rotten named found)) = (bytes : List ℕ) × IsRotten records bytes named found × (IsTrue cloud.told → bytes ≡ take records.job.len (cloud.now Shares).read)
+BringsIs shape records state cloud (Err (Rotten named found)) = (bytes : List ℕ) × IsSpoolRotten records bytes named found × (IsTrue cloud.told → bytes ≡ take records.job.len (cloud.now Shares).read)
 BringsIs shape records state cloud (Err Fault) = Unit {0}
 BringsIs shape records state cloud (Err NoMemory) = Unit {0}
 BringsIs shape records state cloud (Err (Damaged at byte)) = ⊥

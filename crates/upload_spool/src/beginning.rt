@@ -2,25 +2,24 @@
 
 ghost use Rattle.std.specs.Prelude.{◌≡◌, ◌≢◌, ◌⊎◌, ℕ, ◌+◌, ◌<◌, ◌≤◌, List, [], ◌∷◌, ◌++◌, length, None, IsTrue, IfOk, OnOk, OnErr};
 ghost use Rattle.sha2.specs.Sha256.{sha256 as sha256_of};
-ghost use Rattle.cd_base.specs.Limits.{IsPath, file_limit};
-ghost use Rattle.cd_edges.specs.declared.area.Area.{Area};
-ghost use Rattle.cd_edges.specs.Disk.{Cloud, reads};
-ghost use Rattle.cd_edges.specs.Shelf.{IsCall, HasFailed, KeepsCounts, Stays};
-ghost use Rattle.journal_start.specs.declared.start.Header.{Header};
-ghost use Rattle.journal_start.specs.Ranges.{IsHeader};
-ghost use Rattle.journal_halves.specs.Beginnings.{IsUnbegun};
+ghost use Rattle.grammar.specs.CdBase.Limits.{IsPath, file_limit};
+ghost use Rattle.half_journal.specs.CdEdges.area.Area.{Area};
+ghost use Rattle.half_journal.specs.CdEdges.Disk.{Cloud, reads};
+ghost use Rattle.half_journal.specs.CdEdges.Shelf.{IsCall, HasFailed, KeepsCounts, Stays};
+ghost use Rattle.half_journal.specs.JournalStart.start.Header.{Header};
+ghost use Rattle.half_journal.specs.JournalStart.Ranges.{IsHeader};
+ghost use Rattle.half_journal.specs.JournalHalves.Beginnings.{IsUnbegun};
 ghost use Rattle.half_journal.specs.declared.journal.Stage.{Stage};
 ghost use Rattle.half_journal.specs.States as half;
 ghost use Rattle.upload_spool.specs.Spools.{spool_header, job_fields};
-ghost use Rattle.upload_spool.specs.States.{state_of, chosen, first_filled, Along, IsKept, IsNew, IsNewRead, spool_error, KeepsJournal, HasWritten, OthersStay, LeavesNone, HasNew, IsOkOrFault, KeepsNewJob, HasNewJob, IsDraft, BeginsIs, LeavesJob, HasBegun, IsBegunSpool, OnFault};
+ghost use Rattle.upload_spool.specs.States.{state_of, chosen, first_filled, Along, IsKept, IsNewSpool, IsNewRead, spool_error, KeepsJournal, HasWritten, OthersStay, LeavesNone, HasNew, IsOkOrFault, KeepsNewJob, HasNewJob, IsDraft, BeginsIs, LeavesJob, HasBegun, IsBegunSpool, OnFault};
 
 use crate::spool::{SPOOL_CLOUD, SPOOL_LIMIT};
 use crate::{Spool, SpoolErr};
-use cd_base::{Bytes, Fp, NoMemory, Shape, UserId, Version, sha256};
-use cd_edges::{Area, Failed, Shelf, write_synced};
-use half_journal::{Journal, OpenErr};
-use journal_halves::JournalErr;
-use journal_start::{Header, Rooms};
+use grammar::{Bytes, Fp, NoMemory, Shape, UserId, Version, sha256};
+use half_journal::{
+    Area, Failed, Header, Journal, OpenErr, RecordErr, Shelf, UserRooms, write_synced,
+};
 use std::alloc::Global;
 
 /// The most bytes of the file that are written at once.
@@ -116,7 +115,7 @@ fn read_to_end<V: Shelf>(journal: &mut Journal, shelf: &mut V) -> Result<(), Spo
     requires { (half.state_of journal.old).stage ≡ Stage.Reading }
     ensures ended { IsTrue (V.cloud_at shelf.old 0).told → (header : Header)
         → IsNewRead (half.state_of journal.old) header (V.cloud_at shelf.old 0)
-        → IsOkOrFault result × OnOk result (IsNew (half.state_of journal.new) header (V.cloud_at shelf.new 0)) }
+        → IsOkOrFault result × OnOk result (IsNewSpool (half.state_of journal.new) header (V.cloud_at shelf.new 0)) }
     ensures stage { OnOk result ((half.state_of journal.new).stage ≡ Stage.AtEnd) }
     ensures gate { OnOk result ((half.state_of journal.new).current.gate ≡ (half.state_of journal.old).current.gate) }
     ensures limit { (half.state_of journal.new).limit ≡ (half.state_of journal.old).limit }
@@ -132,8 +131,8 @@ fn read_to_end<V: Shelf>(journal: &mut Journal, shelf: &mut V) -> Result<(), Spo
             at: journal.body_at(),
             byte: 1,
         }),
-        Err(JournalErr::Failed) => Err(SpoolErr::Fault),
-        Err(JournalErr::Damaged { at, byte }) => Err(SpoolErr::Damaged { at, byte }),
+        Err(RecordErr::Failed) => Err(SpoolErr::Fault),
+        Err(RecordErr::Damaged { at, byte }) => Err(SpoolErr::Damaged { at, byte }),
     }
 }
 
@@ -235,7 +234,7 @@ pub(crate) fn header_of(shape: Shape) -> Header
         format: 2,
         shape,
         cloud: SPOOL_CLOUD,
-        rooms: Rooms::usual(),
+        rooms: UserRooms::usual(),
     }
 }
 

@@ -1,8 +1,7 @@
 //! Why a spool's call failed.
 
-use cd_base::Fp;
-use cd_edges::Area;
-use journal_start::Header;
+use grammar::Fp;
+use half_journal::{Area, Header};
 
 /// Why a spool's call failed.
 #[derive(Clone, Copy, Debug, PartialEq, Eq)]

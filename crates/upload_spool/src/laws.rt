@@ -1,21 +1,21 @@
 //! The laws of spools, for the proofs of callers. The calls do nothing.
 
 ghost use Rattle.std.specs.Prelude.{◌≡◌, ◌≢◌, ◌⊎◌, ℕ, ◌+◌, ◌*◌, ◌<◌, ◌≤◌, false, List, [], ◌∷◌, ◌++◌, length, take, All, true, Option, Result, Ok};
-ghost use Rattle.cd_base.specs.declared.ids.CloudNo.{CloudNo};
-ghost use Rattle.cd_base.specs.declared.shape.Shape.{Shape};
-ghost use Rattle.cd_edges.specs.declared.area.Area.TheVariants.{Journal, Shares};
-ghost use Rattle.cd_edges.specs.Disk.{Image};
-ghost use Rattle.journal_halves.specs.Halves.{is_half_begun};
-ghost use Rattle.journal_halves.specs.Journals.{Where, HasChain, IsEither, used_by, with_body};
+ghost use Rattle.grammar.specs.CdBase.ids.CloudNo.{CloudNo};
+ghost use Rattle.grammar.specs.CdBase.shape.Shape.{Shape};
+ghost use Rattle.half_journal.specs.CdEdges.area.Area.TheVariants.{Journal, Shares};
+ghost use Rattle.half_journal.specs.CdEdges.Disk.{Image};
+ghost use Rattle.half_journal.specs.JournalHalves.Halves.{is_half_begun};
+ghost use Rattle.half_journal.specs.JournalHalves.Journals.{Where, HasChain, IsEither, used_by, with_body};
 ghost use Rattle.upload_job.specs.declared.news.LaneNews.{LaneNews};
 ghost use Rattle.upload_job.specs.declared.news.LaneErr.{LaneErr};
 ghost use Rattle.upload_job.specs.Lanes.{LaneView, lanes_begun, lanes_resumed, AnswersAt};
 ghost use Rattle.upload_job.specs.Upload.{FileVersion};
 ghost use Rattle.upload_spool.specs.declared.error.SpoolErr.{SpoolErr};
 ghost use Rattle.upload_spool.specs.Opens.{OpensIs, FindsAgain};
-ghost use Rattle.upload_spool.specs.States.{State, IsJobOf};
+ghost use Rattle.upload_spool.specs.States.{SpoolState, IsJobOf};
 ghost use Rattle.upload_spool.specs.Reading.{fields_for, is_lane, job_in, lane_in};
-ghost use Rattle.upload_spool.specs.Spools.{FitsKept, AreLanes, SpoolFor, HasOpenJob, IsNotedOr, spool_chain, spool_start, lane_bytes, job_bytes};
+ghost use Rattle.upload_spool.specs.Spools.{FitsKept, AreJobLanes, SpoolFor, HasOpenJob, IsNotedOr, spool_chain, spool_start, lane_bytes, job_bytes};
 
 /// How long a spool's chain is, so that there is always room for a note.
 pub fn law_of_room()
@@ -30,7 +30,7 @@ pub fn law_of_notes()
     ensures chain { (shape : Shape) (v : FileVersion) (lanes : List CloudNo) (lane : CloudNo)
         → with_body (spool_chain shape v lanes) (lane_bytes lane) ≡ spool_chain shape v (lanes ++ lane ∷ []) }
     ensures noted { (shape : Shape) (v : FileVersion) (lanes : List CloudNo) (lane : CloudNo) (image : Image)
-        → AreLanes shape lanes → lane.0 < shape.n → All (λ noted. noted.0 ≢ lane.0) lanes
+        → AreJobLanes shape lanes → lane.0 < shape.n → All (λ noted. noted.0 ≢ lane.0) lanes
         → used_by (spool_chain shape v (lanes ++ lane ∷ [])) ≤ 65536
         → IsEither (spool_chain shape v lanes) (with_body (spool_chain shape v lanes) (lane_bytes lane)) (image Journal)
         → is_half_begun 1 (image Journal) ≡ false → take (length v.file) (image Shares) ≡ v.file
@@ -51,7 +51,7 @@ pub fn law_of_spools()
 /// device call or memory failed.
 pub fn law_of_kept_spools()
     ensures { (image : Image) (shape : Shape) (v : FileVersion) (lanes : List CloudNo) → FitsKept v
-        → SpoolFor image shape v lanes → (answer : Result (Option (State × List LaneView)) SpoolErr)
+        → SpoolFor image shape v lanes → (answer : Result (Option (SpoolState × List LaneView)) SpoolErr)
         → OpensIs shape image answer → FindsAgain shape v lanes answer }
 {}
 

@@ -9,5 +9,8 @@ mod records;
 mod spool;
 
 pub use error::SpoolErr;
+pub use grammar::{Bytes, CloudNo, NoMemory, Shape, UserId, Version};
+pub use half_journal::{Area, Failed, Ports, Shelf, Sink, Source};
 pub use records::{JobRecord, RecordFault, read_job, read_lane};
 pub use spool::Spool;
+pub use upload_job::{Job, LaneNews};

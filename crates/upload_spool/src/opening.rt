@@ -1,10 +1,10 @@
 //! Opening a spool.
 
 ghost use Rattle.std.specs.Prelude.{◌≡◌, ◌↔◌, ◌<◌, ◌≤◌, ℕ, ◌+◌, ◌*◌, All, List, [], length, take, Ok, IsTrue, IfOk, OnOk, None, IfSome};
-ghost use Rattle.cd_base.specs.Limits.{IsPath, file_limit};
-ghost use Rattle.cd_edges.specs.declared.area.Area.{Area};
-ghost use Rattle.cd_edges.specs.Disk.{IsImage, LeavesOnly, reads};
-ghost use Rattle.cd_edges.specs.Shelf.{IsCall, HasFailed, KeepsCounts, Stays};
+ghost use Rattle.grammar.specs.CdBase.Limits.{IsPath, file_limit};
+ghost use Rattle.half_journal.specs.CdEdges.area.Area.{Area};
+ghost use Rattle.half_journal.specs.CdEdges.Disk.{IsImage, LeavesOnly, reads};
+ghost use Rattle.half_journal.specs.CdEdges.Shelf.{IsCall, HasFailed, KeepsCounts, Stays};
 ghost use Rattle.half_journal.specs.declared.journal.Stage.{Stage};
 ghost use Rattle.half_journal.specs.Outcomes.{stage_of};
 ghost use Rattle.half_journal.specs.States as half;
@@ -12,7 +12,7 @@ ghost use Rattle.upload_job.specs.Upload.{FileVersion};
 ghost use Rattle.upload_spool.specs.Spools.{FitsKept, SpoolFor};
 ghost use Rattle.upload_spool.specs.States.{OnFault, IsSpool, state_of};
 ghost use Rattle.upload_spool.specs.Steps.{ReadsNext, GateIs, shown_fault, JobIs, LaneIs, ReadsLane, MoreNoted, AreNoted};
-ghost use Rattle.upload_spool.specs.Steps.{IsRead, IsAllRead, Gives, notes_of, notes_in, AreKept, FoundIs, HasEnded, IsReadAnswer, BringsIs};
+ghost use Rattle.upload_spool.specs.Steps.{IsSpoolRead, IsAllRead, Gives, notes_of, notes_in, AreRecordsKept, FoundIs, HasSpoolEnded, IsReadAnswer, BringsIs};
 ghost use Rattle.upload_spool.specs.Reading.{JobFields};
 ghost use Rattle.upload_spool.specs.Opens as opens;
 ghost use Rattle.upload_job.specs.Lanes.{lanes_resumed};
@@ -21,10 +21,8 @@ use crate::beginning::header_of;
 use crate::records::{RecordFault, is_noted, read_job, read_lane};
 use crate::spool::{SPOOL_CLOUD, SPOOL_LIMIT};
 use crate::{Spool, SpoolErr};
-use cd_base::{Bytes, CloudNo, Clouds, Fp, NoMemory, Shape, UserId, Version, sha256};
-use cd_edges::{Area, Failed, Shelf};
-use half_journal::{Journal, OpenErr};
-use journal_halves::JournalErr;
+use grammar::{Bytes, CloudNo, Clouds, Fp, NoMemory, Shape, UserId, Version, sha256};
+use half_journal::{Area, Failed, Journal, OpenErr, RecordErr, Shelf};
 use std::alloc::Global;
 use upload_job::Job;
 
@@ -73,8 +71,8 @@ fn next<V: Shelf>(journal: &mut Journal, shelf: &mut V) -> Result<bool, SpoolErr
 {
     match journal.next(shelf, SPOOL_CLOUD) {
         Ok(more) => Ok(more),
-        Err(JournalErr::Failed) => Err(SpoolErr::Fault),
-        Err(JournalErr::Damaged { at, byte }) => Err(SpoolErr::Damaged { at, byte }),
+        Err(RecordErr::Failed) => Err(SpoolErr::Fault),
+        Err(RecordErr::Damaged { at, byte }) => Err(SpoolErr::Damaged { at, byte }),
     }
 }
 
@@ -155,7 +153,7 @@ fn lanes_in<V: Shelf>(
 ) -> Result<Vec<CloudNo>, SpoolErr>
     requires { (half.state_of journal.old).stage ≡ Stage.Reading }
     ensures reads { IsTrue (V.cloud_at shelf.old 0).told → (job : JobFields)
-        → IsRead shape (half.state_of journal.old) ((V.cloud_at shelf.old 0).now Area.Journal) (notes_of job [])
+        → IsSpoolRead shape (half.state_of journal.old) ((V.cloud_at shelf.old 0).now Area.Journal) (notes_of job [])
         → Gives shape ((V.cloud_at shelf.old 0).now Area.Journal).read (λ noted. IsAllRead shape
         (half.state_of journal.new) ((V.cloud_at shelf.old 0).now Area.Journal) (notes_of job noted.items)) result }
     ensures noted { IfOk result (λ noted. AreNoted shape
@@ -182,11 +180,11 @@ fn records_in<V: Shelf>(
 ) -> Result<Option<Records>, SpoolErr>
     requires { (half.state_of journal.old).stage ≡ Stage.Reading }
     ensures reads { IsTrue (V.cloud_at shelf.old 0).told
-        → IsRead shape (half.state_of journal.old) ((V.cloud_at shelf.old 0).now Area.Journal) None
+        → IsSpoolRead shape (half.state_of journal.old) ((V.cloud_at shelf.old 0).now Area.Journal) None
         → Gives shape ((V.cloud_at shelf.old 0).now Area.Journal).read (λ found. IsAllRead shape
         (half.state_of journal.new) ((V.cloud_at shelf.old 0).now Area.Journal) (notes_in found)) result }
     ensures kept { IfOk result (λ found. IfSome found
-        (AreKept shape (half.state_of journal.old).current.gate (half.state_of journal.new))) }
+        (AreRecordsKept shape (half.state_of journal.old).current.gate (half.state_of journal.new))) }
     ensures limit { (half.state_of journal.new).limit ≡ (half.state_of journal.old).limit }
     ensures stays { Stays (V.cloud_at shelf.old 0) (V.cloud_at shelf.new 0) }
     ensures call { IsCall (V.cloud_at shelf.old) (V.cloud_at shelf.new) 0 (V.faults shelf.old) (V.faults shelf.new) }
@@ -218,10 +216,10 @@ fn kept_in<V: Shelf>(
     ensures found { IsTrue (V.cloud_at shelf.old 0).told
         → FoundIs shape ((V.cloud_at shelf.old 0).now Area.Journal).read result }
     ensures ended { IsTrue (V.cloud_at shelf.old 0).told → IfOk result (λ found. IfSome found
-        (HasEnded shape (half.state_of journal.new) (V.cloud_at shelf.old 0) (V.cloud_at shelf.new 0))) }
+        (HasSpoolEnded shape (half.state_of journal.new) (V.cloud_at shelf.old 0) (V.cloud_at shelf.new 0))) }
     ensures spared { IsTrue (V.cloud_at shelf.old 0).told
         → LeavesOnly (V.cloud_at shelf.old 0) (V.cloud_at shelf.new 0) (IsImage (V.cloud_at shelf.old 0).now) }
-    ensures kept { IfOk result (λ found. IfSome found (AreKept shape 62 (half.state_of journal.new))) }
+    ensures kept { IfOk result (λ found. IfSome found (AreRecordsKept shape 62 (half.state_of journal.new))) }
     ensures limit { (half.state_of journal.new).limit ≡ (half.state_of journal.old).limit }
     ensures call { IsCall (V.cloud_at shelf.old) (V.cloud_at shelf.new) 0 (V.faults shelf.old) (V.faults shelf.new) }
     ensures counts { OnFault result
@@ -323,7 +321,7 @@ fn bring<V: Shelf>(
     records: Records,
     journal: Journal,
 ) -> Result<(Spool, Job), SpoolErr>
-    requires kept { AreKept shape 62 (half.state_of journal) records }
+    requires kept { AreRecordsKept shape 62 (half.state_of journal) records }
     requires limit { (half.state_of journal).limit ≡ 65536 }
     ensures brings { BringsIs shape records (half.state_of journal) (V.cloud_at shelf.old 0) result }
     ensures stays { Stays (V.cloud_at shelf.old 0) (V.cloud_at shelf.new 0) }

@@ -4,12 +4,12 @@ ghost use Rattle.std.specs.Prelude.{◌≡◌, ◌==◌, Ok, Err, MatchResult};
 ghost use Rattle.std.specs.List.{list_any};
 ghost use Rattle.std.specs.Int.{w16, w64};
 ghost use Rattle.grammar.specs.Fields.{number_at, checked};
-ghost use Rattle.message_fields.specs.Parts.{kept};
-ghost use Rattle.message_fields.specs.Readings.{IsReading};
+ghost use Rattle.upload_job.specs.MessageFields.Parts.{kept};
+ghost use Rattle.upload_job.specs.MessageFields.Readings.{IsReading};
 ghost use Rattle.upload_spool.specs.Reading.{one_byte, is_kind, is_lane, is_path_len, has_no_zero, is_file_len, path_at, job_at, lane_at, wrong_at, job_in, lane_in, fields_of};
 
-use cd_base::{CloudNo, Fp, Shape, UserId, Version};
-use message_fields::{Left, byte_of, bytes_of, fp_of, u16_of, u64_of, user_of};
+use grammar::{CloudNo, Fp, Shape, UserId, Version};
+use upload_job::{Left, byte_of, bytes_of, fp_of, u16_of, u64_of, user_of};
 
 /// Why a body isn't that of a spool's next record.
 #[derive(Clone, Copy, Debug, PartialEq, Eq)]

@@ -1,10 +1,10 @@
 -- Content asks what reading it gives.
 use Rattle.std.proofs.Common.{◌≡◌, ℕ, ◌+◌, List, ◌∷◌, ◌++◌, length, get_or, Result, Ok, Err, refl, sym, ap, ◌∙◌, subst}
 use Rattle.std.specs.Int.{w32, to_be_bytes}
-use Rattle.cd_base.specs.Reading.{AreBytes}
-use Rattle.cd_base.specs.declared.shape.Shape.{Shape}
+use Rattle.journal_start.specs.CdBase.Reading.{AreBytes}
+use Rattle.journal_start.specs.CdBase.shape.Shape.{Shape}
 use Rattle.std.proofs.lemmas.List.{drop_at, get_or-drop}
-use Rattle.message_fields.specs.Keys.{key_bytes}
+use Rattle.journal_start.specs.MessageFields.Keys.{key_bytes}
 use Rattle.recipe.specs.declared.recipe.Recipe.{Recipe}
 use Rattle.recipe.specs.Reading.{recipe_at}
 use Rattle.recipe.proofs.Recipes.{recipe_law}

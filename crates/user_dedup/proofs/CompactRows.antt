@@ -4,13 +4,13 @@ use Rattle.std.specs.List.{flat_map, list_any}
 use Rattle.std.proofs.Common.{ap, ◌∙◌, arith}
 use Rattle.std.specs.Cmp.Lexicographic.{nat_list_eq_equiv}
 use Rattle.sha2.specs.Sha256.{sha256 as sha256_of}
-use Rattle.cd_base.specs.declared.ids.Fp.{Fp}
-use Rattle.cd_base.specs.declared.ids.Tag.{Tag}
-use Rattle.cd_base.specs.declared.ids.UserId.{UserId}
-use Rattle.cd_base.specs.declared.ids.Version.{Version}
-use Rattle.cd_base.specs.declared.shape.Shape.{Shape}
-use Rattle.cd_base.specs.declared.rooms.Room.TheVariants as names
-use Rattle.journal_start.specs.declared.rooms.Rooms.{Rooms}
+use Rattle.journal_start.specs.CdBase.ids.Fp.{Fp}
+use Rattle.journal_start.specs.CdBase.ids.Tag.{Tag}
+use Rattle.journal_start.specs.CdBase.ids.UserId.{UserId}
+use Rattle.journal_start.specs.CdBase.ids.Version.{Version}
+use Rattle.journal_start.specs.CdBase.shape.Shape.{Shape}
+use Rattle.journal_start.specs.CdBase.rooms.Room.TheVariants as names
+use Rattle.journal_start.specs.declared.rooms.UserRooms.{UserRooms}
 use Rattle.journal_start.specs.Ranges.{usual_rooms}
 use Rattle.messages.specs.declared.request.Request.TheVariants as requests
 use Rattle.messages.specs.declared.reply.Reply.TheVariants as replies
@@ -23,7 +23,7 @@ use Rattle.user_dedup.specs.declared.command.Command.{Command}
 use Rattle.user_dedup.specs.declared.command.Command.TheVariants as commands
 use Rattle.user_dedup.specs.Cloud.{view_after, user_view, strings_in, held_string, held_bytes, counted}
 use Rattle.user_dedup.specs.Dedup.{answer_by_view, answer_over}
-use Rattle.user_dedup.specs.Spending.{Spent, nothing, full_for, files_of, spent_of, spent_by_all, UsesWithin}
+use Rattle.user_dedup.specs.Spending.{SpentByUser, nothing, full_for, files_of, spent_of, spent_by_all, UsesWithin}
 use Rattle.user_dedup.specs.Compact.{users_in, sorted_fps, in_parts, user_at, commit_at, compact}
 use Rattle.user_dedup.proofs.Views.{own_adds}
 
@@ -47,7 +47,7 @@ s11 = replicate 11 7
 
 -- ---- rooms of a user
 
-abbrev rooms_of : ℕ → ℕ → ℕ → ℕ → ℕ → Rooms
+abbrev rooms_of : ℕ → ℕ → ℕ → ℕ → ℕ → UserRooms
 rooms_of users shares recipes owners files = record { users = users; shares = shares; recipes = recipes; owners = owners; files = files }
 
 -- room for 10 bytes of shares, and for 11
@@ -134,17 +134,17 @@ module _ (shape : Shape) (r q : List ℕ) (names_r : fps_of shape r ≡ fingerpr
 
   large_enough : length r ≡ 61 → UsesWithin shape (rooms_of 16 1000 1000 10 10) (compact shape stored) (user 7)
   large_enough long = record {
-    owners = let n = ap (λ (x : Spent). x.owners) spent_kept in omega (arith, n);
-    shares = let n = ap (λ (x : Spent). x.shares) spent_kept in omega (arith, n);
-    recipes = let n = ap (λ (x : Spent). x.recipes) spent_kept in omega (arith, n, long);
+    owners = let n = ap (λ (x : SpentByUser). x.owners) spent_kept in omega (arith, n);
+    shares = let n = ap (λ (x : SpentByUser). x.shares) spent_kept in omega (arith, n);
+    recipes = let n = ap (λ (x : SpentByUser). x.recipes) spent_kept in omega (arith, n, long);
     files = omega (arith, files_kept);
   }
 
   too_large : UsesWithin shape (rooms_of 16 10 1000 10 10) (compact shape stored) (user 7) → ⊥
-  too_large within = let n = ap (λ (x : Spent). x.shares) spent_kept in let few = within.shares in omega (arith, n, few)
+  too_large within = let n = ap (λ (x : SpentByUser). x.shares) spent_kept in let few = within.shares in omega (arith, n, few)
 
   without_room : UsesWithin shape (rooms_of 7 1000 1000 10 10) (compact shape stored) (user 7) → ⊥
-  without_room within = let n = ap (λ (x : Spent). x.owners) spent_kept in let few = within.owners in omega (arith, n, few)
+  without_room within = let n = ap (λ (x : SpentByUser). x.owners) spent_kept in let few = within.owners in omega (arith, n, few)
 
   -- the second file's share is there
   known_first : (answer_over shape 0 stored (requests.Query (user 7) (fingerprint s11 ∷ []))).reply ≡ (replies.Known (1 ∷ []))

@@ -5,13 +5,13 @@ use Rattle.std.specs.List.{Contains, flat_map}
 use Rattle.std.proofs.lemmas.Bool.{cases_eq, false_from_ne_true}
 use Rattle.std.proofs.lemmas.List.{length-map}
 use Rattle.std.proofs.lemmas.List.Elements.{All-contains, Contains-push_cases, Contains-append_left, Contains-append_right}
-use Rattle.cd_base.specs.declared.ids.Fp.{Fp}
-use Rattle.cd_base.specs.declared.ids.Tag.{Tag}
-use Rattle.cd_base.specs.declared.ids.UserId.{UserId}
-use Rattle.cd_base.specs.declared.ids.Version.{Version}
-use Rattle.cd_base.specs.declared.shape.Shape.{Shape}
-use Rattle.message_fields.specs.Fingerprints.{IsBatch}
-use Rattle.message_fields.specs.Shares.{IsShare, AreShares}
+use Rattle.journal_start.specs.CdBase.ids.Fp.{Fp}
+use Rattle.journal_start.specs.CdBase.ids.Tag.{Tag}
+use Rattle.journal_start.specs.CdBase.ids.UserId.{UserId}
+use Rattle.journal_start.specs.CdBase.ids.Version.{Version}
+use Rattle.journal_start.specs.CdBase.shape.Shape.{Shape}
+use Rattle.journal_start.specs.MessageFields.Fingerprints.{IsBatch}
+use Rattle.journal_start.specs.MessageFields.Shares.{IsShare, AreShares}
 use Rattle.messages.specs.Requests.{FitsRequest}
 use Rattle.messages.specs.declared.request.Request.{Request}
 use Rattle.messages.specs.declared.request.Request.TheVariants as requests

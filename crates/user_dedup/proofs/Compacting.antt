@@ -5,11 +5,11 @@ use Rattle.std.specs.List.{Contains, flat_map}
 use Rattle.std.proofs.lemmas.Bool.{cases_eq, ne_eqb}
 use Rattle.std.proofs.lemmas.List.Elements.{filter-append, Contains-append_left, Contains-append_right, Contains-append_cases}
 use Rattle.std.proofs.lemmas.Grind.{fold-append}
-use Rattle.cd_base.specs.declared.ids.Fp.{Fp}
-use Rattle.cd_base.specs.declared.ids.Tag.{Tag}
-use Rattle.cd_base.specs.declared.ids.UserId.{UserId}
-use Rattle.cd_base.specs.declared.ids.Version.{Version}
-use Rattle.cd_base.specs.declared.shape.Shape.{Shape}
+use Rattle.journal_start.specs.CdBase.ids.Fp.{Fp}
+use Rattle.journal_start.specs.CdBase.ids.Tag.{Tag}
+use Rattle.journal_start.specs.CdBase.ids.UserId.{UserId}
+use Rattle.journal_start.specs.CdBase.ids.Version.{Version}
+use Rattle.journal_start.specs.CdBase.shape.Shape.{Shape}
 use Rattle.user_dedup.specs.declared.file_list.FileEntry.{FileEntry}
 use Rattle.user_dedup.specs.declared.view.View.{View}
 use Rattle.user_dedup.specs.Cloud.{fingerprint, has_fingerprint, no_view}

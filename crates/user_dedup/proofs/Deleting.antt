@@ -5,19 +5,19 @@ use Rattle.std.specs.List.{Contains}
 use Rattle.std.specs.Option.{option_or}
 use Rattle.std.proofs.lemmas.Bool.{cases_eq, or_left, or_right, or_cases, not-true, not_from_false, false_from_ne_true}
 use Rattle.std.proofs.lemmas.List.Folds.{find-append}
-use Rattle.cd_base.specs.declared.ids.Fp.{Fp}
-use Rattle.cd_base.specs.declared.ids.Tag.{Tag}
-use Rattle.cd_base.specs.declared.ids.UserId.{UserId}
-use Rattle.cd_base.specs.declared.ids.Version.{Version}
-use Rattle.cd_base.specs.declared.shape.Shape.{Shape}
+use Rattle.journal_start.specs.CdBase.ids.Fp.{Fp}
+use Rattle.journal_start.specs.CdBase.ids.Tag.{Tag}
+use Rattle.journal_start.specs.CdBase.ids.UserId.{UserId}
+use Rattle.journal_start.specs.CdBase.ids.Version.{Version}
+use Rattle.journal_start.specs.CdBase.shape.Shape.{Shape}
 use Rattle.user_dedup.specs.declared.file_list.FileEntry.{FileEntry}
 use Rattle.user_dedup.specs.declared.view.View.{View}
 use Rattle.user_dedup.specs.Owning.{is_among}
 use Rattle.user_dedup.specs.Pages.{key_of, is_at, entry_at, AreApart}
 use Rattle.user_dedup.specs.Requests.{fps_of}
 use Rattle.user_dedup.proofs.Owned.{among_contains, contains_among}
-pub use Rattle.user_dedup.proofs.Entries.{at_its_key, its_key}
-use Rattle.user_dedup.proofs.Entries.{found_entry}
+pub use Rattle.user_dedup.proofs.EntryLists.{at_its_key, its_key}
+use Rattle.user_dedup.proofs.EntryLists.{found_entry}
 use Rattle.user_dedup.specs.declared.command.Command.{Command}
 use Rattle.user_dedup.specs.declared.command.Command.TheVariants as commands
 use Rattle.user_dedup.specs.Cloud.{user_of, view_after, user_view, named_in, named_by, without_key, without_entry, deletion, IsNamedBeside}

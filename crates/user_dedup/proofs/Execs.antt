@@ -1,14 +1,14 @@
 -- What executing a request keeps.
 use Rattle.std.proofs.Common.{◌≡◌, ℕ, true, List, [], ◌∷◌, ◌++◌, Option, Some, None, refl, sym, ◌∙◌, subst, inl, inr, ◌⊎◌, append-nil}
 use Rattle.std.specs.Prelude.{IsSomeAnd, option_to_list}
-use Rattle.cd_base.specs.declared.shape.Shape.{Shape}
+use Rattle.journal_start.specs.CdBase.shape.Shape.{Shape}
 use Rattle.messages.specs.declared.request.Request.{Request}
 use Rattle.messages.specs.declared.reply.Reply.{Reply}
 use Rattle.messages.specs.Requests.{FitsRequest}
 use Rattle.user_dedup.specs.declared.command.Command.{Command}
 use Rattle.user_dedup.specs.Requests.{HasRecipe}
 use Rattle.user_dedup.specs.Dedup.{Outcome, answer_over, IsSound, Added, FullRoom, room_for, by_room}
-use Rattle.user_dedup.specs.Exec.{Peer, Answers, IsCut, Stays, Exec, StandsSound, served}
+use Rattle.user_dedup.specs.Exec.{Peer, Answers, IsCut, KeepsPeer, Exec, StandsSound, served}
 
 adds_less : (outcome : Outcome) (r : Option FullRoom) → ((by_room outcome r).adds ≡ None) ⊎ ((by_room outcome r).adds ≡ outcome.adds)
 adds_less outcome None = inr refl
@@ -45,7 +45,7 @@ answers_sound shape cloud full p q request reply sound fits has a =
     let now = subst (IsSound shape cloud) (sym a.list) (sound_next shape cloud full a.before request _ (sound a.before a.settled) fits has refl) in
     settled_sound shape cloud q None a.pending now (subst (IsSound shape cloud) (sym (append-nil q.list)) now)
 
-stays_sound : (shape : Shape) (cloud : ℕ) (p q : Peer) → StandsSound shape cloud p → Stays p q → StandsSound shape cloud q
+stays_sound : (shape : Shape) (cloud : ℕ) (p q : Peer) → StandsSound shape cloud p → KeepsPeer p q → StandsSound shape cloud q
 stays_sound shape cloud p q sound stays list (inl same) = sound list (inl (same ∙ stays.list))
 stays_sound shape cloud p q sound stays list (inr some) =
     sound list (inr (subst (λ (l : List Command). IsSomeAnd p.pending (λ command. list ≡ l ++ command ∷ [])) stays.list
@@ -58,7 +58,7 @@ cut_sound shape cloud full p q request sound fits has cut =
     settled_sound shape cloud q (served shape cloud full q.list request).adds cut.pending now (sound_next shape cloud full q.list request _ now fits has refl)
 
 fails_sound : (shape : Shape) (cloud : ℕ) (full : List Command → Command → Option FullRoom) (p q : Peer) (request : Request)
-    → StandsSound shape cloud p → FitsRequest request → HasRecipe shape request → Stays p q ⊎ IsCut (served shape cloud full) p request q → StandsSound shape cloud q
+    → StandsSound shape cloud p → FitsRequest request → HasRecipe shape request → KeepsPeer p q ⊎ IsCut (served shape cloud full) p request q → StandsSound shape cloud q
 fails_sound shape cloud full p q request sound fits has (inl stays) = stays_sound shape cloud p q sound stays
 fails_sound shape cloud full p q request sound fits has (inr cut) = cut_sound shape cloud full p q request sound fits has cut
 

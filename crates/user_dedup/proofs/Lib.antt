@@ -3,7 +3,7 @@ mod CompactRows
 pub mod CompactSound
 pub mod Compacting
 pub mod Deleting
-pub mod Entries
+pub mod EntryLists
 pub mod Execs
 pub mod Filtered
 pub mod Growing
@@ -20,3 +20,7 @@ pub mod Spending
 pub mod Suiting
 pub mod Views
 pub mod Within
+pub mod Messages
+pub mod MessageFields
+pub mod RecipeLaws
+pub mod Frames

@@ -4,7 +4,7 @@ use Rattle.std.specs.Prelude.{slice_get}
 use Rattle.std.specs.List.{Contains}
 use Rattle.std.proofs.lemmas.Bool.{false_from_ne_true}
 use Rattle.std.proofs.lemmas.List.Elements.{Contains-append_left, Contains-push, Contains-push_cases}
-use Rattle.cd_base.specs.declared.ids.Fp.{Fp}
+use Rattle.journal_start.specs.CdBase.ids.Fp.{Fp}
 use Rattle.user_dedup.specs.Cloud.{fingerprint}
 use Rattle.user_dedup.specs.Owning.{is_among, new_strings, AreNew}
 use Rattle.user_dedup.proofs.Owned.{among_contains, lacks_among, contains_here, contains_later, contains_nothing, contains_cases}

@@ -8,9 +8,9 @@ use Rattle.std.specs.Cmp.{IsTotalOrder}
 use Rattle.std.specs.Cmp.Lexicographic.{slice_cmp}
 use Rattle.std.proofs.lemmas.Cmp.{nat_cmp_total, nat_list_cmp_total, on_total, then_total, tied_itself}
 use Rattle.std.proofs.lemmas.List.Elements.{Contains-push_cases}
-use Rattle.cd_base.specs.declared.ids.Fp.{Fp}
-use Rattle.message_fields.specs.Keys.{key_cmp, AreAbove}
-use Rattle.cd_base.specs.Order.{fp_cmp}
+use Rattle.journal_start.specs.CdBase.ids.Fp.{Fp}
+use Rattle.journal_start.specs.MessageFields.Keys.{key_cmp, AreAbove}
+use Rattle.journal_start.specs.CdBase.Order.{fp_cmp}
 use Rattle.user_dedup.specs.Pages.{sorted_keys}
 use Rattle.user_dedup.proofs.Owned.{contains_here, contains_later, contains_nothing, contains_cases}
 use Rattle.user_dedup.proofs.Pages.{sorted_above}

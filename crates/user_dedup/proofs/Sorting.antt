@@ -8,11 +8,11 @@ use Rattle.std.specs.Cmp.Lexicographic.{slice_cmp}
 use Rattle.std.specs.FinMap.{nat_cmp-IsAntisymmetric, slice_cmp-IsAntisymmetric}
 use Rattle.std.proofs.lemmas.Bool.{eqb-true, cases_lt}
 use Rattle.std.proofs.lemmas.Bool.Decides.{Decides-ltb}
-use Rattle.cd_base.specs.declared.ids.Fp.{Fp}
-use Rattle.cd_base.specs.declared.ids.Tag.{Tag}
-use Rattle.cd_base.specs.declared.ids.Version.{Version}
-use Rattle.message_fields.specs.Keys.{key_cmp}
-use Rattle.cd_base.specs.Order.{fp_cmp, fp_exact}
+use Rattle.journal_start.specs.CdBase.ids.Fp.{Fp}
+use Rattle.journal_start.specs.CdBase.ids.Tag.{Tag}
+use Rattle.journal_start.specs.CdBase.ids.Version.{Version}
+use Rattle.journal_start.specs.MessageFields.Keys.{key_cmp}
+use Rattle.journal_start.specs.CdBase.Order.{fp_cmp, fp_exact}
 use Rattle.user_dedup.specs.Pages.{with_key, sorted_keys}
 use Rattle.user_dedup.proofs.Owned.{contains_here, contains_later, contains_nothing, contains_cases}
 use Rattle.user_dedup.specs.Compact.{with_number, with_fp, sorted_fps, parts_by, in_parts}

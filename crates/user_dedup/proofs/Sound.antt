@@ -5,10 +5,10 @@ use Rattle.std.specs.List.{Contains}
 use Rattle.std.proofs.lemmas.Bool.{cases_eq}
 use Rattle.std.proofs.lemmas.List.{length-append}
 use Rattle.std.proofs.lemmas.List.Elements.{All-weaker, All-contains, Contains-get_or, Contains-append_left, Contains-push_cases}
-use Rattle.cd_base.specs.declared.ids.Tag.{Tag}
-use Rattle.cd_base.specs.declared.ids.UserId.{UserId}
-use Rattle.cd_base.specs.declared.ids.Version.{Version}
-use Rattle.cd_base.specs.declared.shape.Shape.{Shape}
+use Rattle.journal_start.specs.CdBase.ids.Tag.{Tag}
+use Rattle.journal_start.specs.CdBase.ids.UserId.{UserId}
+use Rattle.journal_start.specs.CdBase.ids.Version.{Version}
+use Rattle.journal_start.specs.CdBase.shape.Shape.{Shape}
 use Rattle.messages.specs.declared.request.Request.TheVariants as requests
 use Rattle.messages.specs.declared.request.Request.{Request}
 use Rattle.user_dedup.specs.declared.file_list.FileEntry.{FileEntry}
@@ -17,8 +17,8 @@ use Rattle.user_dedup.specs.Owning.{first_lacking, FindsLacking, new_strings}
 use Rattle.user_dedup.specs.Pages.{entry_at, AreApart}
 use Rattle.user_dedup.specs.Requests.{fps_of, asker}
 use Rattle.user_dedup.proofs.Owned.{finds, contains_nothing}
-pub use Rattle.user_dedup.proofs.Entries.{found_entry, no_entry}
-use Rattle.user_dedup.proofs.Entries.{apart_push}
+pub use Rattle.user_dedup.proofs.EntryLists.{found_entry, no_entry}
+use Rattle.user_dedup.proofs.EntryLists.{apart_push}
 use Rattle.user_dedup.specs.declared.command.Command.{Command}
 use Rattle.user_dedup.specs.declared.command.Command.TheVariants as commands
 use Rattle.user_dedup.specs.Cloud.{fingerprint, no_view, user_of, view_after, user_view, without_entry, deletion}

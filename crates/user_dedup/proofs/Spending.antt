@@ -6,19 +6,19 @@ use Rattle.std.specs.Option.{option_or}
 use Rattle.std.proofs.lemmas.List.Sums.{sum_by-cons}
 use Rattle.std.proofs.lemmas.List.Elements.{filter-append, Contains-append_left}
 use Rattle.std.proofs.lemmas.Grind.{flat_map-append}
-use Rattle.cd_base.specs.declared.ids.Tag.{Tag}
-use Rattle.cd_base.specs.declared.ids.UserId.{UserId}
-use Rattle.cd_base.specs.declared.ids.Version.{Version}
-use Rattle.cd_base.specs.declared.rooms.Room.TheVariants as names
-use Rattle.cd_base.specs.declared.shape.Shape.{Shape}
-use Rattle.journal_start.specs.declared.rooms.Rooms.{Rooms}
+use Rattle.journal_start.specs.CdBase.ids.Tag.{Tag}
+use Rattle.journal_start.specs.CdBase.ids.UserId.{UserId}
+use Rattle.journal_start.specs.CdBase.ids.Version.{Version}
+use Rattle.journal_start.specs.CdBase.rooms.Room.TheVariants as names
+use Rattle.journal_start.specs.CdBase.shape.Shape.{Shape}
+use Rattle.journal_start.specs.declared.rooms.UserRooms.{UserRooms}
 use Rattle.user_dedup.specs.Cloud.{fingerprint, has_fingerprint, no_view}
 use Rattle.user_dedup.specs.declared.view.View.{View}
 use Rattle.user_dedup.proofs.Owned.{contains_here, contains_later}
 use Rattle.user_dedup.specs.declared.command.Command.{Command}
 use Rattle.user_dedup.specs.declared.command.Command.TheVariants as commands
 use Rattle.user_dedup.specs.Cloud.{user_of, is_of, commands_of, strings_of, strings_in, recipes_of, held_bytes, view_after, deletion}
-use Rattle.user_dedup.specs.Spending.{Spent, nothing, refusal, held_len, spent_in, spent_of, limits_of, files_of, files_limit, full_for, HoldsItself, UsesWithin, IsWithin}
+use Rattle.user_dedup.specs.Spending.{SpentByUser, nothing, refusal, held_len, spent_in, spent_of, limits_of, files_of, files_limit, full_for, HoldsItself, UsesWithin, IsWithin}
 use Rattle.user_dedup.proofs.Views.{strings_among, sent_is_held, held_more}
 
 -- ---- strings that are held as they were sent
@@ -52,7 +52,7 @@ pub commands_more : (user : UserId) (list more : List Command) → commands_of u
 commands_more user list more = filter-append (is_of user) list more
 
 -- In two lists in which a user has the same commands, the same command of the user finds the same room full.
-pub full_alone : (shape : Shape) (rooms : Rooms) (one two : List Command) (command : Command)
+pub full_alone : (shape : Shape) (rooms : UserRooms) (one two : List Command) (command : Command)
     → commands_of (user_of command) one ≡ commands_of (user_of command) two
     → HoldsItself (one ++ command ∷ []) → HoldsItself (two ++ command ∷ [])
     → full_for shape rooms one command ≡ full_for shape rooms two command
@@ -77,7 +77,7 @@ full_alone shape rooms one two (commands.Commit user tag version recipe) same g1
     seen l = fold (view_after shape) no_view l
 full_alone shape rooms one two (commands.Delete user tag version) same g1 g2 = refl
 
-pub never_full : (shape : Shape) (rooms : Rooms) (list : List Command) (user : UserId) (key : Tag × Version) → full_for shape rooms list (deletion user key) ≡ None
+pub never_full : (shape : Shape) (rooms : UserRooms) (list : List Command) (user : UserId) (key : Tag × Version) → full_for shape rooms list (deletion user key) ≡ None
 unfolding full_for
 never_full shape rooms list user key = refl
 
@@ -111,7 +111,7 @@ own_recipes_same list user other key =
     by_test false = append-nil (flat_map recipes_of (commands_of other list))
 
 -- the numbers, by all strings, and by a user's own strings and recipes
-abbrev numbers_of : List (List ℕ) → List (List ℕ) → List (List ℕ) → Spent
+abbrev numbers_of : List (List ℕ) → List (List ℕ) → List (List ℕ) → SpentByUser
 numbers_of all strings recipes = record {
   owners = length strings;
   shares = sum_by (λ (s : List ℕ). length (unwrap_or (find (has_fingerprint (fingerprint s)) all) [])) strings;
@@ -131,15 +131,15 @@ no_front : (before after : List Command) → [] ≡ before ++ after → before �
 no_front [] after e = refl
 no_front (c ∷ before) after e = absurd (let no : [] ≡ c ∷ (before ++ after) = e in cc)
 
-uses_none : (shape : Shape) (rooms : Rooms) (user : UserId) → UsesWithin shape rooms [] user
+uses_none : (shape : Shape) (rooms : UserRooms) (user : UserId) → UsesWithin shape rooms [] user
 uses_none shape rooms user = record { owners = omega arith; shares = omega arith; recipes = omega arith; files = omega arith }
 
-pub none_within : (shape : Shape) (rooms : Rooms) → IsWithin shape rooms []
+pub none_within : (shape : Shape) (rooms : UserRooms) → IsWithin shape rooms []
 none_within shape rooms before after is user = subst (λ (l : List Command). UsesWithin shape rooms l user) (sym (no_front before after is)) (uses_none shape rooms user)
 
-pub front_within : (shape : Shape) (rooms : Rooms) (list more : List Command) → IsWithin shape rooms (list ++ more) → IsWithin shape rooms list
+pub front_within : (shape : Shape) (rooms : UserRooms) (list more : List Command) → IsWithin shape rooms (list ++ more) → IsWithin shape rooms list
 front_within shape rooms list more within before after is user =
     within before (after ++ more) (ap (λ (l : List Command). l ++ more) is ∙ append_assoc before after more) user
 
-pub each_within : (shape : Shape) (rooms : Rooms) (list : List Command) (user : UserId) → IsWithin shape rooms list → UsesWithin shape rooms list user
+pub each_within : (shape : Shape) (rooms : UserRooms) (list : List Command) (user : UserId) → IsWithin shape rooms list → UsesWithin shape rooms list user
 each_within shape rooms list user within = within list [] (sym (append-nil list)) user

@@ -7,13 +7,13 @@ use Rattle.std.proofs.lemmas.Option.{slice_get_within}
 use Rattle.std.proofs.lemmas.List.{length-map}
 use Rattle.std.proofs.lemmas.List.Elements.{All-nil, All-append, All-contains, All-map, All-weaker, Contains-get_or, Contains-push_cases}
 use Rattle.std.proofs.lemmas.Grind.{flat_map-append}
-use Rattle.cd_base.specs.declared.ids.Fp.{Fp}
-use Rattle.cd_base.specs.declared.ids.Tag.{Tag}
-use Rattle.cd_base.specs.declared.ids.UserId.{UserId}
-use Rattle.cd_base.specs.declared.ids.Version.{Version}
-use Rattle.cd_base.specs.declared.shape.Shape.{Shape}
-use Rattle.message_fields.specs.Shares.{IsShare}
-use Rattle.message_fields.specs.Keys.{IsKey, AreAbove, AreKeys}
+use Rattle.journal_start.specs.CdBase.ids.Fp.{Fp}
+use Rattle.journal_start.specs.CdBase.ids.Tag.{Tag}
+use Rattle.journal_start.specs.CdBase.ids.UserId.{UserId}
+use Rattle.journal_start.specs.CdBase.ids.Version.{Version}
+use Rattle.journal_start.specs.CdBase.shape.Shape.{Shape}
+use Rattle.journal_start.specs.MessageFields.Shares.{IsShare}
+use Rattle.journal_start.specs.MessageFields.Keys.{IsKey, AreAbove, AreKeys}
 use Rattle.recipe.specs.declared.recipe.Recipe.{Recipe}
 use Rattle.recipe.specs.declared.items.Item.{Item}
 use Rattle.recipe.specs.Spelling.{IsRecipe}

@@ -7,9 +7,9 @@ use Rattle.std.proofs.lemmas.Bool.{ne_eqb}
 use Rattle.std.proofs.lemmas.List.Folds.{find-append}
 use Rattle.std.proofs.lemmas.List.Elements.{filter-append, Contains-append_left, Contains-append_right, Contains-append_cases}
 use Rattle.std.proofs.lemmas.Grind.{flat_map-append, fold-append}
-use Rattle.cd_base.specs.declared.ids.Fp.{Fp}
-use Rattle.cd_base.specs.declared.ids.UserId.{UserId}
-use Rattle.cd_base.specs.declared.shape.Shape.{Shape}
+use Rattle.journal_start.specs.CdBase.ids.Fp.{Fp}
+use Rattle.journal_start.specs.CdBase.ids.UserId.{UserId}
+use Rattle.journal_start.specs.CdBase.shape.Shape.{Shape}
 use Rattle.user_dedup.specs.declared.view.View.{View}
 use Rattle.user_dedup.specs.Owning.{is_among}
 use Rattle.user_dedup.specs.Pages.{entry_at}

@@ -7,13 +7,13 @@ use Rattle.std.proofs.lemmas.Bool.{cases_eq, cases_lt, ne_eqb}
 use Rattle.std.proofs.lemmas.Bool.Decides.{Decides-ltb}
 use Rattle.std.proofs.lemmas.List.Sums.{sum_by-append}
 use Rattle.std.proofs.lemmas.Grind.{flat_map-append}
-use Rattle.cd_base.specs.declared.ids.Tag.{Tag}
-use Rattle.cd_base.specs.declared.ids.UserId.{UserId}
-use Rattle.cd_base.specs.declared.ids.Version.{Version}
-use Rattle.cd_base.specs.declared.rooms.Room.{Room}
-use Rattle.cd_base.specs.declared.rooms.Room.TheVariants as names
-use Rattle.cd_base.specs.declared.shape.Shape.{Shape}
-use Rattle.journal_start.specs.declared.rooms.Rooms.{Rooms}
+use Rattle.journal_start.specs.CdBase.ids.Tag.{Tag}
+use Rattle.journal_start.specs.CdBase.ids.UserId.{UserId}
+use Rattle.journal_start.specs.CdBase.ids.Version.{Version}
+use Rattle.journal_start.specs.CdBase.rooms.Room.{Room}
+use Rattle.journal_start.specs.CdBase.rooms.Room.TheVariants as names
+use Rattle.journal_start.specs.CdBase.shape.Shape.{Shape}
+use Rattle.journal_start.specs.declared.rooms.UserRooms.{UserRooms}
 use Rattle.user_dedup.specs.declared.file_list.FileEntry.{FileEntry}
 use Rattle.user_dedup.specs.declared.view.View.{View}
 use Rattle.user_dedup.specs.Cloud.{fingerprint}
@@ -22,7 +22,7 @@ use Rattle.user_dedup.specs.Pages.{is_at}
 use Rattle.user_dedup.specs.declared.command.Command.{Command}
 use Rattle.user_dedup.specs.declared.command.Command.TheVariants as commands
 use Rattle.user_dedup.specs.Cloud.{user_of, is_of, commands_of, strings_of, strings_in, recipes_of, held_bytes, user_view}
-use Rattle.user_dedup.specs.Spending.{Spent, refusal, held_len, spent_of, limits_of, files_of, files_limit, full_for, UsesWithin, IsWithin}
+use Rattle.user_dedup.specs.Spending.{SpentByUser, refusal, held_len, spent_of, limits_of, files_of, files_limit, full_for, UsesWithin, IsWithin}
 use Rattle.user_dedup.proofs.Views.{own_adds, others_stay, strings_among, sent_is_held, held_more}
 use Rattle.user_dedup.proofs.Spending.{sums_alike, commands_more, deletes_nothing_spent}
 
@@ -83,7 +83,7 @@ grown a b limit le = omega (arith, le)
 
 -- ---- another user's command
 
-uses_other : (shape : Shape) (rooms : Rooms) (list : List Command) (command : Command) (user : UserId) → (user_of command).0 ≢ user.0
+uses_other : (shape : Shape) (rooms : UserRooms) (list : List Command) (command : Command) (user : UserId) → (user_of command).0 ≢ user.0
     → UsesWithin shape rooms list user → UsesWithin shape rooms (list ++ command ∷ []) user
 uses_other shape rooms list command user other u =
     let same : commands_of user (list ++ command ∷ []) ≡ commands_of user list =
@@ -99,7 +99,7 @@ uses_other shape rooms list command user other u =
 
 -- ---- the user's own
 
-abbrev Fits : Shape → Rooms → List Command → Command → Type 0
+abbrev Fits : Shape → UserRooms → List Command → Command → Type 0
 Fits shape rooms list command = UsesWithin shape rooms (list ++ command ∷ []) (user_of command)
 
 own_more : (list : List Command) (command : Command) → commands_of (user_of command) (list ++ command ∷ []) ≡ commands_of (user_of command) list ++ command ∷ []
@@ -115,7 +115,7 @@ recipes_more : (list : List Command) (command : Command)
     → flat_map recipes_of (commands_of (user_of command) (list ++ command ∷ [])) ≡ flat_map recipes_of (commands_of (user_of command) list) ++ (recipes_of command ++ [])
 recipes_more list command = ap (flat_map recipes_of) (own_more list command) ∙ flat_map-append recipes_of (commands_of (user_of command) list) (command ∷ [])
 
-put_fits : (shape : Shape) (rooms : Rooms) (list : List Command) (user : UserId) (shares : List (List ℕ))
+put_fits : (shape : Shape) (rooms : UserRooms) (list : List Command) (user : UserId) (shares : List (List ℕ))
     → UsesWithin shape rooms list user → full_for shape rooms list (commands.Put user shares) ≡ None → Fits shape rooms list (commands.Put user shares)
 unfolding full_for
 put_fits shape rooms list user shares u free =
@@ -134,7 +134,7 @@ put_fits shape rooms list user shares u free =
       files = at_most _ _ _ (ap (λ (v : View). length v.files) (own_adds shape list put user refl)) u.files;
     }
 
-commit_fits : (shape : Shape) (rooms : Rooms) (list : List Command) (user : UserId) (tag : Tag) (version : Version) (recipe : List ℕ)
+commit_fits : (shape : Shape) (rooms : UserRooms) (list : List Command) (user : UserId) (tag : Tag) (version : Version) (recipe : List ℕ)
     → UsesWithin shape rooms list user → full_for shape rooms list (commands.Commit user tag version recipe) ≡ None
     → Fits shape rooms list (commands.Commit user tag version recipe)
 unfolding full_for
@@ -174,7 +174,7 @@ fewer p (x ∷ xs) = by_test (p x) (fewer p xs)
 below : (a b limit : ℕ) → a ≤ b → b ≤ limit → a ≤ limit
 below a b limit one two = omega (arith, one, two)
 
-delete_fits : (shape : Shape) (rooms : Rooms) (list : List Command) (user : UserId) (tag : Tag) (version : Version)
+delete_fits : (shape : Shape) (rooms : UserRooms) (list : List Command) (user : UserId) (tag : Tag) (version : Version)
     → UsesWithin shape rooms list user → Fits shape rooms list (commands.Delete user tag version)
 delete_fits shape rooms list user tag version u =
     let delete = commands.Delete user tag version in
@@ -182,13 +182,13 @@ delete_fits shape rooms list user tag version u =
     let files = (user_view shape list user).files in
     let left = fewer (λ (e : FileEntry). not (is_at (tag, version) e)) files in
     record {
-      owners = at_most _ _ _ (ap (λ (s : Spent). s.owners) spent) u.owners;
-      shares = at_most _ _ _ (ap (λ (s : Spent). s.shares) spent) u.shares;
-      recipes = at_most _ _ _ (ap (λ (s : Spent). s.recipes) spent) u.recipes;
+      owners = at_most _ _ _ (ap (λ (s : SpentByUser). s.owners) spent) u.owners;
+      shares = at_most _ _ _ (ap (λ (s : SpentByUser). s.shares) spent) u.shares;
+      recipes = at_most _ _ _ (ap (λ (s : SpentByUser). s.recipes) spent) u.recipes;
       files = at_most _ _ _ (ap (λ (v : View). length v.files) (own_adds shape list delete user refl)) (below _ _ _ left u.files);
     }
 
-own_fits : (shape : Shape) (rooms : Rooms) (list : List Command) (command : Command) → UsesWithin shape rooms list (user_of command)
+own_fits : (shape : Shape) (rooms : UserRooms) (list : List Command) (command : Command) → UsesWithin shape rooms list (user_of command)
     → full_for shape rooms list command ≡ None → Fits shape rooms list command
 own_fits shape rooms list (commands.Put user shares) u free = put_fits shape rooms list user shares u free
 own_fits shape rooms list (commands.Commit user tag version recipe) u free = commit_fits shape rooms list user tag version recipe u free
@@ -196,7 +196,7 @@ own_fits shape rooms list (commands.Delete user tag version) u free = delete_fit
 
 -- ---- lists
 
-uses_next : (shape : Shape) (rooms : Rooms) (list : List Command) (command : Command) (user : UserId)
+uses_next : (shape : Shape) (rooms : UserRooms) (list : List Command) (command : Command) (user : UserId)
     → ((u : UserId) → UsesWithin shape rooms list u) → full_for shape rooms list command ≡ None → UsesWithin shape rooms (list ++ command ∷ []) user
 uses_next shape rooms list command user each free =
     elim (cases_eq (user_of command).0 user.0) [
@@ -228,7 +228,7 @@ front_cases (y ∷ xs) x (b ∷ bs) more e =
       | inr rest ↦ inr (rest.0, λ i. head i ∷ rest.1 i)
     ]
 
-pub next_within : (shape : Shape) (rooms : Rooms) (list : List Command) (command : Command) → IsWithin shape rooms list
+pub next_within : (shape : Shape) (rooms : UserRooms) (list : List Command) (command : Command) → IsWithin shape rooms list
     → full_for shape rooms list command ≡ None → IsWithin shape rooms (list ++ command ∷ [])
 next_within shape rooms list command within free before after is user =
     elim (front_cases list command before after is) [

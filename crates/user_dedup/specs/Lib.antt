@@ -1,10 +1,17 @@
+pub mod CdBase
+pub mod CdEdges
 pub mod Cloud
 pub mod Compact
 pub mod Dedup
 pub mod Exec
+pub mod Frames
+pub mod JournalStart
 pub mod Link
+pub mod MessageFields
+pub mod Messages
 pub mod Owning
 pub mod Pages
+pub mod Recipe
 pub mod Requests
 pub mod Served
 pub mod Spending

@@ -1,7 +1,7 @@
 -- What a link tells of its clouds, and what an ask does.
 use Rattle.std.specs.Prelude.{◌≡◌, ◌≢◌, ℕ, ◌⊎◌, Bool, IsTrue, List, [], ◌∷◌, ◌++◌, Option, Some, None, Result, Ok, Err, MatchResult, OnOk}
 use Rattle.std.specs.List.{Contains}
-use Rattle.cd_base.specs.declared.shape.Shape.{Shape}
+use Rattle.journal_start.specs.CdBase.shape.Shape.{Shape}
 use Rattle.messages.specs.declared.request.Request.{Request}
 use Rattle.messages.specs.declared.request.Request.TheVariants as requests
 use Rattle.messages.specs.Requests.{IsRequest}
@@ -10,7 +10,7 @@ use Rattle.messages.specs.declared.reply.Reply.TheVariants as replies
 use Rattle.messages.specs.Replies.{IsReply}
 use Rattle.user_dedup.specs.declared.command.Command.{Command}
 use Rattle.user_dedup.specs.Dedup.{Outcome, FullRoom}
-use Rattle.user_dedup.specs.Exec.{Peer, Exec, Stays, CountsOn, StandsSound, served}
+use Rattle.user_dedup.specs.Exec.{Peer, Exec, KeepsPeer, CountsOn, StandsSound, served}
 
 -- one ask that a link passed on: the cloud, the content, and the reply's content, or that it was lost
 pub record Exchange : Type 0 where
@@ -49,7 +49,8 @@ Does t cloud old = Exec (t.shape old) (t.told old cloud) (serves t old cloud)
 
 -- the ask was lost: the request before the cloud took it, or the reply behind it
 abbrev pub LosesAsk : {L : Type 0} → LinkTelling L → ℕ → L → Peer → Request → Peer → Type 0
-LosesAsk t cloud old p request q = (Stays p q × CountsOn p q) ⊎ ((answer : Reply) × Does t cloud old p request answer q)
+LosesAsk t cloud old p request q = (KeepsPeer p q × CountsOn p q)
+    ⊎ ((answer : Reply) × Does t cloud old p request answer q)
 
 -- From each state that the cloud stood for it goes on by this request, and this reply is its answer, or it goes on unheard where the
 -- ask was lost.

@@ -1,7 +1,7 @@
 -- Which fingerprints a user owns, and which of some strings are new to the user.
 use Rattle.std.specs.Prelude.{◌≡◌, ℕ, suc, Bool, List, [], ◌∷◌, ◌++◌, map, take, slice_get, bytes_eq, Option, Some, None, MatchOption, All, if◌then◌else◌}
 use Rattle.std.specs.List.{list_any, Contains}
-use Rattle.cd_base.specs.declared.ids.Fp.{Fp}
+use Rattle.journal_start.specs.CdBase.ids.Fp.{Fp}
 use Rattle.recipe.specs.declared.items.Item.{Item}
 use Rattle.user_dedup.specs.Strings.{fingerprint}
 

@@ -1,8 +1,8 @@
 -- Which content asks something of a store of some shape: requests, where the recipe of a Commit is one of that shape.
 use Rattle.std.specs.Prelude.{ℕ, ◌+◌, List, [], Result, Ok, Err}
-use Rattle.cd_base.specs.declared.ids.Fp.{Fp}
-use Rattle.cd_base.specs.declared.ids.UserId.{UserId}
-use Rattle.cd_base.specs.declared.shape.Shape.{Shape}
+use Rattle.journal_start.specs.CdBase.ids.Fp.{Fp}
+use Rattle.journal_start.specs.CdBase.ids.UserId.{UserId}
+use Rattle.journal_start.specs.CdBase.shape.Shape.{Shape}
 use Rattle.recipe.specs.declared.recipe.Recipe.{Recipe}
 use Rattle.recipe.specs.Spelling.{IsRecipe}
 use Rattle.recipe.specs.Reading.{recipe_at}

@@ -1,7 +1,6 @@
 //! Commands.
 
-use cd_base::{Bytes, Tag, UserId, Version};
-use message_fields::ShareList;
+use journal_start::{Bytes, ShareList, Tag, UserId, Version};
 
 /// What changed a cloud. A cloud is the list of its commands since its store was begun, in order; a migration or a reclaim puts
 /// a shorter list in its place, of which the users see the same.

@@ -1,14 +1,14 @@
 //! The laws of lists, views and replies, for the proofs of callers. The calls do nothing.
 
 ghost use Rattle.std.specs.Prelude.{◌≡◌, ◌≢◌, ◌↔◌, ◌<◌, ℕ, List, [], ◌∷◌, ◌++◌, IsTrue, IsSome, Some, None, Ok, true, Option, All, slice_get};
-ghost use Rattle.cd_base.specs.Reading.{AreBytes};
-ghost use Rattle.cd_base.specs.declared.ids.Tag.{Tag};
-ghost use Rattle.cd_base.specs.declared.ids.Version.{Version};
+ghost use Rattle.journal_start.specs.CdBase.Reading.{AreBytes};
+ghost use Rattle.journal_start.specs.CdBase.ids.Tag.{Tag};
+ghost use Rattle.journal_start.specs.CdBase.ids.Version.{Version};
 ghost use Rattle.messages.specs.Requests.{FitsRequest};
 ghost use Rattle.std.specs.List.{Contains, flat_map};
-ghost use Rattle.cd_base.specs.declared.ids.Fp.{Fp};
-ghost use Rattle.cd_base.specs.declared.ids.UserId.{UserId};
-ghost use Rattle.cd_base.specs.declared.shape.Shape.{Shape};
+ghost use Rattle.journal_start.specs.CdBase.ids.Fp.{Fp};
+ghost use Rattle.journal_start.specs.CdBase.ids.UserId.{UserId};
+ghost use Rattle.journal_start.specs.CdBase.shape.Shape.{Shape};
 ghost use Rattle.messages.specs.declared.request.Request.{Request};
 ghost use Rattle.user_dedup.specs.declared.command.Command.{Command};
 ghost use Rattle.user_dedup.specs.Cloud.{fingerprint, user_of, no_view, view_after, user_view, strings_of, held_string, without_entry, deletion, IsNamedBeside};

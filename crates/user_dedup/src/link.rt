@@ -2,13 +2,13 @@
 
 ghost use Rattle.std.specs.Prelude.{◌≡◌, ℕ, ◌≤◌, IsTrue, IsOk, OnErr, Ok, Err, length};
 ghost use Rattle.cd_edges.specs.Causes.{Rose};
-ghost use Rattle.frames.specs.Frames.{frame_limit};
+ghost use Rattle.messages.specs.Frames.Frames.{frame_limit};
 ghost use Rattle.messages.specs.declared.request.Request.{Request};
 ghost use Rattle.user_dedup.specs.Requests.{asked_at};
 ghost use Rattle.user_dedup.specs.Link.{LinkTelling, Talk, Asks, AsksNothing, TellsSound, LeavesOthers, Says, SaysNothingElse, exchange_of};
 
-use cd_base::CloudNo;
-use frames::ReplyBuf;
+use journal_start::CloudNo;
+use messages::ReplyBuf;
 
 /// A request or its reply was lost on the way. Whether the cloud took the request isn't known.
 #[derive(Clone, Copy, Debug, PartialEq, Eq)]

@@ -5,7 +5,7 @@ ghost use Rattle.std.specs.List.{Contains};
 ghost use Rattle.user_dedup.specs.Owning.{is_among, flags, first_lacking, FindsLacking, fps_in};
 
 use crate::View;
-use cd_base::{Bytes, Fp, Fps, NoMemory};
+use journal_start::{Bytes, Fp, Fps, NoMemory};
 use recipe::{Item, Recipe};
 
 // Whether the fingerprint is one of these.

@@ -3,12 +3,12 @@
 ghost use Rattle.std.specs.Prelude.{◌≡◌, ◌≢◌, ◌+◌, ◌-◌, ◌<◌, ◌^◌, ℕ, min, List, [], ◌∷◌, ◌++◌, length, Some, None, IsSome, All};
 ghost use Rattle.std.specs.Prelude.{◌↔◌};
 ghost use Rattle.std.specs.List.{Contains};
-ghost use Rattle.cd_base.specs.declared.ids.Fp.{Fp};
-ghost use Rattle.cd_base.specs.declared.ids.Tag.{Tag};
-ghost use Rattle.cd_base.specs.declared.ids.UserId.{UserId};
-ghost use Rattle.cd_base.specs.declared.ids.Version.{Version};
-ghost use Rattle.cd_base.specs.declared.shape.Shape.{Shape};
-ghost use Rattle.journal_start.specs.declared.rooms.Rooms.{Rooms};
+ghost use Rattle.journal_start.specs.CdBase.ids.Fp.{Fp};
+ghost use Rattle.journal_start.specs.CdBase.ids.Tag.{Tag};
+ghost use Rattle.journal_start.specs.CdBase.ids.UserId.{UserId};
+ghost use Rattle.journal_start.specs.CdBase.ids.Version.{Version};
+ghost use Rattle.journal_start.specs.CdBase.shape.Shape.{Shape};
+ghost use Rattle.journal_start.specs.declared.rooms.UserRooms.{UserRooms};
 ghost use Rattle.user_dedup.specs.declared.file_list.FileEntry.{FileEntry};
 ghost use Rattle.user_dedup.specs.declared.view.View.{View};
 ghost use Rattle.user_dedup.specs.Cloud.{fingerprint, no_view};
@@ -29,10 +29,10 @@ pub fn law_of_spending()
     // A deletion spends nothing, and gives nothing back.
     ensures deletes { (list : List Command) (user other : UserId) (key : Tag × Version)
         → spent_of (list ++ deletion user key ∷ []) other ≡ spent_of list other }
-    ensures never_full { (shape : Shape) (rooms : Rooms) (list : List Command) (user : UserId) (key : Tag × Version)
+    ensures never_full { (shape : Shape) (rooms : UserRooms) (list : List Command) (user : UserId) (key : Tag × Version)
         → full_for shape rooms list (deletion user key) ≡ None }
     // Where no two strings have one SHA-256, a full room follows from the user's own commands.
-    ensures alone { (shape : Shape) (rooms : Rooms) (one two : List Command) (command : Command)
+    ensures alone { (shape : Shape) (rooms : UserRooms) (one two : List Command) (command : Command)
         → commands_of (user_of command) one ≡ commands_of (user_of command) two
         → HoldsItself (one ++ command ∷ []) → HoldsItself (two ++ command ∷ [])
         → full_for shape rooms one command ≡ full_for shape rooms two command }
@@ -40,19 +40,21 @@ pub fn law_of_spending()
 
 /// Lists within their rooms: each user is within its own after each command.
 pub fn law_of_rooms()
-    ensures none { (shape : Shape) (rooms : Rooms) → IsWithin shape rooms [] }
-    ensures front { (shape : Shape) (rooms : Rooms) (list more : List Command) → IsWithin shape rooms (list ++ more)
+    ensures none { (shape : Shape) (rooms : UserRooms) → IsWithin shape rooms [] }
+    ensures front { (shape : Shape) (rooms : UserRooms) (list more : List Command) → IsWithin shape rooms (list ++ more)
         → IsWithin shape rooms list }
-    ensures each { (shape : Shape) (rooms : Rooms) (list : List Command) (user : UserId) → IsWithin shape rooms list
+    ensures each { (shape : Shape) (rooms : UserRooms) (list : List Command) (user : UserId) → IsWithin shape rooms list
         → UsesWithin shape rooms list user }
     // One command more for which no room is full keeps it so.
-    ensures next { (shape : Shape) (rooms : Rooms) (list : List Command) (command : Command) → IsWithin shape rooms list
+    ensures next { (shape : Shape) (rooms : UserRooms) (list : List Command) (command : Command)
+        → IsWithin shape rooms list
         → full_for shape rooms list command ≡ None → IsWithin shape rooms (list ++ command ∷ []) }
 {}
 
 /// What a cloud of these rooms serves keeps its list within them: it adds no command for which a room has no place.
 pub fn law_of_served_rooms()
-    ensures { (shape : Shape) (rooms : Rooms) (cloud : ℕ) (list : List Command) (request : Request) (command : Command)
+    ensures { (shape : Shape) (rooms : UserRooms) (cloud : ℕ) (list : List Command) (request : Request)
+        (command : Command)
         → IsWithin shape rooms list → (served_by rooms shape cloud list request).adds ≡ Some command
         → IsWithin shape rooms (list ++ command ∷ []) }
 {}

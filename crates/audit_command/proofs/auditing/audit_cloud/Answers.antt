@@ -1,5 +1,5 @@
 use Rattle.std.proofs.Common.{Err}
-use Rattle.cd_edges.proofs.Calls.{called_twice}
+use Rattle.cloud_opening.proofs.CdEdges.Calls.{called_twice}
 use Rattle.cloud_opening.proofs.Standing.{call_at}
 use Rattle.audit_command.proofs.Completing.{completes}
 use Rattle.audit_command.proofs.Ends.{audited, audited_at, unopened_audit}

@@ -1,7 +1,7 @@
 use Rattle.std.proofs.Common.{ℕ, List, subst}
 use Rattle.audit.specs.Audits.{own_of}
-use Rattle.backup_command.specs.Writing.{Writes, output_of}
-use Rattle.journal_start.specs.declared.start.Header.{Header}
+use Rattle.cloud_opening.specs.BackupCommand.Writing.{HasWrittenOrCause, output_of}
+use Rattle.cloud_opening.specs.JournalStart.start.Header.{Header}
 use Rattle.audit_command.specs.Said.{audit_status, audit_text}
 use Rattle.audit_command.proofs.Ends.{audit_said}
 use Rattle.audit_command.proofs.auditing.audit_opened.Goals as goal
@@ -21,7 +21,7 @@ returns-clause-audited g c =
       stays = a.stays;
       written = audit_said c.args.server.now.store.header.cloud (own_of c.args.server.now) came _ text out c.write_audited.result c.new-text.ensures
           a.appends
-          (subst (λ (h : Header). Writes (audit_text h.cloud text came) (audit_status came) out c.write_audited.result) c.header.ensures
-          (subst (λ (t : List ℕ). Writes (audit_text c.header.result.cloud t came) (audit_status came) out c.write_audited.result)
+          (subst (λ (h : Header). HasWrittenOrCause (audit_text h.cloud text came) (audit_status came) out c.write_audited.result) c.header.ensures
+          (subst (λ (t : List ℕ). HasWrittenOrCause (audit_text c.header.result.cloud t came) (audit_status came) out c.write_audited.result)
           c.as_slice.ensures c.write_audited.ensures));
     }

@@ -1,5 +1,5 @@
 use Rattle.std.proofs.Common.{refl}
-use Rattle.cd_edges.proofs.Calls.{called_twice}
+use Rattle.cloud_opening.proofs.CdEdges.Calls.{called_twice}
 use Rattle.cloud_opening.proofs.Standing.{call_at}
 use Rattle.audit_command.proofs.Ends.{checked, checked_at, unopened_check}
 use Rattle.audit_command.proofs.checking.check_cloud.Goals as goal

@@ -1,6 +1,6 @@
 use Rattle.std.proofs.Common.{subst}
-use Rattle.backup_command.specs.Writing.{Writes, output_of}
-use Rattle.journal_start.specs.declared.start.Header.{Header}
+use Rattle.cloud_opening.specs.BackupCommand.Writing.{HasWrittenOrCause, output_of}
+use Rattle.cloud_opening.specs.JournalStart.start.Header.{Header}
 use Rattle.audit_command.specs.Said.{check_status, check_text}
 use Rattle.audit_command.proofs.checking.check_read.Goals as goal
 
@@ -20,6 +20,6 @@ returns-clause-answered g c =
         counts = a.counts;
         stays = a.stays;
       };
-      written = subst (λ (h : Header). Writes (check_text h.cloud c.args.text.now came) (check_status came) out c.write_checked.result)
+      written = subst (λ (h : Header). HasWrittenOrCause (check_text h.cloud c.args.text.now came) (check_status came) out c.write_checked.result)
           c.header.ensures c.write_checked.ensures;
     }

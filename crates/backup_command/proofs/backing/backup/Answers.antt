@@ -1,5 +1,5 @@
 use Rattle.std.proofs.Common.{refl}
-use Rattle.backup_command.proofs.Ending.{lost, refused, through, too_long}
+use Rattle.backup_command.proofs.EndingTexts.{lost, refused, through, too_long}
 use Rattle.backup_command.proofs.backing.backup.Goals as goal
 
 pub returns-in-Err-TooLong-clause-backed_up : goal.returns-in-Err-TooLong-clause-backed_up

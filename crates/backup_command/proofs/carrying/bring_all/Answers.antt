@@ -1,11 +1,11 @@
 use Rattle.std.proofs.Common.{rules, ◌≡◌, ◌≤◌, ◌<◌, ℕ, List, [], length, IsTrue, sym, ap, ◌∙◌, subst, arith}
 use Rattle.std.specs.Prelude.{All}
 use Rattle.std.specs.List.{Contains}
-use Rattle.cd_base.specs.declared.ids.CloudNo.{CloudNo}
-use Rattle.cd_base.specs.declared.shape.Shape.{Shape}
-use Rattle.cd_edges.specs.Causes.{Rose}
-use Rattle.cd_edges.specs.Ports.{Telling}
-use Rattle.ports_link.specs.declared.lines.Line.{Line}
+use Rattle.transcript.specs.CdBase.ids.CloudNo.{CloudNo}
+use Rattle.transcript.specs.CdBase.shape.Shape.{Shape}
+use Rattle.transcript.specs.CdEdges.Causes.{Rose}
+use Rattle.transcript.specs.CdEdges.Ports.{Telling}
+use Rattle.ports_link.specs.declared.lines.CloudLine.{CloudLine}
 use Rattle.ports_link.specs.Lines.{has_port, lines_for}
 use Rattle.backup_command.specs.Lanes.{NoMemory, numbered}
 use Rattle.backup_command.specs.Steps.{AreGreetedOn, AreReady, IfLost, LanesWent, ports_of}
@@ -30,7 +30,7 @@ bring_lanes-came-requires-clause-reaches g c =
     subst (λ (ls : List (CloudNo × ℕ)). All (λ (l : CloudNo × ℕ). IsTrue
     (has_port c.of-link.result.lines.items.items l.0.0)) ls)
     (sym (c.as_slice-2.ensures.value ∙ n.1))
-    (subst (λ (x : List Line). All (λ (l : CloudNo × ℕ). IsTrue (has_port x l.0.0)) (numbered 0 n.0)) (sym lines)
+    (subst (λ (x : List CloudLine). All (λ (l : CloudNo × ℕ). IsTrue (has_port x l.0.0)) (numbered 0 n.0)) (sym lines)
     (have_ports (lines_for (numbered 0 n.0)) (numbered 0 n.0)
     (lines_reach n.0 (omega (arith, n.2, shape.few)))))
 

@@ -1,6 +1,6 @@
 use Rattle.std.proofs.Common.{ℕ, length, IsTrue, refl, sym, ◌∙◌, subst}
-use Rattle.cd_edges.specs.Causes.{Rose}
-use Rattle.backup_command.specs.BackedUp.{Call}
+use Rattle.transcript.specs.CdEdges.Causes.{Rose}
+use Rattle.backup_command.specs.BackedUp.{BackupCall}
 use Rattle.backup_command.proofs.Finishing.{carried, are_numbered, have_met, greeted_on, only_dialled}
 use Rattle.backup_command.proofs.carrying.carry.Goals as goal
 
@@ -17,7 +17,7 @@ returns-clause-carries g c =
     let greeted = c.in-Ok-meet_all.greeted in
     let meets = c.in-Ok-meet_all.ensures.meets in
     let told = c.in-Ok-meet_all.ensures.told in
-    let call : Call = record {
+    let call : BackupCall = record {
       user = c.args.user;
       path = c.args.path.now;
       version = c.args.version;

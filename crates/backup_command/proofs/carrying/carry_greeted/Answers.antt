@@ -1,7 +1,7 @@
 use Rattle.std.proofs.Common.{ℕ, List, [], ◌∷◌, ◌++◌, Ok, sym, ap, ◌∙◌, subst}
-use Rattle.cd_base.specs.declared.ids.CloudNo.{CloudNo}
-use Rattle.cd_edges.specs.Ports.{Telling}
-use Rattle.upload_job.specs.Lanes.{LaneView, lanes_begun}
+use Rattle.transcript.specs.CdBase.ids.CloudNo.{CloudNo}
+use Rattle.transcript.specs.CdEdges.Ports.{Telling}
+use Rattle.lane_steps.specs.UploadJob.Lanes.{LaneView, lanes_begun}
 use Rattle.transcript.specs.declared.line.Line.TheVariants as lines
 use Rattle.backup_command.specs.Lanes.{LanesGo, numbered}
 use Rattle.backup_command.specs.BackedUp.{version_of}

@@ -1,6 +1,6 @@
 use Rattle.std.proofs.Common.{◌<◌, ◌≤◌, ◌^◌, ℕ, List, length, subst, sym, rules}
 use Rattle.std.proofs.lemmas.Result.{IfOk-weaker}
-use Rattle.recipe.specs.Spelling.{file_limit}
+use Rattle.lane_steps.specs.Recipe.Spelling.{file_limit}
 use Rattle.lane_steps.specs.Reached.{IsReached, Begun}
 use Rattle.backup_command.proofs.carrying.job_of.Goals as goal
 

@@ -2,11 +2,11 @@ use Rattle.std.proofs.Common.{◌≡◌, ◌<◌, ℕ, Bool, List, ◌∷◌, le
 use Rattle.std.specs.Prelude.{All}
 use Rattle.std.proofs.lemmas.List.Elements.{All-head, All-tail}
 use Rattle.std.specs.List.{Contains}
-use Rattle.cd_base.specs.declared.ids.CloudNo.{CloudNo}
-use Rattle.cd_base.specs.declared.shape.Shape.{Shape}
+use Rattle.transcript.specs.CdBase.ids.CloudNo.{CloudNo}
+use Rattle.transcript.specs.CdBase.shape.Shape.{Shape}
 use Rattle.lane_steps.specs.Reached.{IsReached}
 use Rattle.ports_link.specs.Tells.{telling}
-use Rattle.backup_command.specs.Steps.{AreReady, IsReady, LanesWent, ports_of}
+use Rattle.backup_command.specs.Steps.{AreReady, IsCloudReady, LanesWent, ports_of}
 use Rattle.backup_command.proofs.Joining.{went_none, went_more, went_stopped, rest_ready, not_first, not_later}
 use Rattle.backup_command.proofs.Joining.{not_here}
 use Rattle.backup_command.proofs.lanes.+bring_lanes.Goals as goal
@@ -30,7 +30,7 @@ returns-in-Err-clause-went g t c = λ behind ready.
     c.bring_one.new.job c.args.text.now c.bring_one.new.text) (sym e)
     (went_stopped tells behind old new line rest c.args.job.now c.bring_one.new.job c.in-Err.halt c.args.text.now
     c.bring_one.new.text r c.in-Err.ensures.leaves
-    (c.in-Err.ensures.goes behind line.1 r.told (All-head (IsReady behind tells old) line rest r.each)))
+    (c.in-Err.ensures.goes behind line.1 r.told (All-head (IsCloudReady behind tells old) line rest r.each)))
 
 pub returns-in-Err-clause-others : goal.returns-in-Err-clause-others
 returns-in-Err-clause-others g t c = λ behind ready told port none.
@@ -40,7 +40,7 @@ returns-in-Err-clause-others g t c = λ behind ready told port none.
     let rest = c.in-Some.more.now in
     let e = c.in-Some.ensures in
     let r = subst (AreReady behind tells old) e ready in
-    let first = All-head (IsReady behind tells old) line rest r.each in
+    let first = All-head (IsCloudReady behind tells old) line rest r.each in
     c.in-Err.ensures.leaves.others (subst IsTrue (sym r.told) told) line.1 first.port port
     (not_first line rest port (subst (λ (ls : List (CloudNo × ℕ)). ¬ Contains (ports_of ls) port) e none))
 
@@ -88,7 +88,7 @@ returns-clause-went g t c = λ behind ready.
     (went_more behind (tells mid.ports.now) (tells new.ports.now) line rest c.args.job.now c.bring_one.new.job
     c.bring_lanes.new.job c.bring_lanes.result c.args.text.now c.bring_one.new.text c.bring_lanes.new.text
     (λ told. c.bring_lanes.ensures.others behind next told line.1 (not_here line rest (r.ports told)))
-    (c.in-Ok.ensures.goes behind line.1 r.told (All-head (IsReady behind tells old) line rest r.each))
+    (c.in-Ok.ensures.goes behind line.1 r.told (All-head (IsCloudReady behind tells old) line rest r.each))
     (c.bring_lanes.ensures.went behind next))
 
 pub returns-clause-others : goal.returns-clause-others
@@ -101,7 +101,7 @@ returns-clause-others g t c = λ behind ready told port none.
     let e = c.in-Some.ensures in
     let r = subst (AreReady behind tells old) e ready in
     let next = rest_ready tells behind old mid line rest r c.in-Ok.ensures.leaves c.in-Ok.ensures.talks in
-    let first = All-head (IsReady behind tells old) line rest r.each in
+    let first = All-head (IsCloudReady behind tells old) line rest r.each in
     let away = subst (λ (ls : List (CloudNo × ℕ)). ¬ Contains (ports_of ls) port) e none in
     c.bring_lanes.ensures.others behind next told port (not_later line rest port away)
     ∙ c.in-Ok.ensures.leaves.others (subst IsTrue (sym r.told) told) line.1 first.port port

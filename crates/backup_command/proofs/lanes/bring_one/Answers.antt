@@ -1,5 +1,5 @@
 use Rattle.std.proofs.Common.{◌<◌, ℕ, List, sym, subst}
-use Rattle.upload_job.specs.declared.news.LaneNews.{LaneNews}
+use Rattle.lane_steps.specs.UploadJob.news.LaneNews.{LaneNews}
 use Rattle.lane_steps.specs.Steps.{Finishes}
 use Rattle.ports_link.specs.Tells.{telling}
 use Rattle.backup_command.specs.Steps.{Talked, Puts}

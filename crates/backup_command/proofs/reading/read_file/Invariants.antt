@@ -1,6 +1,6 @@
 use Rattle.std.proofs.Common.{◌≡◌, ◌≤◌, ◌-◌, length}
 use Rattle.std.specs.Io.KnownBytes.{Consumes}
-use Rattle.recipe.specs.Spelling.{file_limit}
+use Rattle.lane_steps.specs.Recipe.Spelling.{file_limit}
 use Rattle.backup_command.proofs.reading.read_file.Given as goal
 
 abbrev pub invariant-pieces : goal.invariant-pieces

@@ -1,6 +1,6 @@
 use Rattle.std.proofs.Common.{ℕ, List, refl, subst}
-use Rattle.cd_edges.specs.declared.area.Area.TheVariants.{Recipes}
-use Rattle.user_dedup.specs.Cloud.{fingerprint}
+use Rattle.audit_base.specs.CdEdges.area.Area.TheVariants.{Recipes}
+use Rattle.audit_base.specs.UserDedup.Cloud.{fingerprint}
 use Rattle.audit_base.specs.Whole.{stored_at, tables_of}
 use Rattle.blob_audit.specs.Holding.{EntryAlong}
 use Rattle.blob_audit.specs.Steps.{IsFine, JudgedAs}

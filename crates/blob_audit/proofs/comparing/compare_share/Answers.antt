@@ -1,6 +1,6 @@
 use Rattle.std.proofs.Common.{ℕ, List, subst}
-use Rattle.cd_edges.specs.declared.area.Area.TheVariants.{Shares}
-use Rattle.user_dedup.specs.Cloud.{fingerprint}
+use Rattle.audit_base.specs.CdEdges.area.Area.TheVariants.{Shares}
+use Rattle.audit_base.specs.UserDedup.Cloud.{fingerprint}
 use Rattle.blob_audit.specs.Holding.{ShareAlong}
 use Rattle.blob_audit.specs.Steps.{IsWhole, JudgedAs}
 use Rattle.blob_audit.proofs.Compared.{blob_judged, judged_calm}

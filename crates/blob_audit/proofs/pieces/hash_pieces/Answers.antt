@@ -1,5 +1,5 @@
 use Rattle.std.proofs.Common.{◌≡◌, ℕ, ◌+◌, ◌-◌, ◌*◌, ◌<◌, min, length, take, drop, Result, Ok, IfOk, refl, arith}
-use Rattle.cd_edges.specs.Disk.{Image}
+use Rattle.audit_base.specs.CdEdges.Disk.{Image}
 use Rattle.audit_base.specs.Whole.{stored_at}
 use Rattle.blob_audit.specs.declared.errors.ReadErr.{ReadErr}
 use Rattle.blob_audit.specs.Steps.{IsTaken}

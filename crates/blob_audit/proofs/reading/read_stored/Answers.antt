@@ -1,5 +1,5 @@
 use Rattle.std.proofs.Common.{sym, subst}
-use Rattle.cd_edges.specs.Disk.{Areas, reads}
+use Rattle.audit_base.specs.CdEdges.Disk.{Areas, reads}
 use Rattle.audit_base.specs.Whole.{tables_of}
 use Rattle.blob_audit.specs.Reading.{StoredIs}
 use Rattle.blob_audit.proofs.Listed.{stored_is, counts_are}

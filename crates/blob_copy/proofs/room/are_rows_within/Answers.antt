@@ -1,7 +1,7 @@
 use Rattle.std.proofs.Common.{◌≡◌, true, false, rules, sym, subst, ◌∙◌, arith}
 use Rattle.std.proofs.lemmas.Bool.{false≢true}
 use Rattle.std.specs.Prelude.{slice_index_or}
-use Rattle.spent_table.specs.Spending.{nothing}
+use Rattle.record_laws.specs.SpentTable.Spending.{nothing}
 use borrow.Author.Count.{below_more}
 use Rattle.blob_copy.specs.Switched.{IsRowWithin}
 use Rattle.blob_copy.proofs.Rows.{all_within, one_within}

@@ -1,6 +1,6 @@
 use Rattle.std.proofs.Common.{ℕ, ◌<◌}
 use Rattle.std.specs.Prelude.{slice_index_or}
-use Rattle.spent_table.specs.Spending.{nothing}
+use Rattle.record_laws.specs.SpentTable.Spending.{nothing}
 use Rattle.blob_copy.specs.Switched.{IsRowWithin}
 use Rattle.blob_copy.proofs.room.are_rows_within.Given as goal
 

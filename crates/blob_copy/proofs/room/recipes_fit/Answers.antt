@@ -1,8 +1,8 @@
 use Rattle.std.proofs.Common.{◌+◌}
-use Rattle.spent_table.specs.declared.Spent.{Spent}
-use Rattle.cloud_areas.specs.Placing.{region_start}
-use Rattle.cloud_areas.specs.Chains.{least_recipes}
-use Rattle.store_opening.proofs.Bounds.{fits}
+use Rattle.record_laws.specs.SpentTable.Spent.{Spent}
+use Rattle.fresh_checkpoints.specs.CloudAreas.Placing.{region_start}
+use Rattle.fresh_checkpoints.specs.CloudAreas.Chains.{least_recipes}
+use Rattle.open_store.proofs.StoreOpening.Bounds.{fits}
 use Rattle.blob_copy.proofs.room.recipes_fit.Goals as goal
 
 pub returns : goal.returns

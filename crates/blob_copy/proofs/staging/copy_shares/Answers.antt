@@ -1,5 +1,5 @@
 use Rattle.std.proofs.Common.{Bool, IsTrue, sym, subst}
-use Rattle.compact_memories.specs.Kept.{live_at}
+use Rattle.fresh_checkpoints.specs.CompactMemories.Kept.{live_at}
 use Rattle.blob_copy.specs.Copies.{share_blob}
 use Rattle.blob_copy.proofs.Written.{untorn, torn, copies}
 use Rattle.blob_copy.proofs.staging.copy_shares.Goals as goal

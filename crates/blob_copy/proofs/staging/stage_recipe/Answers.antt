@@ -1,10 +1,10 @@
 use Rattle.std.proofs.Common.{[], refl, sym, ap, map}
 use Rattle.std.specs.Prelude.{Option}
-use Rattle.file_index.specs.declared.key.Entry.{Entry}
-use Rattle.file_index.specs.declared.key.FileKey.{FileKey}
-use Rattle.file_index.specs.Files.{key_of}
-use Rattle.checkpoints.specs.Picking.{onto}
-use Rattle.compact_memories.specs.Kept.{live_entries}
+use Rattle.record_laws.specs.FileIndex.key.Entry.{Entry}
+use Rattle.record_laws.specs.FileIndex.key.FileKey.{FileKey}
+use Rattle.record_laws.specs.FileIndex.Files.{key_of}
+use Rattle.fresh_checkpoints.specs.Checkpoints.Picking.{onto}
+use Rattle.fresh_checkpoints.specs.CompactMemories.Kept.{live_entries}
 use Rattle.blob_copy.specs.Copies.{entry_blob}
 use Rattle.blob_copy.specs.Runs.{HasRotten}
 use Rattle.blob_copy.proofs.Gathered.{first_within}

@@ -1,8 +1,8 @@
 use Rattle.std.proofs.Common.{◌∙◌, ap, arith, length}
 use Rattle.std.specs.Prelude.{Option}
-use Rattle.file_index.specs.declared.key.Entry.{Entry}
-use Rattle.file_index.specs.declared.key.FileKey.{FileKey}
-use Rattle.file_index.specs.Files.{Files}
+use Rattle.record_laws.specs.FileIndex.key.Entry.{Entry}
+use Rattle.record_laws.specs.FileIndex.key.FileKey.{FileKey}
+use Rattle.record_laws.specs.FileIndex.Files.{Files}
 use Rattle.blob_copy.specs.Copies.{entry_blob}
 use Rattle.blob_copy.proofs.Gathered.{some_before, some_at_end}
 use Rattle.blob_copy.proofs.Going.{going_on, stopped_goes, next_within}

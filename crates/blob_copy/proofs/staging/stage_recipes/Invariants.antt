@@ -1,7 +1,7 @@
 use Rattle.std.proofs.Common.{◌≡◌, length}
 use Rattle.std.specs.Prelude.{Option}
-use Rattle.file_index.specs.declared.key.Entry.{Entry}
-use Rattle.file_index.specs.declared.key.FileKey.{FileKey}
+use Rattle.record_laws.specs.FileIndex.key.Entry.{Entry}
+use Rattle.record_laws.specs.FileIndex.key.FileKey.{FileKey}
 use Rattle.blob_copy.specs.Copies.{entry_blob}
 use Rattle.blob_copy.proofs.Going.{Going}
 use Rattle.blob_copy.proofs.staging.stage_recipes.Given as goal

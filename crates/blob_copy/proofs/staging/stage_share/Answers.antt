@@ -1,10 +1,10 @@
 use Rattle.std.proofs.Common.{◌≤◌, [], Some, refl, sym, ap, map, arith}
 use Rattle.std.specs.Prelude.{Option}
-use Rattle.cd_base.specs.declared.ids.Fp.{Fp}
-use Rattle.cd_base.specs.declared.place.Place.{Place}
-use Rattle.checkpoints.specs.Picking.{onto}
-use Rattle.compact_memories.specs.Kept.{live_at, live_places}
-use Rattle.compact_memories.proofs.Summing.{live_is}
+use Rattle.compact_lists.specs.CdBase.ids.Fp.{Fp}
+use Rattle.compact_lists.specs.CdBase.place.Place.{Place}
+use Rattle.fresh_checkpoints.specs.Checkpoints.Picking.{onto}
+use Rattle.fresh_checkpoints.specs.CompactMemories.Kept.{live_at, live_places}
+use Rattle.fresh_checkpoints.proofs.CompactMemories.Summing.{live_is}
 use Rattle.blob_copy.specs.Copies.{share_blob}
 use Rattle.blob_copy.specs.Runs.{HasRotten}
 use Rattle.blob_copy.proofs.Gathered.{first_within}

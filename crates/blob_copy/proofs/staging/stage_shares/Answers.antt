@@ -1,6 +1,6 @@
 use Rattle.std.proofs.Common.{◌∙◌, ap, arith, length}
-use Rattle.share_index.specs.Shares.{Shares}
-use Rattle.compact_memories.specs.Kept.{live_at}
+use Rattle.record_laws.specs.ShareIndex.Shares.{Shares}
+use Rattle.fresh_checkpoints.specs.CompactMemories.Kept.{live_at}
 use Rattle.blob_copy.specs.Copies.{share_blob}
 use Rattle.blob_copy.proofs.Gathered.{some_before, some_at_end}
 use Rattle.blob_copy.proofs.Going.{going_on, stopped_goes, next_within}

@@ -1,5 +1,5 @@
 use Rattle.std.proofs.Common.{◌≡◌, length}
-use Rattle.compact_memories.specs.Kept.{live_at}
+use Rattle.fresh_checkpoints.specs.CompactMemories.Kept.{live_at}
 use Rattle.blob_copy.specs.Copies.{share_blob}
 use Rattle.blob_copy.proofs.Going.{Going}
 use Rattle.blob_copy.proofs.staging.stage_shares.Given as goal

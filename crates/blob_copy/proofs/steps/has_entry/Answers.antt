@@ -1,9 +1,9 @@
 use Rattle.std.proofs.Common.{None, ap, sym, arith, length}
 use Rattle.std.specs.Prelude.{Option}
-use Rattle.file_index.specs.declared.key.Entry.{Entry}
-use Rattle.file_index.specs.declared.key.FileKey.{FileKey}
-use Rattle.file_index.specs.Files.{Files}
-use Rattle.checkpoints.proofs.Picks.{passes}
+use Rattle.record_laws.specs.FileIndex.key.Entry.{Entry}
+use Rattle.record_laws.specs.FileIndex.key.FileKey.{FileKey}
+use Rattle.record_laws.specs.FileIndex.Files.{Files}
+use Rattle.fresh_checkpoints.proofs.Checkpoints.Picks.{passes}
 use Rattle.blob_copy.proofs.Bounds.{some_more}
 use Rattle.blob_copy.proofs.steps.has_entry.Goals as goal
 

@@ -1,7 +1,7 @@
 use Rattle.std.specs.Prelude.{Option}
-use Rattle.file_index.specs.declared.key.Entry.{Entry}
-use Rattle.file_index.specs.declared.key.FileKey.{FileKey}
-use Rattle.checkpoints.proofs.Picks.{Passed}
+use Rattle.record_laws.specs.FileIndex.key.Entry.{Entry}
+use Rattle.record_laws.specs.FileIndex.key.FileKey.{FileKey}
+use Rattle.fresh_checkpoints.proofs.Checkpoints.Picks.{Passed}
 use Rattle.blob_copy.proofs.steps.has_entry.Given as goal
 
 abbrev pub invariant-loop-slot : goal.invariant-loop-slot

@@ -1,8 +1,8 @@
 use Rattle.std.proofs.Common.{Some, None, ap, arith, length}
-use Rattle.share_index.specs.Shares.{Shares}
-use Rattle.compact_memories.specs.Kept.{live_at}
-use Rattle.compact_memories.proofs.Summing.{live_is}
-use Rattle.checkpoints.proofs.Picks.{passes}
+use Rattle.record_laws.specs.ShareIndex.Shares.{Shares}
+use Rattle.fresh_checkpoints.specs.CompactMemories.Kept.{live_at}
+use Rattle.fresh_checkpoints.proofs.CompactMemories.Summing.{live_is}
+use Rattle.fresh_checkpoints.proofs.Checkpoints.Picks.{passes}
 use Rattle.blob_copy.proofs.Bounds.{some_more}
 use Rattle.blob_copy.proofs.steps.has_share.Goals as goal
 

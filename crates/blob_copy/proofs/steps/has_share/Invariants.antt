@@ -1,5 +1,5 @@
-use Rattle.compact_memories.specs.Kept.{live_at}
-use Rattle.checkpoints.proofs.Picks.{Passed}
+use Rattle.fresh_checkpoints.specs.CompactMemories.Kept.{live_at}
+use Rattle.fresh_checkpoints.proofs.Checkpoints.Picks.{Passed}
 use Rattle.blob_copy.proofs.steps.has_share.Given as goal
 
 abbrev pub invariant-loop-slot : goal.invariant-loop-slot

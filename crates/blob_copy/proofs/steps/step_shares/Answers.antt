@@ -1,5 +1,5 @@
 use Rattle.std.proofs.Common.{ℕ}
-use Rattle.compact_memories.specs.Kept.{live_at}
+use Rattle.fresh_checkpoints.specs.CompactMemories.Kept.{live_at}
 use Rattle.blob_copy.specs.Copies.{share_blob}
 use Rattle.blob_copy.specs.Runs.{CopiesTo}
 use Rattle.blob_copy.proofs.SharesCopied.{shares_within, shares_stop, shares_step}

@@ -1,13 +1,13 @@
 use Rattle.std.proofs.Common.{◌≡◌, length, true, false, rules, refl, sym, ap, ◌∙◌, subst, arith, inl}
 use Rattle.std.proofs.lemmas.Bool.{false≢true}
-use Rattle.cd_edges.specs.declared.area.Area.TheVariants.{Journal}
-use Rattle.cd_edges.proofs.Moments.{weaker}
-use Rattle.half_journal.specs.States as journals
-use Rattle.cloud_areas.specs.Standing.{StandsFor}
-use Rattle.cloud_disk.specs.Disk.{IsRead}
-use Rattle.checkpoints.specs.Laying.{KeepsOrSettles}
-use Rattle.checkpoints.specs.Records.{records_of}
-use Rattle.checkpoints.proofs.InPlace.{ended_still}
+use Rattle.fresh_checkpoints.specs.CdEdges.area.Area.TheVariants.{Journal}
+use Rattle.fresh_checkpoints.proofs.CdEdges.Moments.{weaker}
+use Rattle.open_store.specs.HalfJournal.States as journals
+use Rattle.fresh_checkpoints.specs.CloudAreas.Standing.{StandsFor}
+use Rattle.fresh_checkpoints.specs.CloudDisk.Disk.{IsRead}
+use Rattle.fresh_checkpoints.specs.Checkpoints.Laying.{KeepsOrSettles}
+use Rattle.fresh_checkpoints.specs.Checkpoints.Records.{records_of}
+use Rattle.fresh_checkpoints.proofs.Checkpoints.InPlace.{ended_still}
 use Rattle.blob_copy.proofs.Serving.{as_it_was}
 use Rattle.blob_copy.proofs.Settled.{left_shut, left_open, shut_at_once, shut_only, failed_only}
 use Rattle.blob_copy.proofs.switching.settle.Goals as goal
@@ -20,8 +20,8 @@ lay_fresh-laid-requires g c =
     let m = c.requires in
     let journal = c.journal_mut.ensures.value in
     record {
-      at_end = ap (λ (j : journals.State). j.stage) journal ∙ m.at_end;
-      limit = ap (λ (j : journals.State). j.limit) journal ∙ m.disk.limit;
+      at_end = ap (λ (j : journals.JournalState). j.stage) journal ∙ m.at_end;
+      limit = ap (λ (j : journals.JournalState). j.limit) journal ∙ m.disk.limit;
       header = m.header;
       format = m.format;
       region = c.requires.other_is;
@@ -49,29 +49,29 @@ returns-then-not-is_roomy-clause-settled g c = shut_at_once c.args.next.region c
 pub returns-in-Ok-clause-any_moment : goal.returns-in-Ok-clause-any_moment
 returns-in-Ok-clause-any_moment g c list other chain read n =
     let store = c.args.store.now in let cloud = g.V.Shelf.cloud_at c.args.shelf.now store.header.cloud.0 in
-    c.lay_fresh-laid.ensures.any_moment store.header list other chain (subst (λ (j : journals.State). IsRead store.header list chain j cloud) (sym c.journal_mut.ensures.value) read) n
+    c.lay_fresh-laid.ensures.any_moment store.header list other chain (subst (λ (j : journals.JournalState). IsRead store.header list chain j cloud) (sym c.journal_mut.ensures.value) read) n
 
 pub returns-in-Err-clause-any_moment : goal.returns-in-Err-clause-any_moment
 returns-in-Err-clause-any_moment g c list other chain read n =
     let store = c.args.store.now in let cloud = g.V.Shelf.cloud_at c.args.shelf.now store.header.cloud.0 in
-    c.lay_fresh-laid.ensures.any_moment store.header list other chain (subst (λ (j : journals.State). IsRead store.header list chain j cloud) (sym c.journal_mut.ensures.value) read) n
+    c.lay_fresh-laid.ensures.any_moment store.header list other chain (subst (λ (j : journals.JournalState). IsRead store.header list chain j cloud) (sym c.journal_mut.ensures.value) read) n
 
 pub returns-in-Ok-clause-read : goal.returns-in-Ok-clause-read
 returns-in-Ok-clause-read g c list other chain read n =
     let store = c.args.store.now in let cloud = g.V.Shelf.cloud_at c.args.shelf.now store.header.cloud.0 in
-    c.in-Ok.ensures.settled store.header list other chain (subst (λ (j : journals.State). IsRead store.header list chain j cloud) (sym c.journal_mut.ensures.value) read) n
+    c.in-Ok.ensures.settled store.header list other chain (subst (λ (j : journals.JournalState). IsRead store.header list chain j cloud) (sym c.journal_mut.ensures.value) read) n
 
 pub returns-in-Ok-clause-settled : goal.returns-in-Ok-clause-settled
 returns-in-Ok-clause-settled g c =
     let on : c.is_roomy.result ≡ true = search rules in
     left_open c.args.next.region c.args.store.now _ c.requires refl refl
-    (c.lay_fresh-laid.ensures.limit ∙ ap (λ (j : journals.State). j.limit) c.journal_mut.ensures.value) refl refl refl c.requires.other_is (c.is_roomy.ensures.0 on)
+    (c.lay_fresh-laid.ensures.limit ∙ ap (λ (j : journals.JournalState). j.limit) c.journal_mut.ensures.value) refl refl refl c.requires.other_is (c.is_roomy.ensures.0 on)
 
 pub returns-in-Err-clause-settled : goal.returns-in-Err-clause-settled
 returns-in-Err-clause-settled g c =
     let after = journals.state_of c.lay_fresh-laid.new.journal in
     left_shut c.args.next.region c.args.store.now _ c.requires refl refl
-    (c.lay_fresh-laid.ensures.limit ∙ ap (λ (j : journals.State). j.limit) c.journal_mut.ensures.value) refl refl refl
+    (c.lay_fresh-laid.ensures.limit ∙ ap (λ (j : journals.JournalState). j.limit) c.journal_mut.ensures.value) refl refl refl
     (shut_only c.lay_fresh-laid.result _ after.stage c.in-Err.is (c.lay_fresh-laid.ensures.never_long c.requires.rooms) c.lay_fresh-laid.ensures.stage)
 
 -- ---- whatever the chain says
@@ -84,21 +84,21 @@ pub returns-in-Ok-clause-chain : goal.returns-in-Ok-clause-chain
 returns-in-Ok-clause-chain g c =
     let store = c.args.store.now in
     let c0 = g.V.Shelf.cloud_at c.args.shelf.now store.header.cloud.0 in let c1 = g.V.Shelf.cloud_at c.lay_fresh-laid.new.shelf store.header.cloud.0 in
-    subst (λ (j : journals.State). KeepsOrSettles j store.header c.args.next.commands (length (records_of store.memory)) c.args.next.region (records_of store.memory) c0 c1)
+    subst (λ (j : journals.JournalState). KeepsOrSettles j store.header c.args.next.commands (length (records_of store.memory)) c.args.next.region (records_of store.memory) c0 c1)
     c.journal_mut.ensures.value c.lay_fresh-laid.ensures.chain
 
 pub returns-in-Err-clause-chain : goal.returns-in-Err-clause-chain
 returns-in-Err-clause-chain g c =
     let store = c.args.store.now in
     let c0 = g.V.Shelf.cloud_at c.args.shelf.now store.header.cloud.0 in let c1 = g.V.Shelf.cloud_at c.lay_fresh-laid.new.shelf store.header.cloud.0 in
-    subst (λ (j : journals.State). KeepsOrSettles j store.header c.args.next.commands (length (records_of store.memory)) c.args.next.region (records_of store.memory) c0 c1)
+    subst (λ (j : journals.JournalState). KeepsOrSettles j store.header c.args.next.commands (length (records_of store.memory)) c.args.next.region (records_of store.memory) c0 c1)
     c.journal_mut.ensures.value c.lay_fresh-laid.ensures.chain
 
 pub returns-in-Ok-clause-taken : goal.returns-in-Ok-clause-taken
 returns-in-Ok-clause-taken g c told w ended =
     let store = c.args.store.now in
     let c0 = g.V.Shelf.cloud_at c.args.shelf.now store.header.cloud.0 in
-    c.in-Ok.ensures.taken told w (subst (λ (j : journals.State). journals.IsEnded j (c0.now Journal) w) (sym c.journal_mut.ensures.value) ended)
+    c.in-Ok.ensures.taken told w (subst (λ (j : journals.JournalState). journals.IsJournalEnded j (c0.now Journal) w) (sym c.journal_mut.ensures.value) ended)
 
 -- ---- a device failed
 

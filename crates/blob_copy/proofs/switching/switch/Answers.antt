@@ -1,13 +1,13 @@
 use Rattle.std.proofs.Common.{◌≤◌, ℕ, length, sym, ap, ◌∙◌, subst, arith}
-use Rattle.cloud_memory.specs.declared.cloud.CloudMemory.{CloudMemory}
-use Rattle.cloud_memory.specs.Rooms.{memory_of}
-use Rattle.checkpoints.specs.Laying.{KeepsOrSettles, HasSettled}
-use Rattle.checkpoints.specs.Records.{records_of}
-use Rattle.compact_memories.specs.Moved.{IsMoved, other_region}
-use Rattle.compact_memories.specs.Kept.{commands_in}
-use Rattle.user_dedup.specs.Compact.{compact}
-use Rattle.store_opening.specs.Roomy.{IsRoomy}
-use Rattle.container_log.specs.States as logs
+use Rattle.fresh_checkpoints.specs.CloudMemory.cloud.CloudMemory.{CloudMemory}
+use Rattle.fresh_checkpoints.specs.CloudMemory.Rooms.{memory_of}
+use Rattle.fresh_checkpoints.specs.Checkpoints.Laying.{KeepsOrSettles, HasSettled}
+use Rattle.fresh_checkpoints.specs.Checkpoints.Records.{records_of}
+use Rattle.fresh_checkpoints.specs.CompactMemories.Moved.{IsMoved, other_region}
+use Rattle.fresh_checkpoints.specs.CompactMemories.Kept.{commands_in}
+use Rattle.compact_lists.specs.UserDedup.Compact.{compact}
+use Rattle.open_store.specs.StoreOpening.Roomy.{IsRoomy}
+use Rattle.record_laws.specs.ContainerLog.States as logs
 use Rattle.blob_copy.specs.Switched.{OnLong}
 use Rattle.blob_copy.proofs.Near.{shares_near, recipes_near}
 use Rattle.blob_copy.proofs.Serving.{shares_meet, recipes_meet, roomy_kept, served_on}

@@ -1,5 +1,5 @@
 use Rattle.std.proofs.Common.{◌≡◌, ◌*◌, ◌≤◌, ◌++◌, length, take, arith}
-use Rattle.cd_base.specs.Lengths.{share_len_of}
+use Rattle.reed_solomon.specs.CdBase.Lengths.{share_len_of}
 use Rattle.caont_rs.proofs.Openings.{grown}
 use Rattle.caont_rs.proofs.opening.recover.Goals as goal
 

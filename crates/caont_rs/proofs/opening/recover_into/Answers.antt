@@ -1,5 +1,5 @@
 use Rattle.std.proofs.Common.{length, sym, ap, ◌∙◌, arith}
-use Rattle.cd_base.specs.Lengths.{share_len_of}
+use Rattle.reed_solomon.specs.CdBase.Lengths.{share_len_of}
 use Rattle.reed_solomon.proofs.Recovery.{whole_rows}
 use Rattle.caont_rs.specs.Opening.{opened, opened_package}
 use Rattle.caont_rs.proofs.opening.recover_into.Goals as goal

@@ -1,5 +1,5 @@
 use Rattle.std.proofs.Common.{◌≡◌, ◌/◌, ◌<◌, ℕ, length, slice_index, subst, arith}
-use Rattle.cd_base.specs.declared.shape.Shape.{Shape}
+use Rattle.reed_solomon.specs.CdBase.shape.Shape.{Shape}
 use Rattle.reed_solomon.specs.Dispersal.{row, share_of}
 use Rattle.caont_rs.proofs.Openings.{united}
 use Rattle.caont_rs.proofs.opening.unite.Goals as goal

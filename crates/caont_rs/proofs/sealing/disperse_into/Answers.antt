@@ -1,5 +1,5 @@
 use Rattle.std.proofs.Common.{◌≡◌, ◌*◌, ◌/◌, ◌<◌, length, arith, sym, ap, subst, ◌∙◌, ℕ}
-use Rattle.cd_base.specs.declared.shape.Shape.{Shape}
+use Rattle.reed_solomon.specs.CdBase.shape.Shape.{Shape}
 use Rattle.reed_solomon.specs.Dispersal.{row, share_of}
 use Rattle.reed_solomon.proofs.Recovery.{whole_rows}
 use Rattle.caont_rs.proofs.Packages.{rows_shared, behind}

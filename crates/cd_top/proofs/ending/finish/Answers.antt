@@ -1,5 +1,5 @@
 use Rattle.std.proofs.Common.{refl}
-use Rattle.transcript.specs.Endings.{ending_text as text_of_ending}
+use Rattle.two_worlds.specs.Transcript.Endings.{ending_text as text_of_ending}
 use Rattle.cd_top.specs.Ends.{Silent, Unsaid}
 use Rattle.cd_top.proofs.Closing.{said_as, cut_as}
 use Rattle.cd_top.proofs.ending.finish.Goals as goal

@@ -1,5 +1,5 @@
 use Rattle.std.proofs.Common.{List, ℕ, ◌++◌, ap, ◌∙◌}
-use Rattle.transcript.specs.Endings.{ending_text as text_of_ending}
+use Rattle.two_worlds.specs.Transcript.Endings.{ending_text as text_of_ending}
 use Rattle.cd_top.proofs.Texts.{front_at}
 use Rattle.cd_top.proofs.ending.write_last.Goals as goal
 

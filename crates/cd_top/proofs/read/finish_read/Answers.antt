@@ -1,4 +1,4 @@
-use Rattle.transcript.specs.Endings.{ending_text as text_of_ending}
+use Rattle.two_worlds.specs.Transcript.Endings.{ending_text as text_of_ending}
 use Rattle.cd_top.proofs.ReadClosing.{closes_read, says_why, fails_why, forgets_why}
 use Rattle.cd_top.proofs.read.finish_read.Goals as goal
 

@@ -1,6 +1,6 @@
 use Rattle.std.proofs.Common.{◌≡◌, true, false, refl, arith, sym, ap, ◌∙◌}
 use Rattle.std.specs.Prelude.{is_ok}
-use Rattle.grammar.proofs.KitHex.{all_lower, lower_all, lower_turn, unhex_refused, unhex_written}
+use Rattle.session.proofs.Grammar.KitHex.{all_lower, lower_all, lower_turn, unhex_refused, unhex_written}
 use Rattle.certificate.proofs.fields.decode_digits.Goals as goal
 
 pub loop-i-init : goal.loop-i-init

@@ -1,5 +1,5 @@
 use Rattle.std.proofs.Common.{◌≡◌, take}
-use Rattle.grammar.proofs.KitHex.{all_lower}
+use Rattle.session.proofs.Grammar.KitHex.{all_lower}
 use Rattle.certificate.proofs.fields.decode_digits.Given as goal
 
 abbrev pub invariant-loop-i : goal.invariant-loop-i

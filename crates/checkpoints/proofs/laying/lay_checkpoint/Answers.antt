@@ -1,9 +1,9 @@
 use Rattle.std.proofs.Common.{◌+◌, ◌≤◌, refl, sym, ◌∙◌, subst, arith}
-use Rattle.cd_edges.proofs.Calls.{called_twice}
-use Rattle.cd_edges.proofs.Moments.{told_on}
-use Rattle.half_journal.specs.Turning.{used_of}
-use Rattle.half_journal.specs.States.{state_of, next_of}
-use Rattle.checkpoints.specs.Laying.{IsNext, records_len, checkpoint_behind}
+use Rattle.cloud_disk.proofs.CdEdges.Calls.{called_twice}
+use Rattle.cloud_disk.proofs.CdEdges.Moments.{told_on}
+use Rattle.cloud_disk.specs.HalfJournal.Turning.{used_of}
+use Rattle.cloud_disk.specs.HalfJournal.States.{state_of, next_of}
+use Rattle.checkpoints.specs.Laying.{IsNextInBuffer, records_len, checkpoint_behind}
 use Rattle.checkpoints.proofs.Along.{still_either, next_some, next_len, laid_images, further, all_laid, all_used, settled_images, settled_on, others_on, gate_on, failed_later, failed_as, counts_kept}
 use Rattle.checkpoints.proofs.laying.lay_checkpoint.Goals as goal
 
@@ -38,12 +38,12 @@ lay-requires-clause-to_come g c = let more = c.loop-i-test.true in let along = c
 pub lay-requires-clause-some : goal.lay-requires-clause-some
 lay-requires-clause-some g c =
     let to_come = g.R.CheckpointRecords.to_come in let rest = to_come c.loop-i.records in let left = to_come c.write_next.new.self in
-    next_some rest left c.as_slice.result.now (subst (IsNext rest left) (sym c.as_slice.ensures.value) c.write_next.ensures.next)
+    next_some rest left c.as_slice.result.now (subst (IsNextInBuffer rest left) (sym c.as_slice.ensures.value) c.write_next.ensures.next)
 
 pub lay-requires-clause-fits : goal.lay-requires-clause-fits
 lay-requires-clause-fits g c =
     let to_come = g.R.CheckpointRecords.to_come in let rest = to_come c.loop-i.records in let left = to_come c.write_next.new.self in
-    let n = subst (IsNext rest left) (sym c.as_slice.ensures.value) c.write_next.ensures.next in
+    let n = subst (IsNextInBuffer rest left) (sym c.as_slice.ensures.value) c.write_next.ensures.next in
     let along = c.loop-i.invariant.1 in
     omega (arith, along.room, along.limit, next_len rest left c.as_slice.result.now n, c.requires.room)
 
@@ -51,7 +51,7 @@ pub loop-i-preserved : goal.loop-i-preserved
 loop-i-preserved g c =
     let at = g.V.Shelf.cloud_at in let faults = g.V.Shelf.faults in let to_come = g.R.CheckpointRecords.to_come in
     let rest = to_come c.loop-i.records in let left = to_come c.write_next.new.self in
-    let n = subst (IsNext rest left) (sym c.as_slice.ensures.value) c.write_next.ensures.next in (
+    let n = subst (IsNextInBuffer rest left) (sym c.as_slice.ensures.value) c.write_next.ensures.next in (
       c.write_next.ensures.ready,
       further (at c.args.shelf.now) (at c.loop-i.shelf) (at c.lay.new.shelf) c.args.cloud.0 (faults c.args.shelf.now) (faults c.loop-i.shelf) (faults c.lay.new.shelf)
           (state_of c.args.journal.now) (state_of c.loop-i.journal) (state_of c.lay.new.self) c.args.header.now c.args.commands c.args.count c.args.region (to_come c.args.records.now) rest left c.as_slice.result.now c.loop-i._i
@@ -71,7 +71,7 @@ pub returns-in_err-lay-clause-any_moment : goal.returns-in_err-lay-clause-any_mo
 returns-in_err-lay-clause-any_moment g c told w is =
     let at = g.V.Shelf.cloud_at in let faults = g.V.Shelf.faults in let to_come = g.R.CheckpointRecords.to_come in let number = c.args.cloud.0 in
     let rest = to_come c.loop-i.records in let left = to_come c.write_next.new.self in
-    let n = subst (IsNext rest left) (sym c.as_slice.ensures.value) c.write_next.ensures.next in
+    let n = subst (IsNextInBuffer rest left) (sym c.as_slice.ensures.value) c.write_next.ensures.next in
     still_either (at c.args.shelf.now number) (at c.lay.new.shelf number) w
     (checkpoint_behind w c.args.header.now c.args.commands c.args.count c.args.region (to_come c.args.records.now))
     (laid_images (at c.args.shelf.now) (at c.loop-i.shelf) (at c.lay.new.shelf) number (faults c.args.shelf.now) (faults c.loop-i.shelf) (faults c.lay.new.shelf)

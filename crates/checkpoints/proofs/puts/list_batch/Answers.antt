@@ -1,6 +1,6 @@
 use Rattle.std.proofs.Common.{◌≡◌, ℕ, take, subst, arith}
 use Rattle.checkpoints.specs.Records.{listed}
-use Rattle.checkpoints.specs.Steps.{AreListed}
+use Rattle.checkpoints.specs.Steps.{AreListedNext}
 use Rattle.checkpoints.proofs.Shares.{one_listed, filled}
 use Rattle.std.proofs.Common.{refl}
 use Rattle.checkpoints.proofs.puts.list_batch.Goals as goal
@@ -16,5 +16,5 @@ loop-count-preserved c =
 pub returns-clause-batch : goal.returns-clause-batch
 returns-clause-batch c =
     let count_is : c.loop-count.count ≡ 256 = let no = c.loop-count-test.false in let most = c.loop-count.auto.count-end in omega (arith, no, most) in
-    subst (λ (n : ℕ). AreListed c.args.shares.now c.args.user c.args.from (take n c.loop-count.items) c.loop-count.at) count_is
+    subst (λ (n : ℕ). AreListedNext c.args.shares.now c.args.user c.args.from (take n c.loop-count.items) c.loop-count.at) count_is
     (filled c.args.shares.now c.args.user c.args.from c.loop-count.marks c.loop-count.items c.loop-count.at c.loop-count.count c.loop-count.invariant count_is)

@@ -1,4 +1,4 @@
-use Rattle.record_bodies.specs.Spelling.{FitsKept}
+use Rattle.cloud_memory.specs.RecordBodies.Spelling.{FitsKept}
 use Rattle.checkpoints.specs.Records.{kept_from}
 use Rattle.checkpoints.proofs.Tallied.{Tally}
 use Rattle.checkpoints.proofs.tally.count_kept.Given as goal

@@ -1,6 +1,6 @@
 use Rattle.std.proofs.Common.{◌≡◌, length, drop, sym, ◌∙◌, arith}
 use Rattle.std.proofs.Common.{length-drop}
-use Rattle.cd_base.specs.declared.ids.Fp.{Fp}
+use Rattle.cloud_memory.specs.CdBase.ids.Fp.{Fp}
 use Rattle.checkpoints.specs.Records.{owned_at, owned_in}
 use Rattle.checkpoints.proofs.RoomLaw.{picked_few}
 use Rattle.checkpoints.proofs.Tallied.{tally_number, tally_fit, tally_full}

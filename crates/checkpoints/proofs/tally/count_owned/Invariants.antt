@@ -1,5 +1,5 @@
 use Rattle.std.proofs.Common.{◌≡◌, length, drop}
-use Rattle.cd_base.specs.declared.ids.Fp.{Fp}
+use Rattle.cloud_memory.specs.CdBase.ids.Fp.{Fp}
 use Rattle.checkpoints.specs.Records.{owned_in}
 use Rattle.checkpoints.proofs.Tallied.{Tally}
 use Rattle.checkpoints.proofs.tally.count_owned.Given as goal

@@ -1,8 +1,8 @@
 use Rattle.std.proofs.Common.{ℕ, ◌+◌, ◌≤◌, List, length, sym, ap, ◌∙◌, subst, arith}
 use Rattle.std.specs.Prelude.{All}
-use Rattle.record_bodies.specs.Spelling.{Body, FitsBody, body_bytes}
-use Rattle.cd_edges.specs.declared.area.Area.TheVariants.{Journal}
-use Rattle.half_journal.specs.States as journals
+use Rattle.cloud_memory.specs.RecordBodies.Spelling.{Body, FitsBody, body_bytes}
+use Rattle.cloud_disk.specs.CdEdges.area.Area.TheVariants.{Journal}
+use Rattle.cloud_disk.specs.HalfJournal.States as journals
 use Rattle.checkpoints.specs.Laying.{records_len, longest_record, checkpoint_behind, KeepsOrSettles}
 use Rattle.checkpoints.specs.Records.{coming, records_of}
 use Rattle.checkpoints.specs.Known.{recipes_of}
@@ -176,8 +176,8 @@ returns-in-Ok-clause-taken g c told w ended =
     let number = c.args.cloud.0 in let header = c.args.header.now in let memory = c.args.memory.now in
     let c1 = g.V.Shelf.cloud_at c.checkpoint-laid.new.shelf number in
     let counted = c.in-Some.ensures.count.0 ∙ ap (λ (r : List Body). length r) c.of-records.ensures.records in
-    subst (λ (n : ℕ). journals.IsEnded c.checkpoint-laid.new.disk.journal (c1.now Journal) (checkpoint_behind w header c.args.commands n c.args.region (records_of memory))) counted
-    (subst (λ (b : List Body). journals.IsEnded c.checkpoint-laid.new.disk.journal (c1.now Journal) (checkpoint_behind w header c.args.commands c.in-Some.count c.args.region b)) c.of-records-2.ensures.records
+    subst (λ (n : ℕ). journals.IsJournalEnded c.checkpoint-laid.new.disk.journal (c1.now Journal) (checkpoint_behind w header c.args.commands n c.args.region (records_of memory))) counted
+    (subst (λ (b : List Body). journals.IsJournalEnded c.checkpoint-laid.new.disk.journal (c1.now Journal) (checkpoint_behind w header c.args.commands c.in-Some.count c.args.region b)) c.of-records-2.ensures.records
     (c.in-Ok.ensures.taken told w ended))
 
 -- ---- with rooms, whatever list it is

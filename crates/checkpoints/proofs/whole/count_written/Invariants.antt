@@ -1,12 +1,12 @@
 use Rattle.std.proofs.Common.{length}
 use Rattle.checkpoints.specs.Records.{coming}
-use Rattle.checkpoints.specs.Ready.{IsReady}
+use Rattle.checkpoints.specs.Ready.{IsReadyToWrite}
 use Rattle.checkpoints.proofs.Counted.{Counted}
 use Rattle.checkpoints.proofs.whole.count_written.Given as goal
 
 abbrev pub invariant-each : goal.invariant-each
 invariant-each l = record {
-  ready : IsReady l.records.shares.now l.records.files.now l.records.spent.now l.records.chains.now l.records.marks.now l.records.at;
+  ready : IsReadyToWrite l.records.shares.now l.records.files.now l.records.spent.now l.records.chains.now l.records.marks.now l.records.at;
   counted : Counted (coming l.fn.records.shares.now l.fn.records.files.now l.fn.records.spent.now l.fn.records.at) (coming l.records.shares.now l.records.files.now l.records.spent.now l.records.at) l.count l.len;
 }
 

@@ -1,4 +1,4 @@
-use Rattle.cd_edges.proofs.Moments.{at_end}
+use Rattle.journal_halves.proofs.CdEdges.Moments.{at_end}
 use Rattle.user_dedup.specs.Exec.{MaySettleAs}
 use Rattle.cloud_areas.specs.Peers.{StandsForSome}
 use Rattle.cloud_areas.proofs.Settled.{kept, added, listed, alike}

@@ -1,9 +1,9 @@
 use Rattle.std.proofs.Common.{◌≡◌, ◌≢◌, subst}
-use Rattle.cd_edges.specs.declared.area.Area.{Area}
-use Rattle.cd_edges.specs.declared.area.Area.TheVariants.{Journal, Shares, Recipes}
-use Rattle.cd_edges.proofs.Calls.{called_twice}
-use Rattle.cd_edges.proofs.Moments.{told_on}
-use Rattle.cd_edges.specs.Disk.{moment}
+use Rattle.half_journal.specs.CdEdges.area.Area.{Area}
+use Rattle.half_journal.specs.CdEdges.area.Area.TheVariants.{Journal, Shares, Recipes}
+use Rattle.half_journal.proofs.CdEdges.Calls.{called_twice}
+use Rattle.half_journal.proofs.CdEdges.Moments.{told_on}
+use Rattle.half_journal.specs.CdEdges.Disk.{moment}
 use Rattle.cloud_disk.specs.Held.{LogHolds, flush_moments, with_staged}
 use Rattle.cloud_disk.proofs.Holding.{by_log}
 use Rattle.cloud_disk.proofs.Both.{shares_flushed, first_images, both_images, both_held, moments_on, failed_later, counts_kept}

@@ -1,4 +1,4 @@
-use Rattle.user_dedup.specs.Owning.{fps_in}
+use Rattle.cloud_areas.specs.UserDedup.Owning.{fps_in}
 use Rattle.cloud_memory.specs.Steps.{without_use}
 use Rattle.cloud_memory.proofs.Walking.{Walked}
 use Rattle.cloud_memory.proofs.uses.lower_all.Given as goal

@@ -1,7 +1,7 @@
 use Rattle.std.proofs.Common.{ℕ, sym, subst}
 use Rattle.std.specs.FinMap.{FinMap}
 use Rattle.share_index.specs.Order.{owner_cmp}
-use Rattle.user_dedup.specs.Owning.{fps_in}
+use Rattle.cloud_areas.specs.UserDedup.Owning.{fps_in}
 use Rattle.cloud_memory.specs.Sharing.{AreOwned}
 use Rattle.cloud_memory.specs.Steps.{with_use}
 use Rattle.cloud_memory.proofs.Walking.{walked_more, still_owned_by}

@@ -1,4 +1,4 @@
-use Rattle.user_dedup.specs.Owning.{fps_in}
+use Rattle.cloud_areas.specs.UserDedup.Owning.{fps_in}
 use Rattle.cloud_memory.specs.Sharing.{AreOwned}
 use Rattle.cloud_memory.specs.Steps.{with_use}
 use Rattle.cloud_memory.proofs.Walking.{Walked}

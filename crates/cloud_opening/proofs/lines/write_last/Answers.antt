@@ -1,5 +1,5 @@
 use Rattle.std.proofs.Common.{List, ℕ, ◌++◌, refl, ap, ◌∙◌}
-use Rattle.transcript.specs.Endings.{ending_text}
+use Rattle.backup_command.specs.Transcript.Endings.{ending_text}
 use Rattle.cloud_opening.proofs.Written.{written_as}
 use Rattle.cloud_opening.proofs.lines.write_last.Goals as goal
 

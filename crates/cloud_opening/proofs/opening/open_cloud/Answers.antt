@@ -1,7 +1,7 @@
 use Rattle.std.proofs.Common.{IsTrue, sym, subst}
-use Rattle.cd_edges.specs.declared.area.Area.TheVariants.{Journal}
-use Rattle.cd_edges.specs.Disk.{Cloud}
-use Rattle.cd_edges.proofs.Calls.{called_twice}
+use Rattle.backup_command.specs.CdEdges.area.Area.TheVariants.{Journal}
+use Rattle.backup_command.specs.CdEdges.Disk.{Cloud}
+use Rattle.backup_command.proofs.CdEdges.Calls.{called_twice}
 use Rattle.serve_command.specs.Served.{HasRooms}
 use Rattle.cloud_opening.proofs.Reopened.{unchanged, behind_search, unfound}
 use Rattle.cloud_opening.proofs.opening.open_cloud.Goals as goal

@@ -1,5 +1,5 @@
 use Rattle.std.proofs.Common.{ℕ, drop, subst}
-use Rattle.cd_edges.specs.Shelf.{ReadsFrom}
+use Rattle.server_requests.specs.CdEdges.Shelf.{ReadsFrom}
 use Rattle.cloud_server.proofs.Appending.{came, blob_came, appends_came}
 use Rattle.cloud_server.proofs.blobs.read_into.Goals as goal
 

@@ -1,6 +1,6 @@
 use Rattle.std.proofs.Common.{◌≡◌, ◌<◌, Ok, sym, ap, ◌∙◌, subst}
 use Rattle.blob_copy.specs.declared.copying.Copying.{Copying}
-use Rattle.cd_edges.specs.Disk.{reads}
+use Rattle.server_requests.specs.CdEdges.Disk.{reads}
 use Rattle.blob_copy.specs.Copies.{HasCopied}
 use Rattle.blob_copy.specs.Copying.{AreAllCopied}
 use Rattle.server_requests.specs.OpenStore.store.OpenStore.{OpenStore}

@@ -1,5 +1,5 @@
 use Rattle.std.proofs.Common.{◌≡◌, [], Err, sym, subst}
-use Rattle.container_log.specs.States.{State, HasStaged}
+use Rattle.server_requests.specs.ContainerLog.States.{State, HasStaged}
 use Rattle.cloud_server.specs.declared.copies.ReclaimErr.{ReclaimErr}
 use Rattle.cloud_server.specs.Copies.{SwitchesOver}
 use Rattle.cloud_server.proofs.Copied.{wrong_never, rotten_never, fault_as}

@@ -1,5 +1,5 @@
 use Rattle.std.proofs.Common.{sym, subst, arith}
-use Rattle.half_journal.specs.declared.errors.OpenErr.{OpenErr}
+use Rattle.server_requests.specs.HalfJournal.errors.OpenErr.{OpenErr}
 use Rattle.cloud_server.specs.Refusals.{IsDamage}
 use Rattle.cloud_server.proofs.damage.damage_of.Goals as goal
 

@@ -1,17 +1,17 @@
 use Rattle.std.proofs.Common.{◌≡◌, ℕ, None, inl, inr, ap, ◌∙◌, subst}
-use Rattle.cd_edges.specs.Disk.{Cloud}
-use Rattle.cd_edges.specs.Shelf.{Stays}
-use Rattle.journal_start.specs.declared.start.Header.{Header}
-use Rattle.user_dedup.specs.Exec.{Peer}
-use Rattle.cloud_areas.specs.Peers.{ImagesSince, MayBecome}
-use Rattle.store_opening.specs.CloudMemory.Rooms.{memory_of}
+use Rattle.server_requests.specs.CdEdges.Disk.{Cloud}
+use Rattle.server_requests.specs.CdEdges.Shelf.{Stays}
+use Rattle.server_requests.specs.JournalStart.start.Header.{Header}
+use Rattle.server_requests.specs.UserDedup.Exec.{Peer}
+use Rattle.blob_copy.specs.CloudAreas.Peers.{ImagesSince, MayBecome}
+use Rattle.blob_copy.specs.StoreOpening.CloudMemory.Rooms.{memory_of}
 use Rattle.server_requests.specs.OpenStore.store.OpenStore.{OpenStore}
 use Rattle.server_requests.specs.OpenStore.Store.{ServesSome}
 use Rattle.server_requests.specs.ServerCommands.Leaving.{IsFound}
 use Rattle.server_requests.specs.ServerCommands.Serving.{serves}
 use Rattle.server_requests.specs.Asking.{request_of}
 use Rattle.cloud_server.specs.Serving.{ServesAs, Answered, ChangesBehind, EntersBy}
-use Rattle.cloud_server.specs.Steps.{Does}
+use Rattle.cloud_server.specs.Steps.{HasDoneRequest}
 use Rattle.cloud_server.proofs.Executed.{opened_executes, opened_images, shut_images, refused_executes}
 use Rattle.cloud_server.proofs.Refusing.{not_rotten, refused_answered, answered_behind}
 use Rattle.cloud_server.proofs.serving.answer.Goals as goal
@@ -23,7 +23,7 @@ returns-in-Ok-clause-exec g c p told serving =
     let between = c.ensure_open.new.shelf in let after = c.serve.new.shelf in let new = c.serve.new.store in let r = request_of c.args.asked.now in let content = c.serve.new.reply in
     let q = d.peer p told serving in
     opened_executes old mid new (at between number) (at after number) p q.0 r content d.header q.2.0 q.2.1 q.2.2
-    (subst (λ (h : Header). (x : Peer) → ServesAs mid (at between h.cloud.0) x → Does mid new (at after h.cloud.0) x r content) d.header c.serve.ensures.does q.0 q.1)
+    (subst (λ (h : Header). (x : Peer) → ServesAs mid (at between h.cloud.0) x → HasDoneRequest mid new (at after h.cloud.0) x r content) d.header c.serve.ensures.does q.0 q.1)
 
 pub returns-in-Ok-clause-images : goal.returns-in-Ok-clause-images
 returns-in-Ok-clause-images g c p told serving =

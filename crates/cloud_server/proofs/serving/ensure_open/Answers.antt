@@ -1,6 +1,6 @@
 use Rattle.std.proofs.Common.{◌≡◌, true, false, Ok, Err, refl, sym, ◌∙◌}
-use Rattle.store_opening.specs.CloudMemory.Rooms.{memory_of}
-use Rattle.cloud_server.proofs.Bytes.{not_begun_is}
+use Rattle.blob_copy.specs.StoreOpening.CloudMemory.Rooms.{memory_of}
+use Rattle.cloud_server.proofs.ByteLaws.{not_begun_is}
 use Rattle.cloud_server.proofs.Openings.{open_before, open_images, read_served, settled_peer_of, reopens, error_opens, may_come, is_unopened}
 use Rattle.cloud_server.proofs.Peers.{shut_closed}
 use Rattle.cloud_server.proofs.serving.ensure_open.Goals as goal

@@ -1,5 +1,5 @@
 use Rattle.std.proofs.Common.{refl, arith}
-use Rattle.messages.specs.declared.reply.Reply.TheVariants as replies
+use Rattle.server_requests.specs.Messages.reply.Reply.TheVariants as replies
 use Rattle.server_requests.specs.Asking.{request_of}
 use Rattle.cloud_server.proofs.Bounds.{reply_fits}
 use Rattle.cloud_server.proofs.Executed.{served_does, cut_does, served_images}

@@ -1,6 +1,6 @@
 use Rattle.std.proofs.Common.{◌≡◌, ℕ, ◌+◌, ◌-◌, take, drop, ap, ◌∙◌, arith}
 use Rattle.std.specs.List.{position_or_len}
-use Rattle.grammar.specs.Numerals.{number}
+use Rattle.session.specs.Grammar.Numerals.{number}
 use Rattle.session.specs.Reading.{is_comma}
 use Rattle.session.proofs.CloudTexts.{front}
 use Rattle.command_words.proofs.Judged.{begins, no_number_left, falls_short, ends, goes_further}

@@ -1,7 +1,7 @@
 use Rattle.std.proofs.Common.{ℕ, ap, ◌∙◌, arith, ◌≡◌, ◌-◌, take, drop, ◌+◌}
 use Rattle.std.specs.Prelude.{nat_le}
 use Rattle.std.specs.List.{position_or_len}
-use Rattle.grammar.specs.Numerals.{number}
+use Rattle.session.specs.Grammar.Numerals.{number}
 use Rattle.session.specs.Reading.{is_comma}
 use Rattle.session.proofs.CloudTexts.{front, no_number_by, no_rise_by, last_number_by, next_number_by}
 use Rattle.command_words.proofs.Judged.{starts_by}

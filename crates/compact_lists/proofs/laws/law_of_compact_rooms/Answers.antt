@@ -1,4 +1,4 @@
-use Rattle.compact_lists.proofs.Rooms.{by_end, stays}
+use Rattle.compact_lists.proofs.RoomLaws.{by_end, stays}
 use Rattle.compact_lists.proofs.laws.law_of_compact_rooms.Goals as goal
 
 pub returns : goal.returns

@@ -1,5 +1,5 @@
 use Rattle.std.specs.Prelude.{bytes_eq}
-use Rattle.cd_base.specs.declared.ids.Fp.{Fp}
+use Rattle.user_dedup.specs.CdBase.ids.Fp.{Fp}
 use Rattle.compact_lists.proofs.Spent.{uses_kept}
 use Rattle.compact_lists.proofs.laws.law_of_compact_uses.Goals as goal
 

@@ -1,5 +1,5 @@
 use Rattle.std.proofs.Common.{rules, ◌≡◌, ◌+◌, ◌∙◌}
-use Rattle.cloud_memory.specs.Rooms.{memory_of}
+use Rattle.checkpoints.specs.CloudMemory.Rooms.{memory_of}
 use Rattle.compact_memories.specs.Kept.{commands_in}
 use Rattle.compact_memories.proofs.alive.commands_of_compact.Goals as goal
 

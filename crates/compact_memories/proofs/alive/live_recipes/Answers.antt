@@ -1,7 +1,7 @@
 use Rattle.std.proofs.Common.{length, ap, arith, Option}
-use Rattle.file_index.specs.declared.key.Entry.{Entry}
-use Rattle.file_index.specs.declared.key.FileKey.{FileKey}
-use Rattle.file_index.specs.Files.{Files}
+use Rattle.checkpoints.specs.FileIndex.key.Entry.{Entry}
+use Rattle.checkpoints.specs.FileIndex.key.FileKey.{FileKey}
+use Rattle.checkpoints.specs.FileIndex.Files.{Files}
 use Rattle.compact_memories.proofs.Summing.{begins, goes_on}
 use Rattle.compact_memories.proofs.alive.live_recipes.Goals as goal
 

@@ -1,6 +1,6 @@
 use Rattle.std.proofs.Common.{Option}
-use Rattle.file_index.specs.declared.key.Entry.{Entry}
-use Rattle.file_index.specs.declared.key.FileKey.{FileKey}
+use Rattle.checkpoints.specs.FileIndex.key.Entry.{Entry}
+use Rattle.checkpoints.specs.FileIndex.key.FileKey.{FileKey}
 use Rattle.compact_memories.proofs.Summing.{SumsTo}
 use Rattle.compact_memories.proofs.alive.live_recipes.Given as goal
 

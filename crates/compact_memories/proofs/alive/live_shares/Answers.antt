@@ -1,7 +1,7 @@
 use Rattle.std.proofs.Common.{length, ap, arith}
-use Rattle.cd_base.specs.declared.ids.Fp.{Fp}
-use Rattle.cd_base.specs.declared.place.Place.{Place}
-use Rattle.share_index.specs.Shares.{Shares}
+use Rattle.compact_lists.specs.CdBase.ids.Fp.{Fp}
+use Rattle.compact_lists.specs.CdBase.place.Place.{Place}
+use Rattle.checkpoints.specs.ShareIndex.Shares.{Shares}
 use Rattle.compact_memories.specs.Kept.{live_at}
 use Rattle.compact_memories.proofs.Summing.{begins, goes_on}
 use Rattle.compact_memories.proofs.alive.live_shares.Goals as goal

@@ -1,5 +1,5 @@
-use Rattle.cd_base.specs.declared.ids.Fp.{Fp}
-use Rattle.cd_base.specs.declared.place.Place.{Place}
+use Rattle.compact_lists.specs.CdBase.ids.Fp.{Fp}
+use Rattle.compact_lists.specs.CdBase.place.Place.{Place}
 use Rattle.compact_memories.specs.Kept.{live_at}
 use Rattle.compact_memories.proofs.Summing.{SumsTo}
 use Rattle.compact_memories.proofs.alive.live_shares.Given as goal

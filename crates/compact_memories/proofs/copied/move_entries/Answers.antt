@@ -1,5 +1,5 @@
 use Rattle.std.proofs.Common.{length, sym, ap, ◌∙◌, arith, ◌^◌}
-use Rattle.file_index.specs.Files.{Files}
+use Rattle.checkpoints.specs.FileIndex.Files.{Files}
 use Rattle.compact_memories.specs.Relaid.{itself, entry_len, entry_lying}
 use Rattle.compact_memories.proofs.Relaying.{end_is}
 use Rattle.compact_memories.proofs.Carrying.{no_entry_moved, entries_within, entries_moved}

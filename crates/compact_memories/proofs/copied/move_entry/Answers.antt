@@ -1,6 +1,6 @@
 use Rattle.std.proofs.Common.{◌+◌, ◌<◌, ◌^◌, ℕ, Some, sym, ap, ◌∙◌, subst}
 use Rattle.std.specs.Prelude.{is_some}
-use Rattle.file_index.specs.Files.{key_of}
+use Rattle.checkpoints.specs.FileIndex.Files.{key_of}
 use Rattle.compact_memories.specs.Relaid.{itself, entry_len, entry_lying, EntriesSoFar}
 use Rattle.compact_memories.proofs.Relaying.{ends_within}
 use Rattle.compact_memories.proofs.Carrying.{entry_kept, entry_moved}

@@ -1,6 +1,6 @@
 use Rattle.std.proofs.Common.{◌+◌, ◌<◌, ◌^◌, ℕ, Some, None, sym, ap, ◌∙◌, subst}
 use Rattle.std.specs.Prelude.{is_some}
-use Rattle.cloud_memory.specs.declared.cloud.CloudMemory.{CloudMemory}
+use Rattle.checkpoints.specs.CloudMemory.cloud.CloudMemory.{CloudMemory}
 use Rattle.compact_memories.specs.Kept.{live_at}
 use Rattle.compact_memories.specs.Relaid.{share_len, share_at, PlacesSoFar}
 use Rattle.compact_memories.proofs.Summing.{live_is}

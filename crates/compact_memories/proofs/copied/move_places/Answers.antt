@@ -1,5 +1,5 @@
 use Rattle.std.proofs.Common.{length, sym, ap, ◌∙◌, arith, ◌^◌}
-use Rattle.share_index.specs.Shares.{Shares}
+use Rattle.checkpoints.specs.ShareIndex.Shares.{Shares}
 use Rattle.compact_memories.specs.Kept.{live_at}
 use Rattle.compact_memories.specs.Relaid.{share_len, share_at}
 use Rattle.compact_memories.proofs.Relaying.{end_is}

@@ -1,12 +1,12 @@
-use Rattle.journal_start.specs.declared.rooms.Rooms.{Rooms}
-use Rattle.cloud_memory.specs.Greatest.{KeepsGreatest}
-use Rattle.cloud_memory.specs.Rooms.{HasRooms}
+use Rattle.compact_lists.specs.JournalStart.rooms.UserRooms.{UserRooms}
+use Rattle.checkpoints.specs.CloudMemory.Greatest.{KeepsGreatest}
+use Rattle.checkpoints.specs.CloudMemory.Rooms.{HasRooms}
 use Rattle.compact_memories.specs.Relaid.{PlacesSoFar}
 use Rattle.compact_memories.proofs.copied.move_places.Given as goal
 
 abbrev pub invariant-loop-slot : goal.invariant-loop-slot
 invariant-loop-slot l = record {
   so_far : PlacesSoFar l.fn.start l.fn.memory l.memory l.slot l.end;
-  rooms : (rooms : Rooms) → HasRooms rooms l.fn.memory → HasRooms rooms l.memory;
+  rooms : (rooms : UserRooms) → HasRooms rooms l.fn.memory → HasRooms rooms l.memory;
   greatest : KeepsGreatest l.fn.memory l.memory;
 }

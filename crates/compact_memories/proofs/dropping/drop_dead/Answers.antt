@@ -1,5 +1,5 @@
 use Rattle.std.proofs.Common.{length, ap, ◌∙◌, arith}
-use Rattle.share_index.specs.Shares.{Shares}
+use Rattle.checkpoints.specs.ShareIndex.Shares.{Shares}
 use Rattle.compact_memories.proofs.Emptying.{none_dropped, all_dropped}
 use Rattle.compact_memories.proofs.dropping.drop_dead.Goals as goal
 

@@ -1,6 +1,6 @@
 use Rattle.std.proofs.Common.{◌≡◌, Some, None, sym, subst}
-use Rattle.pool_map.specs.Slots.{slot_of, IsListed}
-use Rattle.share_index.specs.Shares.{Shares}
+use Rattle.checkpoints.specs.PoolMap.Slots.{slot_of, IsListed}
+use Rattle.checkpoints.specs.ShareIndex.Shares.{Shares}
 use Rattle.compact_memories.specs.Passes.{dead_in}
 use Rattle.compact_memories.proofs.Emptying.{slot_kept, has_place, slot_emptied}
 use Rattle.compact_memories.proofs.dropping.drop_slot.Goals as goal

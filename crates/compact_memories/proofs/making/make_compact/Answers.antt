@@ -1,5 +1,5 @@
 use Rattle.std.proofs.Common.{rules, ◌≡◌, ◌<◌, length, sym, subst}
-use Rattle.cloud_memory.specs.Rooms.{memory_of}
+use Rattle.checkpoints.specs.CloudMemory.Rooms.{memory_of}
 use Rattle.compact_memories.proofs.Setting.{compacted}
 use Rattle.compact_memories.proofs.making.make_compact.Goals as goal
 

@@ -1,9 +1,9 @@
 use Rattle.std.proofs.Common.{rules, ◌≡◌, ◌<◌, ℕ, ◌^◌, List, length, sym, subst}
-use Rattle.container_log.specs.Places.{end_of_laid}
-use Rattle.cd_base.specs.declared.ids.UserId.{UserId}
-use Rattle.file_index.specs.declared.key.Entry.{Entry}
-use Rattle.file_index.specs.declared.key.FileKey.{FileKey}
-use Rattle.cloud_memory.specs.Rooms.{memory_of}
+use Rattle.checkpoints.specs.ContainerLog.Places.{end_of_laid}
+use Rattle.compact_lists.specs.CdBase.ids.UserId.{UserId}
+use Rattle.checkpoints.specs.FileIndex.key.Entry.{Entry}
+use Rattle.checkpoints.specs.FileIndex.key.FileKey.{FileKey}
+use Rattle.checkpoints.specs.CloudMemory.Rooms.{memory_of}
 use Rattle.compact_memories.specs.Kept.{live_places, live_entries}
 use Rattle.compact_memories.specs.Moved.{lens_of, entry_lens}
 use Rattle.compact_memories.proofs.Carried.{same_entries, are_moved}

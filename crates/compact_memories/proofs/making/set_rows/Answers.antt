@@ -1,6 +1,6 @@
 use Rattle.std.proofs.Common.{◌+◌, sym, subst, arith}
-use Rattle.cloud_memory.specs.Memory.{Memory}
-use Rattle.cloud_memory.specs.Rooms.{memory_of}
+use Rattle.checkpoints.specs.CloudMemory.Memory.{Memory}
+use Rattle.checkpoints.specs.CloudMemory.Rooms.{memory_of}
 use Rattle.compact_memories.specs.Passes.{SetSoFar}
 use Rattle.compact_memories.proofs.Setting.{none_set, one_set, as_set}
 use Rattle.compact_memories.proofs.making.set_rows.Goals as goal

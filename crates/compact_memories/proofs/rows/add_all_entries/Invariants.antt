@@ -1,5 +1,5 @@
 use Rattle.std.proofs.Common.{◌≡◌, length}
-use Rattle.share_index.specs.Shares.{Shares}
+use Rattle.checkpoints.specs.ShareIndex.Shares.{Shares}
 use Rattle.compact_memories.specs.Passes.{AreSmall, KeptSoFar}
 use Rattle.compact_memories.proofs.rows.add_all_entries.Given as goal
 

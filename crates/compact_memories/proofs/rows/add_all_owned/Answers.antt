@@ -1,7 +1,7 @@
 use Rattle.std.proofs.Common.{List, length, ap, ◌∙◌, arith}
 use Rattle.std.proofs.lemmas.List.{length-replicate}
-use Rattle.spent_table.specs.declared.Spent.{Spent}
-use Rattle.spent_table.specs.Spending.{nothing}
+use Rattle.checkpoints.specs.SpentTable.Spent.{Spent}
+use Rattle.checkpoints.specs.SpentTable.Spending.{nothing}
 use Rattle.compact_memories.specs.Passes.{row_of}
 use Rattle.compact_memories.proofs.Passing.{owned_begins, blank, owned_ends, owned_small}
 use Rattle.compact_memories.proofs.rows.add_all_owned.Goals as goal

@@ -1,6 +1,6 @@
 use Rattle.std.proofs.Common.{rules, ◌+◌, ◌<◌, List, sym, subst, arith}
-use Rattle.file_index.specs.Files.{key_of}
-use Rattle.spent_table.specs.declared.Spent.{Spent}
+use Rattle.checkpoints.specs.FileIndex.Files.{key_of}
+use Rattle.checkpoints.specs.SpentTable.Spent.{Spent}
 use Rattle.compact_memories.specs.Passes.{AreSmall, KeptSoFar, row_of}
 use Rattle.compact_memories.proofs.Passing.{entry_none, entry_one, still_small}
 use Rattle.compact_memories.proofs.rows.add_entry.Goals as goal

@@ -1,5 +1,5 @@
 use Rattle.std.proofs.Common.{◌+◌, ◌<◌, List, sym, subst, arith}
-use Rattle.spent_table.specs.declared.Spent.{Spent}
+use Rattle.checkpoints.specs.SpentTable.Spent.{Spent}
 use Rattle.compact_memories.specs.Passes.{OwnedSoFar, row_of}
 use Rattle.compact_memories.proofs.Passing.{owned_none, owned_one}
 use Rattle.compact_memories.proofs.rows.add_owned.Goals as goal

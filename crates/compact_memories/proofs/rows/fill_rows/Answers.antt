@@ -1,7 +1,7 @@
 use Rattle.std.proofs.Common.{subst}
-use Rattle.pool_map.specs.Slots.{IsListed}
-use Rattle.file_index.specs.Files.{Files}
-use Rattle.share_index.specs.Shares.{Shares}
+use Rattle.checkpoints.specs.PoolMap.Slots.{IsListed}
+use Rattle.checkpoints.specs.FileIndex.Files.{Files}
+use Rattle.checkpoints.specs.ShareIndex.Shares.{Shares}
 use Rattle.compact_memories.specs.Passes.{IsRow, row_of}
 use Rattle.compact_memories.proofs.KeptRows.{kept_row}
 use Rattle.compact_memories.proofs.Passing.{kept_ends}

@@ -1,9 +1,9 @@
 use Rattle.std.proofs.Common.{ℕ, Bool, true, List, Ok, Err, sym, ◌∙◌, IsTrue, subst}
 use Rattle.std.specs.Prelude.{Result}
 use Rattle.std.specs.List.{Contains}
-use Rattle.cd_base.specs.declared.ids.CloudNo.{CloudNo}
+use Rattle.deletions.specs.CdBase.ids.CloudNo.{CloudNo}
 use Rattle.ports_link.specs.Hellos.{ports_of}
-use Rattle.delete_command.specs.declared.asking.Halt.{Halt}
+use Rattle.delete_command.specs.declared.asking.AskHalt.{AskHalt}
 use Rattle.delete_command.specs.Steps.{Went, both}
 use Rattle.delete_command.proofs.Going.{went_none, went_stopped, went_more, not_first, not_later}
 use Rattle.delete_command.proofs.asking.+ask_each.Goals as goal
@@ -29,7 +29,7 @@ returns-clause-went g t c =
     let old = tells c.args.ports.now in
     let new = tells c.ask_each.new.ports in
     let line : CloudNo × ℕ = c.in-Some.line in
-    subst (λ (r : Result Bool Halt). Went c.args.request.now old c.args.lines.now r c.args.text.now c.ask_each.new.text new)
+    subst (λ (r : Result Bool AskHalt). Went c.args.request.now old c.args.lines.now r c.args.text.now c.ask_each.new.text new)
     (sym c.both.ensures)
     (subst (λ (ls : List (CloudNo × ℕ)). Went c.args.request.now old ls (both c.in-Ok.first c.ask_each.result) c.args.text.now c.ask_each.new.text new)
     (sym c.in-Some.ensures)

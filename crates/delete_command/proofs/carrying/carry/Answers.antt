@@ -1,9 +1,9 @@
 use Rattle.std.proofs.Common.{◌≡◌, ℕ, Bool, List, length, sym, ◌∙◌, subst}
 use Rattle.std.specs.Prelude.{Result}
-use Rattle.cd_base.specs.declared.ids.CloudNo.{CloudNo}
-use Rattle.cd_edges.specs.Causes.{Rose}
+use Rattle.deletions.specs.CdBase.ids.CloudNo.{CloudNo}
+use Rattle.ports_link.specs.CdEdges.Causes.{Rose}
 use Rattle.delete_command.specs.declared.carrying.DeleteErr.{DeleteErr}
-use Rattle.delete_command.specs.Deleted.{Call, delete_bytes}
+use Rattle.delete_command.specs.Deleted.{DeleteCall, delete_bytes}
 use Rattle.delete_command.specs.Steps.{Carries, IfLost, Went}
 use Rattle.delete_command.proofs.Ending.{carried}
 use Rattle.delete_command.proofs.carrying.carry.Goals as goal
@@ -16,7 +16,7 @@ returns-clause-carries g c =
     let behind = tells c.meet_all.new.ports in
     let came = c.ask_each-came.result in
     let text = c.ask_each-came.new.text in
-    let call : Call = record {
+    let call : DeleteCall = record {
       user = c.args.user;
       path = c.args.path.now;
       version = c.args.version;

@@ -1,8 +1,8 @@
 use Rattle.std.proofs.Common.{◌∙◌, ap}
 use Rattle.std.specs.Prelude.{is_some}
 use Rattle.std.specs.FinMap.{get, insert}
-use Rattle.slot_pool.specs.Pool.{Pool}
-use Rattle.pool_map.specs.declared.Entry.{Entry as Pair}
+use Rattle.pool_map.specs.SlotPool.Pool.{PoolContents}
+use Rattle.pool_map.specs.declared.KeyedValue.{KeyedValue as Pair}
 use Rattle.pool_map.specs.Table.{contents}
 use Rattle.pool_map.specs.Shown.{shown}
 use Rattle.pool_map.specs.Slots.{rewritten-shown, length-rewritten}
@@ -24,7 +24,7 @@ invariant_of-self c =
     let key = key_of c.args.user.0 c.args.tag.now.0 c.args.version.0 in
     let x = entry-of (contents key_cmp c.self.inside.table) key (ap (λ (f : Files). is_some (get f.files key)) c.self.view_is ∙ c.requires) in
     kept-rewritten c.self.inside.table c.replace.new.self c.self.inside.accounts c.of.result c.args.entry x.0 c.self.invariant
-    (ap (λ (p : Pool (Pair FileKey Entry)). p.limits) c.replace.ensures.slots.now_is)
+    (ap (λ (p : PoolContents (Pair FileKey Entry)). p.limits) c.replace.ensures.slots.now_is)
     c.replace.ensures.replaced
     (ap (get (contents key_cmp c.self.inside.table)) c.of.ensures.key ∙ x.1)
 

@@ -1,7 +1,7 @@
 use Rattle.std.proofs.Common.{◌∙◌, ap, sym, subst, refl}
 use Rattle.std.specs.FinMap.{get, insert}
-use Rattle.slot_pool.specs.Pool.{Pool}
-use Rattle.pool_map.specs.declared.Entry.{Entry as Pair}
+use Rattle.pool_map.specs.SlotPool.Pool.{PoolContents}
+use Rattle.pool_map.specs.declared.KeyedValue.{KeyedValue as Pair}
 use Rattle.pool_map.specs.Table.{contents}
 use Rattle.pool_map.specs.Shown.{shown, shown-insert}
 use Rattle.pool_map.specs.Accounts.{account_for, IsKnown}
@@ -25,12 +25,12 @@ invariant_of-self c =
     elim c.match-insert.branch [
       | in-Ok w ↦
           kept-insert c.self.inside.table c.insert.new.self c.self.inside.accounts c.of.result c.in-Some.account c.args.entry c.self.invariant
-          (ap (λ (p : Pool (Pair FileKey Entry)). p.limits) w.in-Ok.ensures.placed.now_is)
+          (ap (λ (p : PoolContents (Pair FileKey Entry)). p.limits) w.in-Ok.ensures.placed.now_is)
           w.in-Ok.ensures.ok
           (c.in-Some.ensures.account ∙ ap (λ (k : FileKey). account_for c.self.inside.accounts k.user) (sym c.of.ensures.key))
           (subst (λ (k : FileKey). IsKnown c.self.inside.accounts k.user) (sym c.of.ensures.key) c.in-Some.ensures.known)
           c.of.ensures.tag
-      | in-Err w ↦ subst (λ (p : Pool (Pair FileKey Entry)). IsKept p c.self.inside.accounts) (sym w.in-Err.ensures.err) c.self.invariant
+      | in-Err w ↦ subst (λ (p : PoolContents (Pair FileKey Entry)). IsKept p c.self.inside.accounts) (sym w.in-Err.ensures.err) c.self.invariant
     ]
 
 pub returns-after-insert-clause-ok : goal.returns-after-insert-clause-ok

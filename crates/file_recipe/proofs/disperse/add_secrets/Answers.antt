@@ -1,6 +1,6 @@
 use Rattle.std.proofs.Common.{◌≡◌, ◌<◌, ℕ, List, length, get_or, slice_range, ap, ◌∙◌, refl}
 use Rattle.caont_rs.specs.Package.{share}
-use Rattle.reed_solomon.specs.Dispersal.{row}
+use Rattle.caont_rs.specs.ReedSolomon.Dispersal.{row}
 use Rattle.rabin_chunker.proofs.RuleLaws.{ends_cut}
 use Rattle.file_recipe.proofs.Secrets.{part_is}
 use Rattle.file_recipe.proofs.Shares.{along_none, along_more, along_all, next_end}

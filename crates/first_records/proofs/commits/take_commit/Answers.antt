@@ -1,11 +1,11 @@
 use Rattle.std.proofs.Common.{List, refl, sym, ap, ◌∙◌, subst}
-use Rattle.cd_base.specs.declared.ids.Fp.{Fp}
-use Rattle.cd_base.specs.declared.rooms.Room.TheVariants.{Recipes}
-use Rattle.record_bodies.specs.Spelling.{Commit}
-use Rattle.user_dedup.specs.Requests.{fps_of}
-use Rattle.cloud_memory.specs.Rooms.{memory_of}
-use Rattle.cloud_memory.specs.Sharing.{AreOwned}
-use Rattle.cloud_memory.specs.Steps.{with_entry}
+use Rattle.message_fields.specs.CdBase.ids.Fp.{Fp}
+use Rattle.message_fields.specs.CdBase.rooms.Room.TheVariants.{Recipes}
+use Rattle.record_checks.specs.RecordBodies.Spelling.{Commit}
+use Rattle.record_checks.specs.UserDedup.Requests.{fps_of}
+use Rattle.record_checks.specs.CloudMemory.Rooms.{memory_of}
+use Rattle.record_checks.specs.CloudMemory.Sharing.{AreOwned}
+use Rattle.record_checks.specs.CloudMemory.Steps.{with_entry}
 use Rattle.first_records.specs.Judging.{NotWhole, CommitLeaves, Crowded, Fails}
 use Rattle.first_records.proofs.Judged.{ends, commit_faulty}
 use Rattle.first_records.proofs.commits.take_commit.Goals as goal

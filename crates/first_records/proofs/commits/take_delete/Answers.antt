@@ -1,9 +1,9 @@
 use Rattle.std.proofs.Common.{List, refl, sym, ap, ◌∙◌, subst}
-use Rattle.cd_base.specs.declared.ids.Fp.{Fp}
-use Rattle.file_index.specs.Files.{key_of}
-use Rattle.record_bodies.specs.Spelling.{Delete}
-use Rattle.cloud_memory.specs.Rooms.{memory_of}
-use Rattle.cloud_memory.specs.Steps.{without_entry}
+use Rattle.message_fields.specs.CdBase.ids.Fp.{Fp}
+use Rattle.record_checks.specs.FileIndex.Files.{key_of}
+use Rattle.record_checks.specs.RecordBodies.Spelling.{Delete}
+use Rattle.record_checks.specs.CloudMemory.Rooms.{memory_of}
+use Rattle.record_checks.specs.CloudMemory.Steps.{without_entry}
 use Rattle.first_records.specs.Judging.{Leaves, NoEntry, NotNamed, DeleteLeaves, Fails, Fits}
 use Rattle.first_records.proofs.Rooms.{rooms_kept}
 use Rattle.first_records.proofs.commits.take_delete.Goals as goal

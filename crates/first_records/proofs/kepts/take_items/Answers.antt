@@ -1,6 +1,6 @@
 use Rattle.std.proofs.Common.{subst}
 use Rattle.std.specs.FinMap.{get}
-use Rattle.cloud_memory.specs.Rooms.{memory_of}
+use Rattle.record_checks.specs.CloudMemory.Rooms.{memory_of}
 use Rattle.record_checks.specs.Steps.{KeptFacts}
 use Rattle.record_checks.proofs.Faults.{found_iff}
 use Rattle.record_checks.proofs.KeptWalking.{goes_on, fails, fault_within}

@@ -1,5 +1,5 @@
 use Rattle.std.proofs.Common.{length}
-use Rattle.cloud_memory.specs.Rooms.{memory_of}
+use Rattle.record_checks.specs.CloudMemory.Rooms.{memory_of}
 use Rattle.record_checks.proofs.KeptWalking.{Walking}
 use Rattle.first_records.specs.Steps.{HasKeptsRoom}
 use Rattle.first_records.proofs.kepts.take_items.Given as goal

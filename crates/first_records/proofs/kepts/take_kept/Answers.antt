@@ -1,8 +1,8 @@
 use Rattle.std.proofs.Common.{ℕ, refl, sym, ◌∙◌, subst}
-use Rattle.cd_base.specs.declared.rooms.Room.TheVariants.{Shares}
-use Rattle.record_bodies.specs.Spelling.{Kept}
-use Rattle.cloud_memory.specs.Rooms.{memory_of}
-use Rattle.cloud_memory.specs.Steps.{with_kepts}
+use Rattle.message_fields.specs.CdBase.rooms.Room.TheVariants.{Shares}
+use Rattle.record_checks.specs.RecordBodies.Spelling.{Kept}
+use Rattle.record_checks.specs.CloudMemory.Rooms.{memory_of}
+use Rattle.record_checks.specs.CloudMemory.Steps.{with_kepts}
 use Rattle.record_checks.specs.Checks.{KeptsFault}
 use Rattle.first_records.specs.Judging.{KeptFaulty, KeptLeaves, Crowded, Fails}
 use Rattle.first_records.proofs.Judged.{ends}

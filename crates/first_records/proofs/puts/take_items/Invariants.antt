@@ -1,5 +1,5 @@
 use Rattle.std.proofs.Common.{length}
-use Rattle.cloud_memory.specs.Rooms.{memory_of}
+use Rattle.record_checks.specs.CloudMemory.Rooms.{memory_of}
 use Rattle.record_checks.proofs.Walking.{Walking}
 use Rattle.first_records.specs.Steps.{HasItemsRoom}
 use Rattle.first_records.proofs.puts.take_items.Given as goal

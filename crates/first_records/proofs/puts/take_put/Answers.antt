@@ -1,8 +1,8 @@
 use Rattle.std.proofs.Common.{ℕ, refl, sym, ◌∙◌, subst}
-use Rattle.cd_base.specs.declared.rooms.Room.TheVariants.{Shares}
-use Rattle.record_bodies.specs.Spelling.{Put}
-use Rattle.cloud_memory.specs.Rooms.{memory_of}
-use Rattle.cloud_memory.specs.Steps.{with_items}
+use Rattle.message_fields.specs.CdBase.rooms.Room.TheVariants.{Shares}
+use Rattle.record_checks.specs.RecordBodies.Spelling.{Put}
+use Rattle.record_checks.specs.CloudMemory.Rooms.{memory_of}
+use Rattle.record_checks.specs.CloudMemory.Steps.{with_items}
 use Rattle.record_checks.specs.Checks.{ItemsFault}
 use Rattle.first_records.specs.Judging.{PutFaulty, PutLeaves, Crowded, Fails}
 use Rattle.first_records.proofs.Judged.{ends}

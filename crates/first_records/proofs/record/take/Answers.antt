@@ -1,6 +1,6 @@
 use Rattle.std.proofs.Common.{Ok}
-use Rattle.record_bodies.specs.Seen.{seen}
-use Rattle.cloud_memory.specs.Rooms.{memory_of}
+use Rattle.record_checks.specs.RecordBodies.Seen.{seen}
+use Rattle.record_checks.specs.CloudMemory.Rooms.{memory_of}
 use Rattle.record_checks.proofs.Faults.{not_so}
 use Rattle.first_records.specs.Judging.{Foreign, Unread, Refused, Taken}
 use Rattle.first_records.proofs.Fits.{said_fits, said_unspent}

@@ -1,6 +1,6 @@
 use Rattle.std.proofs.Common.{ℕ, ◌+◌, min, sym, ap, ◌∙◌, subst}
-use Rattle.checkpoints.specs.Records.{coming}
-use Rattle.checkpoints.proofs.Counted.{Counted, none_counted, one_counted}
+use Rattle.compact_memories.specs.Checkpoints.Records.{coming}
+use Rattle.compact_memories.proofs.Checkpoints.Counted.{Counted, none_counted, one_counted}
 use Rattle.fresh_checkpoints.proofs.laying.fresh_count.Goals as goal
 
 pub each-init : goal.each-init

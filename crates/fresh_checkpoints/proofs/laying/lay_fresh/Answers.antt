@@ -1,13 +1,13 @@
 use Rattle.std.proofs.Common.{ℕ, ◌+◌, ◌≤◌, List, length, sym, ap, ◌∙◌, subst, arith}
 use Rattle.std.specs.Prelude.{All}
-use Rattle.record_bodies.specs.Spelling.{Body, FitsBody}
-use Rattle.cd_edges.proofs.Moments.{told_on}
-use Rattle.half_journal.specs.States as journals
-use Rattle.checkpoints.specs.Laying.{records_len}
-use Rattle.checkpoints.specs.Records.{coming, records_of}
-use Rattle.checkpoints.proofs.InPlace.{ended_still}
-use Rattle.checkpoints.proofs.RoomLaw.{records_short}
-use Rattle.checkpoints.proofs.Summed.{listed_of}
+use Rattle.cloud_disk.specs.RecordBodies.Spelling.{Body, FitsBody}
+use Rattle.cloud_disk.proofs.CdEdges.Moments.{told_on}
+use Rattle.cloud_disk.specs.HalfJournal.States as journals
+use Rattle.compact_memories.specs.Checkpoints.Laying.{records_len}
+use Rattle.compact_memories.specs.Checkpoints.Records.{coming, records_of}
+use Rattle.compact_memories.proofs.Checkpoints.InPlace.{ended_still}
+use Rattle.compact_memories.proofs.Checkpoints.RoomLaw.{records_short}
+use Rattle.compact_memories.proofs.Checkpoints.Summed.{listed_of}
 use Rattle.fresh_checkpoints.proofs.Next.{no_chain, short, switching, migrating, switched_to, migrated_to, kept_as, ended_as}
 use Rattle.fresh_checkpoints.proofs.laying.lay_fresh.Goals as goal
 

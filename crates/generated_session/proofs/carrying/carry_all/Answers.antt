@@ -1,7 +1,7 @@
 use Rattle.std.proofs.Common.{◌≡◌, ◌∙◌, List, [], ◌∷◌, ◌++◌, map, refl, sym, ap, subst, append_assoc}
 use Rattle.std.specs.List.{flat_map, range_with_len}
-use Rattle.cd_base.specs.declared.shape.Shape.{Shape}
-use Rattle.session.specs.declared.event.Event.{Event}
+use Rattle.lane_steps.specs.CdBase.shape.Shape.{Shape}
+use Rattle.replay_core.specs.Session.event.Event.{Event}
 use Rattle.replay_core.specs.SessionModel.Kept.{uploads}
 use Rattle.generated_session.specs.Lines.{upload_lines, get_line, generated_lines}
 use Rattle.generated_session.specs.Progress.{HasMade, IsStopped}

@@ -1,4 +1,4 @@
-use Rattle.replay_core.specs.ScriptLines.At.{Leaves}
+use Rattle.replay_core.specs.ScriptLines.At.{KeepsOtherClouds}
 use Rattle.generated_session.proofs.Along.{is_job, job_finished, job_cut}
 use Rattle.generated_session.proofs.carrying.finish_job.Goals as goal
 

@@ -1,8 +1,8 @@
 use Rattle.std.proofs.Common.{◌≡◌, ◌+◌, ◌<◌, ◌∙◌, ℕ, List, [], ◌∷◌, refl, sym, ap, subst, arith}
 use Rattle.std.specs.List.{range_with_len}
-use Rattle.cd_base.specs.declared.shape.Shape.{Shape}
+use Rattle.lane_steps.specs.CdBase.shape.Shape.{Shape}
 use Rattle.lane_steps.specs.Reached.{IsReached}
-use Rattle.session.specs.Spelling.{IsJob}
+use Rattle.replay_core.specs.Session.Spelling.{IsJob}
 use Rattle.replay_core.specs.ScriptLines.Finishing.{FinishedPart}
 use Rattle.replay_core.proofs.ScriptLines.Going.{leaves_all, leaves_join}
 use Rattle.replay_core.proofs.ScriptLines.Lines.{on_err}

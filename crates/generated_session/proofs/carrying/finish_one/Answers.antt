@@ -1,8 +1,8 @@
 use Rattle.std.proofs.Common.{◌<◌, ◌+◌, not, ◌&&◌, ℕ, List, [], length, sym, ap, ◌∙◌, subst}
 use Rattle.std.specs.Prelude.{Ok, sum_by, if◌then◌else◌}
-use Rattle.cd_base.specs.declared.shape.Shape.{Shape}
-use Rattle.upload_job.specs.declared.news.LaneNews.{LaneNews}
-use Rattle.upload_job.specs.Lanes.{LaneView}
+use Rattle.lane_steps.specs.CdBase.shape.Shape.{Shape}
+use Rattle.lane_steps.specs.UploadJob.news.LaneNews.{LaneNews}
+use Rattle.lane_steps.specs.UploadJob.Lanes.{LaneView}
 use Rattle.replay_core.specs.LocalLink.Tells.{is_delivered, telling}
 use Rattle.lane_steps.specs.Steps.{Finishes}
 use Rattle.replay_core.specs.ScriptLines.Jobs.{with_job}

@@ -1,7 +1,7 @@
 use Rattle.std.proofs.Common.{◌≡◌, ◌+◌, ◌<◌, ◌≤◌, ◌∙◌, ℕ, List, [], ◌∷◌, ◌++◌, map, refl, sym, ap, subst, arith, append-nil, append_assoc}
 use Rattle.std.specs.List.{range_with_len}
-use Rattle.cd_base.specs.declared.shape.Shape.{Shape}
-use Rattle.session.specs.declared.event.Event.{Event}
+use Rattle.lane_steps.specs.CdBase.shape.Shape.{Shape}
+use Rattle.replay_core.specs.Session.event.Event.{Event}
 use Rattle.replay_core.specs.SessionModel.Kept.{uploads}
 use Rattle.replay_core.proofs.ScriptLines.Lines.{on_err}
 use Rattle.generated_session.specs.Lines.{get_line, generated_lines}

@@ -1,9 +1,9 @@
 use Rattle.std.proofs.Common.{◌≡◌, ◌+◌, ◌≤◌, ◌∙◌, ℕ, List, [], ◌∷◌, ◌++◌, length, refl, sym, ap, subst, arith}
-use Rattle.cd_base.specs.declared.shape.Shape.{Shape}
-use Rattle.cd_base.specs.declared.ids.Version.{Version}
-use Rattle.session.specs.Spelling.{AreSources}
-use Rattle.session.specs.declared.event.Event.{Event}
-use Rattle.session.specs.declared.event.Event.TheVariants as events
+use Rattle.lane_steps.specs.CdBase.shape.Shape.{Shape}
+use Rattle.lane_steps.specs.CdBase.ids.Version.{Version}
+use Rattle.replay_core.specs.Session.Spelling.{AreSources}
+use Rattle.replay_core.specs.Session.event.Event.{Event}
+use Rattle.replay_core.specs.Session.event.Event.TheVariants as events
 use Rattle.replay_core.proofs.ScriptLines.Lines.{on_ok, on_err}
 use Rattle.replay_core.proofs.ScriptLines.Others.{read_by, get_leaves, get_same}
 use Rattle.generated_session.specs.Drawn.{file_of}

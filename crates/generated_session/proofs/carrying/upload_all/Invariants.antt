@@ -1,6 +1,6 @@
 use Rattle.std.proofs.Common.{◌≡◌, List}
 use Rattle.std.specs.List.{flat_map, range_with_len}
-use Rattle.upload_job.specs.Upload.{FileVersion}
+use Rattle.lane_steps.specs.UploadJob.Upload.{FileVersion}
 use Rattle.generated_session.specs.Lines.{upload_lines}
 use Rattle.generated_session.specs.Progress.{AreWithin, Makes}
 use Rattle.generated_session.proofs.carrying.upload_all.Given as goal

@@ -1,5 +1,5 @@
 use Rattle.std.proofs.Common.{◌≡◌, ◌-◌, ◌≤◌, ◌∙◌, ℕ, List, [], ◌∷◌, ◌++◌, length, sym, ap, subst, arith}
-use Rattle.session.specs.declared.event.Event.{Event}
+use Rattle.replay_core.specs.Session.event.Event.{Event}
 use Rattle.generated_session.specs.Lines.{upload_lines}
 use Rattle.generated_session.specs.Progress.{HasMade, IsStopped}
 use Rattle.generated_session.proofs.Pieces.{file_len}

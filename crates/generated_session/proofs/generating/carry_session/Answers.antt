@@ -1,6 +1,6 @@
 use Rattle.std.proofs.Common.{◌≡◌, ◌*◌, ◌≤◌, ◌∙◌, ℕ, List, [], ◌∷◌, ◌++◌, Some, None, refl, sym, ap, subst, append-nil}
-use Rattle.cd_base.specs.declared.shape.Shape.{Shape}
-use Rattle.cd_edges.specs.Disk.{Cloud}
+use Rattle.lane_steps.specs.CdBase.shape.Shape.{Shape}
+use Rattle.lane_steps.specs.CdEdges.Disk.{Cloud}
 use Rattle.replay_core.specs.SessionModel.Kept.{uploads}
 use Rattle.replay_core.specs.ScriptLines.At.{header_in}
 use Rattle.replay_core.specs.Opening.{EndsUnopened, before_first}

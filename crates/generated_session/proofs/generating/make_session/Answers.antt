@@ -1,7 +1,7 @@
 use Rattle.std.proofs.Common.{rules, ◌≡◌, ℕ, [], Some, None, refl, subst}
-use Rattle.journal_start.specs.Ranges.{usual_rooms}
-use Rattle.journal_start.specs.declared.rooms.Rooms.{Rooms}
-use Rattle.cloud_server.specs.declared.server.Server.{Server}
+use Rattle.replay_core.specs.JournalStart.Ranges.{usual_rooms}
+use Rattle.replay_core.specs.JournalStart.rooms.UserRooms.{UserRooms}
+use Rattle.replay_core.specs.CloudServer.server.Server.{Server}
 use Rattle.replay_core.specs.LocalLink.Steps.{IsClosedIn}
 use Rattle.replay_core.specs.LocalLink.Tells.{server_at}
 use Rattle.replay_core.specs.SessionModel.Vault.{Setting}
@@ -53,7 +53,7 @@ returns g c =
     let s : Setting = record { shape = c.four_clouds-shape.result; rooms = usual_rooms; told = λ cloud. (clouds c.args.shelf.now cloud).told } in
     let promise = c.carry_session-end.ensures.generates (clouds c.args.shelf.now) s
     (ready_by clouds (start_of (clouds c.args.shelf.now)) s c.of-link.result c.in-Ok-make.servers c.empty_clouds.new.shelf before_first None 0 None 0 (λ cloud. refl) c.of-link.ensures.servers c.in-Ok-make.ensures.shape
-    (subst (λ (r : Rooms). (cloud : ℕ) (server : Server) → server_at c.in-Ok-make.servers cloud ≡ Some server → IsClosedIn r server) c.usual.ensures.rooms c.in-Ok-make.ensures.closed) c.of-link.ensures.delivers.0 c.of-link.ensures.shelf c.in-Ok.ensures.same c.in-Ok.ensures.empty tt refl refl refl) refl in
+    (subst (λ (r : UserRooms). (cloud : ℕ) (server : Server) → server_at c.in-Ok-make.servers cloud ≡ Some server → IsClosedIn r server) c.usual.ensures.rooms c.in-Ok-make.ensures.closed) c.of-link.ensures.delivers.0 c.of-link.ensures.shelf c.in-Ok.ensures.same c.in-Ok.ensures.empty tt refl refl refl) refl in
     let back : c.carry_session-end.new.link.shelf.now ≡ c.shelf-1.given.0 = search rules in
     subst (λ (shelf : g.row.V.Denot). Generates c.carry_session-end.result (record { seed = c.args.seed; files = c.args.files; pieces = c.args.pieces }) (record {
       sink_before = g.K.Sink.faults c.args.sink.now;

@@ -1,8 +1,8 @@
 use Rattle.std.proofs.Common.{◌≡◌, ◌*◌, ℕ, List, [], ◌∷◌, ◌∙◌, ap, sym, subst}
-use Rattle.cd_edges.specs.declared.area.Area.TheVariants.{Journal}
-use Rattle.cd_edges.specs.Disk.{Store, Areas, LeavesOnly, IsAtArea, MayLeave, overwritten}
-use Rattle.cd_edges.specs.Shelf.{wrote, stable}
-use Rattle.cd_edges.proofs.Moments.{told_on}
+use Rattle.journal_halves.specs.CdEdges.area.Area.TheVariants.{Journal}
+use Rattle.journal_halves.specs.CdEdges.Disk.{Store, Areas, LeavesOnly, IsAtArea, MayLeave, overwritten}
+use Rattle.journal_halves.specs.CdEdges.Shelf.{wrote, stable}
+use Rattle.journal_halves.proofs.CdEdges.Moments.{told_on}
 use Rattle.journal_halves.specs.Halves.{half_len}
 use Rattle.journal_halves.specs.Journals.{Stands, IsOpenAt}
 use Rattle.half_journal.proofs.Calls.{on_ok, unmoved, closing, read_left, closed_now}

@@ -1,6 +1,6 @@
 use Rattle.std.proofs.Common.{◌<◌, ◌≤◌, arith}
-use Rattle.cd_edges.specs.declared.area.Area.TheVariants.{Journal}
-use Rattle.cd_edges.proofs.Moments.{started, weaker}
+use Rattle.journal_halves.specs.CdEdges.area.Area.TheVariants.{Journal}
+use Rattle.journal_halves.proofs.CdEdges.Moments.{started, weaker}
 use Rattle.half_journal.proofs.Calls.{on_ok}
 use Rattle.half_journal.proofs.Opening.{free_image, free_wrote, ready_already, ready_wrote}
 use Rattle.half_journal.proofs.open.close.Goals as goal

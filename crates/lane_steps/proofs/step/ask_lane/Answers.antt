@@ -1,7 +1,7 @@
 use Rattle.std.proofs.Common.{◌≡◌, ◌<◌, ℕ, List, length, Ok, refl, sym, ap, ◌∙◌, subst, arith, rules}
-use Rattle.messages.specs.Requests.{request_bytes}
-use Rattle.user_dedup.specs.Requests.{asked_at}
-use Rattle.cd_base.specs.Reading.{AreBytes}
+use Rattle.upload_job.specs.Messages.Requests.{request_bytes}
+use Rattle.upload_job.specs.UserDedup.Requests.{asked_at}
+use Rattle.grammar.specs.CdBase.Reading.{AreBytes}
 use Rattle.lane_steps.specs.Runs.{lane_at}
 use Rattle.lane_steps.proofs.Alone.{any_sent, any_counts}
 use Rattle.lane_steps.specs.Steps.{TakesReply}

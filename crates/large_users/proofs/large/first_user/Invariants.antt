@@ -1,6 +1,6 @@
 use Rattle.std.proofs.Common.{ℕ, ◌≤◌}
-use Rattle.cloud_memory.specs.Memory.{Memory}
-use Rattle.cloud_memory.specs.Rooms.{memory_of}
+use Rattle.compact_memories.specs.CloudMemory.Memory.{Memory}
+use Rattle.compact_memories.specs.CloudMemory.Rooms.{memory_of}
 use Rattle.large_users.specs.Counting.{AreNoneBelow}
 use Rattle.large_users.specs.Large.{IsCountedBy}
 use Rattle.large_users.proofs.large.first_user.Given as goal

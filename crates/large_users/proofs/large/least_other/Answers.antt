@@ -1,16 +1,16 @@
 use Rattle.std.proofs.Common.{ℕ, Option, sym, ap, subst, ◌∙◌, inl, inr}
 use Rattle.std.specs.Prelude.{◌≤◌, ◌⊎◌, IfSome, length}
-use Rattle.pool_map.specs.Accounts.{keys_of}
-use Rattle.pool_map.specs.Slots.{IsListed}
-use Rattle.file_index.specs.Files.{Files}
-use Rattle.file_index.specs.declared.key.FileKey.{FileKey}
-use Rattle.file_index.specs.Order.{key_exact}
-use Rattle.file_index.proofs.Order.{key_total}
-use Rattle.share_index.specs.declared.key.Owner.{Owner}
-use Rattle.share_index.specs.Order.{owner_exact}
-use Rattle.share_index.specs.Shares.{Shares}
-use Rattle.share_index.proofs.Owning.{owner_total}
-use Rattle.cloud_memory.specs.Rooms.{memory_of}
+use Rattle.compact_memories.specs.PoolMap.Accounts.{keys_of}
+use Rattle.compact_memories.specs.PoolMap.Slots.{IsListed}
+use Rattle.compact_memories.specs.FileIndex.Files.{Files}
+use Rattle.compact_memories.specs.FileIndex.key.FileKey.{FileKey}
+use Rattle.compact_memories.specs.FileIndex.Order.{key_exact}
+use Rattle.compact_memories.proofs.FileIndexLaws.Order.{key_total}
+use Rattle.compact_memories.specs.ShareIndex.key.Owner.{Owner}
+use Rattle.compact_memories.specs.ShareIndex.Order.{owner_exact}
+use Rattle.compact_memories.specs.ShareIndex.Shares.{Shares}
+use Rattle.compact_memories.proofs.ShareIndexLaws.Owning.{owner_total}
+use Rattle.compact_memories.specs.CloudMemory.Rooms.{memory_of}
 use Rattle.large_users.specs.Counting.{IsSeen, IsFound, AreSeen}
 use Rattle.large_users.specs.Large.{OfEach, IsOwnerSized, IsEntrySized}
 use Rattle.large_users.proofs.Counts.{none_of, some_of}

@@ -1,5 +1,5 @@
 use Rattle.std.proofs.Common.{None, arith}
-use Rattle.share_index.specs.declared.key.Owner.{Owner}
+use Rattle.compact_memories.specs.ShareIndex.key.Owner.{Owner}
 use Rattle.large_users.specs.Large.{IsOwnerSized}
 use Rattle.large_users.proofs.Counts.{each_begins, each_past, seen_begins, seen_past}
 use Rattle.large_users.proofs.large.least_owner.Goals as goal

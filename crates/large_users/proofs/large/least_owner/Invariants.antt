@@ -1,4 +1,4 @@
-use Rattle.share_index.specs.declared.key.Owner.{Owner}
+use Rattle.compact_memories.specs.ShareIndex.key.Owner.{Owner}
 use Rattle.large_users.specs.Counting.{AreSeen, IsFound}
 use Rattle.large_users.specs.Large.{OfEach, IsOwnerSized}
 use Rattle.large_users.proofs.large.least_owner.Given as goal

@@ -1,5 +1,5 @@
 use Rattle.std.proofs.Common.{None, arith}
-use Rattle.file_index.specs.declared.key.FileKey.{FileKey}
+use Rattle.compact_memories.specs.FileIndex.key.FileKey.{FileKey}
 use Rattle.large_users.specs.Large.{IsEntrySized}
 use Rattle.large_users.proofs.Counts.{each_begins, each_past, seen_begins, seen_past}
 use Rattle.large_users.proofs.large.least_with.Goals as goal

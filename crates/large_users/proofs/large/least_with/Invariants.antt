@@ -1,4 +1,4 @@
-use Rattle.file_index.specs.declared.key.FileKey.{FileKey}
+use Rattle.compact_memories.specs.FileIndex.key.FileKey.{FileKey}
 use Rattle.large_users.specs.Counting.{AreSeen, IsFound}
 use Rattle.large_users.specs.Large.{OfEach, IsEntrySized}
 use Rattle.large_users.proofs.large.least_with.Given as goal

@@ -1,9 +1,9 @@
 use Rattle.std.proofs.Common.{ℕ, cond, ap, ◌∙◌}
 use Rattle.std.specs.Prelude.{nat_lt, option_map}
 use Rattle.std.specs.Option.{option_or}
-use Rattle.cd_base.specs.declared.rooms.Room.TheVariants as names
-use Rattle.user_dedup.specs.Spending.{refusal}
-use Rattle.cloud_memory.specs.Memory.{as_spent}
+use Rattle.record_bodies.specs.CdBase.rooms.Room.TheVariants as names
+use Rattle.compact_memories.specs.UserDedup.Spending.{refusal}
+use Rattle.compact_memories.specs.CloudMemory.Memory.{as_spent}
 use Rattle.large_users.specs.Large.{full_of}
 use Rattle.large_users.proofs.Passed.{rooms_are}
 use Rattle.large_users.proofs.large.passed_by.Goals as goal

@@ -1,11 +1,11 @@
 use Rattle.std.proofs.Common.{ap, ◌∙◌}
-use Rattle.file_index.specs.declared.key.FileKey.{FileKey}
-use Rattle.file_index.specs.Files.{Files}
-use Rattle.pool_map.specs.Accounts.{keys_of}
-use Rattle.share_index.specs.declared.key.Owner.{Owner}
-use Rattle.share_index.specs.Shares.{Shares}
-use Rattle.spent_table.specs.declared.Spent.{Spent as Row}
-use Rattle.cloud_memory.specs.Rooms.{memory_of}
+use Rattle.compact_memories.specs.FileIndex.key.FileKey.{FileKey}
+use Rattle.compact_memories.specs.FileIndex.Files.{Files}
+use Rattle.compact_memories.specs.PoolMap.Accounts.{keys_of}
+use Rattle.compact_memories.specs.ShareIndex.key.Owner.{Owner}
+use Rattle.compact_memories.specs.ShareIndex.Shares.{Shares}
+use Rattle.compact_memories.specs.SpentTable.Spent.{Spent as Row}
+use Rattle.compact_memories.specs.CloudMemory.Rooms.{memory_of}
 use Rattle.large_users.specs.Counting.{recipes_in}
 use Rattle.large_users.proofs.Passed.{room_is}
 use Rattle.large_users.proofs.large.too_large.Goals as goal

@@ -1,7 +1,7 @@
-use Rattle.pool_map.specs.Slots.{slot_of}
+use Rattle.compact_memories.specs.PoolMap.Slots.{slot_of}
 use Rattle.std.proofs.Common.{◌≡◌, rules, length, sym, refl}
-use Rattle.file_index.specs.declared.key.FileKey.{FileKey}
-use Rattle.file_index.specs.Files.{key_of}
+use Rattle.compact_memories.specs.FileIndex.key.FileKey.{FileKey}
+use Rattle.compact_memories.specs.FileIndex.Files.{key_of}
 use Rattle.large_users.specs.Large.{IsEntrySized}
 use Rattle.large_users.proofs.Counts.{each_more, each_key, each_none, seen_more, seen_key, seen_none, found_more}
 use Rattle.large_users.proofs.large.with_entry.Goals as goal

@@ -1,5 +1,5 @@
 use Rattle.std.proofs.Common.{rules, ◌+◌, ◌<◌, ℕ, sym, subst}
-use Rattle.file_index.specs.Files.{key_of}
+use Rattle.compact_memories.specs.FileIndex.Files.{key_of}
 use Rattle.large_users.specs.Counting.{IsCountOf}
 use Rattle.large_users.proofs.Counts.{count_one, count_other, count_none}
 use Rattle.large_users.proofs.large.with_slot.Goals as goal

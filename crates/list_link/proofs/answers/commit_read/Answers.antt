@@ -1,8 +1,8 @@
 use Rattle.std.proofs.Common.{◌≡◌, ℕ, ◌+◌, ap, sym, ◌∙◌, arith, Err, length, leb}
 use Rattle.std.proofs.lemmas.Bool.{and_parts, leb-true}
-use Rattle.recipe.specs.Reading.{recipe_at}
-use Rattle.messages.specs.declared.request.Request.TheVariants as requests
-use Rattle.messages.specs.declared.reply.Reply.TheVariants as replies
+use Rattle.user_dedup.specs.Recipe.Reading.{recipe_at}
+use Rattle.user_dedup.specs.Messages.request.Request.TheVariants as requests
+use Rattle.user_dedup.specs.Messages.reply.Reply.TheVariants as replies
 use Rattle.user_dedup.specs.Dedup.{only}
 use Rattle.list_link.proofs.Asks.{malformed_answer, recipe_place_fits}
 use Rattle.list_link.proofs.answers.commit_read.Goals as goal

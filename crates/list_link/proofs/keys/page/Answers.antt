@@ -1,7 +1,7 @@
 use Rattle.std.proofs.Common.{[], sym, ◌∙◌, arith}
-use Rattle.cd_base.specs.declared.ids.Tag.{Tag}
-use Rattle.cd_base.specs.declared.ids.Version.{Version}
-use Rattle.message_fields.specs.Keys.{is_above}
+use Rattle.user_dedup.specs.CdBase.ids.Tag.{Tag}
+use Rattle.user_dedup.specs.CdBase.ids.Version.{Version}
+use Rattle.user_dedup.specs.MessageFields.Keys.{is_above}
 use Rattle.list_link.proofs.Steps.{page_grows, page_passes, page_full}
 use Rattle.list_link.proofs.keys.page.Goals as goal
 use Rattle.list_link.proofs.keys.page.Goals.{then-len-lt-KEY_LIMIT+then-is_key_above+in_ok-push, else-len-lt-KEY_LIMIT, else-len-lt-KEY_LIMIT-via-then-len-lt-KEY_LIMIT+else-is_key_above, else-len-lt-KEY_LIMIT-via-else-len-lt-KEY_LIMIT}

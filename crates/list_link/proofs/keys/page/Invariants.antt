@@ -1,6 +1,6 @@
 use Rattle.std.proofs.Common.{◌≡◌, take}
 use Rattle.std.specs.Prelude.{filter}
-use Rattle.message_fields.specs.Keys.{is_above}
+use Rattle.user_dedup.specs.MessageFields.Keys.{is_above}
 use Rattle.list_link.proofs.keys.page.Given as goal
 
 abbrev pub invariant-loop-key : goal.invariant-loop-key

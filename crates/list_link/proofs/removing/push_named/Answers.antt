@@ -1,5 +1,5 @@
 use Rattle.std.proofs.Common.{◌++◌, List, ap, sym, ◌∙◌, arith, append-nil}
-use Rattle.cd_base.specs.declared.ids.Fp.{Fp}
+use Rattle.user_dedup.specs.CdBase.ids.Fp.{Fp}
 use Rattle.list_link.proofs.Steps.{long_names_none}
 use Rattle.list_link.proofs.removing.push_named.Goals as goal
 

@@ -1,9 +1,9 @@
 use Rattle.std.proofs.Common.{[], ◌∷◌, ◌++◌, sym, ap, ◌∙◌, subst}
-use Rattle.file_index.specs.Files.{key_of}
-use Rattle.record_bodies.specs.Spelling as bodies
-use Rattle.user_dedup.specs.Requests.{fps_of}
-use Rattle.user_dedup.specs.declared.command.Command.TheVariants as asked
-use Rattle.cloud_areas.specs.Adding.{with_record}
+use Rattle.checkpoints.specs.FileIndex.Files.{key_of}
+use Rattle.checkpoints.specs.RecordBodies.Spelling as bodies
+use Rattle.checkpoints.specs.UserDedup.Requests.{fps_of}
+use Rattle.checkpoints.specs.UserDedup.command.Command.TheVariants as asked
+use Rattle.checkpoints.specs.CloudAreas.Adding.{with_record}
 use Rattle.checkpoints.specs.CloudMemory.Fitting.{FitsRecords}
 use Rattle.checkpoints.specs.CloudMemory.Rooms.{memory_of}
 use Rattle.checkpoints.proofs.MemoryProofs.Fitting as fitting

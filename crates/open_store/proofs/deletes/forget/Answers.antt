@@ -1,6 +1,6 @@
 use Rattle.std.proofs.Common.{rules, ◌≡◌, [], ap, ◌∙◌}
-use Rattle.user_dedup.specs.Owning.{fps_in}
-use Rattle.user_dedup.specs.Requests.{fps_of}
+use Rattle.checkpoints.specs.UserDedup.Owning.{fps_in}
+use Rattle.checkpoints.specs.UserDedup.Requests.{fps_of}
 use Rattle.open_store.proofs.deletes.forget.Goals as goal
 
 pub returns-in-Ok-clause-remembers : goal.returns-in-Ok-clause-remembers

@@ -1,10 +1,10 @@
 use Rattle.std.proofs.Common.{List, [], ◌∷◌, ◌++◌, sym, ap, ◌∙◌, subst}
-use Rattle.record_body.specs.declared.body.PutItem.{PutItem}
-use Rattle.record_bodies.specs.Spelling as bodies
-use Rattle.record_bodies.specs.Spelling.{body_bytes}
-use Rattle.user_dedup.specs.declared.command.Command.TheVariants as asked
-use Rattle.cloud_areas.specs.Adding.{with_record}
-use Rattle.cloud_areas.specs.Chains.{IsRecord}
+use Rattle.checkpoints.specs.RecordBody.body.PutItem.{PutItem}
+use Rattle.checkpoints.specs.RecordBodies.Spelling as bodies
+use Rattle.checkpoints.specs.RecordBodies.Spelling.{body_bytes}
+use Rattle.checkpoints.specs.UserDedup.command.Command.TheVariants as asked
+use Rattle.checkpoints.specs.CloudAreas.Adding.{with_record}
+use Rattle.checkpoints.specs.CloudAreas.Chains.{IsRecord}
 use Rattle.checkpoints.specs.CloudMemory.Fitting.{FitsRecords}
 use Rattle.checkpoints.specs.CloudMemory.Rooms.{memory_of}
 use Rattle.checkpoints.specs.CloudMemory.Steps.{with_put}

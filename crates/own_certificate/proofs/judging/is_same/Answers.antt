@@ -1,5 +1,5 @@
 use Rattle.std.proofs.Common.{ap}
-use Rattle.certificate.specs.declared.line.Heading.{Heading}
+use Rattle.audit_base.specs.Certificate.line.Heading.{Heading}
 use Rattle.own_certificate.proofs.Parting.{same_heading}
 use Rattle.own_certificate.proofs.judging.is_same.Goals as goal
 

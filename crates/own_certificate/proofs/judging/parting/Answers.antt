@@ -1,5 +1,5 @@
 use Rattle.std.proofs.Common.{◌≡◌, ◌≢◌, ◌++◌, true, false, arith, refl, sym, ap, ◌∙◌, subst}
-use Rattle.certificate.specs.Lines.{certificate_line}
+use Rattle.audit_base.specs.Certificate.Lines.{certificate_line}
 use Rattle.own_certificate.proofs.Indexing.{length-own}
 use Rattle.own_certificate.proofs.Parting.{line_got, reach_further, reach_parted, reach_over, reach_done}
 use Rattle.own_certificate.proofs.judging.parting.Goals as goal

@@ -1,4 +1,4 @@
-use Rattle.certificate.specs.Lines.{certificate_lines}
+use Rattle.audit_base.specs.Certificate.Lines.{certificate_lines}
 use Rattle.own_certificate.specs.Own.{own_by}
 use Rattle.own_certificate.proofs.Parting.{Reached}
 use Rattle.own_certificate.proofs.judging.parting.Given as goal

@@ -1,5 +1,5 @@
 use Rattle.std.proofs.Common.{◌≡◌}
-use Rattle.cloud_memory.specs.Live.{live_at}
+use Rattle.audit_base.specs.CloudMemory.Live.{live_at}
 use Rattle.own_certificate.specs.Inner.{some_below}
 use Rattle.own_certificate.proofs.slots.share_slots.Given as goal
 

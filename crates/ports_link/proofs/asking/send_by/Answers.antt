@@ -1,5 +1,5 @@
 use Rattle.std.proofs.Common.{List, ℕ, subst}
-use Rattle.cd_edges.specs.Ports.{SentPart}
+use Rattle.transcript.specs.CdEdges.Ports.{SentPart}
 use Rattle.ports_link.proofs.Steps.{part_in_front}
 use Rattle.ports_link.proofs.asking.send_by.Goals as goal
 

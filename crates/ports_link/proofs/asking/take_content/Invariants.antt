@@ -1,5 +1,5 @@
 use Rattle.std.proofs.Common.{◌≡◌, ◌+◌, ◌<◌, length, IsTrue}
-use Rattle.cd_edges.specs.Ports.{Received}
+use Rattle.transcript.specs.CdEdges.Ports.{Received}
 use Rattle.ports_link.proofs.asking.take_content.Given as goal
 
 abbrev pub invariant-loop-left : goal.invariant-loop-left

@@ -1,5 +1,5 @@
 use Rattle.std.proofs.Common.{[], length}
-use Rattle.ports_link.proofs.Clouds.{all_shaped, are_greeted}
+use Rattle.ports_link.proofs.CloudLists.{all_shaped, are_greeted}
 use Rattle.ports_link.proofs.greeting.together.Goals as goal
 
 pub shape_of_first-shape-requires-clause-shaped : goal.shape_of_first-shape-requires-clause-shaped

@@ -5,7 +5,7 @@ use Rattle.ports_link.specs.Greetings.{AreAsAsked}
 use Rattle.ports_link.specs.Hellos.{AreGreeted}
 use Rattle.ports_link.specs.Meeting.{Lacks}
 use Rattle.ports_link.proofs.Chains.{are_dialled, said_hello, told_stays}
-use Rattle.ports_link.proofs.Clouds.{through, are_reached, have_talks}
+use Rattle.ports_link.proofs.CloudLists.{through, are_reached, have_talks}
 use Rattle.ports_link.proofs.Opening.{next_apart}
 use Rattle.ports_link.proofs.meeting.meet_all.Goals as goal
 

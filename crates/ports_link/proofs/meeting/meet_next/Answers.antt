@@ -1,5 +1,5 @@
 use Rattle.std.proofs.Common.{◌∷◌, [], ℕ, List, Err, subst, sym, ◌∙◌}
-use Rattle.cd_edges.specs.Ports.{Telling}
+use Rattle.transcript.specs.CdEdges.Ports.{Telling}
 use Rattle.ports_link.specs.declared.meeting.MeetErr.TheVariants as errors
 use Rattle.ports_link.specs.Greetings.{IsRefused}
 use Rattle.ports_link.specs.Meeting.{Meets, Refuses, Loses, Undials}

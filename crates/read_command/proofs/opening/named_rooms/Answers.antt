@@ -1,8 +1,8 @@
 use Rattle.std.proofs.Common.{Result, Err, sym, subst}
-use Rattle.cd_edges.specs.declared.area.Area.TheVariants.{Journal}
-use Rattle.journal_halves.specs.declared.found.Found.{Found}
-use Rattle.journal_halves.specs.declared.found.FindErr.{FindErr}
-use Rattle.journal_halves.specs.Findings.{FindIs}
+use Rattle.half_journal.specs.CdEdges.area.Area.TheVariants.{Journal}
+use Rattle.half_journal.specs.JournalHalves.found.Found.{Found}
+use Rattle.half_journal.specs.JournalHalves.found.FindErr.{FindErr}
+use Rattle.half_journal.specs.JournalHalves.Findings.{FindIs}
 use Rattle.read_command.specs.Disks.{NamesRooms, Current, Unbegun, Broken}
 use Rattle.read_command.proofs.opening.named_rooms.Goals as goal
 

@@ -1,6 +1,6 @@
 use Rattle.std.proofs.Common.{rules, ◌≡◌, ℕ, List, [], refl, subst}
-use Rattle.user_dedup.specs.declared.command.Command.{Command}
-use Rattle.journal_start.specs.declared.rooms.Rooms.{Rooms}
+use Rattle.cloud_areas.specs.UserDedup.command.Command.{Command}
+use Rattle.half_journal.specs.JournalStart.rooms.UserRooms.{UserRooms}
 use Rattle.read_command.specs.Disks.{AreReadable}
 use Rattle.read_command.specs.Opening.{EndsOpening, IsFree}
 use Rattle.read_command.specs.Ends.{Outside, IsWritten, Restored}
@@ -52,7 +52,7 @@ returns-clause-reads g c =
     let ended = λ (a b : g.row.V.Denot). EndsOpening r.shape r.clouds.now (g.V.Shelf.cloud_at a) (g.V.Shelf.cloud_at b) (g.V.Shelf.faults a) (g.V.Shelf.faults b) end in
     reads_stopped (around c.args.shelf.now c.shelf-1.given.0) r (g.K.Sink.written c.args.sink.now) end
     (subst (λ (a : g.row.V.Denot). ended a c.shelf-1.given.0) c.of-link.ensures.shelf (subst (λ (b : g.row.V.Denot). ended first b) back c.in-Err.ensures.end))
-    (subst (λ (a : g.row.V.Denot). (rooms : ℕ → Rooms) (lists : ℕ → List Command) → AreReadable r.shape r.clouds.now (g.V.Shelf.cloud_at a) rooms lists → IsFree end) c.of-link.ensures.shelf c.in-Err.ensures.free)
+    (subst (λ (a : g.row.V.Denot). (rooms : ℕ → UserRooms) (lists : ℕ → List Command) → AreReadable r.shape r.clouds.now (g.V.Shelf.cloud_at a) rooms lists → IsFree end) c.of-link.ensures.shelf c.in-Err.ensures.free)
 
 pub returns-in_default-clause-anyway : goal.returns-in_default-clause-anyway
 returns-in_default-clause-anyway g c rooms lists chosen file has are given free is = (let never : ends.NoMemory ≡ ends.Refused = is in cc)

@@ -1,10 +1,10 @@
 use Rattle.std.proofs.Common.{ℕ, List, sym, ◌∙◌, subst}
-use Rattle.cd_base.specs.declared.ids.Tag.{Tag}
-use Rattle.cd_base.specs.declared.shape.Shape.{Shape}
-use Rattle.cd_base.specs.Numbers.{numbers_of}
-use Rattle.journal_start.specs.declared.start.Header.{Header}
-use Rattle.caont_rs.specs.Package.{tag as tag_at}
-use Rattle.read_command.specs.Disks.{AreReadable, InItsRooms, IsOpened, KeepsDisks}
+use Rattle.half_journal.specs.CdBase.ids.Tag.{Tag}
+use Rattle.half_journal.specs.CdBase.shape.Shape.{Shape}
+use Rattle.half_journal.specs.CdBase.Numbers.{numbers_of}
+use Rattle.half_journal.specs.JournalStart.start.Header.{Header}
+use Rattle.subset_restore.specs.CaontRs.Package.{tag as tag_at}
+use Rattle.read_command.specs.Disks.{AreReadable, InItsRooms, IsOpenedToRead, KeepsDisks}
 use Rattle.read_command.specs.Opening.{AreOpened}
 use Rattle.read_command.proofs.Restoring.{came_to, given_anyway, is_due, kept_on}
 use Rattle.read_command.proofs.reading.restore_opened.Goals as goal
@@ -31,7 +31,7 @@ returns-clause-came g c =
     let e = c.restore_any.ensures in
     let tag : Tag = record { 0 = tag_at r.shape r.path.now } in
     record {
-      opened = λ cloud has told. subst (λ (s : Shape). InItsRooms s cloud (clouds old.shelf.now cloud) (λ (header : Header). IsOpened header (clouds old.shelf.now cloud))) c.requires.shape ((opened.each cloud has).opened told);
+      opened = λ cloud has told. subst (λ (s : Shape). InItsRooms s cloud (clouds old.shelf.now cloud) (λ (header : Header). IsOpenedToRead header (clouds old.shelf.now cloud))) c.requires.shape ((opened.each cloud has).opened told);
       came_to = came_to clouds named r.shape before between now old mid new c.requires.shape opened r.user tag r.version _
           c.restore_any.result c.args.file.now c.restore_any.new.out c.requires.empty c.requires.fate e.asked e.named e.restored;
       due = is_due clouds named r.shape before between now old mid new c.requires.shape opened r.user tag r.version _

@@ -1,6 +1,6 @@
 use Rattle.std.proofs.Common.{refl, sym, ◌∙◌, subst}
 use Rattle.std.specs.Prelude.{Result, Ok, Err}
-use Rattle.restore_job.specs.declared.error.RestoreErr.{RestoreErr}
+use Rattle.subset_restore.specs.RestoreJob.error.RestoreErr.{RestoreErr}
 use Rattle.read_command.specs.declared.end.ReadEnd.{ReadEnd}
 use Rattle.subset_restore.specs.Refusals.{refusal_text}
 use Rattle.read_command.specs.Ends.{IsWritten, Writes}

@@ -1,12 +1,12 @@
 use Rattle.std.proofs.Common.{refl, ◌∙◌, Bool, [], Option, Some, Result, Ok, Err, sym, ap, subst}
-use Rattle.cd_base.specs.declared.ids.Tag.{Tag}
-use Rattle.cd_base.specs.declared.ids.Version.{Version}
-use Rattle.user_dedup.proofs.Owned.{contains_nothing}
+use Rattle.lane_steps.specs.CdBase.ids.Tag.{Tag}
+use Rattle.lane_steps.specs.CdBase.ids.Version.{Version}
+use Rattle.lane_steps.proofs.UserDedup.Owned.{contains_nothing}
 use Rattle.rebuild.specs.Steps.{found_of}
 use Rattle.rebuild.specs.declared.error.SkipWhy.{SkipWhy}
 use Rattle.rebuild.specs.declared.error.RebuildErr.{RebuildErr}
-use Rattle.user_dedup.specs.Link.{serves}
-use Rattle.upload_job.specs.Upload.{FileVersion}
+use Rattle.lane_steps.specs.UserDedup.Link.{serves}
+use Rattle.lane_steps.specs.UploadJob.Upload.{FileVersion}
 use Rattle.rebuild.specs.Over.{Leads}
 use Rattle.rebuild.specs.Entering.{EntryBrought, entered_as}
 use Rattle.rebuild.specs.Filling.{BringHolds}

@@ -1,18 +1,18 @@
 use Rattle.std.proofs.Common.{ℕ, Bool, [], List, Option, Result, Err, sym, ap, ◌∙◌, subst}
-use Rattle.cd_base.specs.Numbers.{numbers_of}
-use Rattle.cd_base.specs.declared.ids.Tag.{Tag}
-use Rattle.cd_base.specs.declared.ids.Version.{Version}
-use Rattle.messages.specs.declared.request.Request.{Request}
-use Rattle.user_dedup.proofs.Owned.{contains_later}
-use Rattle.user_dedup.specs.Dedup.{Outcome}
-use Rattle.user_dedup.specs.Link.{serves}
-use Rattle.user_dedup.specs.declared.command.Command.{Command}
+use Rattle.lane_steps.specs.CdBase.Numbers.{numbers_of}
+use Rattle.lane_steps.specs.CdBase.ids.Tag.{Tag}
+use Rattle.lane_steps.specs.CdBase.ids.Version.{Version}
+use Rattle.lane_steps.specs.Messages.request.Request.{Request}
+use Rattle.lane_steps.proofs.UserDedup.Owned.{contains_later}
+use Rattle.lane_steps.specs.UserDedup.Dedup.{Outcome}
+use Rattle.lane_steps.specs.UserDedup.Link.{serves}
+use Rattle.lane_steps.specs.UserDedup.command.Command.{Command}
 use Rattle.rebuild.specs.declared.error.RebuildErr.{RebuildErr}
 use Rattle.rebuild.specs.declared.error.SkipWhy.{SkipWhy}
 use Rattle.rebuild.specs.Entering.{EntryBrought, EntryTold, stopped_as}
 use Rattle.rebuild.specs.Filling.{BringHolds}
 use Rattle.rebuild.specs.Turns.{EndsLane, OwnLanes}
-use Rattle.rebuild.specs.Over.{Holds, Leads, is_lost}
+use Rattle.rebuild.specs.Over.{HasRebuildCause, Leads, is_lost}
 use Rattle.rebuild.specs.Steps.{found_of}
 use Rattle.rebuild.proofs.Joining.{read_then, read_stops, then_stopped, stopped_holds, stopped_told, own_holds, found_brought, serves_same}
 use Rattle.rebuild.proofs.Joining.{stopped_lost}
@@ -59,7 +59,7 @@ returns-in-Err-clause-rebuilt g c =
     let e = c.in-Err.e in
     let asked = c.in-Err.ensures.asked in
     let apart = c.requires.apart in
-    subst (λ (x : RebuildErr). Leads t talk target from old new (bad x) (Holds t old c.args.shape c.args.user target (bad x)) (EntryTold c.args.shape c.args.user target serve from key (bad x))) (sym c.stopped.ensures)
+    subst (λ (x : RebuildErr). Leads t talk target from old new (bad x) (HasRebuildCause t old c.args.shape c.args.user target (bad x)) (EntryTold c.args.shape c.args.user target serve from key (bad x))) (sym c.stopped.ensures)
     (read_stops t talk target from old new (bad (stopped_as e)) _ _ _ _ apart (asked.asks, asked.passed) c.in-Err.ensures.told (λ p q same. then_stopped (Option SkipWhy) t target new p q e same)
     (λ a b one x. stopped_holds (Option SkipWhy) t old c.args.shape c.args.user target e a b x) (λ a b one x. stopped_told c.args.shape c.args.user target serve from key e a b (one.others target apart) x))
 

@@ -1,8 +1,8 @@
 use Rattle.std.proofs.Common.{List, Option, Ok, refl, sym, subst}
-use Rattle.cd_base.specs.Numbers.{numbers_of}
-use Rattle.cd_base.specs.declared.ids.Tag.{Tag}
-use Rattle.cd_base.specs.declared.ids.Version.{Version}
-use Rattle.user_dedup.specs.Link.{serves}
+use Rattle.lane_steps.specs.CdBase.Numbers.{numbers_of}
+use Rattle.lane_steps.specs.CdBase.ids.Tag.{Tag}
+use Rattle.lane_steps.specs.CdBase.ids.Version.{Version}
+use Rattle.lane_steps.specs.UserDedup.Link.{serves}
 use Rattle.rebuild.specs.Several.{progress_of}
 use Rattle.rebuild.specs.Rebuilding.{Progressed}
 use Rattle.rebuild.specs.declared.error.SkipWhy.{SkipWhy}

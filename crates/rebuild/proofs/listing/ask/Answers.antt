@@ -1,6 +1,6 @@
 use Rattle.std.proofs.Common.{arith, refl, Some, None, true, false, ◌≡◌}
-use Rattle.user_dedup.proofs.Asked.{asked_law}
-use Rattle.restore_job.proofs.Leading.{asked_once}
+use Rattle.lane_steps.proofs.UserDedup.Asked.{asked_law}
+use Rattle.kept_files.proofs.RestoreJob.Leading.{asked_once}
 use Rattle.rebuild.proofs.listing.ask.Goals as goal
 
 pub returns-in-Ok-clause-exec : goal.returns-in-Ok-clause-exec

@@ -1,12 +1,12 @@
 use Rattle.std.proofs.Common.{◌≡◌, ◌∷◌, [], ℕ, List, Ok, Err, refl, sym, subst}
-use Rattle.messages.specs.Requests.{IsRequest}
-use Rattle.messages.specs.declared.request.Request.TheVariants as requests
-use Rattle.user_dedup.specs.Link.{Asks}
-use Rattle.restore_job.specs.Refusals.{Names}
-use Rattle.restore_job.specs.declared.error.RestoreErr.{RestoreErr}
-use Rattle.restore_job.specs.declared.error.RestoreErr.TheVariants as errors
-use Rattle.restore_job.proofs.Leading.{leads_none, one_step}
-use Rattle.restore_job.proofs.Held.{error_is}
+use Rattle.lane_steps.specs.Messages.Requests.{IsRequest}
+use Rattle.lane_steps.specs.Messages.request.Request.TheVariants as requests
+use Rattle.lane_steps.specs.UserDedup.Link.{Asks}
+use Rattle.kept_files.specs.RestoreJob.Refusals.{Names}
+use Rattle.kept_files.specs.RestoreJob.error.RestoreErr.{RestoreErr}
+use Rattle.kept_files.specs.RestoreJob.error.RestoreErr.TheVariants as errors
+use Rattle.kept_files.proofs.RestoreJob.Leading.{leads_none, one_step}
+use Rattle.kept_files.proofs.RestoreJob.Held.{error_is}
 use Rattle.rebuild.proofs.Listed.{from_names, page_moves, page_leads, lost_page}
 use Rattle.rebuild.proofs.listing.fetch_page.Goals as goal
 

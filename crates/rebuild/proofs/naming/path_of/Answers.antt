@@ -1,6 +1,6 @@
 use Rattle.std.proofs.Common.{◌==◌, ℕ, List, position, length, Result, Err, sym, ap, ◌∙◌, subst, arith}
-use Rattle.caont_rs.specs.Opening.{opened}
-use Rattle.caont_rs.specs.declared.opening.RecoverErr.{RecoverErr}
+use Rattle.lane_steps.specs.CaontRs.Opening.{opened}
+use Rattle.lane_steps.specs.CaontRs.opening.RecoverErr.{RecoverErr}
 use Rattle.rebuild.specs.declared.naming.NameErr.{NameErr}
 use Rattle.rebuild.specs.Found.{name_judged, path_judged}
 use Rattle.rebuild.specs.Steps.{NameIs}

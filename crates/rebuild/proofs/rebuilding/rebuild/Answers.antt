@@ -1,5 +1,5 @@
 use Rattle.std.proofs.Common.{ℕ, List, sym, subst}
-use Rattle.reed_solomon.specs.Dispersal.{AreChoice}
+use Rattle.kept_files.specs.ReedSolomon.Dispersal.{AreChoice}
 use Rattle.rebuild.proofs.Ended.{PagesLead, chosen, whole_done, whole_failed, whole_none}
 use Rattle.rebuild.proofs.Pages.{ended, stopped}
 use Rattle.rebuild.specs.Over.{BringsOwn}

@@ -1,15 +1,15 @@
 use Rattle.std.proofs.Common.{◌≡◌, ◌<◌, ℕ, Bool, List, length, None, refl, sym, ◌∙◌, subst}
 use Rattle.std.specs.Prelude.{IsTrue}
 use Rattle.std.specs.List.{Contains}
-use Rattle.cd_base.specs.Numbers.{numbers_of}
-use Rattle.cd_base.specs.declared.ids.Tag.{Tag}
-use Rattle.cd_base.specs.declared.ids.Version.{Version}
-use Rattle.user_dedup.specs.Link.{serves}
-use Rattle.user_dedup.proofs.Owned.{contains_later}
-use Rattle.restore_job.proofs.Causing.{names_to}
+use Rattle.lane_steps.specs.CdBase.Numbers.{numbers_of}
+use Rattle.lane_steps.specs.CdBase.ids.Tag.{Tag}
+use Rattle.lane_steps.specs.CdBase.ids.Version.{Version}
+use Rattle.lane_steps.specs.UserDedup.Link.{serves}
+use Rattle.lane_steps.proofs.UserDedup.Owned.{contains_later}
+use Rattle.kept_files.proofs.RestoreJob.Causing.{names_to}
 use Rattle.rebuild.specs.declared.error.RebuildErr.{RebuildErr}
 use Rattle.rebuild.specs.Entering.{stopped_as}
-use Rattle.rebuild.specs.Over.{Asked, HandsOn, is_lost}
+use Rattle.rebuild.specs.Over.{HasAskedToRebuild, HandsOn, is_lost}
 use Rattle.rebuild.specs.Rebuilding.{Progressed}
 use Rattle.rebuild.specs.Several.{progress_of}
 use Rattle.rebuild.proofs.Ended.{PagesLead}
@@ -77,7 +77,7 @@ returns-in-Err-clause-asked g c =
     let old = c.args.link.now in
     let new = c.fetch_page.new.link in
     let e = c.in-Err.e in
-    subst (λ (x : RebuildErr). Asked t target from old new (is_lost (stopped x))) (sym c.stopped.ensures)
+    subst (λ (x : RebuildErr). HasAskedToRebuild t target from old new (is_lost (stopped x))) (sym c.stopped.ensures)
     (unread_asked t talk target from c.args.shape c.args.user c.requires.apart first here old c.pages.link new c.pages.above (progress_of c.pages.rebuilt) e _ (sym (stopped_lost (Unit {0}) e)) c.pages.invariant c.in-Err.ensures.asked)
 
 pub returns-in-Err-clause-hands_on : goal.returns-in-Err-clause-hands_on

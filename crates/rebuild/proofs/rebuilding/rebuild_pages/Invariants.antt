@@ -1,5 +1,5 @@
 use Rattle.std.proofs.Common.{◌+◌, ◌-◌, ◌^◌, length}
-use Rattle.cd_base.specs.Numbers.{numbers_of}
+use Rattle.lane_steps.specs.CdBase.Numbers.{numbers_of}
 use Rattle.rebuild.specs.Several.{progress_of}
 use Rattle.rebuild.proofs.Pages.{Paged}
 use Rattle.rebuild.proofs.rebuilding.rebuild_pages.Given as goal

@@ -1,14 +1,14 @@
 use Rattle.std.proofs.Common.{◌≡◌, ◌<◌, ◌≤◌, List, [], ◌++◌, length, Option, Result, Ok, Err, false, true, refl, sym, ap, ◌∙◌, subst, arith}
-use Rattle.cd_base.specs.declared.shape.Shape.{Shape}
-use Rattle.upload_job.specs.declared.news.LaneNews.{LaneNews}
-use Rattle.upload_job.specs.Upload.{FileVersion}
-use Rattle.upload_job.specs.Lanes.{LaneView, with_state}
+use Rattle.lane_steps.specs.CdBase.shape.Shape.{Shape}
+use Rattle.lane_steps.specs.UploadJob.news.LaneNews.{LaneNews}
+use Rattle.lane_steps.specs.UploadJob.Upload.{FileVersion}
+use Rattle.lane_steps.specs.UploadJob.Lanes.{LaneView, with_state}
 use Rattle.lane_steps.specs.Reached.{IsOnItsWay, ForOne, BegunAlone}
 use Rattle.lane_steps.specs.Runs.{Progress, starting, lane_at}
 use Rattle.rebuild.specs.Rebuilding.{lane_of}
 use Rattle.rebuild.proofs.Landing.{target_leads, step_moves, lane_is, lanes_long, ended_moves, memory_moves, lane_still}
 use Rattle.rebuild.proofs.Turning.{no_others}
-use Rattle.user_dedup.specs.Link.{serves}
+use Rattle.lane_steps.specs.UserDedup.Link.{serves}
 use Rattle.lane_steps.specs.Steps.{Heard}
 use Rattle.lane_steps.specs.declared.error.StepErr.{StepErr}
 use Rattle.rebuild.specs.declared.error.RebuildErr.{RebuildErr}

@@ -1,13 +1,13 @@
 use Rattle.std.proofs.Common.{◌≡◌, ◌≤◌, List, length, sym, ◌∙◌, subst, arith}
 use Rattle.std.proofs.lemmas.List.{length-map}
-use Rattle.cd_base.specs.Numbers.{numbers_of}
-use Rattle.cd_base.specs.declared.ids.CloudNo.{CloudNo}
-use Rattle.cd_base.specs.declared.ids.Tag.{Tag}
-use Rattle.cd_base.specs.declared.ids.Version.{Version}
-use Rattle.recipe.specs.declared.recipe.Recipe.{Recipe}
-use Rattle.restore_job.specs.Asking.{Leads}
-use Rattle.restore_job.proofs.Causing.{ready_on}
-use Rattle.restore_job.proofs.Leading.{leads_on, leads_to, asked_on, may_stay}
+use Rattle.lane_steps.specs.CdBase.Numbers.{numbers_of}
+use Rattle.lane_steps.specs.CdBase.ids.CloudNo.{CloudNo}
+use Rattle.lane_steps.specs.CdBase.ids.Tag.{Tag}
+use Rattle.lane_steps.specs.CdBase.ids.Version.{Version}
+use Rattle.lane_steps.specs.Recipe.recipe.Recipe.{Recipe}
+use Rattle.kept_files.specs.RestoreJob.Asking.{Leads}
+use Rattle.kept_files.proofs.RestoreJob.Causing.{ready_on}
+use Rattle.kept_files.proofs.RestoreJob.Leading.{leads_on, leads_to, asked_on, may_stay}
 use Rattle.rebuild.specs.Steps.{OpensCaused, OpensTold, judged_by}
 use Rattle.rebuild.proofs.Opens.{found_then, found_refused, refused_caused, causes_from}
 use Rattle.rebuild.proofs.versions.find_version.Goals as goal

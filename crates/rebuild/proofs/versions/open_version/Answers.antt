@@ -1,9 +1,9 @@
 use Rattle.std.proofs.Common.{ℕ, List, Result, sym, subst}
-use Rattle.cd_base.specs.Numbers.{numbers_of}
-use Rattle.restore_job.proofs.Leading.{leads_none, leads_to}
+use Rattle.lane_steps.specs.CdBase.Numbers.{numbers_of}
+use Rattle.kept_files.proofs.RestoreJob.Leading.{leads_none, leads_to}
 use Rattle.rebuild.specs.declared.error.SkipWhy.{SkipWhy}
 use Rattle.rebuild.specs.Steps.{OpensTold, judged_by}
-use Rattle.restore_job.proofs.Leading.{asked_as, asked_none}
+use Rattle.kept_files.proofs.RestoreJob.Leading.{asked_as, asked_none}
 use Rattle.std.proofs.Common.{false}
 use Rattle.rebuild.proofs.Opens.{unnamed_told, unnamed_caused, names_none}
 use Rattle.rebuild.proofs.versions.open_version.Goals as goal

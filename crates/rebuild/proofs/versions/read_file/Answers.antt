@@ -1,10 +1,10 @@
 use Rattle.std.proofs.Common.{ℕ, List, Ok, subst}
-use Rattle.cd_base.specs.Numbers.{numbers_of}
-use Rattle.restore_job.specs.Brought.{Appends}
-use Rattle.restore_job.specs.Reading.{Ends}
-use Rattle.restore_job.specs.Restored.{agreed}
-use Rattle.restore_job.specs.Steps.{givens}
-use Rattle.restore_job.proofs.Leading.{leads_to}
+use Rattle.lane_steps.specs.CdBase.Numbers.{numbers_of}
+use Rattle.kept_files.specs.RestoreJob.Brought.{Appends}
+use Rattle.kept_files.specs.RestoreJob.Reading.{Ends}
+use Rattle.kept_files.specs.RestoreJob.Restored.{agreed}
+use Rattle.kept_files.specs.RestoreJob.Steps.{givens}
+use Rattle.kept_files.proofs.RestoreJob.Leading.{leads_to}
 use Rattle.rebuild.proofs.Opens.{ends_found, refused_caused, file_fits, file_is}
 use Rattle.rebuild.proofs.versions.read_file.Goals as goal
 

@@ -1,5 +1,5 @@
 use Rattle.std.proofs.Common.{Err}
-use Rattle.cd_edges.proofs.Calls.{called_twice}
+use Rattle.reclaim.proofs.CdEdges.Calls.{called_twice}
 use Rattle.cloud_opening.proofs.Standing.{call_at}
 use Rattle.reclaim_command.proofs.Completing.{completes}
 use Rattle.reclaim_command.proofs.Ends.{reclaimed, reclaimed_at, unopened_reclaim}

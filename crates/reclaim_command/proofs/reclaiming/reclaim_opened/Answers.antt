@@ -1,6 +1,6 @@
 use Rattle.std.proofs.Common.{subst}
-use Rattle.backup_command.specs.Writing.{Writes, output_of}
-use Rattle.journal_start.specs.declared.start.Header.{Header}
+use Rattle.cloud_opening.specs.BackupCommand.Writing.{HasWrittenOrCause, output_of}
+use Rattle.reclaim.specs.JournalStart.start.Header.{Header}
 use Rattle.reclaim_command.specs.Said.{reclaim_status, reclaim_text}
 use Rattle.reclaim_command.proofs.reclaiming.reclaim_opened.Goals as goal
 
@@ -25,6 +25,6 @@ returns-clause-reclaimed g c =
       spared = a.spared;
       same = a.same;
       counts = a.counts;
-      written = subst (λ (h : Header). Writes (reclaim_text h.cloud came) (reclaim_status came) out c.write_reclaimed.result)
+      written = subst (λ (h : Header). HasWrittenOrCause (reclaim_text h.cloud came) (reclaim_status came) out c.write_reclaimed.result)
           c.header.ensures c.write_reclaimed.ensures;
     }

@@ -1,6 +1,6 @@
 use Rattle.std.proofs.lemmas.Result.{err_from_is_err_and}
-use Rattle.message_fields.specs.Parts.{times, behind}
-use Rattle.message_fields.proofs.Loops.{behind_goes_on, behind_stops, behind_ends}
+use Rattle.record_body.specs.MessageFields.Parts.{times, behind}
+use Rattle.record_body.proofs.MessageFields.Loops.{behind_goes_on, behind_stops, behind_ends}
 use Rattle.record_bodies.specs.Reading.{item_at}
 use Rattle.record_bodies.proofs.fields.behind_items.Goals as goal
 

@@ -1,5 +1,5 @@
 use Rattle.std.proofs.Common.{◌≡◌, ◌-◌}
-use Rattle.message_fields.specs.Parts.{times, behind}
+use Rattle.record_body.specs.MessageFields.Parts.{times, behind}
 use Rattle.record_bodies.specs.Reading.{item_at}
 use Rattle.record_bodies.proofs.fields.behind_items.Given as goal
 

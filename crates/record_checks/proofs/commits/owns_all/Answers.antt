@@ -2,10 +2,10 @@ use Rattle.std.proofs.Common.{◌≤◌, length, refl, arith}
 use Rattle.std.specs.Prelude.{IsSome}
 use Rattle.std.specs.FinMap.{get}
 use Rattle.std.proofs.lemmas.List.{length-map}
-use Rattle.cd_base.specs.declared.ids.Fp.{Fp}
-use Rattle.recipe.specs.declared.items.Item.{Item}
-use Rattle.share_index.specs.Order.{owner_of}
-use Rattle.user_dedup.specs.Owning.{fps_in}
+use Rattle.cloud_memory.specs.CdBase.ids.Fp.{Fp}
+use Rattle.cloud_memory.specs.Recipe.items.Item.{Item}
+use Rattle.cloud_memory.specs.ShareIndex.Order.{owner_of}
+use Rattle.cloud_memory.specs.UserDedup.Owning.{fps_in}
 use Rattle.record_checks.proofs.Faults.{not_so}
 use Rattle.record_checks.proofs.Naming.{passes, fails, all_pass}
 use Rattle.record_checks.proofs.commits.owns_all.Goals as goal

@@ -1,6 +1,6 @@
 use Rattle.std.proofs.Common.{drop}
 use Rattle.std.specs.Prelude.{◌↔◌}
-use Rattle.user_dedup.specs.Owning.{fps_in}
+use Rattle.cloud_memory.specs.UserDedup.Owning.{fps_in}
 use Rattle.cloud_memory.specs.Sharing.{AreOwned}
 use Rattle.record_checks.proofs.commits.owns_all.Given as goal
 

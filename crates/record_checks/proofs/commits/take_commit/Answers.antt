@@ -1,6 +1,6 @@
 use Rattle.std.proofs.Common.{subst, refl, sym, ap, ◌∙◌, List}
-use Rattle.cd_base.specs.declared.ids.Fp.{Fp}
-use Rattle.user_dedup.specs.Owning.{fps_in}
+use Rattle.cloud_memory.specs.CdBase.ids.Fp.{Fp}
+use Rattle.cloud_memory.specs.UserDedup.Owning.{fps_in}
 use Rattle.cloud_memory.specs.Memory.{Memory}
 use Rattle.cloud_memory.specs.Rooms.{memory_of}
 use Rattle.cloud_memory.specs.Sharing.{AreOwned}

@@ -1,10 +1,10 @@
 use Rattle.std.proofs.Common.{sym, ap, subst, Ok, ◌∙◌, List}
-use Rattle.cd_base.specs.declared.ids.Fp.{Fp}
+use Rattle.cloud_memory.specs.CdBase.ids.Fp.{Fp}
 use Rattle.cloud_memory.specs.Memory.{Memory}
 use Rattle.cloud_memory.specs.Rooms.{memory_of}
 use Rattle.cloud_memory.specs.Steps.{without_entry}
-use Rattle.file_index.specs.Files.{key_of}
-use Rattle.record_bodies.specs.Spelling.{Delete}
+use Rattle.cloud_memory.specs.FileIndex.Files.{key_of}
+use Rattle.cloud_memory.specs.RecordBodies.Spelling.{Delete}
 use Rattle.record_checks.specs.Judging.{JudgesBody, NoEntry, NotNamed, Deleted}
 use Rattle.record_checks.proofs.commits.take_delete.Goals as goal
 

@@ -1,6 +1,6 @@
 use Rattle.std.proofs.Common.{◌≡◌, ◌∙◌, sym, false}
 use Rattle.std.specs.Prelude.{bytes_eq}
-use Rattle.record_body.specs.declared.body.PutItem.{PutItem}
+use Rattle.cloud_memory.specs.RecordBody.body.PutItem.{PutItem}
 use Rattle.record_checks.proofs.Naming.{later}
 use Rattle.record_checks.proofs.items.is_named.Goals as goal
 

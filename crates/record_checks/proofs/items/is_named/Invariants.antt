@@ -1,7 +1,7 @@
 use Rattle.std.proofs.Common.{◌≡◌, ◌-◌, take}
 use Rattle.std.specs.Prelude.{bytes_eq}
 use Rattle.std.specs.List.{list_any}
-use Rattle.record_body.specs.declared.body.PutItem.{PutItem}
+use Rattle.cloud_memory.specs.RecordBody.body.PutItem.{PutItem}
 use Rattle.record_checks.specs.Steps.{names_fp}
 use Rattle.record_checks.proofs.items.is_named.Given as goal
 

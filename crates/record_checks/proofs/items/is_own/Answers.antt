@@ -1,7 +1,7 @@
 use Rattle.std.proofs.Common.{Bool, take, refl, sym, ap, ◌∙◌}
 use Rattle.std.specs.Prelude.{◌||◌, is_some}
 use Rattle.std.specs.FinMap.{get}
-use Rattle.share_index.specs.Order.{owner_of}
+use Rattle.cloud_memory.specs.ShareIndex.Order.{owner_of}
 use Rattle.cloud_memory.specs.Rooms.{memory_of}
 use Rattle.record_checks.specs.Steps.{names_fp}
 use Rattle.record_checks.proofs.Faults.{not_so, none_there}

@@ -4,7 +4,7 @@ use Rattle.cloud_memory.specs.Memory.{Memory}
 use Rattle.cloud_memory.specs.Rooms.{memory_of}
 use Rattle.record_checks.specs.Checks.{damaged_at}
 use Rattle.record_checks.specs.Noting.{farther_field, put_field}
-use Rattle.record_checks.specs.Steps.{Facts, HasRoomFor}
+use Rattle.record_checks.specs.Steps.{Facts, HasRoomForItems}
 use Rattle.record_checks.proofs.Faults.{found_iff}
 use Rattle.record_checks.proofs.Rooming.{item_room, room_after}
 use Rattle.record_checks.proofs.Walking.{goes_on, fails, fault_within, field_on}
@@ -45,7 +45,7 @@ take_item-requires c =
       end_is = c.shares_end-end.ensures;
     } in
     item_room c.args.ground.now c.args.inside c.args.user c.loop-found.memory item c.next.new.self.items
-    (subst (HasRoomFor c.args.ground.now.rooms c.loop-found.memory c.args.user) c.in-Some.ensures.items c.loop-found.invariant.1.0)
+    (subst (HasRoomForItems c.args.ground.now.rooms c.loop-found.memory c.args.user) c.in-Some.ensures.items c.loop-found.invariant.1.0)
     (c.in-None.ensures.fault m c.args.user facts) c.in-None.ensures.small
 
 pub loop-found-preserved : goal.loop-found-preserved
@@ -59,7 +59,7 @@ loop-found-preserved c =
       end_is = c.shares_end-end.ensures;
     } in
     let right = c.in-None.ensures.fault m c.args.user facts in
-    let room = subst (HasRoomFor g.rooms c.loop-found.memory c.args.user) c.in-Some.ensures.items c.loop-found.invariant.1.0 in
+    let room = subst (HasRoomForItems g.rooms c.loop-found.memory c.args.user) c.in-Some.ensures.items c.loop-found.invariant.1.0 in
     let end = ap (λ (x : Memory). x.shares_end) c.take_item.ensures.taken in (
       goes_on g c.args.inside c.args.user (memory_of c.args.memory.now) m (memory_of c.take_item.new.self) c.args.items c.loop-found.items c.next.new.self c.in-Some.found c.loop-found.invariant.0
           c.in-Some.ensures right c.take_item.ensures.taken,

@@ -1,7 +1,7 @@
 use Rattle.std.proofs.Common.{◌≡◌, ◌+◌, ◌*◌, ◌≤◌, length}
 use Rattle.std.specs.Prelude.{sum_by}
 use Rattle.std.specs.FinMap.{get}
-use Rattle.record_body.specs.declared.body.PutItem.{PutItem}
+use Rattle.cloud_memory.specs.RecordBody.body.PutItem.{PutItem}
 use Rattle.cloud_memory.specs.Steps.{placed_len}
 use Rattle.record_checks.proofs.puts.held_in.Given as goal
 

@@ -1,9 +1,9 @@
 use Rattle.std.proofs.Common.{◌≤◌, sym, subst}
 use Rattle.std.specs.Prelude.{MatchOption}
-use Rattle.cd_base.specs.Limits.{recipe_limit}
-use Rattle.record_bodies.specs.declared.view.BodyView.{BodyView}
-use Rattle.record_bodies.specs.Seen.{seen}
-use Rattle.cd_base.specs.declared.place.Place.{Place}
+use Rattle.cloud_memory.specs.CdBase.Limits.{recipe_limit}
+use Rattle.cloud_memory.specs.RecordBodies.view.BodyView.{BodyView}
+use Rattle.cloud_memory.specs.RecordBodies.Seen.{seen}
+use Rattle.cloud_memory.specs.CdBase.place.Place.{Place}
 use Rattle.cloud_memory.specs.Rooms.{memory_of}
 use Rattle.record_checks.specs.Checks.{Asks}
 use Rattle.record_checks.proofs.record.place_of.Goals as goal

@@ -1,6 +1,6 @@
 use Rattle.cd_edges.specs.declared.area.Area.TheVariants.{Recipes}
 use Rattle.std.proofs.lemmas.Bool.{ne_eqb}
-use Rattle.journal_start.specs.Spelling.{records_of, commands_of}
+use Rattle.record_checks.specs.JournalStart.Spelling.{records_of, commands_of}
 use Rattle.record_checks.specs.CloudAreas.Standing.{region_in}
 use Rattle.record_laws.proofs.Chain.{all_left, left_ends, left_bounds, left_stands}
 use Rattle.record_laws.proofs.laws.law_of_chains.Goals as goal

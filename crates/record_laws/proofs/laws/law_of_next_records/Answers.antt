@@ -1,6 +1,6 @@
 use Rattle.std.specs.Prelude.{[], ◌∷◌}
 use Rattle.cd_edges.specs.declared.area.Area.TheVariants.{Recipes}
-use Rattle.user_dedup.proofs.Spending.{front_within}
+use Rattle.record_checks.proofs.UserDedup.Spending.{front_within}
 use Rattle.record_laws.proofs.Known.{few_files, known_user}
 use Rattle.record_laws.proofs.Next.{next_left}
 use Rattle.record_laws.proofs.laws.law_of_next_records.Goals as goal

@@ -1,13 +1,13 @@
 use Rattle.std.proofs.Common.{◌≡◌, ◌≤◌, ◌-◌, [], length}
-use Rattle.session.specs.Lines.{script_limit}
+use Rattle.two_worlds.specs.Session.Lines.{script_limit}
 use Rattle.script_lines.specs.SessionModel.Vault.{Setting}
 use Rattle.script_lines.specs.Jobs.{AreReached}
-use Rattle.replay_core.specs.Going.{Start, HasCome}
+use Rattle.replay_core.specs.Going.{ReplayStart, HasCome}
 use Rattle.replay_core.proofs.script.carry_lines.Given as goal
 
 abbrev pub invariant-lines : goal.invariant-lines
 invariant-lines g l = record {
-  come : (start : Start) (s : Setting)
+  come : (start : ReplayStart) (s : Setting)
       → HasCome g.V.Shelf.cloud_at start s l.fn.link [] l.fn.reader (g.S.Source.left l.fn.source) (g.S.Source.faults l.fn.source) (g.K.Sink.written l.fn.sink) (g.K.Sink.faults l.fn.sink) 0
       → HasCome g.V.Shelf.cloud_at start s l.link l.jobs l.reader (g.S.Source.left l.source) (g.S.Source.faults l.source) (g.K.Sink.written l.sink) (g.K.Sink.faults l.sink) l.events;
   shape : l.link.servers.shape ≡ l.fn.link.servers.shape;

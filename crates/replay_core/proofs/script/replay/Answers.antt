@@ -2,15 +2,15 @@ use Rattle.std.proofs.Common.{rules, ◌≡◌, refl, subst}
 use Rattle.replay_core.specs.declared.end.ReplayEnd.TheVariants as ends
 use Rattle.script_lines.specs.SessionModel.Vault.{Setting}
 use Rattle.script_lines.specs.At.{header_in}
-use Rattle.replay_core.specs.Going.{Start, call_of}
-use Rattle.replay_core.specs.Replayed.{Replays}
+use Rattle.replay_core.specs.Going.{ReplayStart, call_of}
+use Rattle.replay_core.specs.Replayed.{HasReplayed}
 use Rattle.replay_core.proofs.Clouds.{empty_stands, all_same}
 use Rattle.replay_core.proofs.Begins.{ends_first, ends_unmade, ends_closed, ready_by}
 use Rattle.replay_core.proofs.script.replay.Goals as goal
 
 pub returns-in_default : goal.returns-in_default
 returns-in_default g c =
-    let start : Start = record {
+    let start : ReplayStart = record {
       script = g.S.Source.left c.args.source.now;
       old = g.V.Shelf.cloud_at c.args.shelf.now;
       source = g.S.Source.faults c.args.source.now;
@@ -24,7 +24,7 @@ returns-in_default g c =
 
 pub returns-in-Err : goal.returns-in-Err
 returns-in-Err g c =
-    let start : Start = record {
+    let start : ReplayStart = record {
       script = g.S.Source.left c.args.source.now;
       old = g.V.Shelf.cloud_at c.args.shelf.now;
       source = g.S.Source.faults c.args.source.now;
@@ -38,7 +38,7 @@ returns-in-Err g c =
 
 pub returns-in-Err-empty_clouds : goal.returns-in-Err-empty_clouds
 returns-in-Err-empty_clouds g c =
-    let start : Start = record {
+    let start : ReplayStart = record {
       script = g.S.Source.left c.args.source.now;
       old = g.V.Shelf.cloud_at c.args.shelf.now;
       source = g.S.Source.faults c.args.source.now;
@@ -58,7 +58,7 @@ returns-in-Err-empty_clouds g c =
 
 pub returns-in_default-make : goal.returns-in_default-make
 returns-in_default-make g c =
-    let start : Start = record {
+    let start : ReplayStart = record {
       script = g.S.Source.left c.args.source.now;
       old = g.V.Shelf.cloud_at c.args.shelf.now;
       source = g.S.Source.faults c.args.source.now;
@@ -79,7 +79,7 @@ returns-in_default-make g c =
 
 pub returns : goal.returns
 returns g c =
-    let start : Start = record {
+    let start : ReplayStart = record {
       script = g.S.Source.left c.args.source.now;
       old = g.V.Shelf.cloud_at c.args.shelf.now;
       source = g.S.Source.faults c.args.source.now;
@@ -98,6 +98,6 @@ returns g c =
     c.in-Ok-make.ensures.closed c.of-link.ensures.delivers.0 c.of-link.ensures.shelf c.in-Ok-empty_clouds.ensures.same c.in-Ok-empty_clouds.ensures.empty c.in-Ok-first_line.ensures.header
     c.in-Ok-first_line.ensures.still refl refl) in
     let back : c.carry_script-end.new.link.shelf.now ≡ c.shelf-1.given.0 = search rules in
-    subst (λ (shelf : g.row.V.Denot). Replays c.carry_script-end.result (call_of start (g.S.Source.left c.carry_script-end.new.source) (g.S.Source.faults c.carry_script-end.new.source)
+    subst (λ (shelf : g.row.V.Denot). HasReplayed c.carry_script-end.result (call_of start (g.S.Source.left c.carry_script-end.new.source) (g.S.Source.faults c.carry_script-end.new.source)
     (g.K.Sink.faults c.carry_script-end.new.sink) (g.V.Shelf.faults shelf) (g.V.Shelf.cloud_at shelf)) (g.K.Sink.written c.args.sink.now) (g.K.Sink.written c.carry_script-end.new.sink))
     back promise

@@ -1,5 +1,5 @@
 use Rattle.std.proofs.Common.{List, ℕ, ◌++◌, ◌∙◌, ap}
-use Rattle.transcript.specs.Transcript.{line_text}
+use Rattle.two_worlds.specs.Transcript.Transcript.{line_text}
 use Rattle.replay_core.proofs.Steps.{writes_line}
 use Rattle.replay_core.proofs.writing.write_one.Goals as goal
 

@@ -1,13 +1,13 @@
 use Rattle.std.proofs.Common.{ℕ, length, refl, sym, subst, IsTrue}
-use Rattle.cd_edges.specs.Causes.{Rose}
-use Rattle.restore_command.specs.Calls.{Call}
+use Rattle.ports_link.specs.CdEdges.Causes.{Rose}
+use Rattle.restore_command.specs.Calls.{RestoreCall}
 use Rattle.restore_command.proofs.Unfetched.{not_fetched}
 use Rattle.restore_command.proofs.fetching.fetch.Goals as goal
 
 pub returns-in-Ok-restore_greeted-clause-fetches : goal.returns-in-Ok-restore_greeted-clause-fetches
 returns-in-Ok-restore_greeted-clause-fetches g c =
     let tells = g.P.Ports.tells in
-    let call : Call = record {
+    let call : RestoreCall = record {
       user = c.args.user;
       path = c.args.path.now;
       version = c.args.version;
@@ -31,7 +31,7 @@ pub returns-clause-fetches : goal.returns-clause-fetches
 returns-clause-fetches g c =
     let tells = g.P.Ports.tells in
     let faults = g.P.Ports.faults in
-    let call : Call = record {
+    let call : RestoreCall = record {
       user = c.args.user;
       path = c.args.path.now;
       version = c.args.version;

@@ -1,15 +1,15 @@
 use Rattle.std.proofs.Common.{rules, ◌≡◌, ◌≤◌, ◌<◌, ℕ, List, IsTrue, IfErr, sym, ap, ◌∙◌, subst}
 use Rattle.std.specs.Prelude.{All}
 use Rattle.std.specs.List.{Contains}
-use Rattle.cd_edges.specs.Causes.{Rose}
+use Rattle.ports_link.specs.CdEdges.Causes.{Rose}
 use Rattle.ports_link.specs.Hellos.{HaveTalks, clouds_of}
-use Rattle.ports_link.specs.declared.lines.Line.{Line}
+use Rattle.ports_link.specs.declared.lines.CloudLine.{CloudLine}
 use Rattle.ports_link.specs.declared.link.PortsLink.{PortsLink}
 use Rattle.ports_link.specs.Lines.{lines_for}
 use Rattle.ports_link.specs.Tells.{HasTalk, telling}
 use Rattle.subset_restore.specs.Ends.{AnyEnds}
 use Rattle.subset_restore.specs.Going.{sought}
-use Rattle.restore_job.specs.Refusals.{Names}
+use Rattle.subset_restore.specs.RestoreJob.Refusals.{Names}
 use Rattle.restore_command.specs.Calls.{ports_of}
 use Rattle.restore_command.specs.Tried.{CameBy}
 use Rattle.restore_command.proofs.Coming.{came_by}
@@ -80,7 +80,7 @@ returns-clause-others g c = λ told port not.
     ∙ others tells g.P.Ports.faults c.in-Ok.clouds (ports_of items) asked.asks old new asked.passed
     (subst (λ (p : g.row.P.Denot). IsTrue (tells p).told) (sym c.of-link.ensures.ports) told)
     (subst (λ (l : List ℕ). AreOn old.lines.items.items l (ports_of items)) (sym named)
-    (subst (λ (l : List Line). AreOn l (clouds_of items) (ports_of items)) (sym lines) on)) port not
+    (subst (λ (l : List CloudLine). AreOn l (clouds_of items) (ports_of items)) (sym lines) on)) port not
     ∙ ap (λ (p : g.row.P.Denot). (tells p).port port) c.of-link.ensures.ports
 
 pub returns-clause-came : goal.returns-clause-came

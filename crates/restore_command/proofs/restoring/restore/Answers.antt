@@ -1,13 +1,13 @@
 use Rattle.std.proofs.Common.{ℕ, List, inl, inr, refl, subst}
 use Rattle.ports_link.specs.Refusals.{refused_text}
 use Rattle.subset_restore.specs.Refusals.{refusal_text}
-use Rattle.restore_command.specs.Ends.{Fails, Gives, Refuses, Writes}
+use Rattle.restore_command.specs.Ends.{Fails, Gives, Refuses, HasWrittenBytes}
 use Rattle.restore_command.proofs.restoring.restore.Goals as goal
 
 pub returns-in-Ok-clause-fetched : goal.returns-in-Ok-clause-fetched
 returns-in-Ok-clause-fetched g c =
     Gives c.fetch.new.file c.in-Ok.ensures.fetches
-    (subst (λ (bytes : List ℕ). Writes bytes 0 (g.K.Sink.written c.args.sink.now)
+    (subst (λ (bytes : List ℕ). HasWrittenBytes bytes 0 (g.K.Sink.written c.args.sink.now)
     (g.K.Sink.written c.write_text.new.sink) (g.K.Sink.faults c.args.sink.now) (g.K.Sink.faults c.write_text.new.sink)
     c.write_text.result) c.as_slice.ensures c.write_text.ensures)
 

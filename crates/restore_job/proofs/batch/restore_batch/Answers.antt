@@ -1,8 +1,8 @@
 use Rattle.std.proofs.Common.{ℕ, List, ◌+◌, Ok, Err, sym, subst, ◌∙◌, arith}
 use Rattle.std.specs.List.{Contains}
 use Rattle.std.proofs.lemmas.List.{length-map}
-use Rattle.cd_base.specs.Numbers.{numbers_of}
-use Rattle.cd_base.specs.declared.ids.CloudNo.{CloudNo}
+use Rattle.user_dedup.specs.CdBase.Numbers.{numbers_of}
+use Rattle.user_dedup.specs.CdBase.ids.CloudNo.{CloudNo}
 use Rattle.restore_job.specs.Asking.{among, is_loss}
 use Rattle.restore_job.specs.Brought.{Extends, HasShares}
 use Rattle.restore_job.specs.Steps.{room_of}

@@ -1,6 +1,6 @@
 use Rattle.std.proofs.Common.{◌≡◌, ◌≤◌, ◌<◌, ◌+◌, ◌-◌, ◌∙◌, ℕ, [], length, refl, subst, arith}
 use Rattle.std.specs.Prelude.{min}
-use Rattle.cd_base.specs.Numbers.{numbers_of}
+use Rattle.user_dedup.specs.CdBase.Numbers.{numbers_of}
 use Rattle.restore_job.specs.Asking.{among}
 use Rattle.restore_job.proofs.Leading.{leads_none, asked_on}
 use Rattle.restore_job.specs.Brought.{AreSecrets}

@@ -1,5 +1,5 @@
 use Rattle.std.proofs.Common.{◌≡◌, ◌≤◌, ◌-◌, length}
-use Rattle.cd_base.specs.Numbers.{numbers_of}
+use Rattle.user_dedup.specs.CdBase.Numbers.{numbers_of}
 use Rattle.restore_job.specs.Brought.{Extends}
 use Rattle.restore_job.specs.Steps.{Grows}
 use Rattle.restore_job.proofs.Ending.{Restoring}

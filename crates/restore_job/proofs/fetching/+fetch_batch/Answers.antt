@@ -2,8 +2,8 @@ use Rattle.std.proofs.Common.{◌≡◌, ◌∷◌, ◌+◌, ℕ, Bool, false, L
 use Rattle.std.specs.Prelude.{All, IsTrue}
 use Rattle.std.specs.List.{Contains}
 use Rattle.std.proofs.lemmas.List.Elements.{All-tail}
-use Rattle.cd_base.specs.Numbers.{numbers_of}
-use Rattle.recipe.specs.declared.recipe.Recipe.{Recipe}
+use Rattle.user_dedup.specs.CdBase.Numbers.{numbers_of}
+use Rattle.user_dedup.specs.Recipe.recipe.Recipe.{Recipe}
 use Rattle.user_dedup.proofs.Owned.{contains_here, contains_later}
 use Rattle.restore_job.specs.Refusals.{Names}
 use Rattle.restore_job.specs.Brought.{HasShares}
@@ -11,7 +11,7 @@ use Rattle.restore_job.specs.Steps.{AreItemsAt, room_of}
 use Rattle.restore_job.proofs.Bringing.{has_none, has_more}
 use Rattle.restore_job.proofs.Causing.{names_to}
 use Rattle.restore_job.proofs.Batches.{batch_none, batch_more, batch_stops, batch_as}
-use Rattle.restore_job.specs.Asking.{Asked, among, is_loss}
+use Rattle.restore_job.specs.Asking.{HasAskedClouds, among, is_loss}
 use Rattle.restore_job.proofs.Leading.{asked_on, asked_in, asked_at, told_among}
 use Rattle.restore_job.proofs.Speaking.{unlost_as, batch_said_none, batch_said_one, batch_said_stop}
 use Rattle.restore_job.proofs.Beside.{lost_on}
@@ -88,19 +88,19 @@ returns-in-Ok-fetch_batch-clause-came g t c j lt =
 
 pub returns-in-Err-clause-asked : goal.returns-in-Err-clause-asked
 returns-in-Err-clause-asked g t c =
-    subst (λ (l : List ℕ). Asked g.L.Link.tells l c.args.link.now c.fetch_shares.new.link (is_loss c.in-Err.e)) (sym (ap numbers_of c.in-Some.ensures.clouds))
+    subst (λ (l : List ℕ). HasAskedClouds g.L.Link.tells l c.args.link.now c.fetch_shares.new.link (is_loss c.in-Err.e)) (sym (ap numbers_of c.in-Some.ensures.clouds))
     (asked_at g.L.Link.tells c.in-Some.cloud.0 (c.in-Some.cloud.0 ∷ numbers_of c.in-Some.more.now) c.args.link.now c.fetch_shares.new.link _ (contains_here c.in-Some.cloud.0 (numbers_of c.in-Some.more.now)) c.in-Err.ensures.asked)
 
 pub returns-in-Ok-fetch_batch-clause-asked : goal.returns-in-Ok-fetch_batch-clause-asked
 returns-in-Ok-fetch_batch-clause-asked g t c =
-    subst (λ (l : List ℕ). Asked g.L.Link.tells l c.args.link.now c.fetch_batch.new.link false) (sym (ap numbers_of c.in-Some.ensures.clouds))
+    subst (λ (l : List ℕ). HasAskedClouds g.L.Link.tells l c.args.link.now c.fetch_batch.new.link false) (sym (ap numbers_of c.in-Some.ensures.clouds))
     (asked_on g.L.Link.tells (c.in-Some.cloud.0 ∷ numbers_of c.in-Some.more.now) c.args.link.now c.fetch_shares.new.link c.fetch_batch.new.link _
     (asked_at g.L.Link.tells c.in-Some.cloud.0 (c.in-Some.cloud.0 ∷ numbers_of c.in-Some.more.now) c.args.link.now c.fetch_shares.new.link _ (contains_here c.in-Some.cloud.0 (numbers_of c.in-Some.more.now)) c.in-Ok.ensures.asked)
     (asked_in g.L.Link.tells (numbers_of c.in-Some.more.now) (c.in-Some.cloud.0 ∷ numbers_of c.in-Some.more.now) c.fetch_shares.new.link c.fetch_batch.new.link _ (contains_later c.in-Some.cloud.0 (numbers_of c.in-Some.more.now)) c.in-Ok-fetch_batch.ensures.asked))
 
 pub returns-in-Err-fetch_batch-clause-asked : goal.returns-in-Err-fetch_batch-clause-asked
 returns-in-Err-fetch_batch-clause-asked g t c =
-    subst (λ (l : List ℕ). Asked g.L.Link.tells l c.args.link.now c.fetch_batch.new.link (is_loss c.in-Err-fetch_batch.e)) (sym (ap numbers_of c.in-Some.ensures.clouds))
+    subst (λ (l : List ℕ). HasAskedClouds g.L.Link.tells l c.args.link.now c.fetch_batch.new.link (is_loss c.in-Err-fetch_batch.e)) (sym (ap numbers_of c.in-Some.ensures.clouds))
     (asked_on g.L.Link.tells (c.in-Some.cloud.0 ∷ numbers_of c.in-Some.more.now) c.args.link.now c.fetch_shares.new.link c.fetch_batch.new.link _
     (asked_at g.L.Link.tells c.in-Some.cloud.0 (c.in-Some.cloud.0 ∷ numbers_of c.in-Some.more.now) c.args.link.now c.fetch_shares.new.link _ (contains_here c.in-Some.cloud.0 (numbers_of c.in-Some.more.now)) c.in-Ok.ensures.asked)
     (asked_in g.L.Link.tells (numbers_of c.in-Some.more.now) (c.in-Some.cloud.0 ∷ numbers_of c.in-Some.more.now) c.fetch_shares.new.link c.fetch_batch.new.link _ (contains_later c.in-Some.cloud.0 (numbers_of c.in-Some.more.now)) c.in-Err-fetch_batch.ensures.asked))

@@ -1,10 +1,10 @@
 use Rattle.std.proofs.Common.{◌≡◌, List, [], ◌∷◌, ℕ, Result, Ok, Err, refl, sym, subst}
 use Rattle.std.specs.Prelude.{IfErr}
-use Rattle.cd_base.specs.declared.ids.CloudNo.{CloudNo}
-use Rattle.cd_base.specs.declared.shape.Shape.{Shape}
-use Rattle.messages.specs.ReplyReading.{reply_at}
-use Rattle.recipe.specs.declared.recipe.Recipe.{Recipe}
-use Rattle.messages.specs.declared.request.Request.TheVariants as requests
+use Rattle.user_dedup.specs.CdBase.ids.CloudNo.{CloudNo}
+use Rattle.user_dedup.specs.CdBase.shape.Shape.{Shape}
+use Rattle.user_dedup.specs.Messages.ReplyReading.{reply_at}
+use Rattle.user_dedup.specs.Recipe.recipe.Recipe.{Recipe}
+use Rattle.user_dedup.specs.Messages.request.Request.TheVariants as requests
 use Rattle.user_dedup.specs.Exec.{Peer}
 use Rattle.user_dedup.specs.Link.{Asks}
 use Rattle.restore_job.specs.Refusals.{Names}
@@ -16,7 +16,7 @@ use Rattle.restore_job.specs.Asking.{among}
 use Rattle.restore_job.proofs.Causing.{FaultRose, fault_any, recipe_names, recipe_caused}
 use Rattle.restore_job.proofs.Leading.{step_among}
 use Rattle.restore_job.proofs.Held.{recipe_moves, lost_moves, lost_recipe, error_is}
-use Rattle.restore_job.specs.Exchanges.{Exchange}
+use Rattle.restore_job.specs.Exchanges.{CloudExchange}
 use Rattle.restore_job.proofs.Beside.{lost_as, lost_spoken}
 use Rattle.restore_job.proofs.Readable.{readable_lost, readable_recipe}
 use Rattle.restore_job.proofs.fetching.fetch_recipe.Goals as goal
@@ -66,7 +66,7 @@ returns-in-Ok-clause-said g c = unlost c.recipe_from.result _ (
 
 pub returns-in-Ok-clause-beside : goal.returns-in-Ok-clause-beside
 returns-in-Ok-clause-beside g c =
-    let x : Exchange = record { cloud = c.args.cloud.0; request = c.args.request.now; reply = c.ask.new.reply } in
+    let x : CloudExchange = record { cloud = c.args.cloud.0; request = c.args.request.now; reply = c.ask.new.reply } in
     lost_spoken g.L.Link.talk c.args.link.now c.ask.new.link (x ∷ []) c.recipe_from.result c.in-Ok.ensures.spoken
 
 pub returns-in-Err-clause-beside : goal.returns-in-Err-clause-beside

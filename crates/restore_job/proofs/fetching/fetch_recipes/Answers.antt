@@ -1,17 +1,17 @@
 use Rattle.std.proofs.Common.{◌≡◌, ℕ, Bool, List, [], subst, sym}
 use Rattle.std.specs.Prelude.{IsTrue}
 use Rattle.std.specs.List.{Contains}
-use Rattle.recipe.specs.declared.recipe.Recipe.{Recipe}
+use Rattle.user_dedup.specs.Recipe.recipe.Recipe.{Recipe}
 use Rattle.restore_job.proofs.Causing.{names_to}
 use Rattle.restore_job.proofs.Asks.{Fetched, fetched_none, fetched_more, fetched_all, fetched_stops, fetched_unkept, numbers_next, numbers_none, rest_is, next_named}
 use Rattle.restore_job.proofs.Leading.{asked_on, asked_at}
-use Rattle.cd_base.specs.declared.ids.CloudNo.{CloudNo}
+use Rattle.user_dedup.specs.CdBase.ids.CloudNo.{CloudNo}
 use Rattle.restore_job.proofs.Speaking.{SaidAlong, along_none, along_more, along_end, stops_unlost}
 use Rattle.restore_job.proofs.Beside.{lost_on}
 use Rattle.restore_job.proofs.Readable.{none_asked, readable_end, readable_on, readable_stop}
 use Rattle.restore_job.specs.declared.error.RestoreErr.TheVariants as errors
 use Rattle.restore_job.proofs.fetching.fetch_recipes.Goals as goal
-use Rattle.cd_base.specs.Numbers.{numbers_of}
+use Rattle.user_dedup.specs.CdBase.Numbers.{numbers_of}
 
 pub clouds-init : goal.clouds-init
 clouds-init g c = record {

@@ -1,5 +1,5 @@
 use Rattle.std.proofs.Common.{length}
-use Rattle.cd_base.specs.Numbers.{numbers_of}
+use Rattle.user_dedup.specs.CdBase.Numbers.{numbers_of}
 use Rattle.restore_job.proofs.Asks.{Fetched}
 use Rattle.restore_job.proofs.Speaking.{SaidAlong}
 use Rattle.restore_job.proofs.Readable.{AllReadable}

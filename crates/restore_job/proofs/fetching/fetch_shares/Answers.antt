@@ -1,11 +1,11 @@
 use Rattle.std.proofs.Common.{◌≡◌, ◌+◌, ◌≤◌, ℕ, List, [], ◌∷◌, length, Result, Ok, Err, refl, sym, subst, arith}
 use Rattle.std.specs.Prelude.{IfErr}
-use Rattle.cd_base.specs.declared.ids.CloudNo.{CloudNo}
-use Rattle.cd_base.specs.declared.shape.Shape.{Shape}
-use Rattle.messages.specs.ReplyReading.{reply_at}
-use Rattle.messages.specs.declared.request.Request.TheVariants as requests
-use Rattle.messages.specs.Requests.{IsRequest}
-use Rattle.recipe.specs.declared.items.Item.{Item}
+use Rattle.user_dedup.specs.CdBase.ids.CloudNo.{CloudNo}
+use Rattle.user_dedup.specs.CdBase.shape.Shape.{Shape}
+use Rattle.user_dedup.specs.Messages.ReplyReading.{reply_at}
+use Rattle.user_dedup.specs.Messages.request.Request.TheVariants as requests
+use Rattle.user_dedup.specs.Messages.Requests.{IsRequest}
+use Rattle.user_dedup.specs.Recipe.items.Item.{Item}
 use Rattle.user_dedup.specs.Link.{Asks}
 use Rattle.user_dedup.specs.Owning.{fps_in}
 use Rattle.restore_job.specs.Refusals.{Names}
@@ -17,7 +17,7 @@ use Rattle.restore_job.proofs.Bringing.{taken_came}
 use Rattle.restore_job.proofs.Causing.{shares_names, takes_names}
 use Rattle.restore_job.proofs.Held.{error_is}
 use Rattle.restore_job.proofs.Sharing.{part, shares_taken, shares_unread, shares_lost, shares_unasked}
-use Rattle.restore_job.specs.Exchanges.{Exchange}
+use Rattle.restore_job.specs.Exchanges.{CloudExchange}
 use Rattle.restore_job.proofs.Beside.{lost_spoken}
 use Rattle.restore_job.proofs.Readable.{none_asked_to, readable_lost, readable_refusal, readable_shares}
 use Rattle.restore_job.proofs.fetching.fetch_shares.Goals as goal
@@ -123,12 +123,12 @@ returns-in-Ok-ask-clause-said g c =
 
 pub returns-in-Ok-shares_from-clause-beside : goal.returns-in-Ok-shares_from-clause-beside
 returns-in-Ok-shares_from-clause-beside g c =
-    let x : Exchange = record { cloud = c.args.cloud.0; request = c.as_slice.result.now; reply = c.ask.new.reply } in
+    let x : CloudExchange = record { cloud = c.args.cloud.0; request = c.as_slice.result.now; reply = c.ask.new.reply } in
     lost_spoken g.L.Link.talk c.args.link.now c.ask.new.link (x ∷ []) c.take_shares.result c.in-Ok-ask.ensures.spoken
 
 pub returns-in-Ok-ask-clause-beside : goal.returns-in-Ok-ask-clause-beside
 returns-in-Ok-ask-clause-beside g c =
-    let x : Exchange = record { cloud = c.args.cloud.0; request = c.as_slice.result.now; reply = c.ask.new.reply } in
+    let x : CloudExchange = record { cloud = c.args.cloud.0; request = c.as_slice.result.now; reply = c.ask.new.reply } in
     lost_spoken g.L.Link.talk c.args.link.now c.ask.new.link (x ∷ []) (bad c.in-Err-shares_from.e)
     c.in-Ok-ask.ensures.spoken
 

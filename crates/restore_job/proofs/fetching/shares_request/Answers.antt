@@ -1,6 +1,6 @@
 use Rattle.std.proofs.Common.{◌≡◌, ◌+◌, ◌*◌, ◌≤◌, ◌^◌, ◌<◌, ◌++◌, ◌∙◌, length, arith, ap}
-use Rattle.messages.specs.declared.request.Request.TheVariants as requests
-use Rattle.messages.specs.Requests.{request_bytes}
+use Rattle.user_dedup.specs.Messages.request.Request.TheVariants as requests
+use Rattle.user_dedup.specs.Messages.Requests.{request_bytes}
 use Rattle.user_dedup.specs.Owning.{fps_in}
 use Rattle.restore_job.proofs.Taking.{fits_shares, length_shares}
 use Rattle.restore_job.proofs.fetching.shares_request.Goals as goal

@@ -1,6 +1,6 @@
 use Rattle.std.proofs.Common.{◌≡◌, ◌+◌, ◌-◌, ◌<◌, ◌≤◌, ℕ, List, [], Ok, Err, Result, subst, sym, ap, arith, ◌∙◌}
-use Rattle.cd_base.specs.declared.shape.Shape.{Shape}
-use Rattle.recipe.specs.declared.items.Item.{Item}
+use Rattle.user_dedup.specs.CdBase.shape.Shape.{Shape}
+use Rattle.user_dedup.specs.Recipe.items.Item.{Item}
 use Rattle.restore_job.specs.Restored.{Unrestored, Given, of_secret, secret_opened, secrets_opened}
 use Rattle.restore_job.specs.Steps.{OpensTo}
 use Rattle.restore_job.specs.Brought.{Extends, HasShares}

@@ -1,5 +1,5 @@
 use Rattle.std.proofs.Common.{◌≡◌, ◌+◌, ◌-◌, ◌<◌, ◌≤◌, ℕ, List, [], map}
-use Rattle.recipe.specs.declared.recipe.Recipe.{Recipe}
+use Rattle.user_dedup.specs.Recipe.recipe.Recipe.{Recipe}
 use Rattle.restore_job.specs.Brought.{Extends, HasShares}
 use Rattle.std.specs.List.{flat_map}
 use Rattle.restore_job.specs.Restored.{Given, secrets_opened, string_at}

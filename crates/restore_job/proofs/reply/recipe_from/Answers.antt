@@ -1,6 +1,6 @@
 use Rattle.std.proofs.Common.{length, ap, sym, subst, arith}
-use Rattle.messages.specs.declared.reply.Reply.TheVariants as replies
-use Rattle.messages.specs.ReplyReading.{reply_at}
+use Rattle.user_dedup.specs.Messages.reply.Reply.TheVariants as replies
+use Rattle.user_dedup.specs.Messages.ReplyReading.{reply_at}
 use Rattle.restore_job.specs.Steps.{RecipeRefused}
 use Rattle.restore_job.proofs.Refused.{recipe_refused}
 use Rattle.restore_job.proofs.reply.recipe_from.Goals as goal

@@ -1,5 +1,5 @@
 use Rattle.std.proofs.Common.{sym, subst}
-use Rattle.messages.specs.ReplyReading.{reply_at}
+use Rattle.user_dedup.specs.Messages.ReplyReading.{reply_at}
 use Rattle.restore_job.specs.Steps.{NoShares, Refuses}
 use Rattle.restore_job.proofs.Refused.{shares_refused_by}
 use Rattle.restore_job.proofs.reply.shares_from.Goals as goal

@@ -1,9 +1,9 @@
 use Rattle.std.proofs.Common.{List, ℕ, Ok, Err, subst}
 use Rattle.std.specs.List.{Contains}
 use Rattle.caont_rs.specs.Package.{tag as tag_at}
-use Rattle.cd_base.specs.declared.ids.Tag.{Tag}
-use Rattle.cd_base.specs.declared.ids.Version.{Version}
-use Rattle.cd_base.specs.declared.shape.Shape.{Shape}
+use Rattle.user_dedup.specs.CdBase.ids.Tag.{Tag}
+use Rattle.user_dedup.specs.CdBase.ids.Version.{Version}
+use Rattle.user_dedup.specs.CdBase.shape.Shape.{Shape}
 use Rattle.restore_job.specs.Asking.{Leads, LeadsAny, among}
 use Rattle.restore_job.specs.Brought.{Brought}
 use Rattle.restore_job.specs.Refusals.{CausesAmong, Names, Shows}

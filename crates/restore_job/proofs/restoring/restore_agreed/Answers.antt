@@ -3,11 +3,11 @@ use Rattle.std.specs.Prelude.{All}
 use Rattle.std.specs.List.{Contains}
 use Rattle.std.proofs.lemmas.List.{length-map}
 use Rattle.std.proofs.lemmas.List.Elements.{All-weaker}
-use Rattle.cd_base.specs.Numbers.{numbers_of}
-use Rattle.cd_base.specs.declared.ids.CloudNo.{CloudNo}
-use Rattle.recipe.specs.Spelling.{Fits}
-use Rattle.recipe.specs.declared.items.Item.{Item}
-use Rattle.recipe.specs.declared.recipe.Recipe.{Recipe}
+use Rattle.user_dedup.specs.CdBase.Numbers.{numbers_of}
+use Rattle.user_dedup.specs.CdBase.ids.CloudNo.{CloudNo}
+use Rattle.user_dedup.specs.Recipe.Spelling.{Fits}
+use Rattle.user_dedup.specs.Recipe.items.Item.{Item}
+use Rattle.user_dedup.specs.Recipe.recipe.Recipe.{Recipe}
 use Rattle.restore_job.specs.Refusals.{Names}
 use Rattle.restore_job.specs.Steps.{AreItemsAt}
 use Rattle.restore_job.specs.Brought.{AreSecrets, Agree, Appends}
@@ -17,11 +17,11 @@ use Rattle.restore_job.proofs.Causing.{compared_found, compared_names}
 use Rattle.restore_job.proofs.Leading.{asked_as, asked_none}
 use Rattle.restore_job.proofs.Ending.{agreed_as, agreed_differs, agreed_items, agreed_told, agreed_unmade, items_as, fits_items}
 use Rattle.std.proofs.Common.{Result, rules}
-use Rattle.cd_base.specs.declared.ids.UserId.{UserId}
-use Rattle.cd_base.specs.declared.shape.Shape.{Shape}
+use Rattle.user_dedup.specs.CdBase.ids.UserId.{UserId}
+use Rattle.user_dedup.specs.CdBase.shape.Shape.{Shape}
 use Rattle.restore_job.specs.declared.error.RestoreErr.{RestoreErr}
 use Rattle.restore_job.specs.Steps.{Compares}
-use Rattle.restore_job.specs.Exchanges.{Exchange, AgreedRun, NothingAsked, Differ, Compared, ItemsRun}
+use Rattle.restore_job.specs.Exchanges.{CloudExchange, AgreedRun, NothingAsked, Differ, Compared, ItemsRun}
 use Rattle.restore_job.proofs.Speaking.{unlost, unlost_as, spoken_none}
 use Rattle.restore_job.proofs.Beside.{lost_spoken}
 use Rattle.restore_job.proofs.Readable.{none_asked, none_asked_to}
@@ -140,7 +140,7 @@ returns-in-Err-clause-said g c = unlost (bad c.in-Err.e) _ (
 )
 
 -- the secrets come behind the comparison
-items_said : (shape : Shape) (user : UserId) (clouds others : List CloudNo) (cloud : CloudNo) (recipe : Recipe) (rest recipes : List Recipe) (points : List ℕ) (firsts : List Item) (log : List Exchange) (old new : List ℕ) (result : Result (Unit {0}) RestoreErr)
+items_said : (shape : Shape) (user : UserId) (clouds others : List CloudNo) (cloud : CloudNo) (recipe : Recipe) (rest recipes : List Recipe) (points : List ℕ) (firsts : List Item) (log : List CloudExchange) (old new : List ℕ) (result : Result (Unit {0}) RestoreErr)
     → clouds ≡ cloud ∷ others → recipes ≡ recipe ∷ rest → points ≡ numbers_of clouds → firsts ≡ recipe.items → Compares cloud.0 recipe (numbers_of others) rest (Ok tt)
     → ItemsRun shape user clouds points firsts recipes 0 log old new result → AgreedRun shape user clouds recipes log old new result
 items_said shape user clouds others cloud recipe rest recipes points firsts log old new result c r p f compares run =

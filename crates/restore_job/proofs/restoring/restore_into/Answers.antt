@@ -1,12 +1,12 @@
 use Rattle.std.proofs.Common.{List, ℕ, Ok, Err, sym, subst, ◌∙◌}
 use Rattle.std.proofs.lemmas.List.{length-map}
-use Rattle.cd_base.specs.declared.ids.CloudNo.{CloudNo}
+use Rattle.user_dedup.specs.CdBase.ids.CloudNo.{CloudNo}
 use Rattle.restore_job.specs.Brought.{Agree, Appends}
-use Rattle.cd_base.specs.Numbers.{numbers_of}
+use Rattle.user_dedup.specs.CdBase.Numbers.{numbers_of}
 use Rattle.caont_rs.specs.Package.{tag as tag_at}
-use Rattle.messages.specs.declared.request.Request.TheVariants as requests
-use Rattle.messages.specs.Requests.{IsRequest}
-use Rattle.recipe.specs.declared.recipe.Recipe.{Recipe}
+use Rattle.user_dedup.specs.Messages.request.Request.TheVariants as requests
+use Rattle.user_dedup.specs.Messages.Requests.{IsRequest}
+use Rattle.user_dedup.specs.Recipe.recipe.Recipe.{Recipe}
 use Rattle.restore_job.proofs.Ending.{AgreedLeads, all_restored, first_refused, not_begun}
 use Rattle.restore_job.proofs.Leading.{asked_on}
 use Rattle.std.proofs.Common.{◌++◌}

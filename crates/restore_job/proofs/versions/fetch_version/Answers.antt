@@ -1,7 +1,7 @@
 use Rattle.std.proofs.Common.{List, ℕ, Ok, Err, sym, subst}
-use Rattle.messages.specs.declared.request.Request.TheVariants as requests
-use Rattle.messages.specs.Requests.{IsRequest}
-use Rattle.cd_base.specs.Numbers.{numbers_of}
+use Rattle.user_dedup.specs.Messages.request.Request.TheVariants as requests
+use Rattle.user_dedup.specs.Messages.Requests.{IsRequest}
+use Rattle.user_dedup.specs.CdBase.Numbers.{numbers_of}
 use Rattle.restore_job.proofs.Leading.{leads_none}
 use Rattle.restore_job.proofs.Ending.{recipes_told}
 use Rattle.restore_job.proofs.versions.fetch_version.Goals as goal

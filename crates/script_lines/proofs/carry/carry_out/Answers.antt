@@ -1,6 +1,6 @@
 use Rattle.std.proofs.Common.{List, ℕ, OnOk, sym, subst}
-use Rattle.session.specs.declared.event.Event.{Event}
-use Rattle.session.specs.declared.event.Event.TheVariants as events
+use Rattle.session_model.specs.Session.event.Event.{Event}
+use Rattle.session_model.specs.Session.event.Event.TheVariants as events
 use Rattle.script_lines.specs.Does.{CarriesOut}
 use Rattle.script_lines.proofs.Lines.{for_ok, on_ok}
 use Rattle.script_lines.proofs.carry.carry_out.Goals as goal

@@ -1,8 +1,8 @@
 use Rattle.std.proofs.Common.{List, ℕ, ◌<◌, [], ◌∷◌, length, refl, sym, subst}
-use Rattle.cd_base.specs.declared.shape.Shape.{Shape}
-use Rattle.messages.specs.Replies.{IsReply}
-use Rattle.messages.specs.Requests.{IsRequest}
-use Rattle.session.specs.declared.event.Event.TheVariants as events
+use Rattle.recipe.specs.CdBase.shape.Shape.{Shape}
+use Rattle.deletions.specs.Messages.Replies.{IsReply}
+use Rattle.deletions.specs.Messages.Requests.{IsRequest}
+use Rattle.session_model.specs.Session.event.Event.TheVariants as events
 use Rattle.script_lines.proofs.Going.{cut_before}
 use Rattle.script_lines.proofs.Lines.{on_ok, on_err}
 use Rattle.script_lines.proofs.Deleting.{asks, ask_leaves, deletes, delete_goes, delete_cut}

@@ -1,6 +1,6 @@
 use Rattle.std.proofs.Common.{◌≡◌, ◌<◌, ℕ, List, [], ◌∷◌, refl, sym, ap, ◌∙◌, subst, arith}
 use Rattle.std.specs.List.{range_with_len}
-use Rattle.cd_base.specs.declared.shape.Shape.{Shape}
+use Rattle.recipe.specs.CdBase.shape.Shape.{Shape}
 use Rattle.script_lines.specs.Jobs.{AreReached}
 use Rattle.script_lines.specs.Finishing.{Finished, FinishedPart}
 use Rattle.script_lines.proofs.Going.{leaves_all, leaves_join}

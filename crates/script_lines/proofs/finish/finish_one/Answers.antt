@@ -1,9 +1,9 @@
 use Rattle.std.proofs.Common.{◌<◌, List, ◌++◌, ap, ◌∙◌, subst}
-use Rattle.cd_base.specs.declared.shape.Shape.{Shape}
-use Rattle.upload_job.specs.declared.news.LaneNews.{LaneNews}
+use Rattle.recipe.specs.CdBase.shape.Shape.{Shape}
+use Rattle.session_model.specs.UploadJob.news.LaneNews.{LaneNews}
 use Rattle.session_model.specs.LocalLink.Tells.{is_delivered, telling}
-use Rattle.lane_steps.specs.Steps.{Finishes}
-use Rattle.session.specs.Texts.{text_of}
+use Rattle.session_jobs.specs.LaneSteps.Steps.{Finishes}
+use Rattle.session_model.specs.Session.Texts.{text_of}
 use Rattle.script_lines.specs.Jobs.{job_lanes}
 use Rattle.script_lines.specs.Finishing.{lane_lines}
 use Rattle.script_lines.proofs.Reaching.{all_done_is, lane_below}

@@ -1,6 +1,6 @@
 use Rattle.std.proofs.Common.{◌≡◌, ◌++◌, map, take}
 use Rattle.session_model.specs.Steps.{step_line}
-use Rattle.session.specs.Texts.{text_of}
+use Rattle.session_model.specs.Session.Texts.{text_of}
 use Rattle.script_lines.proofs.finish.put_told.Given as goal
 
 abbrev pub invariant-loop-news : goal.invariant-loop-news

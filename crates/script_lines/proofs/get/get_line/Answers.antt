@@ -1,7 +1,7 @@
 use Rattle.std.proofs.Common.{[], ◌∷◌, length, subst}
-use Rattle.cd_base.specs.declared.shape.Shape.{Shape}
-use Rattle.session.specs.Spelling.{AreSources}
-use Rattle.session.specs.declared.event.Event.TheVariants as events
+use Rattle.recipe.specs.CdBase.shape.Shape.{Shape}
+use Rattle.session_model.specs.Session.Spelling.{AreSources}
+use Rattle.session_model.specs.Session.event.Event.TheVariants as events
 use Rattle.script_lines.proofs.Lines.{on_ok, on_err}
 use Rattle.script_lines.proofs.Others.{read_by, get_goes, get_cut, get_leaves, get_same}
 use Rattle.script_lines.proofs.get.get_line.Goals as goal

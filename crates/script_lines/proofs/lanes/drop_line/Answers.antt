@@ -1,7 +1,7 @@
 use Rattle.std.proofs.Common.{◌<◌, List, length, refl, sym, subst}
-use Rattle.cd_base.specs.declared.shape.Shape.{Shape}
-use Rattle.upload_job.specs.Lanes.{LaneView, request_at, IsAsked}
-use Rattle.session.specs.declared.event.Event.TheVariants as events
+use Rattle.recipe.specs.CdBase.shape.Shape.{Shape}
+use Rattle.session_model.specs.UploadJob.Lanes.{LaneView, request_at, IsAsked}
+use Rattle.session_model.specs.Session.event.Event.TheVariants as events
 use Rattle.session_model.specs.Vault.{lanes_of}
 use Rattle.session_model.specs.Steps.{lose_lines}
 use Rattle.script_lines.proofs.Reaching.{job_reached, lane_below}

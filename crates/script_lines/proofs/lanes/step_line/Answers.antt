@@ -1,7 +1,7 @@
 use Rattle.std.proofs.Common.{◌<◌, length, ap, subst}
-use Rattle.cd_base.specs.declared.shape.Shape.{Shape}
+use Rattle.recipe.specs.CdBase.shape.Shape.{Shape}
 use Rattle.session_model.specs.LocalLink.Tells.{is_delivered}
-use Rattle.session.specs.declared.event.Event.TheVariants as events
+use Rattle.session_model.specs.Session.event.Event.TheVariants as events
 use Rattle.script_lines.specs.Stepping.{step_lines}
 use Rattle.script_lines.proofs.Reaching.{all_done_is, lane_below}
 use Rattle.script_lines.proofs.Lines.{both_ok, on_err, step_came, step_goes, step_cut}

@@ -1,7 +1,7 @@
 use Rattle.std.proofs.Common.{List, ℕ, sym, subst, inr}
-use Rattle.messages.specs.declared.request.Request.TheVariants as requests
-use Rattle.messages.specs.Replies.{IsReply}
-use Rattle.messages.specs.Requests.{IsRequest}
+use Rattle.deletions.specs.Messages.request.Request.TheVariants as requests
+use Rattle.deletions.specs.Messages.Replies.{IsReply}
+use Rattle.deletions.specs.Messages.Requests.{IsRequest}
 use Rattle.script_lines.proofs.Paged.{page_asked}
 use Rattle.script_lines.proofs.listing.ask_page.Goals as goal
 

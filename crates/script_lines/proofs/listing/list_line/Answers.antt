@@ -1,5 +1,5 @@
 use Rattle.std.specs.Prelude.{Ok}
-use Rattle.session.specs.declared.event.Event.TheVariants as events
+use Rattle.session_model.specs.Session.event.Event.TheVariants as events
 use Rattle.session_model.specs.Steps.{list_lines}
 use Rattle.script_lines.proofs.Going.{cut_behind}
 use Rattle.script_lines.proofs.Lines.{on_ok, on_err}

@@ -1,5 +1,5 @@
 use Rattle.std.proofs.Common.{subst}
-use Rattle.messages.specs.Replies.{FitsReply}
+use Rattle.deletions.specs.Messages.Replies.{FitsReply}
 use Rattle.script_lines.proofs.listing.page_in.Goals as goal
 
 pub returns-in-Ok-Entries-clause-few : goal.returns-in-Ok-Entries-clause-few

@@ -1,6 +1,6 @@
 use Rattle.std.proofs.Common.{[], ◌∷◌}
-use Rattle.session.specs.declared.event.Event.TheVariants as events
-use Rattle.transcript.specs.declared.line.Line.TheVariants as lines
+use Rattle.session_model.specs.Session.event.Event.TheVariants as events
+use Rattle.session_model.specs.Transcript.line.Line.TheVariants as lines
 use Rattle.script_lines.proofs.Going.{cut_behind}
 use Rattle.script_lines.proofs.Lines.{on_ok, on_err}
 use Rattle.script_lines.proofs.Others.{arm_goes}

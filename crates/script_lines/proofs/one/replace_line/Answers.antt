@@ -1,6 +1,6 @@
 use Rattle.std.proofs.Common.{◌<◌, [], ◌∷◌, length, refl, subst}
-use Rattle.cd_base.specs.declared.shape.Shape.{Shape}
-use Rattle.session.specs.declared.event.Event.TheVariants as events
+use Rattle.recipe.specs.CdBase.shape.Shape.{Shape}
+use Rattle.session_model.specs.Session.event.Event.TheVariants as events
 use Rattle.script_lines.proofs.Going.{cut_behind}
 use Rattle.script_lines.proofs.Replaced.{replace_goes, fresh_fails}
 use Rattle.script_lines.proofs.one.replace_line.Goals as goal

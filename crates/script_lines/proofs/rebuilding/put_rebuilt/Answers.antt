@@ -1,8 +1,8 @@
 use Rattle.std.proofs.Common.{[], ◌∷◌, length, map, refl, sym, ◌∙◌, subst}
 use Rattle.std.specs.Prelude.{Result}
-use Rattle.rebuild.specs.declared.error.RebuildErr.{RebuildErr}
-use Rattle.rebuild.specs.declared.skips.Rebuilt.{Rebuilt}
-use Rattle.transcript.specs.declared.line.Line.TheVariants as lines
+use Rattle.session_model.specs.Rebuild.error.RebuildErr.{RebuildErr}
+use Rattle.session_model.specs.Rebuild.skips.Rebuilt.{Rebuilt}
+use Rattle.session_model.specs.Transcript.line.Line.TheVariants as lines
 use Rattle.session_model.specs.Steps.{skip_line}
 use Rattle.script_lines.specs.Rebuilding.{SaysRebuild}
 use Rattle.script_lines.proofs.Lines.{on_ok}

@@ -1,7 +1,7 @@
 use Rattle.std.proofs.Common.{◌++◌, [], ◌∷◌, sym, ap, ◌∙◌}
 use Rattle.std.specs.Option.{option_copied}
-use Rattle.session.specs.Texts.{text_of}
-use Rattle.transcript.specs.declared.line.Line.{Line}
+use Rattle.session_model.specs.Session.Texts.{text_of}
+use Rattle.session_model.specs.Transcript.line.Line.{Line}
 use Rattle.script_lines.proofs.Skipping.{skips_on}
 use Rattle.script_lines.proofs.rebuilding.put_skips.Goals as goal
 

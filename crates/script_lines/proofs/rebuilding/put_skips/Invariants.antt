@@ -1,6 +1,6 @@
 use Rattle.std.proofs.Common.{◌≡◌, ◌++◌, map, take}
 use Rattle.session_model.specs.Steps.{skip_line}
-use Rattle.session.specs.Texts.{text_of}
+use Rattle.session_model.specs.Session.Texts.{text_of}
 use Rattle.script_lines.proofs.rebuilding.put_skips.Given as goal
 
 abbrev pub invariant-loop-place : goal.invariant-loop-place

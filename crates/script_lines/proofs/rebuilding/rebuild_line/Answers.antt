@@ -1,4 +1,4 @@
-use Rattle.rebuild.specs.Over.{AsksFor}
+use Rattle.session_model.specs.Rebuild.Over.{AsksFor}
 use Rattle.script_lines.proofs.Lines.{on_ok, on_err}
 use Rattle.script_lines.proofs.Turned.{asks_leave}
 use Rattle.script_lines.proofs.Rebuilt.{came_by, rebuild_goes, rebuild_cut}

@@ -1,8 +1,8 @@
 use Rattle.std.proofs.Common.{◌<◌, ◌^◌, [], ◌∷◌, length, refl, ap, ◌∙◌, rules}
-use Rattle.cd_base.specs.declared.shape.Shape.{Shape}
-use Rattle.session.specs.declared.event.Event.TheVariants as events
-use Rattle.transcript.specs.declared.line.Line.TheVariants as lines
-use Rattle.upload_job.specs.Lanes.{lanes_begun}
+use Rattle.recipe.specs.CdBase.shape.Shape.{Shape}
+use Rattle.session_model.specs.Session.event.Event.TheVariants as events
+use Rattle.session_model.specs.Transcript.line.Line.TheVariants as lines
+use Rattle.session_model.specs.UploadJob.Lanes.{lanes_begun}
 use Rattle.session_model.specs.Steps.{version_of}
 use Rattle.script_lines.proofs.Going.{cut_before}
 use Rattle.script_lines.proofs.Lines.{on_ok, on_err}

@@ -1,8 +1,8 @@
 use Rattle.std.proofs.Common.{rules, ℕ, ◌≡◌, ◌+◌, ◌^◌, List, [], subst, sym, ◌∙◌, ap, arith}
-use Rattle.frames.specs.Frames.{IsRefused}
+use Rattle.ports_link.specs.Frames.Frames.{IsRefused}
 use Rattle.serve_command.specs.declared.served.Served.{Served}
 use Rattle.serve_command.specs.Connection.{Serves}
-use Rattle.serve_command.specs.Framing.{Along, ended_with}
+use Rattle.serve_command.specs.Framing.{IsAlongFrames, ended_with}
 use Rattle.serve_command.proofs.PassingOn.{none_refused}
 use Rattle.serve_command.proofs.Ending.{begun, ends_at_end, ends_spent, ends_by_stop}
 use Rattle.serve_command.proofs.frames_in_turn.serve_by.Goals as goal
@@ -12,7 +12,7 @@ loop-received-init g c = record {
   piece = search rules;
   ready = c.reset.ensures.ready;
   lawful = subst (λ (l : List ℕ). IsRefused l → ⊥) (sym c.reset.ensures.empty) none_refused;
-  along = subst (λ (l : List ℕ). Along g.R.Responder.step (g.P.Ports.tells c.args.ports.now) (g.P.Ports.tells c.args.ports.now) c.args.port c.args.responder.now c.args.responder.now l [] 0) (sym c.reset.ensures.empty)
+  along = subst (λ (l : List ℕ). IsAlongFrames g.R.Responder.step (g.P.Ports.tells c.args.ports.now) (g.P.Ports.tells c.args.ports.now) c.args.port c.args.responder.now c.args.responder.now l [] 0) (sym c.reset.ensures.empty)
       (begun g.R.Responder.step (g.P.Ports.tells c.args.ports.now) c.args.port c.args.responder.now);
   within = search rules;
   loans = search rules;

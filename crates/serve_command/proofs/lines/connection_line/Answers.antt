@@ -1,5 +1,5 @@
 use Rattle.std.proofs.Common.{◌≡◌, List, ℕ, [], ◌∷◌, IfOk, codes, decimal, string_bytes, subst}
-use Rattle.transcript.specs.Transcript.{ended}
+use Rattle.ports_link.specs.Transcript.Transcript.{ended}
 use Rattle.serve_command.specs.Lines.{connection_text}
 use Rattle.serve_command.proofs.lines.connection_line.Goals as goal
 

@@ -1,5 +1,5 @@
 use Rattle.std.proofs.Common.{◌≡◌, List, ℕ, [], ◌∷◌, ◌++◌, IfOk, codes, decimal, string_bytes, subst, append_assoc}
-use Rattle.transcript.specs.Transcript.{ended}
+use Rattle.ports_link.specs.Transcript.Transcript.{ended}
 use Rattle.serve_command.proofs.lines.counted_line.Goals as goal
 
 spaced : (number word : List ℕ)

@@ -1,19 +1,19 @@
 use Rattle.std.proofs.Common.{rules, ◌≡◌, List, Some, None, Err, refl, sym, ap, subst, arith}
-use Rattle.cd_edges.specs.Shelf.{Stays}
-use Rattle.messages.specs.Requests.{FitsRequest}
-use Rattle.messages.specs.declared.request.Request.TheVariants as requests
-use Rattle.messages.specs.declared.reply.Reply.TheVariants as replies
-use Rattle.recipe.specs.Spelling.{spelling}
-use Rattle.user_dedup.specs.declared.command.Command.TheVariants as commands
-use Rattle.user_dedup.specs.Spending.{full_for}
+use Rattle.server_reads.specs.CdEdges.Shelf.{Stays}
+use Rattle.server_reads.specs.Messages.Requests.{FitsRequest}
+use Rattle.server_reads.specs.Messages.request.Request.TheVariants as requests
+use Rattle.server_reads.specs.Messages.reply.Reply.TheVariants as replies
+use Rattle.server_reads.specs.Recipe.Spelling.{spelling}
+use Rattle.server_reads.specs.UserDedup.command.Command.TheVariants as commands
+use Rattle.server_reads.specs.UserDedup.Spending.{full_for}
 use Rattle.server_reads.specs.CloudMemory.News.{seen}
 use Rattle.open_store.specs.declared.store.OpenStore.{OpenStore}
 use Rattle.open_store.specs.declared.store.Unadded.{Unadded}
 use Rattle.open_store.specs.CloudAreas.Standing.{Chain}
-use Rattle.cd_edges.specs.Disk.{Cloud}
-use Rattle.user_dedup.specs.declared.command.Command.{Command}
+use Rattle.server_reads.specs.CdEdges.Disk.{Cloud}
+use Rattle.server_reads.specs.UserDedup.command.Command.{Command}
 use Rattle.open_store.specs.Store.{Serves}
-use Rattle.user_dedup.specs.Owning.{fps_in}
+use Rattle.server_reads.specs.UserDedup.Owning.{fps_in}
 use Rattle.server_reads.specs.CloudMemory.Rooms.{memory_of, full_commit}
 use Rattle.open_store.specs.Adding.{NotLong, MatchFull, WhenLong, Unmoved, unstaged}
 use Rattle.server_commands.proofs.Calls.{ok_result, failed_result, stays_still}

@@ -1,8 +1,8 @@
 use Rattle.std.proofs.Common.{◌≡◌, ℕ, List, refl, sym, ap, ◌∙◌, subst}
-use Rattle.messages.specs.declared.request.Request.TheVariants as requests
-use Rattle.user_dedup.specs.Cloud.{user_view}
-use Rattle.user_dedup.specs.Owning.{first_lacking}
-use Rattle.user_dedup.specs.Requests.{fps_of}
+use Rattle.server_reads.specs.Messages.request.Request.TheVariants as requests
+use Rattle.server_reads.specs.UserDedup.Cloud.{user_view}
+use Rattle.server_reads.specs.UserDedup.Owning.{first_lacking}
+use Rattle.server_reads.specs.UserDedup.Requests.{fps_of}
 use Rattle.std.specs.Prelude.{OnOk}
 use Rattle.server_reads.specs.CloudMemory.Rooms.{memory_of}
 use Rattle.server_reads.specs.Allowed.{Replies}

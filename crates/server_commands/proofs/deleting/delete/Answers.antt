@@ -1,5 +1,5 @@
 use Rattle.std.proofs.Common.{◌≡◌, refl, sym, ◌∙◌}
-use Rattle.messages.specs.declared.reply.Reply.TheVariants as replies
+use Rattle.server_reads.specs.Messages.reply.Reply.TheVariants as replies
 use Rattle.server_commands.proofs.Deleted.{missing}
 use Rattle.server_commands.proofs.deleting.delete.Goals as goal
 

@@ -1,13 +1,13 @@
 use Rattle.std.proofs.Common.{◌≡◌, ◌≤◌, length, Err, IsSome, refl, sym, ap, ◌∙◌, subst, arith, length-take}
-use Rattle.cd_base.specs.Limits.{recipe_limit}
-use Rattle.messages.specs.declared.reply.Reply.TheVariants as replies
-use Rattle.user_dedup.specs.Cloud.{fingerprint}
+use Rattle.server_reads.specs.CdBase.Limits.{recipe_limit}
+use Rattle.server_reads.specs.Messages.reply.Reply.TheVariants as replies
+use Rattle.server_reads.specs.UserDedup.Cloud.{fingerprint}
 use Rattle.std.specs.FinMap.{get}
-use Rattle.file_index.specs.Files.{key_of}
+use Rattle.server_reads.specs.FileIndex.Files.{key_of}
 use Rattle.server_reads.specs.CloudMemory.Rooms.{memory_of}
 use Rattle.open_store.specs.declared.store.OpenStore.{OpenStore}
-use Rattle.server_reads.specs.declared.blobs.Stop.{Stop}
-use Rattle.server_reads.specs.Reading.{HasRead}
+use Rattle.server_reads.specs.declared.blobs.BlobStop.{BlobStop}
+use Rattle.server_reads.specs.Reading.{HasReadCloud}
 use Rattle.server_reads.proofs.Spelled.{rotten_is}
 use Rattle.server_commands.proofs.Reread.{ready_read}
 use Rattle.server_commands.proofs.Deleted.{deleted, failed, rotten}
@@ -38,7 +38,7 @@ returns-in-Err-Failed-clause-does g c =
     failed c.args.user c.args.tag c.args.version (c.read_entry.new.shelf ≡ c.args.shelf.now) old c.read_entry.new.store
     (at c.args.shelf.now) (at c.read_entry.new.shelf) (faults c.args.shelf.now) (faults c.read_entry.new.shelf) c.args.reply.now c.in-Err-Failed.ensures.store c.requires.ready
     c.shut.new.self
-    (subst (λ (stop : Stop). HasRead {A = Unit {0}} (at c.args.shelf.now) (at c.read_entry.new.shelf) old.header.cloud.0 (faults c.args.shelf.now) (faults c.read_entry.new.shelf) (Err stop)) c.in-Err-Failed.field-0-is c.in-Err-Failed.ensures.reads)
+    (subst (λ (stop : BlobStop). HasReadCloud {A = Unit {0}} (at c.args.shelf.now) (at c.read_entry.new.shelf) old.header.cloud.0 (faults c.args.shelf.now) (faults c.read_entry.new.shelf) (Err stop)) c.in-Err-Failed.field-0-is c.in-Err-Failed.ensures.reads)
     c.shut.ensures.same c.shut.ensures.settled c.shut.ensures.shut
 
 pub returns-in-Err-Rotten-clause-does : goal.returns-in-Err-Rotten-clause-does

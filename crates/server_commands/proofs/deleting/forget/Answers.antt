@@ -1,9 +1,9 @@
 use Rattle.std.proofs.Common.{rules, Err, ap, subst}
-use Rattle.file_index.specs.Files.{key_of}
-use Rattle.messages.specs.Requests.{FitsRequest}
-use Rattle.messages.specs.declared.request.Request.TheVariants as requests
-use Rattle.messages.specs.declared.reply.Reply.TheVariants as replies
-use Rattle.user_dedup.specs.declared.command.Command.TheVariants as commands
+use Rattle.server_reads.specs.FileIndex.Files.{key_of}
+use Rattle.server_reads.specs.Messages.Requests.{FitsRequest}
+use Rattle.server_reads.specs.Messages.request.Request.TheVariants as requests
+use Rattle.server_reads.specs.Messages.reply.Reply.TheVariants as replies
+use Rattle.server_reads.specs.UserDedup.command.Command.TheVariants as commands
 use Rattle.open_store.specs.declared.store.Unadded.{Unadded}
 use Rattle.server_reads.specs.CloudMemory.Rooms.{memory_of}
 use Rattle.open_store.specs.Adding.{NotLong, WhenLong, Unmoved}

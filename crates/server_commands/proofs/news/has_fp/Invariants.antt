@@ -1,5 +1,5 @@
 use Rattle.std.proofs.Common.{◌≡◌, drop}
-use Rattle.user_dedup.specs.Owning.{is_among}
+use Rattle.server_reads.specs.UserDedup.Owning.{is_among}
 use Rattle.server_commands.specs.Picked.{fps_of}
 use Rattle.server_commands.proofs.news.has_fp.Given as goal
 

@@ -1,11 +1,11 @@
 use Rattle.std.proofs.Common.{◌≡◌, Bool, [], ◌∷◌, ◌++◌, Option, cond, false, sym, ap, ◌∙◌, subst}
 use Rattle.std.specs.Prelude.{is_some}
 use Rattle.std.specs.FinMap.{get}
-use Rattle.cd_base.specs.declared.ids.Fp.{Fp}
-use Rattle.cd_base.specs.declared.place.Place.{Place}
-use Rattle.container_log.specs.States.{HasStaged}
-use Rattle.container_log.proofs.Staged.{staged_more}
-use Rattle.user_dedup.specs.Cloud.{fingerprint}
+use Rattle.server_reads.specs.CdBase.ids.Fp.{Fp}
+use Rattle.server_reads.specs.CdBase.place.Place.{Place}
+use Rattle.server_reads.specs.ContainerLog.States.{HasStaged}
+use Rattle.server_reads.proofs.ContainerLog.Staged.{staged_more}
+use Rattle.server_reads.specs.UserDedup.Cloud.{fingerprint}
 use Rattle.server_reads.specs.CloudMemory.Rooms.{memory_of}
 use Rattle.open_store.specs.declared.store.OpenStore.{OpenStore}
 use Rattle.server_commands.proofs.news.stage_one.Goals as goal

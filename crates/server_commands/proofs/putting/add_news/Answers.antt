@@ -1,21 +1,21 @@
 use Rattle.std.proofs.Common.{◌≡◌, ℕ, List, Some, None, Err, length, refl, sym, ap, ◌∙◌, subst, arith}
-use Rattle.cd_edges.specs.Shelf.{Stays}
-use Rattle.messages.specs.declared.request.Request.TheVariants as requests
-use Rattle.messages.specs.declared.reply.Reply.TheVariants as replies
-use Rattle.user_dedup.specs.declared.command.Command.{Command}
-use Rattle.user_dedup.specs.declared.command.Command.TheVariants as commands
-use Rattle.user_dedup.specs.Spending.{full_for}
+use Rattle.server_reads.specs.CdEdges.Shelf.{Stays}
+use Rattle.server_reads.specs.Messages.request.Request.TheVariants as requests
+use Rattle.server_reads.specs.Messages.reply.Reply.TheVariants as replies
+use Rattle.server_reads.specs.UserDedup.command.Command.{Command}
+use Rattle.server_reads.specs.UserDedup.command.Command.TheVariants as commands
+use Rattle.server_reads.specs.UserDedup.Spending.{full_for}
 use Rattle.open_store.specs.CloudAreas.Standing.{Chain}
-use Rattle.cd_edges.specs.Disk.{Cloud}
+use Rattle.server_reads.specs.CdEdges.Disk.{Cloud}
 use Rattle.server_reads.specs.CloudMemory.News.{seen}
 use Rattle.open_store.specs.declared.store.OpenStore.{OpenStore}
 use Rattle.open_store.specs.declared.store.Unadded.{Unadded}
 use Rattle.open_store.specs.Store.{Serves}
 use Rattle.open_store.proofs.Fields.{are_long}
 use Rattle.server_reads.specs.CloudMemory.Rooms.{memory_of, full_news}
-use Rattle.half_journal.specs.declared.journal.Stage.TheVariants.{AtEnd}
+use Rattle.open_store.specs.HalfJournal.journal.Stage.TheVariants.{AtEnd}
 use Rattle.open_store.specs.Adding.{NotLong, MatchFull, WhenLong, Unmoved, stage_after, unstaged}
-use Rattle.user_dedup.specs.Dedup.{answer_over}
+use Rattle.server_reads.specs.UserDedup.Dedup.{answer_over}
 use Rattle.server_commands.proofs.Calls.{ok_result, failed_result, stays_still}
 use Rattle.server_commands.proofs.Commits.{only_journal}
 use Rattle.server_commands.proofs.Doing.{adding, adds_does, stays_does, served_added, served_full, full_reply}

@@ -1,4 +1,4 @@
-use Rattle.server_commands.proofs.Entries.{names_entry, reads_file, only_reads}
+use Rattle.server_commands.proofs.EntryLaws.{names_entry, reads_file, only_reads}
 use Rattle.server_commands.proofs.reading.read_entry.Goals as goal
 
 pub returns-clause-rotten : goal.returns-clause-rotten

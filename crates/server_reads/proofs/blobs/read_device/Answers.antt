@@ -1,9 +1,9 @@
 use Rattle.std.proofs.Common.{◌≡◌, ℕ, ◌≤◌, List, length, take, drop, IfErr, refl, sym, ap, ◌∙◌, subst, arith, length-take}
 use Rattle.std.proofs.lemmas.List.{take_all}
-use Rattle.cd_base.specs.declared.ids.Fp.{Fp}
-use Rattle.user_dedup.specs.Cloud.{fingerprint}
-use Rattle.server_reads.specs.declared.blobs.Stop.{Stop}
-use Rattle.server_reads.specs.declared.blobs.Stop.TheVariants as stops
+use Rattle.cloud_memory.specs.CdBase.ids.Fp.{Fp}
+use Rattle.cloud_memory.specs.UserDedup.Cloud.{fingerprint}
+use Rattle.server_reads.specs.declared.blobs.BlobStop.{BlobStop}
+use Rattle.server_reads.specs.declared.blobs.BlobStop.TheVariants as stops
 use Rattle.server_reads.specs.Found.{IsOther}
 use Rattle.server_reads.specs.Reading.{IfRotten}
 use Rattle.server_reads.proofs.Calling.{rotten_as, not_rotten, when_ok, ok_both, compared, other_there, blob_there}
@@ -31,7 +31,7 @@ returns-in-Ok-clause-found g c = λ told.
     let front = c.split_at.ensures.front in
     subst (λ (n : ℕ). IfRotten r (λ (named found : Fp). IsOther area c.args.at n named found)) c.read_alone.auto.out
     (other_there r area c.args.at c.in-Ok.count out fp (c.in-Ok.ensures.bytes told)
-    (subst (λ (l : List ℕ). IfErr r (λ (stop : Stop). stop ≡ stops.Rotten fp (fingerprint l))) front c.compare.ensures.err)
+    (subst (λ (l : List ℕ). IfErr r (λ (stop : BlobStop). stop ≡ stops.Rotten fp (fingerprint l))) front c.compare.ensures.err)
     (λ long same. c.compare.ensures.whole (ap length front ∙ long ∙ c.read_alone.auto.out) (ap fingerprint front ∙ same)))
 
 pub returns-in-Ok-clause-whole : goal.returns-in-Ok-clause-whole

@@ -1,5 +1,5 @@
 use Rattle.std.proofs.Common.{◌≡◌, length, ap, ◌∙◌, arith}
-use Rattle.user_dedup.specs.Cloud.{fingerprint}
+use Rattle.cloud_memory.specs.UserDedup.Cloud.{fingerprint}
 use Rattle.server_reads.proofs.Keys.{take_front}
 use Rattle.server_reads.proofs.fetching.read_front.Goals as goal
 

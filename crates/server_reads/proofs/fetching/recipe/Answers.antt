@@ -1,14 +1,14 @@
 use Rattle.std.proofs.Common.{◌≡◌, ◌≤◌, ℕ, List, [], length, Option, Some, None, refl, sym, ap, ◌∙◌, subst, arith}
-use Rattle.cd_base.specs.declared.ids.Fp.{Fp}
+use Rattle.cloud_memory.specs.CdBase.ids.Fp.{Fp}
 use Rattle.cd_edges.specs.declared.area.Area.{Area}
 use Rattle.cd_edges.specs.declared.area.Area.TheVariants.{Shares, Recipes}
 use Rattle.cd_edges.specs.Disk.{reads}
-use Rattle.container_log.specs.Laying.{Placed, IsAt}
+use Rattle.cloud_memory.specs.ContainerLog.Laying.{Placed, IsAt}
 use Rattle.messages.specs.declared.reply.Reply.TheVariants as replies
 use Rattle.messages.specs.Replies.{reply_bytes}
-use Rattle.user_dedup.specs.declared.file_list.FileEntry.{FileEntry}
-use Rattle.user_dedup.specs.Cloud.{fingerprint}
-use Rattle.user_dedup.specs.Dedup.{recipe_reply}
+use Rattle.cloud_memory.specs.UserDedup.file_list.FileEntry.{FileEntry}
+use Rattle.cloud_memory.specs.UserDedup.Cloud.{fingerprint}
+use Rattle.cloud_memory.specs.UserDedup.Dedup.{recipe_reply}
 use Rattle.cloud_memory.specs.Rooms.{memory_of}
 use Rattle.server_reads.specs.Found.{IsOther}
 use Rattle.server_reads.proofs.Held.{entry_stands, none_there}

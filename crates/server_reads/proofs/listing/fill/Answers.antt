@@ -1,8 +1,8 @@
 use Rattle.std.proofs.Common.{◌≡◌, ℕ, ◌<◌, List, Some, length, take, sym, ap, ◌∙◌, subst, arith, length-take}
 use Rattle.std.proofs.lemmas.List.{take_more_set}
-use Rattle.cd_base.specs.declared.ids.Tag.{Tag}
-use Rattle.cd_base.specs.declared.ids.Version.{Version}
-use Rattle.message_fields.specs.Keys.{AreKeys}
+use Rattle.cloud_memory.specs.CdBase.ids.Tag.{Tag}
+use Rattle.cloud_memory.specs.CdBase.ids.Version.{Version}
+use Rattle.messages.specs.MessageFields.Keys.{AreKeys}
 use Rattle.cloud_memory.specs.Rooms.{memory_of}
 use Rattle.server_reads.proofs.Keys.{Risen, none_risen, risen_more, risen_keys, risen_end, risen_full}
 use Rattle.server_reads.proofs.listing.fill.Goals as goal

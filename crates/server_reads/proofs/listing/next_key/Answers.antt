@@ -1,5 +1,5 @@
 use Rattle.std.proofs.Common.{◌≡◌, true, false, sym, ◌∙◌}
-use Rattle.user_dedup.specs.Cloud.{user_view}
+use Rattle.cloud_memory.specs.UserDedup.Cloud.{user_view}
 use Rattle.server_reads.proofs.Keys.{next_is_above}
 use Rattle.server_reads.proofs.listing.next_key.Goals as goal
 

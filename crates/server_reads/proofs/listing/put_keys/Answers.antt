@@ -1,10 +1,10 @@
 use Rattle.std.proofs.Common.{ℕ, ◌≤◌, List, length, take, sym, ap, ◌∙◌, subst, arith}
-use Rattle.cd_base.specs.declared.ids.Tag.{Tag}
-use Rattle.cd_base.specs.declared.ids.Version.{Version}
-use Rattle.message_fields.specs.Keys.{AreKeys}
+use Rattle.cloud_memory.specs.CdBase.ids.Tag.{Tag}
+use Rattle.cloud_memory.specs.CdBase.ids.Version.{Version}
+use Rattle.messages.specs.MessageFields.Keys.{AreKeys}
 use Rattle.messages.specs.declared.reply.Reply.TheVariants as replies
 use Rattle.messages.specs.Replies.{reply_bytes}
-use Rattle.user_dedup.specs.Cloud.{user_view}
+use Rattle.cloud_memory.specs.UserDedup.Cloud.{user_view}
 use Rattle.cloud_memory.specs.Memory.{keys_above}
 use Rattle.server_reads.proofs.Keys.{keys_rise, keys_from_none}
 use Rattle.server_reads.proofs.listing.put_keys.Goals as goal

@@ -1,7 +1,7 @@
 use Rattle.std.proofs.Common.{ℕ, ◌≤◌, List, ◌++◌, ◌∷◌, [], take, length, sym, ap, ◌∙◌, arith, append-nil, append_assoc, length-append, length-take}
 use Rattle.std.proofs.lemmas.Option.{slice_get_within}
 use Rattle.std.proofs.lemmas.List.{take_all, length-map, map_push}
-use Rattle.cd_base.specs.declared.ids.Fp.{Fp}
+use Rattle.cloud_memory.specs.CdBase.ids.Fp.{Fp}
 use Rattle.cloud_memory.specs.Rooms.{memory_of}
 use Rattle.server_reads.specs.Owned.{owned_flag, owned_flags}
 use Rattle.server_reads.proofs.Marks.{one_more}

@@ -1,5 +1,5 @@
 use Rattle.std.proofs.Common.{◌≡◌, ℕ, List, length, ◌++◌, ap, ◌∙◌, arith}
-use Rattle.message_fields.specs.Shares.{share_bytes}
+use Rattle.messages.specs.MessageFields.Shares.{share_bytes}
 use Rattle.server_reads.proofs.Along.{sent_one}
 use Rattle.server_reads.proofs.sending.put_from.Goals as goal
 

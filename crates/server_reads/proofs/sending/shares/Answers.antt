@@ -1,10 +1,10 @@
 use Rattle.std.proofs.Common.{◌≡◌, ℕ, Option, Some, None, refl, sym, ap, ◌∙◌}
-use Rattle.cd_base.specs.declared.ids.Fp.{Fp}
+use Rattle.cloud_memory.specs.CdBase.ids.Fp.{Fp}
 use Rattle.messages.specs.declared.reply.Reply.TheVariants as replies
 use Rattle.messages.specs.Replies.{reply_bytes}
-use Rattle.user_dedup.specs.Cloud.{user_view}
-use Rattle.user_dedup.specs.Owning.{first_lacking}
-use Rattle.user_dedup.specs.Dedup.{shares_reply}
+use Rattle.cloud_memory.specs.UserDedup.Cloud.{user_view}
+use Rattle.cloud_memory.specs.UserDedup.Owning.{first_lacking}
+use Rattle.cloud_memory.specs.UserDedup.Dedup.{shares_reply}
 use Rattle.server_reads.proofs.Along.{strings_for, all_owned}
 use Rattle.server_reads.proofs.Calling.{rotten_at, shares_or_not_yours, rotten_or_not_yours}
 use Rattle.server_reads.proofs.Spelled.{all_hashed, one_place, not_yours_or_shares, rotten_or_shares}

@@ -1,4 +1,4 @@
-use Rattle.container_log.specs.States.{State}
+use Rattle.server_commands.specs.ContainerLog.States.{State}
 use Rattle.server_commands.specs.CloudDisk.Disk.{Disk}
 use Rattle.server_requests.proofs.Readings.{reads_recipes, lent_back}
 use Rattle.server_requests.proofs.fetching.recipe_on_disk.Goals as goal

@@ -1,10 +1,10 @@
 use Rattle.std.proofs.Common.{◌≡◌, refl}
-use Rattle.file_index.specs.Files.{key_of}
-use Rattle.messages.specs.declared.request.Request.TheVariants as requests
-use Rattle.server_reads.specs.CloudMemory.Rooms.{memory_of}
-use Rattle.server_reads.specs.Found.{IsNamed, HasNone, IsFoundRecipe}
-use Rattle.server_reads.proofs.Plain.{recipe_plain}
-use Rattle.server_reads.proofs.Rotting.{recipe_rotten}
+use Rattle.server_commands.specs.FileIndex.Files.{key_of}
+use Rattle.server_commands.specs.Messages.request.Request.TheVariants as requests
+use Rattle.server_commands.specs.ServerReads.CloudMemory.Rooms.{memory_of}
+use Rattle.server_commands.specs.ServerReads.Found.{IsNamed, HasNone, IsFoundRecipe}
+use Rattle.server_commands.proofs.ServerReads.Plain.{recipe_plain}
+use Rattle.server_commands.proofs.ServerReads.Rotting.{recipe_rotten}
 use Rattle.server_requests.proofs.Contents.{gives_plain, missing_leaves, is_of_entry}
 use Rattle.server_requests.proofs.Readings.{ready_after, was_read, was_failed}
 use Rattle.server_requests.proofs.fetching.send_recipe.Goals as goal

@@ -1,9 +1,9 @@
 use Rattle.std.proofs.Common.{◌≡◌, refl}
-use Rattle.messages.specs.declared.request.Request.TheVariants as requests
-use Rattle.server_reads.specs.CloudMemory.Rooms.{memory_of}
-use Rattle.server_reads.specs.Found.{IsFoundShare}
-use Rattle.server_reads.proofs.Plain.{shares_plain}
-use Rattle.server_reads.proofs.Rotting.{shares_rotten}
+use Rattle.server_commands.specs.Messages.request.Request.TheVariants as requests
+use Rattle.server_commands.specs.ServerReads.CloudMemory.Rooms.{memory_of}
+use Rattle.server_commands.specs.ServerReads.Found.{IsFoundShare}
+use Rattle.server_commands.proofs.ServerReads.Plain.{shares_plain}
+use Rattle.server_commands.proofs.ServerReads.Rotting.{shares_rotten}
 use Rattle.server_requests.proofs.Contents.{gives_plain, foreign_leaves, are_asked}
 use Rattle.server_requests.proofs.Readings.{ready_after, was_read, was_failed}
 use Rattle.server_requests.proofs.sending.send_shares.Goals as goal

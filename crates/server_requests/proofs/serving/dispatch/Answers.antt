@@ -1,10 +1,10 @@
 use Rattle.std.proofs.Common.{◌≡◌, [], refl, sym, ap, subst}
 use Rattle.std.specs.Prelude.{OnOk}
-use Rattle.messages.specs.declared.request.Request.{Request}
-use Rattle.messages.specs.declared.request.Request.TheVariants as requests
-use Rattle.server_reads.specs.CloudMemory.Rooms.{memory_of}
-use Rattle.server_reads.specs.Allowed.{Replies}
-use Rattle.server_reads.proofs.Plain.{known_plain, entries_plain}
+use Rattle.server_commands.specs.Messages.request.Request.{Request}
+use Rattle.server_commands.specs.Messages.request.Request.TheVariants as requests
+use Rattle.server_commands.specs.ServerReads.CloudMemory.Rooms.{memory_of}
+use Rattle.server_commands.specs.ServerReads.Allowed.{Replies}
+use Rattle.server_commands.proofs.ServerReads.Plain.{known_plain, entries_plain}
 use Rattle.server_commands.specs.Entering.{Enters}
 use Rattle.server_commands.specs.Executing.{Executes}
 use Rattle.server_commands.proofs.Calls.{ok_result}

@@ -1,5 +1,5 @@
 use Rattle.std.proofs.Common.{◌≡◌, ◌≤◌, ◌-◌, ◌++◌, length, take}
-use Rattle.grammar.specs.Hexadecimal.{hex}
+use Rattle.journal_start.specs.Grammar.Hexadecimal.{hex}
 use Rattle.session.specs.Spelling.{AreBytes}
 use Rattle.session.proofs.front.pack.Given as goal
 

@@ -1,7 +1,7 @@
 use Rattle.std.proofs.Common.{◌≡◌, ◌*◌, ℕ, List, ◌++◌, length, ap, sym, ◌∙◌, arith}
 use Rattle.std.proofs.lemmas.List.{take_at, length-take}
-use Rattle.grammar.specs.Hexadecimal.{unhex}
-use Rattle.grammar.proofs.HexadecimalLaws.{unhex_length}
+use Rattle.journal_start.specs.Grammar.Hexadecimal.{unhex}
+use Rattle.journal_start.proofs.Grammar.HexadecimalLaws.{unhex_length}
 use Rattle.session.proofs.Fronts.{packed_more, bytes_more}
 use Rattle.session.proofs.front.pack_block.Goals as goal
 

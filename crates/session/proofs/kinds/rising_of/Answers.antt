@@ -1,6 +1,6 @@
 use Rattle.std.proofs.Common.{ℕ, ap, ◌∙◌, arith, ◌≡◌, ◌-◌, take, drop, ◌+◌}
 use Rattle.std.specs.List.{position_or_len}
-use Rattle.grammar.specs.Numerals.{number}
+use Rattle.journal_start.specs.Grammar.Numerals.{number}
 use Rattle.session.specs.Reading.{is_comma}
 use Rattle.session.proofs.CloudTexts.{any_number, starts_rising, front, no_number_by, no_rise_by, last_number_by, next_number_by}
 use Rattle.session.proofs.kinds.rising_of.Goals as goal

@@ -1,6 +1,6 @@
 use Rattle.std.proofs.Common.{◌≡◌, length}
 use Rattle.std.specs.List.Sorted.{IsStrictlyIncreasing}
-use Rattle.grammar.specs.Words.{keep}
+use Rattle.journal_start.specs.Grammar.Words.{keep}
 use Rattle.session.specs.Reading.{rises, listed}
 use Rattle.session.proofs.CloudTexts.{goes_rising}
 use Rattle.session.proofs.kinds.rising_of.Given as goal

@@ -1,5 +1,5 @@
 use Rattle.std.proofs.Common.{ℕ, List, ◌≡◌, ◌++◌, Some, refl, ap, ◌∙◌, arith}
-use Rattle.grammar.specs.Hexadecimal.{unhex}
+use Rattle.journal_start.specs.Grammar.Hexadecimal.{unhex}
 use Rattle.session.proofs.Fronts.{content_read}
 use Rattle.session.proofs.long.read_content.Goals as goal
 

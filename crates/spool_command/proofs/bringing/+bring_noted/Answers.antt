@@ -2,12 +2,12 @@ use Rattle.std.proofs.Common.{◌≡◌, ◌<◌, ℕ, Bool, List, ◌∷◌, le
 use Rattle.std.specs.Prelude.{All}
 use Rattle.std.proofs.lemmas.List.Elements.{All-head, All-tail}
 use Rattle.std.specs.List.{Contains}
-use Rattle.cd_base.specs.declared.ids.CloudNo.{CloudNo}
-use Rattle.cd_base.specs.declared.shape.Shape.{Shape}
-use Rattle.lane_steps.specs.Reached.{IsReached}
+use Rattle.upload_spool.specs.CdBase.ids.CloudNo.{CloudNo}
+use Rattle.upload_spool.specs.CdBase.shape.Shape.{Shape}
+use Rattle.backup_command.specs.LaneSteps.Reached.{IsReached}
 use Rattle.upload_spool.specs.States.{state_of, IsJobOf}
-use Rattle.ports_link.specs.Tells.{telling}
-use Rattle.backup_command.specs.Steps.{AreReady, IsReady, ports_of}
+use Rattle.backup_command.specs.PortsLink.Tells.{telling}
+use Rattle.backup_command.specs.Steps.{AreReady, IsCloudReady, ports_of}
 use Rattle.backup_command.proofs.Joining.{rest_ready, not_first, not_later, not_here}
 use Rattle.backup_command.proofs.Reaching.{reached_len}
 use Rattle.spool_command.specs.declared.interruption.Interruption.{Interruption}
@@ -36,7 +36,7 @@ returns-in-Err-clause-went g t c = λ behind ready.
     subst (λ (ls : List (CloudNo × ℕ)). NotedWent behind (tells new.ports.now) ls c.args.job.now (Err c.interruption.result) c.bring_one.new.job c.args.text.now c.bring_one.new.text state state cloud cloud) (sym e)
     (subst (λ (w : Interruption). NotedWent behind (tells new.ports.now) (line ∷ rest) c.args.job.now (Err w) c.bring_one.new.job c.args.text.now c.bring_one.new.text state state cloud cloud) (sym c.interruption.ensures)
     (went_stopped tells behind old new line rest c.args.job.now c.bring_one.new.job c.in-Err.halt c.args.text.now c.bring_one.new.text state cloud r c.in-Err.ensures.leaves
-    (c.in-Err.ensures.goes behind line.1 r.told (All-head (IsReady behind tells old) line rest r.each))))
+    (c.in-Err.ensures.goes behind line.1 r.told (All-head (IsCloudReady behind tells old) line rest r.each))))
 
 pub returns-in-Err-clause-others : goal.returns-in-Err-clause-others
 returns-in-Err-clause-others g t c = λ behind ready told port none.
@@ -46,7 +46,7 @@ returns-in-Err-clause-others g t c = λ behind ready told port none.
     let rest = c.in-Some.more.now in
     let e = c.in-Some.ensures in
     let r = subst (AreReady behind tells old) e ready in
-    let first = All-head (IsReady behind tells old) line rest r.each in
+    let first = All-head (IsCloudReady behind tells old) line rest r.each in
     c.in-Err.ensures.leaves.others (subst IsTrue (sym r.told) told) line.1 first.port port
     (not_first line rest port (subst (λ (ls : List (CloudNo × ℕ)). ¬ Contains (ports_of ls) port) e none))
 
@@ -67,7 +67,7 @@ returns-in-Err-note_lane-clause-went g t c = λ behind ready.
     let lt = subst (λ (n : ℕ). line.0.0 < n) (sym (reached_len c.args.link.now.shape c.args.job.now c.requires.reached)) first in
     subst (λ (ls : List (CloudNo × ℕ)). NotedWent behind (tells new.ports.now) ls c.args.job.now (Err c.in-Err-note_lane.why) c.bring_one.new.job c.args.text.now c.bring_one.new.text before after cloud left) (sym e)
     (went_unnoted tells behind old new line rest c.args.job.now c.bring_one.new.job c.in-Err-note_lane.why c.args.text.now c.bring_one.new.text before after cloud left lt r c.in-Ok.ensures.leaves
-    (c.in-Ok.ensures.goes behind line.1 r.told (All-head (IsReady behind tells old) line rest r.each))
+    (c.in-Ok.ensures.goes behind line.1 r.told (All-head (IsCloudReady behind tells old) line rest r.each))
     c.in-Err-note_lane.ensures.notes c.in-Err-note_lane.ensures.kept c.in-Err-note_lane.ensures.shape)
 
 pub returns-in-Err-note_lane-clause-others : goal.returns-in-Err-note_lane-clause-others
@@ -78,7 +78,7 @@ returns-in-Err-note_lane-clause-others g t c = λ behind ready told port none.
     let rest = c.in-Some.more.now in
     let e = c.in-Some.ensures in
     let r = subst (AreReady behind tells old) e ready in
-    let first = All-head (IsReady behind tells old) line rest r.each in
+    let first = All-head (IsCloudReady behind tells old) line rest r.each in
     c.in-Ok.ensures.leaves.others (subst IsTrue (sym r.told) told) line.1 first.port port
     (not_first line rest port (subst (λ (ls : List (CloudNo × ℕ)). ¬ Contains (ports_of ls) port) e none))
 
@@ -101,7 +101,7 @@ returns-clause-went g t c = λ behind ready.
     (went_more behind (tells mid.ports.now) (tells new.ports.now) line rest c.args.job.now c.bring_one.new.job c.bring_noted.new.job c.bring_noted.result c.args.text.now c.bring_one.new.text c.bring_noted.new.text
     (state_of c.args.spool.now) (state_of c.note_lane.new.spool) (state_of c.bring_noted.new.spool) (at c.args.shelf.now 0) (at c.note_lane.new.shelf 0) (at c.bring_noted.new.shelf 0) lt
     (λ told. c.bring_noted.ensures.others behind next told line.1 (not_here line rest (r.ports told)))
-    (c.in-Ok.ensures.goes behind line.1 r.told (All-head (IsReady behind tells old) line rest r.each))
+    (c.in-Ok.ensures.goes behind line.1 r.told (All-head (IsCloudReady behind tells old) line rest r.each))
     c.in-Ok-note_lane.ensures.notes c.in-Ok-note_lane.ensures.kept c.in-Ok-note_lane.ensures.shape c.in-Ok-note_lane.ensures.call.told
     (c.bring_noted.ensures.went behind next))
 
@@ -115,7 +115,7 @@ returns-clause-others g t c = λ behind ready told port none.
     let e = c.in-Some.ensures in
     let r = subst (AreReady behind tells old) e ready in
     let next = rest_ready tells behind old mid line rest r c.in-Ok.ensures.leaves c.in-Ok.ensures.talks in
-    let first = All-head (IsReady behind tells old) line rest r.each in
+    let first = All-head (IsCloudReady behind tells old) line rest r.each in
     let away = subst (λ (ls : List (CloudNo × ℕ)). ¬ Contains (ports_of ls) port) e none in
     c.bring_noted.ensures.others behind next told port (not_later line rest port away)
     ∙ c.in-Ok.ensures.leaves.others (subst IsTrue (sym r.told) told) line.1 first.port port

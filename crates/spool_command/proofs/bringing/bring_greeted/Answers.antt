@@ -1,12 +1,12 @@
 use Rattle.std.proofs.Common.{rules, ◌≡◌, ◌≤◌, ◌<◌, ℕ, List, [], length, append-nil, refl, IsTrue, sym, ap, ◌∙◌, subst, arith}
 use Rattle.std.specs.Prelude.{All}
 use Rattle.std.specs.List.{Contains}
-use Rattle.cd_base.specs.declared.ids.CloudNo.{CloudNo}
-use Rattle.cd_base.specs.declared.shape.Shape.{Shape}
-use Rattle.cd_edges.specs.Causes.{Rose}
-use Rattle.cd_edges.specs.Ports.{Telling}
-use Rattle.ports_link.specs.declared.lines.Line.{Line}
-use Rattle.ports_link.specs.Lines.{has_port, lines_for}
+use Rattle.upload_spool.specs.CdBase.ids.CloudNo.{CloudNo}
+use Rattle.upload_spool.specs.CdBase.shape.Shape.{Shape}
+use Rattle.upload_spool.specs.CdEdges.Causes.{Rose}
+use Rattle.upload_spool.specs.CdEdges.Ports.{Telling}
+use Rattle.backup_command.specs.PortsLink.lines.CloudLine.{CloudLine}
+use Rattle.backup_command.specs.PortsLink.Lines.{has_port, lines_for}
 use Rattle.backup_command.specs.Lanes.{numbered}
 use Rattle.backup_command.specs.Steps.{AreGreetedOn, AreReady, ports_of}
 use Rattle.upload_spool.specs.States.{state_of}
@@ -34,7 +34,7 @@ bring_noted-came-requires-clause-reaches g c =
     subst (λ (ls : List (CloudNo × ℕ)). All (λ (l : CloudNo × ℕ). IsTrue
     (has_port c.of-link.result.lines.items.items l.0.0)) ls)
     (sym (c.as_slice-2.ensures.value ∙ n.1))
-    (subst (λ (x : List Line). All (λ (l : CloudNo × ℕ). IsTrue (has_port x l.0.0)) (numbered 0 n.0)) (sym lines)
+    (subst (λ (x : List CloudLine). All (λ (l : CloudNo × ℕ). IsTrue (has_port x l.0.0)) (numbered 0 n.0)) (sym lines)
     (have_ports (lines_for (numbered 0 n.0)) (numbered 0 n.0)
     (lines_reach n.0 (omega (arith, n.2, shape.few)))))
 

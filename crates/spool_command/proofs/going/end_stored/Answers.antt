@@ -1,5 +1,5 @@
 use Rattle.std.proofs.Common.{true, inl, inr, [], ◌∷◌, refl}
-use Rattle.transcript.specs.declared.line.Line.TheVariants as lines
+use Rattle.backup_command.specs.Transcript.line.Line.TheVariants as lines
 use Rattle.backup_command.proofs.Joining.{joined}
 use Rattle.spool_command.specs.Going.{stored_lines}
 use Rattle.spool_command.proofs.going.end_stored.Goals as goal

@@ -1,6 +1,6 @@
 use Rattle.std.proofs.Common.{◌≡◌, ◌++◌, ◌∙◌, [], ◌∷◌, List, ℕ, ap}
-use Rattle.cd_edges.specs.Causes.{Rose}
-use Rattle.transcript.specs.declared.line.Line.TheVariants as lines
+use Rattle.upload_spool.specs.CdEdges.Causes.{Rose}
+use Rattle.backup_command.specs.Transcript.line.Line.TheVariants as lines
 use Rattle.upload_spool.specs.States.{state_of}
 use Rattle.backup_command.specs.Texts.{text_of}
 use Rattle.spool_command.proofs.Ends.{ended, failed_behind, lacked_first, no_ports, stopped}

@@ -1,7 +1,7 @@
 use Rattle.std.proofs.Common.{inl, refl, sym, subst, Err}
-use Rattle.cd_edges.specs.Shelf.{HasFailed, KeepsCounts}
+use Rattle.upload_spool.specs.CdEdges.Shelf.{HasFailed, KeepsCounts}
 use Rattle.upload_spool.specs.States.{state_of}
-use Rattle.lane_steps.specs.Runs.{lane_at}
+use Rattle.backup_command.specs.LaneSteps.Runs.{lane_at}
 use Rattle.spool_command.specs.declared.interruption.Interruption.{Interruption}
 use Rattle.spool_command.specs.Noted.{NoteIs, KeepsNote, IfShelf}
 use Rattle.spool_command.proofs.Notes.{done_of, not_due, kept_same, kept_noted, failed_note, failed_kept, failed_counts}

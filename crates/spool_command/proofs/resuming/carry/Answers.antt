@@ -1,7 +1,7 @@
 use Rattle.std.proofs.Common.{[], length, IsTrue, refl, sym, ◌∙◌, subst, inl}
-use Rattle.ports_link.specs.Meeting.{Lacks}
+use Rattle.backup_command.specs.PortsLink.Meeting.{Lacks}
 use Rattle.backup_command.proofs.Finishing.{are_numbered, greeted_on, only_dialled}
-use Rattle.spool_command.specs.Spooled.{Outside}
+use Rattle.spool_command.specs.Spooled.{SpoolOutside}
 use Rattle.spool_command.proofs.Kept.{met_and_went, resumed}
 use Rattle.spool_command.proofs.resuming.carry.Goals as goal
 
@@ -18,7 +18,7 @@ returns-clause-carries g c =
     let greeted = c.in-Ok-meet_all.greeted in
     let meets = c.in-Ok-meet_all.ensures.meets in
     let told = c.in-Ok-meet_all.ensures.told in
-    let out : Outside = record {
+    let out : SpoolOutside = record {
       addresses = length c.args.addresses.now;
       before = tells c.args.ports.now;
       after = tells c.go_on_kept.new.ports;

@@ -1,8 +1,8 @@
 use Rattle.std.proofs.Common.{ℕ, Bool, IsTrue, List, Ok, Err, refl, sym, subst}
 use Rattle.std.specs.Prelude.{IfSome, Option, Result}
-use Rattle.cd_edges.specs.Causes.{Rose}
-use Rattle.cd_edges.specs.Disk.{reads}
-use Rattle.upload_job.specs.Lanes.{LaneView}
+use Rattle.upload_spool.specs.CdEdges.Causes.{Rose}
+use Rattle.upload_spool.specs.CdEdges.Disk.{reads}
+use Rattle.upload_spool.specs.UploadJob.Lanes.{LaneView}
 use Rattle.upload_spool.specs.Opens.{OpensIs, IsOpenedSpool, answer_of}
 use Rattle.upload_spool.specs.declared.spool.Spool.{Spool}
 use Rattle.spool_command.specs.declared.writing.Unspooled.{Unspooled}

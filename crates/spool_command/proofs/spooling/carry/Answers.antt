@@ -1,13 +1,13 @@
 use Rattle.std.proofs.Common.{◌≡◌, inl, ℕ, Bool, length, IsTrue, Ok, Err, refl, sym, ◌∙◌, subst}
-use Rattle.cd_base.specs.declared.shape.Shape.{Shape}
-use Rattle.cd_edges.specs.Causes.{Rose}
-use Rattle.cd_edges.proofs.Calls.{failed_after}
+use Rattle.upload_spool.specs.CdBase.shape.Shape.{Shape}
+use Rattle.upload_spool.specs.CdEdges.Causes.{Rose}
+use Rattle.upload_spool.proofs.CdEdges.Calls.{failed_after}
 use Rattle.upload_spool.specs.States.{IsJobOf, state_of}
 use Rattle.upload_spool.proofs.Jobs.{job_begun}
 use Rattle.backup_command.proofs.Finishing.{are_numbered, greeted_on, have_met, only_dialled}
 use Rattle.spool_command.specs.declared.writing.Unspooled.{Unspooled}
 use Rattle.spool_command.specs.Noted.{IfPorts}
-use Rattle.spool_command.specs.Spooled.{CarriesSpool, Outside, call_for, version_for}
+use Rattle.spool_command.specs.Spooled.{CarriesSpool, SpoolOutside, call_for, version_for}
 use Rattle.spool_command.proofs.Carried.{if_shelf, not_met, spooled_on, stopped, untouched_spared, was_empty}
 use Rattle.spool_command.proofs.spooling.carry.Goals as goal
 
@@ -24,7 +24,7 @@ returns-in-Err-meet_all-clause-carries g c =
     let tells = g.P.Ports.tells in
     let faults = g.P.Ports.faults in
     let folder = g.V.Shelf.cloud_at c.args.shelf.now 0 in
-    let out : Outside = record {
+    let out : SpoolOutside = record {
       addresses = length c.args.addresses.now;
       before = tells c.args.ports.now;
       after = tells c.meet_all.new.ports;
@@ -50,7 +50,7 @@ returns-in-Err-start-clause-carries g c =
     let greeted = c.in-Ok-meet_all.greeted in
     let meets = c.in-Ok-meet_all.ensures.meets in
     let v = version_for c.args.file.now c.args.bytes in
-    let out : Outside = record {
+    let out : SpoolOutside = record {
       addresses = length c.args.addresses.now;
       before = tells c.args.ports.now;
       after = behind;
@@ -108,7 +108,7 @@ returns-in-Ok-go_on-clause-carries g c =
     let meets = c.in-Ok-meet_all.ensures.meets in
     let told = c.in-Ok-meet_all.ensures.told in
     let v = version_for c.args.file.now c.args.bytes in
-    let out : Outside = record {
+    let out : SpoolOutside = record {
       addresses = length c.args.addresses.now;
       before = tells c.args.ports.now;
       after = tells c.go_on.new.ports;
@@ -134,7 +134,7 @@ returns-clause-carries g c =
     let meets = c.in-Ok-meet_all.ensures.meets in
     let told = c.in-Ok-meet_all.ensures.told in
     let v = version_for c.args.file.now c.args.bytes in
-    let out : Outside = record {
+    let out : SpoolOutside = record {
       addresses = length c.args.addresses.now;
       before = tells c.args.ports.now;
       after = tells c.go_on.new.ports;

@@ -1,7 +1,7 @@
 use Rattle.std.proofs.Common.{◌≡◌, ◌<◌, ◌≤◌, ◌^◌, ℕ, List, [], length, sym, subst, rules}
-use Rattle.recipe.specs.Spelling.{file_limit}
-use Rattle.upload_job.specs.Lanes.{LaneView, lanes_begun}
-use Rattle.lane_steps.specs.Reached.{IsReached, Begun}
+use Rattle.upload_spool.specs.Recipe.Spelling.{file_limit}
+use Rattle.upload_spool.specs.UploadJob.Lanes.{LaneView, lanes_begun}
+use Rattle.backup_command.specs.LaneSteps.Reached.{IsReached, Begun}
 use Rattle.upload_spool.specs.States.{IsBegunSpool, IsSpool, LeavesJob, state_of}
 use Rattle.spool_command.specs.Spooled.{version_for}
 use Rattle.spool_command.proofs.Carried.{untouched_none, untouched_spared, why_unbegun}

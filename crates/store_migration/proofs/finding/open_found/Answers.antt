@@ -1,9 +1,9 @@
 use Rattle.std.proofs.Common.{refl, false, Err, subst}
-use Rattle.cd_edges.specs.declared.area.Area.TheVariants.{Journal}
-use Rattle.cd_edges.specs.Disk.{Areas}
-use Rattle.journal_start.specs.declared.start.Header.{Header}
-use Rattle.half_journal.specs.Openings.{IsOpened, OpensIs}
-use Rattle.half_journal.specs.States.{state_of}
+use Rattle.fresh_checkpoints.specs.CdEdges.area.Area.TheVariants.{Journal}
+use Rattle.fresh_checkpoints.specs.CdEdges.Disk.{Areas}
+use Rattle.store_opening.specs.JournalStart.start.Header.{Header}
+use Rattle.store_opening.specs.HalfJournal.Openings.{IsOpened, OpensIs}
+use Rattle.store_opening.specs.HalfJournal.States.{state_of}
 use Rattle.store_migration.proofs.Opened.{old_opened, not_opened, open_counts, open_memory}
 use Rattle.store_migration.proofs.finding.open_found.Goals as goal
 

@@ -1,10 +1,10 @@
 use Rattle.std.proofs.Common.{refl, sym, subst}
-use Rattle.cd_edges.specs.declared.area.Area.TheVariants.{Journal}
-use Rattle.cd_edges.specs.Disk.{Areas, IsImage}
-use Rattle.cd_edges.proofs.Calls.{called_twice}
-use Rattle.cd_edges.proofs.Moments.{told_on}
-use Rattle.half_journal.specs.Openings.{IsSynced}
-use Rattle.half_journal.specs.States.{state_of}
+use Rattle.fresh_checkpoints.specs.CdEdges.area.Area.TheVariants.{Journal}
+use Rattle.fresh_checkpoints.specs.CdEdges.Disk.{Areas, IsImage}
+use Rattle.fresh_checkpoints.proofs.CdEdges.Calls.{called_twice}
+use Rattle.fresh_checkpoints.proofs.CdEdges.Moments.{told_on}
+use Rattle.store_opening.specs.HalfJournal.Openings.{IsSynced}
+use Rattle.store_opening.specs.HalfJournal.States.{state_of}
 use Rattle.store_opening.proofs.Opened.{then_stays}
 use Rattle.store_opening.proofs.Synced.{synced_at, none_behind}
 use Rattle.store_migration.specs.Finding.{OpenedAs}

@@ -1,5 +1,5 @@
 use Rattle.std.proofs.Common.{◌≡◌, ◌≤◌, length, Err, refl, sym, subst, arith}
-use Rattle.cloud_memory.specs.Rooms.{memory_of}
+use Rattle.fresh_checkpoints.specs.CloudMemory.Rooms.{memory_of}
 use Rattle.store_migration.specs.declared.errors.MigrateErr.{MigrateErr}
 use Rattle.store_migration.specs.Judging.{JudgedAs, JudgedBy}
 use Rattle.store_migration.proofs.Answering.{is_counted}

@@ -1,5 +1,5 @@
 use Rattle.std.proofs.Common.{◌≡◌, inl, refl}
-use Rattle.cd_edges.proofs.Moments.{started}
+use Rattle.fresh_checkpoints.proofs.CdEdges.Moments.{started}
 use Rattle.store_migration.proofs.Answering.{never_no_memory, kept_counts, no_call}
 use Rattle.store_migration.proofs.migrating.migrate.Goals as goal
 

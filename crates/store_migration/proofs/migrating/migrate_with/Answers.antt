@@ -1,9 +1,9 @@
 use Rattle.std.proofs.Common.{◌≡◌, ℕ, ◌≤◌, length, arith, List, refl, sym, ap, ◌∙◌, subst, inl}
-use Rattle.cd_edges.specs.Disk.{IsImage, reads}
-use Rattle.cd_edges.proofs.Calls.{called_twice}
-use Rattle.cd_edges.proofs.Moments.{joined, weaker, at_end, told_on}
-use Rattle.cloud_memory.specs.Rooms.{memory_of}
-use Rattle.migration_model.specs.Migrating.{IsBetween}
+use Rattle.fresh_checkpoints.specs.CdEdges.Disk.{IsImage, reads}
+use Rattle.fresh_checkpoints.proofs.CdEdges.Calls.{called_twice}
+use Rattle.fresh_checkpoints.proofs.CdEdges.Moments.{joined, weaker, at_end, told_on}
+use Rattle.fresh_checkpoints.specs.CloudMemory.Rooms.{memory_of}
+use Rattle.large_users.specs.MigrationModel.Migrating.{IsBetween}
 use Rattle.store_opening.specs.Synced.{AreSynced}
 use Rattle.store_migration.proofs.Answering.{read_as, moves_as, unread_as, refused_map, unread_refused, answered_of, unread_answered, over_no_memory, unread_no_memory, still_goes_on, begins, counted_behind, unread_counts}
 use Rattle.store_migration.proofs.migrating.migrate_with.Goals as goal

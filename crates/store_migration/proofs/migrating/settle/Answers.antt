@@ -1,9 +1,9 @@
 use Rattle.std.proofs.Common.{◌≡◌, ◌≤◌, ℕ, ◌+◌, length, refl, sym, ap, ◌∙◌, subst, arith}
-use Rattle.half_journal.specs.States as journals
-use Rattle.cloud_memory.specs.Rooms.{memory_of}
-use Rattle.checkpoints.specs.Laying.{records_len}
-use Rattle.checkpoints.specs.Records.{records_of}
-use Rattle.checkpoints.specs.Known.{checkpoint_in}
+use Rattle.store_opening.specs.HalfJournal.States as journals
+use Rattle.fresh_checkpoints.specs.CloudMemory.Rooms.{memory_of}
+use Rattle.fresh_checkpoints.specs.Checkpoints.Laying.{records_len}
+use Rattle.fresh_checkpoints.specs.Checkpoints.Records.{records_of}
+use Rattle.fresh_checkpoints.specs.Checkpoints.Known.{checkpoint_in}
 use Rattle.store_migration.proofs.Answering.{failed_only, images_stand}
 use Rattle.store_migration.proofs.migrating.settle.Goals as goal
 

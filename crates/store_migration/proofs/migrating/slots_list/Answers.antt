@@ -1,4 +1,4 @@
-use Rattle.checkpoints.proofs.Summed.{listed_of}
+use Rattle.fresh_checkpoints.proofs.Checkpoints.Summed.{listed_of}
 use Rattle.store_migration.proofs.migrating.slots_list.Goals as goal
 
 pub returns : goal.returns

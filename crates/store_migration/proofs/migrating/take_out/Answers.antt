@@ -1,5 +1,5 @@
 use Rattle.std.proofs.Common.{◌≤◌, arith}
-use Rattle.cloud_memory.specs.Rooms.{memory_of}
+use Rattle.fresh_checkpoints.specs.CloudMemory.Rooms.{memory_of}
 use Rattle.store_migration.proofs.Answering.{first_still}
 use Rattle.store_migration.proofs.migrating.take_out.Goals as goal
 

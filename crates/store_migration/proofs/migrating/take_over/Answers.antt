@@ -1,17 +1,17 @@
 use Rattle.std.proofs.Common.{◌≡◌, ◌≤◌, ℕ, ◌+◌, List, Err, refl, sym, ap, ◌∙◌, subst, arith, inl}
-use Rattle.cd_edges.specs.Disk.{Image, Cloud, IsImage, LeavesOnly}
-use Rattle.cd_edges.proofs.Moments.{started}
-use Rattle.half_journal.specs.States as journals
-use Rattle.journal_halves.specs.Halves.{half_limit}
-use Rattle.journal_start.specs.declared.start.Header.{Header}
-use Rattle.cloud_areas.specs.Standing.{StandsFor}
-use Rattle.cloud_memory.specs.Rooms.{memory_of}
-use Rattle.checkpoints.specs.Laying.{records_len}
-use Rattle.checkpoints.specs.Records.{records_of}
-use Rattle.user_dedup.specs.Compact.{compact}
+use Rattle.fresh_checkpoints.specs.CdEdges.Disk.{Image, Cloud, IsImage, LeavesOnly}
+use Rattle.fresh_checkpoints.proofs.CdEdges.Moments.{started}
+use Rattle.store_opening.specs.HalfJournal.States as journals
+use Rattle.fresh_checkpoints.specs.JournalHalves.Halves.{half_limit}
+use Rattle.store_opening.specs.JournalStart.start.Header.{Header}
+use Rattle.fresh_checkpoints.specs.CloudAreas.Standing.{StandsFor}
+use Rattle.fresh_checkpoints.specs.CloudMemory.Rooms.{memory_of}
+use Rattle.fresh_checkpoints.specs.Checkpoints.Laying.{records_len}
+use Rattle.fresh_checkpoints.specs.Checkpoints.Records.{records_of}
+use Rattle.store_opening.specs.UserDedup.Compact.{compact}
 use Rattle.fresh_checkpoints.specs.Fresh.{IsNextMemory}
 use Rattle.fresh_checkpoints.specs.Switching.{IsMigrating}
-use Rattle.migration_model.specs.Migrating.{header_one, header_two}
+use Rattle.large_users.specs.MigrationModel.Migrating.{header_one, header_two}
 use Rattle.std.specs.Prelude.{OnOk}
 use Rattle.store_migration.proofs.Answering.{taken_over, judged_over, settled_as, judged_as, refused_of_err, settled_not_refused, still_goes_on, kept_counts, no_call, judged_counts}
 use Rattle.store_migration.proofs.migrating.take_over.Goals as goal

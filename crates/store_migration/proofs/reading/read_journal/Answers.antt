@@ -1,9 +1,9 @@
 use Rattle.std.proofs.Common.{ℕ, ◌∙◌}
-use Rattle.cd_edges.specs.Disk.{IsImage}
-use Rattle.cd_edges.proofs.Calls.{called_twice}
-use Rattle.cd_edges.proofs.Moments.{told_on}
-use Rattle.half_journal.specs.States.{state_of}
-use Rattle.cloud_memory.specs.Rooms.{memory_of}
+use Rattle.fresh_checkpoints.specs.CdEdges.Disk.{IsImage}
+use Rattle.fresh_checkpoints.proofs.CdEdges.Calls.{called_twice}
+use Rattle.fresh_checkpoints.proofs.CdEdges.Moments.{told_on}
+use Rattle.store_opening.specs.HalfJournal.States.{state_of}
+use Rattle.fresh_checkpoints.specs.CloudMemory.Rooms.{memory_of}
 use Rattle.store_opening.proofs.Opened.{then_stays}
 use Rattle.store_opening.proofs.Synced.{none_behind, on_ok}
 use Rattle.store_migration.proofs.Cases.{of_all, on_answer, counted_behind, same_err, same_memory}

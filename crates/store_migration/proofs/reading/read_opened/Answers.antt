@@ -1,11 +1,11 @@
 use Rattle.std.proofs.Common.{sym, subst}
-use Rattle.cd_edges.specs.declared.area.Area.TheVariants.{Journal, Recipes}
-use Rattle.cd_edges.specs.Disk.{Areas}
-use Rattle.cd_edges.proofs.Calls.{called_twice}
-use Rattle.cd_edges.proofs.Moments.{told_on}
-use Rattle.half_journal.specs.States.{state_of, IsReading}
-use Rattle.cloud_memory.specs.Rooms.{memory_of}
-use Rattle.store_opening.specs.Steps.{HasEnded}
+use Rattle.fresh_checkpoints.specs.CdEdges.area.Area.TheVariants.{Journal, Recipes}
+use Rattle.fresh_checkpoints.specs.CdEdges.Disk.{Areas}
+use Rattle.fresh_checkpoints.proofs.CdEdges.Calls.{called_twice}
+use Rattle.fresh_checkpoints.proofs.CdEdges.Moments.{told_on}
+use Rattle.store_opening.specs.HalfJournal.States.{state_of, IsJournalReading}
+use Rattle.fresh_checkpoints.specs.CloudMemory.Rooms.{memory_of}
+use Rattle.store_opening.specs.Steps.{HasChainEnded}
 use Rattle.store_opening.proofs.Synced.{still, on_ok}
 use Rattle.store_migration.specs.Steps.{LoadsAs}
 use Rattle.store_migration.proofs.Cases.{counted_behind, not_memory}
@@ -17,7 +17,7 @@ returns-in-Ok-clause-exact g c told opened =
     let number = c.args.cloud.0 in let c0 = g.V.Shelf.cloud_at c.args.shelf.now number in let c1 = g.V.Shelf.cloud_at c.survey.new.shelf number in let state = state_of c.args.journal.now in
     let told1 = told_on c0 c1 c.survey.ensures.call.told told in let back = c.survey.ensures.stays.now in
     let ground = c.in-Ok.ground in let known = c.in-Ok.ensures.known in let lengths = c.in-Ok.ensures.lengths told in let new = memory_of c.load.new.memory in
-    let before = subst (λ (a : Areas). IsReading state (a Journal) opened.0.w) (sym back) opened.0.reading in
+    let before = subst (λ (a : Areas). IsJournalReading state (a Journal) opened.0.w) (sym back) opened.0.reading in
     let loaded = subst (λ (a : Areas). LoadsAs ground c.args.half (a Recipes).read (a Journal) state new c.load.result) back (c.load.ensures.exact told1 opened.0.w before opened.0.none) in
     read_as c.args.shape c.args.cloud c0 state opened.0 c.args.half opened.1 ground known.0 known.1 known.2 lengths.0 lengths.1 new c.load.result loaded
 
@@ -26,9 +26,9 @@ returns-in-Ok-clause-read g c told opened =
     let number = c.args.cloud.0 in let c0 = g.V.Shelf.cloud_at c.args.shelf.now number in let c1 = g.V.Shelf.cloud_at c.survey.new.shelf number in let state = state_of c.args.journal.now in
     let told1 = told_on c0 c1 c.survey.ensures.call.told told in let back = c.survey.ensures.stays.now in
     let ground = c.in-Ok.ground in let known = c.in-Ok.ensures.known in let lengths = c.in-Ok.ensures.lengths told in let new = memory_of c.load.new.memory in let after = state_of c.load.new.journal in
-    let before = subst (λ (a : Areas). IsReading state (a Journal) opened.0.w) (sym back) opened.0.reading in
+    let before = subst (λ (a : Areas). IsJournalReading state (a Journal) opened.0.w) (sym back) opened.0.reading in
     let loaded = subst (λ (a : Areas). LoadsAs ground c.args.half (a Recipes).read (a Journal) state new c.load.result) back (c.load.ensures.exact told1 opened.0.w before opened.0.none) in
-    let ended = on_ok c.load.result _ _ (subst (λ (a : Areas). HasEnded after (a Journal) opened.0.w) back) (c.load.ensures.ended told1 opened.0.w before opened.0.none) in
+    let ended = on_ok c.load.result _ _ (subst (λ (a : Areas). HasChainEnded after (a Journal) opened.0.w) back) (c.load.ensures.ended told1 opened.0.w before opened.0.none) in
     read_all c.args.shape c.args.cloud c0 state opened.0 c.args.half opened.1 ground known.0 known.1 known.2 lengths.0 lengths.1 new after c.load.result loaded ended
 
 pub returns-in-Ok-clause-memory : goal.returns-in-Ok-clause-memory

@@ -1,5 +1,5 @@
 use Rattle.std.proofs.Common.{arith}
-use Rattle.cd_edges.specs.declared.area.Area.TheVariants.{Recipes}
+use Rattle.fresh_checkpoints.specs.CdEdges.area.Area.TheVariants.{Recipes}
 use Rattle.store_opening.proofs.Looking.{read_there}
 use Rattle.store_migration.proofs.recipes.read_at.Goals as goal
 

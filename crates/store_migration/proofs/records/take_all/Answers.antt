@@ -1,10 +1,10 @@
 use Rattle.std.proofs.Common.{◌≡◌, ℕ, ◌+◌, ◌≤◌, Bool, true, false, List, [], length, Result, Ok, Err, refl, sym, ◌∙◌, ap, subst, rules}
 use Rattle.std.proofs.lemmas.Result.{err_from_is_err_and}
-use Rattle.cd_edges.specs.declared.area.Area.TheVariants.{Journal, Recipes}
-use Rattle.journal_start.specs.Spelling.{records_of}
-use Rattle.half_journal.specs.States.{state_of, IsReading}
-use Rattle.cloud_memory.specs.Fitting.{FitsRecords}
-use Rattle.cloud_memory.specs.Rooms.{memory_of}
+use Rattle.fresh_checkpoints.specs.CdEdges.area.Area.TheVariants.{Journal, Recipes}
+use Rattle.store_opening.specs.JournalStart.Spelling.{records_of}
+use Rattle.store_opening.specs.HalfJournal.States.{state_of, IsJournalReading}
+use Rattle.fresh_checkpoints.specs.CloudMemory.Fitting.{FitsRecords}
+use Rattle.fresh_checkpoints.specs.CloudMemory.Rooms.{memory_of}
 use Rattle.store_opening.proofs.Along.{with_bodies}
 use Rattle.store_migration.specs.declared.errors.MigrateErr.{MigrateErr}
 use Rattle.store_migration.specs.Steps.{OnTrue, AllAs, stage_of}
@@ -27,7 +27,7 @@ loop-records-init g c = record {
   exact = λ told w reading none. record {
     bodies = [];
     count = refl;
-    reading = subst (λ (l : List (List ℕ)). IsReading (state_of c.args.journal.now) ((g.V.Shelf.cloud_at c.args.shelf.now c.args.cloud.0).now Journal) (with_bodies w l)) none reading;
+    reading = subst (λ (l : List (List ℕ)). IsJournalReading (state_of c.args.journal.now) ((g.V.Shelf.cloud_at c.args.shelf.now c.args.cloud.0).now Journal) (with_bodies w l)) none reading;
     leads = λ last answer rest. rest;
   };
 }

@@ -1,6 +1,6 @@
 use Rattle.std.proofs.Common.{◌-◌, length}
-use Rattle.journal_halves.specs.Halves.{half_len}
-use Rattle.half_journal.specs.States.{state_of}
+use Rattle.fresh_checkpoints.specs.JournalHalves.Halves.{half_len}
+use Rattle.store_opening.specs.HalfJournal.States.{state_of}
 use Rattle.store_migration.proofs.Along.{Along}
 use Rattle.store_migration.proofs.records.take_all.Given as goal
 

@@ -1,7 +1,7 @@
 use Rattle.std.proofs.Common.{ℕ, List, Err, refl, sym, subst}
-use Rattle.half_journal.specs.States.{state_of}
-use Rattle.cloud_memory.specs.Rooms.{memory_of}
-use Rattle.first_records.specs.Judging.{JudgesFirst}
+use Rattle.store_opening.specs.HalfJournal.States.{state_of}
+use Rattle.fresh_checkpoints.specs.CloudMemory.Rooms.{memory_of}
+use Rattle.first_laws.specs.FirstRecords.Judging.{JudgesFirst}
 use Rattle.store_migration.specs.declared.errors.MigrateErr.{MigrateErr}
 use Rattle.store_migration.specs.Steps.{BodyAs, IsOfRecords}
 use Rattle.store_migration.proofs.records.take_body.Goals as goal

@@ -1,5 +1,5 @@
 use Rattle.std.proofs.Common.{◌≡◌, ◌∙◌, true, false, rules}
-use Rattle.record_checks.specs.CloudMemory.Rooms.{memory_of}
+use Rattle.record_laws.specs.RecordChecks.CloudMemory.Rooms.{memory_of}
 use Rattle.store_opening.specs.Exact.{Within}
 use Rattle.store_opening.proofs.Bounds.{unfit, shares_past, recipes_past}
 use Rattle.store_opening.proofs.ends.close.Goals as goal

@@ -1,7 +1,7 @@
 use Rattle.std.proofs.Common.{◌+◌}
-use Rattle.spent_table.specs.declared.Spent.{Spent}
-use Rattle.cloud_areas.specs.Placing.{region_start}
-use Rattle.cloud_areas.specs.Chains.{least_recipes}
+use Rattle.record_laws.specs.SpentTable.Spent.{Spent}
+use Rattle.cloud_disk.specs.CloudAreas.Placing.{region_start}
+use Rattle.cloud_disk.specs.CloudAreas.Chains.{least_recipes}
 use Rattle.store_opening.proofs.Bounds.{fits}
 use Rattle.store_opening.proofs.ends.recipes_fit.Goals as goal
 

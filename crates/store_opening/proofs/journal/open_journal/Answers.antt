@@ -1,9 +1,9 @@
 use Rattle.std.proofs.Common.{refl, sym, subst}
-use Rattle.cd_edges.specs.declared.area.Area.TheVariants.{Journal}
-use Rattle.cd_edges.proofs.Calls.{called_twice}
-use Rattle.cd_edges.proofs.Moments.{told_on}
-use Rattle.half_journal.specs.Openings.{IsSynced}
-use Rattle.half_journal.specs.States.{state_of}
+use Rattle.cloud_disk.specs.CdEdges.area.Area.TheVariants.{Journal}
+use Rattle.cloud_disk.proofs.CdEdges.Calls.{called_twice}
+use Rattle.cloud_disk.proofs.CdEdges.Moments.{told_on}
+use Rattle.cloud_disk.specs.HalfJournal.Openings.{IsSynced}
+use Rattle.cloud_disk.specs.HalfJournal.States.{state_of}
 use Rattle.store_opening.proofs.Synced.{synced_at, not_synced, synced_started, counted_behind, on_ok}
 use Rattle.store_opening.proofs.Current.{region_small}
 use Rattle.store_opening.proofs.journal.open_journal.Goals as goal

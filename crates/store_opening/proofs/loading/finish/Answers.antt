@@ -1,6 +1,6 @@
 use Rattle.std.proofs.Common.{ℕ, Ok, Err, ◌∙◌, ap, subst}
-use Rattle.journal_start.specs.declared.start.Start.{Start}
-use Rattle.record_checks.specs.CloudMemory.Rooms.{memory_of}
+use Rattle.cloud_disk.specs.JournalStart.start.Start.{Start}
+use Rattle.record_laws.specs.RecordChecks.CloudMemory.Rooms.{memory_of}
 use Rattle.store_opening.specs.Exact.{Closes, number_behind}
 use Rattle.store_opening.proofs.Bounds.{closes_kind, closes_unfailed}
 use Rattle.store_opening.proofs.loading.finish.Goals as goal

@@ -1,10 +1,10 @@
 use Rattle.std.proofs.Common.{refl, sym, ◌∙◌, ap, subst}
-use Rattle.cd_edges.specs.declared.area.Area.TheVariants.{Journal, Recipes}
-use Rattle.journal_start.specs.declared.start.Start.{Start}
-use Rattle.half_journal.specs.States.{State, state_of}
-use Rattle.record_checks.specs.CloudMemory.Rooms.{memory_of}
+use Rattle.cloud_disk.specs.CdEdges.area.Area.TheVariants.{Journal, Recipes}
+use Rattle.cloud_disk.specs.JournalStart.start.Start.{Start}
+use Rattle.cloud_disk.specs.HalfJournal.States.{JournalState, state_of}
+use Rattle.record_laws.specs.RecordChecks.CloudMemory.Rooms.{memory_of}
 use Rattle.store_opening.specs.Exact.{Closes, number_behind}
-use Rattle.store_opening.specs.Steps.{HasEnded}
+use Rattle.store_opening.specs.Steps.{HasChainEnded}
 use Rattle.store_opening.proofs.Ended.{traced_begun, all_closed, all_ended, all_failed, restaged_end, unfailed_counts}
 use Rattle.store_opening.proofs.Roomy.{roomy_closed}
 use Rattle.store_opening.proofs.Synced.{always, of_all}
@@ -36,7 +36,7 @@ returns-in-Ok-clause-ended g c told w reading none =
     let ground = c.args.ground.now in let before = state_of c.args.journal.now in let mid = state_of c.take_all.new.journal in let m0 = memory_of c.args.memory.now in let m = memory_of c.take_all.new.memory in
     let t0 = c.new-taking.result in let u = c.take_all.new.taking in let users = ground.rooms.users in
     let records = c.in-Ok.records in let all = c.in-Ok.ensures.exact told w reading none in
-    always c.finish.result _ (subst (λ (s : State). HasEnded s store w) (sym c.finish.ensures.journal)
+    always c.finish.result _ (subst (λ (s : JournalState). HasChainEnded s store w) (sym c.finish.ensures.journal)
     (restaged_end mid _ store w (all_ended ground recipes store w before m0 t0 users c.requires.begun c.new-taking.ensures mid m u records all)))
 
 pub returns-in-Ok-clause-counts : goal.returns-in-Ok-clause-counts
@@ -60,4 +60,4 @@ returns-in-Ok-clause-roomy g c =
     roomy_closed ground (memory_of c.take_all.new.memory) c.take_all.new.taking _ c.finish.result traced.spent c.finish.ensures.closes
 
 pub returns-in-Ok-clause-start : goal.returns-in-Ok-clause-start
-returns-in-Ok-clause-start g c = ap (λ (s : State). s.start) c.finish.ensures.journal ∙ c.take_all.ensures.start
+returns-in-Ok-clause-start g c = ap (λ (s : JournalState). s.start) c.finish.ensures.journal ∙ c.take_all.ensures.start

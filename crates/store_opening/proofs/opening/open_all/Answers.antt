@@ -1,12 +1,12 @@
 use Rattle.std.proofs.Common.{ℕ, ◌≤◌, Err, sym, ◌∙◌, subst}
-use Rattle.cd_edges.specs.Disk.{reads}
-use Rattle.cd_edges.proofs.Calls.{called_twice}
-use Rattle.cd_edges.proofs.Moments.{told_on}
-use Rattle.journal_start.specs.declared.start.Start.{Start}
-use Rattle.journal_start.specs.Spelling.{region_of}
-use Rattle.half_journal.specs.Openings.{MayBecome}
-use Rattle.half_journal.specs.States.{state_of}
-use Rattle.record_checks.specs.CloudMemory.Rooms.{memory_of}
+use Rattle.cloud_disk.specs.CdEdges.Disk.{reads}
+use Rattle.cloud_disk.proofs.CdEdges.Calls.{called_twice}
+use Rattle.cloud_disk.proofs.CdEdges.Moments.{told_on}
+use Rattle.cloud_disk.specs.JournalStart.start.Start.{Start}
+use Rattle.cloud_disk.specs.JournalStart.Spelling.{region_of}
+use Rattle.cloud_disk.specs.HalfJournal.Openings.{MayBecome}
+use Rattle.cloud_disk.specs.HalfJournal.States.{state_of}
+use Rattle.record_laws.specs.RecordChecks.CloudMemory.Rooms.{memory_of}
 use Rattle.store_opening.proofs.Opened.{opens_err, opens_ok, then_stays, spares_err, spares_ok, keeps, read_whole, stands_after}
 use Rattle.store_opening.proofs.Found.{whole, found_after}
 use Rattle.store_opening.proofs.Stated.{Laws}

@@ -1,8 +1,8 @@
 use Rattle.std.proofs.Common.{ℕ, ◌≤◌, sym, ◌∙◌, ap, subst}
-use Rattle.journal_start.specs.Spelling.{region_of}
-use Rattle.half_journal.specs.States.{State, state_of}
+use Rattle.cloud_disk.specs.JournalStart.Spelling.{region_of}
+use Rattle.cloud_disk.specs.HalfJournal.States.{JournalState, state_of}
 use Rattle.cloud_disk.specs.Disk.{Disk, AreEnds}
-use Rattle.record_checks.specs.CloudMemory.Rooms.{memory_of}
+use Rattle.record_laws.specs.RecordChecks.CloudMemory.Rooms.{memory_of}
 use Rattle.store_opening.specs.Roomy.{IsRoomy}
 use Rattle.store_opening.specs.Spared.{IsReadWhole}
 use Rattle.store_opening.proofs.Found.{ends_of, loaded_by}
@@ -10,14 +10,14 @@ use Rattle.store_opening.proofs.opening.reopen.Goals as goal
 
 pub returns-in-Ok-clause-read : goal.returns-in-Ok-clause-read
 returns-in-Ok-clause-read g c told =
-    subst (λ (s : State). IsReadWhole c.args.header.now s (memory_of c.open_all.new.memory) c.in-Ok.commands (g.V.Shelf.cloud_at c.open_all.new.shelf c.args.cloud.0)) (sym c.reset.ensures.journal) (c.in-Ok.ensures.read told)
+    subst (λ (s : JournalState). IsReadWhole c.args.header.now s (memory_of c.open_all.new.memory) c.in-Ok.commands (g.V.Shelf.cloud_at c.open_all.new.shelf c.args.cloud.0)) (sym c.reset.ensures.journal) (c.in-Ok.ensures.read told)
 
 pub returns-in-Ok-clause-loaded : goal.returns-in-Ok-clause-loaded
 returns-in-Ok-clause-loaded g c told is list stands may =
     let header = c.args.header.now in let number = c.args.cloud.0 in let c0 = g.V.Shelf.cloud_at c.args.shelf.now number in let c1 = g.V.Shelf.cloud_at c.open_all.new.shelf number in
     let journal = state_of c.open_all.new.journal in let old = c.args.disk.now in let m = memory_of c.open_all.new.memory in
     let disk : Disk = record { journal = journal; shares = old.shares; recipes = old.recipes } in
-    let f = c.in-Ok.ensures.found told list stands may (ap (λ (s : State). s.limit) c.journal_mut-journal.ensures.value ∙ is.limit) in
+    let f = c.in-Ok.ensures.found told list stands may (ap (λ (s : JournalState). s.limit) c.journal_mut-journal.ensures.value ∙ is.limit) in
     let ends = ends_of header list disk m c.in-Ok.commands c1 f is.shares is.recipes in
     let on = c.reset.ensures.on header list f.c c1 (subst (λ (n : ℕ). AreEnds header list f.c disk c.shares_end.result n c1) (sym c.recipes_end.ensures)
     (subst (λ (n : ℕ). AreEnds header list f.c disk n m.recipes_end c1) (sym c.shares_end.ensures) ends)) in
@@ -25,7 +25,7 @@ returns-in-Ok-clause-loaded g c told is list stands may =
 
 pub returns-in-Ok-clause-roomy : goal.returns-in-Ok-clause-roomy
 returns-in-Ok-clause-roomy g c =
-    subst (λ (s : State). IsRoomy c.args.header.now.rooms (region_of s.start.checkpoint) (memory_of c.open_all.new.memory)) (sym c.reset.ensures.journal) c.in-Ok.ensures.roomy
+    subst (λ (s : JournalState). IsRoomy c.args.header.now.rooms (region_of s.start.checkpoint) (memory_of c.open_all.new.memory)) (sym c.reset.ensures.journal) c.in-Ok.ensures.roomy
 
 pub returns-in-Ok-clause-small : goal.returns-in-Ok-clause-small
-returns-in-Ok-clause-small g c = subst (λ (s : State). region_of s.start.checkpoint ≤ 1) (sym c.reset.ensures.journal) c.in-Ok.ensures.small
+returns-in-Ok-clause-small g c = subst (λ (s : JournalState). region_of s.start.checkpoint ≤ 1) (sym c.reset.ensures.journal) c.in-Ok.ensures.small

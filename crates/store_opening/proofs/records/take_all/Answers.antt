@@ -1,10 +1,10 @@
 use Rattle.std.proofs.Common.{◌≡◌, ℕ, ◌+◌, ◌≤◌, Bool, true, false, List, [], length, Result, Ok, Err, refl, sym, ◌∙◌, ap, subst, rules}
 use Rattle.std.proofs.lemmas.Result.{err_from_is_err_and}
-use Rattle.cd_edges.specs.declared.area.Area.TheVariants.{Journal, Recipes}
-use Rattle.journal_start.specs.Spelling.{records_of}
-use Rattle.half_journal.specs.declared.errors.OpenErr.{OpenErr}
-use Rattle.half_journal.specs.States.{state_of, IsReading}
-use Rattle.record_checks.specs.CloudMemory.Rooms.{memory_of}
+use Rattle.cloud_disk.specs.CdEdges.area.Area.TheVariants.{Journal, Recipes}
+use Rattle.cloud_disk.specs.JournalStart.Spelling.{records_of}
+use Rattle.cloud_disk.specs.HalfJournal.errors.OpenErr.{OpenErr}
+use Rattle.cloud_disk.specs.HalfJournal.States.{state_of, IsJournalReading}
+use Rattle.record_laws.specs.RecordChecks.CloudMemory.Rooms.{memory_of}
 use Rattle.store_opening.specs.Steps.{IsTraced, OnTrue, AllAs, stage_of}
 use Rattle.store_opening.specs.declared.window.Window.{Window}
 use Rattle.store_opening.proofs.Looking.{shows_none}
@@ -28,7 +28,7 @@ loop-records-init g c = record {
     exact = λ told w reading none. record {
       bodies = [];
       count = refl;
-      reading = subst (λ (l : List (List ℕ)). IsReading (state_of c.args.journal.now) ((g.V.Shelf.cloud_at c.args.shelf.now c.args.cloud.0).now Journal) (with_bodies w l)) none reading;
+      reading = subst (λ (l : List (List ℕ)). IsJournalReading (state_of c.args.journal.now) ((g.V.Shelf.cloud_at c.args.shelf.now c.args.cloud.0).now Journal) (with_bodies w l)) none reading;
       leads = λ last answer rest. rest;
     };
   };

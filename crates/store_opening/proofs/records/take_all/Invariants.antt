@@ -1,6 +1,6 @@
 use Rattle.std.proofs.Common.{◌-◌}
-use Rattle.journal_halves.specs.Halves.{half_len}
-use Rattle.half_journal.specs.States.{state_of}
+use Rattle.cloud_disk.specs.JournalHalves.Halves.{half_len}
+use Rattle.cloud_disk.specs.HalfJournal.States.{state_of}
 use Rattle.store_opening.proofs.Along.{Looking}
 use Rattle.store_opening.proofs.records.take_all.Given as goal
 

@@ -1,6 +1,6 @@
 use Rattle.std.proofs.Common.{ℕ, List, length, drop, ◌∙◌, ap, subst, arith, length-take}
-use Rattle.half_journal.specs.States.{state_of}
-use Rattle.record_checks.specs.CloudMemory.Rooms.{memory_of}
+use Rattle.cloud_disk.specs.HalfJournal.States.{state_of}
+use Rattle.record_laws.specs.RecordChecks.CloudMemory.Rooms.{memory_of}
 use Rattle.store_opening.specs.Steps.{BodyAs}
 use Rattle.store_opening.proofs.Synced.{of_all}
 use Rattle.store_opening.proofs.records.take_read.Goals as goal

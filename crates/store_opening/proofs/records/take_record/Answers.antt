@@ -1,7 +1,7 @@
 use Rattle.std.proofs.Common.{Ok, Err}
-use Rattle.cd_edges.specs.declared.area.Area.TheVariants.{Recipes}
-use Rattle.half_journal.specs.States.{state_of}
-use Rattle.record_checks.specs.CloudMemory.Rooms.{memory_of}
+use Rattle.cloud_disk.specs.CdEdges.area.Area.TheVariants.{Recipes}
+use Rattle.cloud_disk.specs.HalfJournal.States.{state_of}
+use Rattle.record_laws.specs.RecordChecks.CloudMemory.Rooms.{memory_of}
 use Rattle.store_opening.proofs.Reading.{by_recipe, by_nothing}
 use Rattle.store_opening.proofs.records.take_record.Goals as goal
 

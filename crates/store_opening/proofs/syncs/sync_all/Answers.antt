@@ -1,7 +1,7 @@
-use Rattle.cd_edges.specs.declared.area.Area.TheVariants.{Journal, Shares, Recipes}
-use Rattle.cd_edges.specs.Disk.{IsImage}
-use Rattle.cd_edges.proofs.Moments.{at_end, told_on}
-use Rattle.cd_edges.proofs.Shrinks.{begun, sync_goes_on}
+use Rattle.cloud_disk.specs.CdEdges.area.Area.TheVariants.{Journal, Shares, Recipes}
+use Rattle.cloud_disk.specs.CdEdges.Disk.{IsImage}
+use Rattle.cloud_disk.proofs.CdEdges.Moments.{at_end, told_on}
+use Rattle.cloud_disk.proofs.CdEdges.Shrinks.{begun, sync_goes_on}
 use Rattle.store_opening.proofs.syncs.sync_all.Goals as goal
 
 pub returns-in_err-sync-clause-any_moment : goal.returns-in_err-sync-clause-any_moment

@@ -1,5 +1,5 @@
 use Rattle.std.proofs.Common.{sym, refl, ◌∙◌}
-use Rattle.cd_base.specs.Numbers.{numbers_of}
+use Rattle.transcript.specs.CdBase.Numbers.{numbers_of}
 use Rattle.subset_restore.proofs.Walking.{start_found, start_lacked, start_refused, start_none}
 use Rattle.subset_restore.proofs.restoring.restore_any.Goals as goal
 

@@ -1,6 +1,6 @@
 use Rattle.std.proofs.Common.{◌≡◌, ◌++◌, ◌∷◌, [], ℕ, List, length, sym, ap, subst, refl, rules}
 use Rattle.std.specs.List.Sorted.{IsStrictlyIncreasing}
-use Rattle.cd_base.specs.Numbers.{numbers_of}
+use Rattle.transcript.specs.CdBase.Numbers.{numbers_of}
 use Rattle.subset_restore.proofs.Choices.{rising_front}
 use Rattle.subset_restore.proofs.Walking.{with_next}
 use Rattle.subset_restore.proofs.trying.+push_all.Goals as goal

@@ -3,8 +3,8 @@ use Rattle.std.specs.Prelude.{All, IsTrue}
 use Rattle.std.specs.List.{Contains}
 use Rattle.std.specs.List.Sorted.{IsStrictlyIncreasing}
 use Rattle.std.proofs.lemmas.List.{length-map}
-use Rattle.cd_base.specs.declared.ids.CloudNo.{CloudNo}
-use Rattle.cd_base.specs.Numbers.{numbers_of}
+use Rattle.transcript.specs.CdBase.ids.CloudNo.{CloudNo}
+use Rattle.transcript.specs.CdBase.Numbers.{numbers_of}
 use Rattle.subset_restore.proofs.Choices.{rising_front, rising_without}
 use Rattle.subset_restore.proofs.Walking.{all_front, all_without, part_of, with_next, long_with, walk_one, walk_none, walk_twice, walk_found, walk_lacked}
 use Rattle.subset_restore.proofs.trying.+try_from.Goals as goal

@@ -1,5 +1,5 @@
 use Rattle.std.proofs.Common.{◌≡◌, ◌++◌, ◌∷◌, [], ℕ, List, ap, subst, ◌∙◌}
-use Rattle.cd_base.specs.Numbers.{numbers_of}
+use Rattle.transcript.specs.CdBase.Numbers.{numbers_of}
 use Rattle.subset_restore.specs.Going.{Goes}
 use Rattle.subset_restore.proofs.Going.{goes_passed, goes_unasked}
 use Rattle.subset_restore.proofs.trying.try_one.Goals as goal

@@ -1,5 +1,5 @@
 use Rattle.std.proofs.Common.{sym, subst}
-use Rattle.messages.specs.declared.reply.Reply.{Reply}
+use Rattle.user_dedup.specs.Messages.reply.Reply.{Reply}
 use Rattle.upload_job.specs.Lane.{Committing}
 use Rattle.upload_job.specs.Index.{StepIs}
 use Rattle.upload_job.proofs.lane.after_commit.Goals as goal

@@ -1,5 +1,5 @@
 use Rattle.std.proofs.Common.{take, drop, sym, subst}
-use Rattle.messages.specs.declared.reply.Reply.{Reply}
+use Rattle.user_dedup.specs.Messages.reply.Reply.{Reply}
 use Rattle.upload_job.specs.Upload.{in_batches}
 use Rattle.upload_job.specs.Lane.{Asking}
 use Rattle.upload_job.specs.Index.{StepIs}

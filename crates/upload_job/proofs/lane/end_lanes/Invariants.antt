@@ -1,6 +1,6 @@
 use Rattle.std.proofs.Common.{◌≡◌, ◌<◌, length, drop}
 use Rattle.std.specs.Prelude.{All}
-use Rattle.cd_base.specs.Numbers.{numbers_of}
+use Rattle.user_dedup.specs.CdBase.Numbers.{numbers_of}
 use Rattle.upload_job.specs.Index.{done_at}
 use Rattle.upload_job.proofs.lane.end_lanes.Given as goal
 

@@ -2,38 +2,38 @@ use Rattle.std.proofs.Common.{◌≡◌, ℕ, ◌<◌, ◌≤◌, true, List, le
 use Rattle.std.proofs.lemmas.Result.{on_ok_weaker}
 use Rattle.std.proofs.lemmas.List.{length-map}
 use Rattle.std.proofs.lemmas.List.Elements.{All-take, All-drop}
-use Rattle.cd_base.specs.declared.ids.Fp.{Fp}
-use Rattle.messages.specs.Requests.{request_bytes}
-use Rattle.messages.specs.declared.request.Request.TheVariants.{Query, Commit}
+use Rattle.user_dedup.specs.CdBase.ids.Fp.{Fp}
+use Rattle.user_dedup.specs.Messages.Requests.{request_bytes}
+use Rattle.user_dedup.specs.Messages.request.Request.TheVariants.{Query, Commit}
 use Rattle.user_dedup.specs.Cloud.{fingerprint}
-use Rattle.upload_job.specs.declared.wanted.Wanted.{Wanted}
+use Rattle.upload_job.specs.declared.wanted.WantedShare.{WantedShare}
 use Rattle.upload_job.specs.Lane.{LaneState, lane_request}
 use Rattle.upload_job.specs.Lanes.{IsAsked}
-use Rattle.upload_job.specs.Index.{IsIn, share_in, shares_in, work_in}
+use Rattle.upload_job.specs.Index.{IsInShares, share_in, shares_in, work_in}
 use Rattle.upload_job.proofs.Batches.{onward_some, onward_none, batch_few}
 use Rattle.upload_job.proofs.Sending.{batch_fps, into_none}
 use Rattle.upload_job.proofs.requests.put_bringing.Goals as goal
 
 pub put_query-requires : goal.put_query-requires
-put_query-requires c = let few = batch_few c.args.from c.args.lane.now.wanted.items in let len = ap length (c.batch_at.ensures ∙ ap (λ (ws : List Wanted). take 256 (drop c.args.from ws)) c.as_slice.ensures.value) in omega arith
+put_query-requires c = let few = batch_few c.args.from c.args.lane.now.wanted.items in let len = ap length (c.batch_at.ensures ∙ ap (λ (ws : List WantedShare). take 256 (drop c.args.from ws)) c.as_slice.ensures.value) in omega arith
 
 pub returns-then-from-len : goal.returns-then-from-len
 returns-then-from-len c =
-    let ws : List Wanted = c.args.lane.now.wanted.items in
+    let ws : List WantedShare = c.args.lane.now.wanted.items in
     let all : List (List ℕ) = shares_in c.args.lane.now.shares ws in
     let len : length all ≡ length ws = length-map ws (share_in c.args.lane.now.shares) in
     let some : c.args.from < length all = omega arith in
-    let batch : c.batch_at.result.now ≡ take 256 (drop c.args.from ws) = c.batch_at.ensures ∙ ap (λ (xs : List Wanted). take 256 (drop c.args.from xs)) c.as_slice.ensures.value in
-    let fps : map (λ (w : Wanted). w.fp) c.batch_at.result.now ≡ map fingerprint (take 256 (drop c.args.from all)) =
-    ap (map (λ (w : Wanted). w.fp)) batch ∙ batch_fps c.args.lane.now.shares c.args.from ws (All-take (IsIn c.args.lane.now.shares) 256 (drop c.args.from ws) (All-drop (IsIn c.args.lane.now.shares) c.args.from ws c.requires.inside)) in
+    let batch : c.batch_at.result.now ≡ take 256 (drop c.args.from ws) = c.batch_at.ensures ∙ ap (λ (xs : List WantedShare). take 256 (drop c.args.from xs)) c.as_slice.ensures.value in
+    let fps : map (λ (w : WantedShare). w.fp) c.batch_at.result.now ≡ map fingerprint (take 256 (drop c.args.from all)) =
+    ap (map (λ (w : WantedShare). w.fp)) batch ∙ batch_fps c.args.lane.now.shares c.args.from ws (All-take (IsInShares c.args.lane.now.shares) 256 (drop c.args.from ws) (All-drop (IsInShares c.args.lane.now.shares) c.args.from ws c.requires.inside)) in
     on_ok_weaker c.put_query.result
     (λ h. subst (λ (s : LaneState). IsAsked (lane_request (work_in c.args.key.now c.args.lane.now) s) true c.args.out.now c.put_query.new.out) (sym (onward_some all c.args.from some))
-    (refl, into_none c.args.out.now c.put_query.new.out (request_bytes (Query c.args.key.now.user (map (λ (w : Wanted). w.fp) c.batch_at.result.now))) c.requires.empty h ∙ ap (λ (fs : List Fp). request_bytes (Query c.args.key.now.user fs)) fps))
+    (refl, into_none c.args.out.now c.put_query.new.out (request_bytes (Query c.args.key.now.user (map (λ (w : WantedShare). w.fp) c.batch_at.result.now))) c.requires.empty h ∙ ap (λ (fs : List Fp). request_bytes (Query c.args.key.now.user fs)) fps))
     c.put_query.ensures
 
 pub returns-else-from-len : goal.returns-else-from-len
 returns-else-from-len c =
-    let ws : List Wanted = c.args.lane.now.wanted.items in
+    let ws : List WantedShare = c.args.lane.now.wanted.items in
     let all : List (List ℕ) = shares_in c.args.lane.now.shares ws in
     let len : length all ≡ length ws = length-map ws (share_in c.args.lane.now.shares) in
     let none : length all ≤ c.args.from = omega arith in

@@ -1,12 +1,12 @@
 use Rattle.std.proofs.Common.{◌≡◌, ℕ, true, List, length, take, drop, refl, sym, ap, ◌∙◌, subst, arith}
 use Rattle.std.proofs.lemmas.List.Elements.{All-take, All-drop}
-use Rattle.messages.specs.Requests.{request_bytes}
-use Rattle.messages.specs.declared.request.Request.TheVariants.{Put}
-use Rattle.upload_job.specs.declared.wanted.Wanted.{Wanted}
-use Rattle.upload_job.specs.declared.lane.Stage.{Stage}
+use Rattle.user_dedup.specs.Messages.Requests.{request_bytes}
+use Rattle.user_dedup.specs.Messages.request.Request.TheVariants.{Put}
+use Rattle.upload_job.specs.declared.wanted.WantedShare.{WantedShare}
+use Rattle.upload_job.specs.declared.lane.LaneStage.{LaneStage}
 use Rattle.upload_job.specs.Lane.{lane_request, unflagged}
 use Rattle.upload_job.specs.Lanes.{IsAsked}
-use Rattle.upload_job.specs.Index.{IsIn, AreIn, shares_in, work_in, state_in}
+use Rattle.upload_job.specs.Index.{IsInShares, AreIn, shares_in, work_in, state_in}
 use Rattle.upload_job.proofs.Batches.{batch_few}
 use Rattle.upload_job.proofs.Sending.{batch_shares, into_none}
 use Rattle.upload_job.proofs.requests.put_request.Goals as goal
@@ -16,11 +16,11 @@ put_put-requires-clause-few c = let few = batch_few c.in-Sending.from c.as_slice
 
 pub put_put-requires-clause-inside : goal.put_put-requires-clause-inside
 put_put-requires-clause-inside c =
-    let ws : List Wanted = c.args.lane.now.wanted.items in
+    let ws : List WantedShare = c.args.lane.now.wanted.items in
     let from = c.in-Sending.from in
     subst (λ (xs : List ℕ). AreIn xs c.batch_at-batch.result.now) (sym c.as_slice-shares.ensures)
-    (subst (AreIn c.args.lane.now.shares) (sym (c.batch_at-batch.ensures ∙ ap (λ (xs : List Wanted). take 256 (drop from xs)) c.as_slice.ensures.value))
-    (All-take (IsIn c.args.lane.now.shares) 256 (drop from ws) (All-drop (IsIn c.args.lane.now.shares) from ws c.requires.inside)))
+    (subst (AreIn c.args.lane.now.shares) (sym (c.batch_at-batch.ensures ∙ ap (λ (xs : List WantedShare). take 256 (drop from xs)) c.as_slice.ensures.value))
+    (All-take (IsInShares c.args.lane.now.shares) 256 (drop from ws) (All-drop (IsInShares c.args.lane.now.shares) from ws c.requires.inside)))
 
 pub returns-in_ok-put_put-in-Sending : goal.returns-in_ok-put_put-in-Sending
 returns-in_ok-put_put-in-Sending c =
@@ -31,8 +31,8 @@ returns-in_ok-put_put-in-Sending c =
     let all : List (List ℕ) = shares_in lane.shares lane.wanted.items in
     let batch : shares_in c.as_slice-shares.result.now c.batch_at-batch.result.now ≡ take 256 (drop from all) =
     ap (λ (xs : List ℕ). shares_in xs c.batch_at-batch.result.now) c.as_slice-shares.ensures
-    ∙ ap (shares_in lane.shares) (c.batch_at-batch.ensures ∙ ap (λ (xs : List Wanted). take 256 (drop from xs)) c.as_slice.ensures.value) ∙ batch_shares lane.shares from lane.wanted.items in
-    subst (λ (s : Stage). IsAsked (lane_request (work_in key lane) (state_in all s)) true c.args.out.now c.put_put.new.out) (sym c.in-Sending.is) (
+    ∙ ap (shares_in lane.shares) (c.batch_at-batch.ensures ∙ ap (λ (xs : List WantedShare). take 256 (drop from xs)) c.as_slice.ensures.value) ∙ batch_shares lane.shares from lane.wanted.items in
+    subst (λ (s : LaneStage). IsAsked (lane_request (work_in key lane) (state_in all s)) true c.args.out.now c.put_put.new.out) (sym c.in-Sending.is) (
       refl,
       into_none c.args.out.now c.put_put.new.out (request_bytes (Put key.user (unflagged (shares_in c.as_slice-shares.result.now c.batch_at-batch.result.now) flags))) c.requires.empty c.in_ok-put_put-in-Sending.ensures
           ∙ ap (λ (b : List (List ℕ)). request_bytes (Put key.user (unflagged b flags))) batch

@@ -1,6 +1,6 @@
 use Rattle.std.proofs.Common.{◌≡◌, ◌++◌, take}
 use Rattle.std.specs.List.{flat_map}
-use Rattle.message_fields.specs.Shares.{share_bytes}
+use Rattle.user_dedup.specs.MessageFields.Shares.{share_bytes}
 use Rattle.upload_job.specs.Lane.{unflagged}
 use Rattle.upload_job.specs.Index.{shares_in}
 use Rattle.upload_job.proofs.requests.put_unflagged.Given as goal

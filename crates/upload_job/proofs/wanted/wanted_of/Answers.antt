@@ -1,7 +1,7 @@
 use Rattle.std.proofs.Common.{◌≡◌, ℕ, ◌+◌, ◌<◌, ◌≤◌, [], length, get_or, refl, ap, arith}
 use Rattle.std.proofs.lemmas.List.{get_or_default}
-use Rattle.cd_base.specs.Lengths.{share_len_of}
-use Rattle.recipe.specs.declared.items.Item.{Item}
+use Rattle.user_dedup.specs.CdBase.Lengths.{share_len_of}
+use Rattle.user_dedup.specs.Recipe.items.Item.{Item}
 use Rattle.upload_job.proofs.Wanting.{next_named, along_more, some_of}
 use Rattle.upload_job.proofs.wanted.wanted_of.Goals as goal
 

@@ -1,8 +1,8 @@
 use Rattle.std.proofs.Common.{◌≢◌, Err, sym, ap, ◌∙◌, subst}
-use Rattle.cd_edges.specs.declared.area.Area.{Area}
-use Rattle.cd_edges.specs.declared.area.Area.TheVariants.{Journal}
-use Rattle.cd_edges.specs.Disk.{Areas}
-use Rattle.cd_edges.proofs.Moments.{told_on}
+use Rattle.half_journal.specs.CdEdges.area.Area.{Area}
+use Rattle.half_journal.specs.CdEdges.area.Area.TheVariants.{Journal}
+use Rattle.half_journal.specs.CdEdges.Disk.{Areas}
+use Rattle.half_journal.proofs.CdEdges.Moments.{told_on}
 use Rattle.half_journal.specs.States as half
 use Rattle.upload_spool.specs.declared.error.SpoolErr.{SpoolErr}
 use Rattle.upload_spool.specs.States.{HasNone, IsOkOrFault}

@@ -1,8 +1,8 @@
 use Rattle.std.proofs.Common.{sym, subst}
-use Rattle.cd_edges.specs.declared.area.Area.TheVariants.{Journal, Shares}
-use Rattle.cd_edges.specs.Disk.{Store, reads}
-use Rattle.cd_edges.proofs.Moments.{told_on}
-use Rattle.journal_halves.specs.Beginnings.{IsUnbegun, new_of}
+use Rattle.half_journal.specs.CdEdges.area.Area.TheVariants.{Journal, Shares}
+use Rattle.half_journal.specs.CdEdges.Disk.{Store, reads}
+use Rattle.half_journal.proofs.CdEdges.Moments.{told_on}
+use Rattle.half_journal.specs.JournalHalves.Beginnings.{IsUnbegun, new_of}
 use Rattle.half_journal.specs.States as half
 use Rattle.upload_spool.specs.States.{HasFile, NoOpenJob}
 use Rattle.upload_spool.proofs.Notes.{shares≢journal}

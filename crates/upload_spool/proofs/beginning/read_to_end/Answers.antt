@@ -1,7 +1,7 @@
 use Rattle.std.proofs.Common.{Err, subst}
-use Rattle.cd_edges.specs.declared.area.Area.TheVariants.{Journal}
-use Rattle.journal_halves.specs.Beginnings.{new_of}
-use Rattle.journal_halves.specs.declared.errors.JournalErr.{JournalErr}
+use Rattle.half_journal.specs.CdEdges.area.Area.TheVariants.{Journal}
+use Rattle.half_journal.specs.JournalHalves.Beginnings.{new_of}
+use Rattle.half_journal.specs.JournalHalves.errors.RecordErr.{RecordErr}
 use Rattle.half_journal.specs.Outcomes.{NextIs}
 use Rattle.half_journal.specs.States as half
 use Rattle.upload_spool.proofs.Begins.{next_new, next_wrong}
@@ -25,5 +25,5 @@ pub returns-in-Err-Damaged-clause-ended : goal.returns-in-Err-Damaged-clause-end
 returns-in-Err-Damaged-clause-ended g c told header is =
     let before = half.state_of c.args.journal.now in let after = half.state_of c.next.new.self in
     let c0 = g.V.Shelf.cloud_at c.args.shelf.now 0 in
-    let next = subst (λ (e : JournalErr). NextIs before after (c0.now Journal) (new_of header) (Err e)) c.in-Err-Damaged.field-0-is (c.in-Err-Damaged.ensures.reads told (new_of header) is.reading) in
+    let next = subst (λ (e : RecordErr). NextIs before after (c0.now Journal) (new_of header) (Err e)) c.in-Err-Damaged.field-0-is (c.in-Err-Damaged.ensures.reads told (new_of header) is.reading) in
     (next_wrong before after c0 header c.in-Err-Damaged.at c.in-Err-Damaged.byte is next, tt)

@@ -1,7 +1,7 @@
 use Rattle.std.proofs.Common.{Err, false, inl, subst}
-use Rattle.cd_edges.specs.declared.area.Area.TheVariants.{Journal, Shares}
-use Rattle.cd_edges.specs.Disk.{IsImage}
-use Rattle.cd_edges.proofs.Moments.{told_on}
+use Rattle.half_journal.specs.CdEdges.area.Area.TheVariants.{Journal, Shares}
+use Rattle.half_journal.specs.CdEdges.Disk.{IsImage}
+use Rattle.half_journal.proofs.CdEdges.Moments.{told_on}
 use Rattle.half_journal.specs.Openings.{OpensIs}
 use Rattle.half_journal.specs.States as half
 use Rattle.half_journal.specs.declared.errors.OpenErr.{OpenErr}

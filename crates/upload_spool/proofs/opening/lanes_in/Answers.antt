@@ -1,7 +1,7 @@
 use Rattle.std.proofs.Common.{◌≡◌, ◌∙◌, true, false, Bool, Result, Ok, Err, ap, subst, rules}
 use Rattle.std.specs.Prelude.{IfOk}
 use Rattle.std.proofs.lemmas.Result.{err_from_is_err_and}
-use Rattle.cd_edges.specs.declared.area.Area.TheVariants.{Journal}
+use Rattle.half_journal.specs.CdEdges.area.Area.TheVariants.{Journal}
 use Rattle.half_journal.specs.Outcomes.{stage_of}
 use Rattle.half_journal.specs.States as half
 use Rattle.upload_spool.specs.declared.error.SpoolErr.{SpoolErr}

@@ -1,6 +1,6 @@
 use Rattle.std.proofs.Common.{Err, subst}
-use Rattle.cd_edges.specs.declared.area.Area.TheVariants.{Journal}
-use Rattle.journal_halves.specs.declared.errors.JournalErr.{JournalErr}
+use Rattle.half_journal.specs.CdEdges.area.Area.TheVariants.{Journal}
+use Rattle.half_journal.specs.JournalHalves.errors.RecordErr.{RecordErr}
 use Rattle.half_journal.specs.Outcomes as journal
 use Rattle.half_journal.specs.States as half
 use Rattle.upload_spool.proofs.Steps.{next_ok, next_damaged}
@@ -15,4 +15,4 @@ pub returns-in-Err-Damaged-clause-reads : goal.returns-in-Err-Damaged-clause-rea
 returns-in-Err-Damaged-clause-reads g c told shape notes is =
     let store = (g.V.Shelf.cloud_at c.args.shelf.now 0).now Journal in let before = half.state_of c.args.journal.now in
     next_damaged shape before store notes c.in-Err-Damaged.at c.in-Err-Damaged.byte is
-    (subst (λ (e : JournalErr). journal.NextIs before (half.state_of c.next.new.self) store is.w (Err e)) c.in-Err-Damaged.field-0-is (c.in-Err-Damaged.ensures.reads told is.w is.reading))
+    (subst (λ (e : RecordErr). journal.NextIs before (half.state_of c.next.new.self) store is.w (Err e)) c.in-Err-Damaged.field-0-is (c.in-Err-Damaged.ensures.reads told is.w is.reading))

@@ -1,5 +1,5 @@
 use Rattle.std.proofs.Common.{Bool, Ok, subst}
-use Rattle.cd_edges.specs.declared.area.Area.TheVariants.{Journal}
+use Rattle.half_journal.specs.CdEdges.area.Area.TheVariants.{Journal}
 use Rattle.half_journal.specs.States as half
 use Rattle.upload_spool.specs.Steps.{NextIs, GateIs, notes_of}
 use Rattle.upload_spool.proofs.Steps.{lane_more, lane_refused, lane_unread, lane_step}

@@ -1,6 +1,6 @@
 use Rattle.std.proofs.Common.{Bool, Ok, None, subst}
-use Rattle.cd_edges.specs.Disk.{Store}
-use Rattle.cd_edges.specs.declared.area.Area.TheVariants.{Journal}
+use Rattle.half_journal.specs.CdEdges.Disk.{Store}
+use Rattle.half_journal.specs.CdEdges.area.Area.TheVariants.{Journal}
 use Rattle.half_journal.specs.States as half
 use Rattle.upload_spool.specs.Steps.{NextIs, GateIs, IsAllRead, IsRefused, notes_of, fields_kept}
 use Rattle.upload_spool.proofs.Steps.{unread, job_refused, behind_job, are_kept}

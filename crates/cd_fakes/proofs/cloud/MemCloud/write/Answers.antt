@@ -1,6 +1,6 @@
 use Rattle.std.proofs.Common.{◌≡◌, ◌≢◌, ◌-◌, ◌++◌, ◌∷◌, [], ◌∙◌, sym, ap, take, arith, length-take}
 use Rattle.std.proofs.lemmas.Bool.{false≢true}
-use Rattle.cd_edges.specs.Shelf.{arming_of}
+use Rattle.mem_disk.specs.CdEdges.Shelf.{arming_of}
 use Rattle.cd_fakes.specs.declared.cloud.MemCloud.{MemCloud}
 use Rattle.mem_disk.specs.declared.disk.MemDisk.{MemDisk}
 use Rattle.mem_disk.specs.Disks.{history_of}

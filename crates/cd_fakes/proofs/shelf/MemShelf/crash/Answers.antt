@@ -1,5 +1,5 @@
 use Rattle.std.proofs.Common.{refl, rules, set}
-use Rattle.cd_edges.specs.Disk.{Cloud}
+use Rattle.mem_disk.specs.CdEdges.Disk.{Cloud}
 use Rattle.cd_fakes.specs.Clouds.{Crashes}
 use Rattle.cd_fakes.proofs.CloudsAt.{Step, between, at, at_both, others_stay}
 use Rattle.cd_fakes.proofs.shelf.MemShelf.crash.Goals as goal

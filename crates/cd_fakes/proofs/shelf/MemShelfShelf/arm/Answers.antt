@@ -1,6 +1,6 @@
 use Rattle.std.proofs.Common.{refl, rules, set, ap}
-use Rattle.cd_edges.specs.Disk.{Cloud}
-use Rattle.cd_edges.specs.Shelf.{Arms}
+use Rattle.mem_disk.specs.CdEdges.Disk.{Cloud}
+use Rattle.mem_disk.specs.CdEdges.Shelf.{Arms}
 use Rattle.cd_fakes.specs.declared.cloud.MemCloud.{MemCloud}
 use Rattle.cd_fakes.proofs.CloudsAt.{Step, between, at_both, clouds_stay, others_stay}
 use Rattle.cd_fakes.proofs.shelf.MemShelfShelf.arm.Goals as goal

@@ -1,6 +1,6 @@
 use Rattle.std.proofs.Common.{IsTrue, rules}
-use Rattle.cd_edges.specs.Disk.{Cloud}
-use Rattle.cd_edges.specs.Shelf.{Refreshes}
+use Rattle.mem_disk.specs.CdEdges.Disk.{Cloud}
+use Rattle.mem_disk.specs.CdEdges.Shelf.{Refreshes}
 use Rattle.cd_fakes.proofs.CloudsAt.{Step, between, at, at_both, others_stay, called, failed, uncounted, on_ok}
 use Rattle.cd_fakes.proofs.shelf.MemShelfShelf.fresh.Goals as goal
 

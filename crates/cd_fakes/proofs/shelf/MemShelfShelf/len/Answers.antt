@@ -1,6 +1,6 @@
 use Rattle.std.proofs.Common.{◌≡◌, ◌∙◌, length, IsTrue, IfOk, rules, ap}
-use Rattle.cd_edges.specs.Disk.{Cloud}
-use Rattle.cd_edges.specs.Shelf.{Stays}
+use Rattle.mem_disk.specs.CdEdges.Disk.{Cloud}
+use Rattle.mem_disk.specs.CdEdges.Shelf.{Stays}
 use Rattle.cd_fakes.specs.declared.cloud.MemCloud.{MemCloud}
 use Rattle.mem_disk.specs.Areas.{held_of}
 use Rattle.cd_fakes.specs.Clouds.{cloud_of}

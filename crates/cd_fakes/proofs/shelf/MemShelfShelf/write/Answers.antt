@@ -1,6 +1,6 @@
 use Rattle.std.proofs.Common.{IsTrue, rules}
-use Rattle.cd_edges.specs.Disk.{Cloud}
-use Rattle.cd_edges.specs.Shelf.{Writes}
+use Rattle.mem_disk.specs.CdEdges.Disk.{Cloud}
+use Rattle.mem_disk.specs.CdEdges.Shelf.{Writes}
 use Rattle.cd_fakes.proofs.CloudsAt.{Step, between, at, at_both, others_stay, called, failed, uncounted, on_ok, on_err}
 use Rattle.cd_fakes.proofs.shelf.MemShelfShelf.write.Goals as goal
 

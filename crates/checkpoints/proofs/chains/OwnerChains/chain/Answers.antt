@@ -1,5 +1,5 @@
 use Rattle.std.proofs.Common.{◌≡◌, min, length, ◌∙◌, subst}
-use Rattle.share_index.specs.Shares.{Shares}
+use Rattle.cloud_memory.specs.ShareIndex.Shares.{Shares}
 use Rattle.checkpoints.specs.Chained.{AreChained}
 use Rattle.checkpoints.proofs.Chaining.{chained_back}
 use Rattle.checkpoints.proofs.chains.OwnerChains.chain.Goals as goal

@@ -1,7 +1,7 @@
 use Rattle.std.proofs.Common.{List, length, sym, ap, ◌∙◌, subst, arith}
-use Rattle.file_index.specs.Files.{Files}
-use Rattle.share_index.specs.Shares.{Shares}
-use Rattle.spent_table.specs.declared.Spent.{Spent as Row}
+use Rattle.cloud_memory.specs.FileIndex.Files.{Files}
+use Rattle.cloud_memory.specs.ShareIndex.Shares.{Shares}
+use Rattle.cloud_memory.specs.SpentTable.Spent.{Spent as Row}
 use Rattle.checkpoints.specs.Chained.{HasChains}
 use Rattle.checkpoints.specs.Records.{first_of}
 use Rattle.cloud_memory.specs.Fitting.{AreShares, AreRecipes}

@@ -1,11 +1,11 @@
 use Rattle.std.proofs.Common.{◌≡◌, ◌+◌, ◌≤◌, sym, ap, subst}
 use Rattle.std.specs.Prelude.{OnOk, length}
-use Rattle.cd_edges.specs.declared.area.Area.TheVariants.{Journal}
-use Rattle.cd_edges.specs.Disk.{Store, moment}
-use Rattle.cd_edges.proofs.Calls.{called_twice}
-use Rattle.cd_edges.proofs.Moments.{told_on}
+use Rattle.half_journal.specs.CdEdges.area.Area.TheVariants.{Journal}
+use Rattle.half_journal.specs.CdEdges.Disk.{Store, moment}
+use Rattle.half_journal.proofs.CdEdges.Calls.{called_twice}
+use Rattle.half_journal.proofs.CdEdges.Moments.{told_on}
 use Rattle.half_journal.specs.States as journals
-use Rattle.journal_halves.specs.Halves.{half_limit}
+use Rattle.half_journal.specs.JournalHalves.Halves.{half_limit}
 use Rattle.cloud_areas.specs.Placing.{shares_in}
 use Rattle.cloud_areas.specs.Chains.{laid_shares}
 use Rattle.cloud_areas.specs.Standing.{where_of}
@@ -94,8 +94,8 @@ returns-in-Err-clause-rooms g c =
     let new : Disk = record { journal = journals.state_of c.shut.new.self; shares = c.flush_both.new.shares; recipes = c.flush_both.new.recipes } in
     subst (λ (d : Disk). SameRooms d new) c.self.view_is
     (record {
-      start = ap (λ (s : journals.State). s.start) c.shut.ensures;
-      limit = ap (λ (s : journals.State). s.limit) c.shut.ensures;
+      start = ap (λ (s : journals.JournalState). s.start) c.shut.ensures;
+      limit = ap (λ (s : journals.JournalState). s.limit) c.shut.ensures;
       shares_area = rooms.0;
       shares_limit = rooms.1;
       recipes_area = rooms.2;
@@ -135,4 +135,4 @@ returns-in-Ok-clause-chain g c =
     let told1 = told_on c0 c1 c.flush_both.ensures.call.told told in
     let same = c.in-Ok.ensures.journal told is_shares is_recipes in
     grown_added disk body c0 w ended c1 c2 (c.flush_both.ensures.fronts told is_shares is_recipes) (g.met.V.Shelf.reads_image c.flush_both.new.shelf number told1 Journal)
-    (c.append.ensures.any_moment told1 w (subst (λ (s : Store). journals.IsEnded disk.journal s w) (sym same) ended)))
+    (c.append.ensures.any_moment told1 w (subst (λ (s : Store). journals.IsJournalEnded disk.journal s w) (sym same) ended)))

@@ -1,5 +1,5 @@
 use Rattle.std.proofs.Common.{refl, sym, ap, subst}
-use Rattle.container_log.specs.States as logs
+use Rattle.cloud_areas.specs.ContainerLog.States as logs
 use Rattle.half_journal.specs.States as journals
 use Rattle.cloud_disk.specs.Disk.{Disk, IsOn}
 use Rattle.cloud_disk.proofs.Standing.{on_alike}

@@ -1,15 +1,15 @@
 use Rattle.std.proofs.Common.{◌≡◌, ◌+◌, ◌<◌, ◌^◌, ◌∙◌, ℕ, List, [], ◌∷◌, ◌++◌, refl, sym, ap, subst, length, arith}
 use Rattle.std.specs.Prelude.{option_map, slice_set, max}
-use Rattle.cd_base.specs.declared.ids.Fp.{Fp}
+use Rattle.spent_table.specs.CdBase.ids.Fp.{Fp}
 use Rattle.std.specs.FinMap.{FinMap}
-use Rattle.user_dedup.specs.declared.command.Command.TheVariants as commands
-use Rattle.record_body.specs.declared.body.CommitBody.{CommitBody}
-use Rattle.record_bodies.specs.Spelling as bodies
+use Rattle.cloud_areas.specs.UserDedup.command.Command.TheVariants as commands
+use Rattle.cloud_areas.specs.RecordBody.body.CommitBody.{CommitBody}
+use Rattle.cloud_areas.specs.RecordBodies.Spelling as bodies
 use Rattle.share_index.specs.Order.{owner_cmp}
 use Rattle.spent_table.specs.declared.Spent.{Spent}
 use Rattle.spent_table.specs.Spending.{spent_by, both, of_recipe}
-use Rattle.user_dedup.specs.Owning.{fps_in}
-use Rattle.user_dedup.specs.Requests.{fps_of}
+use Rattle.cloud_areas.specs.UserDedup.Owning.{fps_in}
+use Rattle.cloud_areas.specs.UserDedup.Requests.{fps_of}
 use Rattle.cloud_areas.specs.Chains.{commit_of}
 use Rattle.cloud_memory.specs.Memory.{Memory, Remembers}
 use Rattle.cloud_memory.specs.News.{seen}

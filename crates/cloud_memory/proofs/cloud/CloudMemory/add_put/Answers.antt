@@ -1,11 +1,11 @@
 use Rattle.std.proofs.Common.{◌+◌, ◌<◌, ◌^◌, ◌∙◌, ℕ, List, [], ◌∷◌, ◌++◌, sym, ap, subst, refl, length, arith}
 use Rattle.std.specs.Prelude.{option_map}
-use Rattle.user_dedup.specs.declared.command.Command.TheVariants as commands
+use Rattle.cloud_areas.specs.UserDedup.command.Command.TheVariants as commands
 use Rattle.cloud_areas.specs.Chains.{IsRecord}
 use Rattle.cloud_areas.specs.Laid.{AreLaid}
 use Rattle.cloud_areas.specs.Placing.{places_given, places_of}
-use Rattle.record_body.specs.declared.body.PutItem.{PutItem}
-use Rattle.record_bodies.specs.Spelling as bodies
+use Rattle.cloud_areas.specs.RecordBody.body.PutItem.{PutItem}
+use Rattle.cloud_areas.specs.RecordBodies.Spelling as bodies
 use Rattle.spent_table.specs.declared.Spent.{Spent}
 use Rattle.spent_table.specs.Spending.{spent_by, both, of_shares}
 use Rattle.cloud_memory.specs.Memory.{Remembers}

@@ -1,5 +1,5 @@
 use Rattle.std.proofs.Common.{◌∙◌, [], ◌∷◌, ◌++◌, subst, sym, ap}
-use Rattle.user_dedup.specs.declared.command.Command.TheVariants as commands
+use Rattle.cloud_areas.specs.UserDedup.command.Command.TheVariants as commands
 use Rattle.file_index.specs.Files.{key_of}
 use Rattle.cloud_memory.specs.Memory.{Remembers}
 use Rattle.cloud_memory.specs.Rooms.{memory_of}

@@ -1,6 +1,6 @@
 use Rattle.std.proofs.Common.{ap, ◌∙◌}
-use Rattle.pool_map.specs.Accounts.{use_for}
-use Rattle.pool_map.specs.declared.accounts.Accounts.{Accounts}
+use Rattle.file_index.specs.PoolMap.Accounts.{use_for}
+use Rattle.file_index.specs.PoolMap.accounts.Accounts.{Accounts}
 use Rattle.file_index.specs.declared.key.FileKey.{FileKey}
 use Rattle.cloud_memory.specs.Rooms.{memory_of}
 use Rattle.cloud_memory.proofs.FullRooms.{files_counted}

@@ -1,7 +1,7 @@
 use Rattle.std.proofs.Common.{Some, None, arith}
 use Rattle.std.proofs.lemmas.List.{length-map}
 use Rattle.recipe.specs.declared.items.Item.{Item}
-use Rattle.user_dedup.specs.Owning.{fps_in}
+use Rattle.cloud_areas.specs.UserDedup.Owning.{fps_in}
 use Rattle.cloud_memory.specs.Rooms.{memory_of}
 use Rattle.cloud_memory.proofs.Unowned.{lacking_is, found_within}
 use Rattle.cloud_memory.proofs.cloud.CloudMemory.first_unowned.Goals as goal

@@ -1,7 +1,7 @@
 use Rattle.std.proofs.Common.{◌∙◌}
 use Rattle.std.specs.Option.{option_or}
-use Rattle.cd_base.specs.declared.rooms.Room.TheVariants as names
-use Rattle.user_dedup.specs.Spending.{refusal}
+use Rattle.spent_table.specs.CdBase.rooms.Room.TheVariants as names
+use Rattle.cloud_areas.specs.UserDedup.Spending.{refusal}
 use Rattle.cloud_memory.proofs.cloud.CloudMemory.full_for_commit.Goals as goal
 
 pub returns : goal.returns

@@ -1,6 +1,6 @@
 use Rattle.std.proofs.Common.{Bool, subst, sym}
 use Rattle.std.specs.Prelude.{◌↔◌, IsTrue}
-use Rattle.user_dedup.specs.Owning.{fps_in}
+use Rattle.cloud_areas.specs.UserDedup.Owning.{fps_in}
 use Rattle.cloud_memory.specs.Rooms.{memory_of}
 use Rattle.cloud_memory.specs.Sharing.{AreOwned}
 use Rattle.cloud_memory.proofs.Unowned.{none_is, owns_is, all_owned}

@@ -1,9 +1,9 @@
 use Rattle.std.proofs.Common.{◌≡◌, Option, sym, subst, map, length, ◌∙◌}
 use Rattle.std.specs.Prelude.{◌↔◌, IsSome}
 use Rattle.std.specs.List.{Contains}
-use Rattle.cd_base.specs.declared.place.Place.{Place}
-use Rattle.user_dedup.specs.Cloud.{fingerprint}
-use Rattle.user_dedup.specs.Cloud.{strings_in, held_bytes}
+use Rattle.spent_table.specs.CdBase.place.Place.{Place}
+use Rattle.cloud_areas.specs.UserDedup.Cloud.{fingerprint}
+use Rattle.cloud_areas.specs.UserDedup.Cloud.{strings_in, held_bytes}
 use Rattle.cloud_memory.proofs.Answering.{if_some}
 use Rattle.cloud_memory.proofs.cloud.CloudMemory.place_of.Goals as goal
 

@@ -1,7 +1,7 @@
 use Rattle.std.proofs.Common.{rules, ◌≡◌, ◌≤◌, true, false, length, arith}
 use Rattle.std.proofs.lemmas.List.{length-map}
 use Rattle.recipe.specs.declared.items.Item.{Item}
-use Rattle.user_dedup.specs.Owning.{fps_in}
+use Rattle.cloud_areas.specs.UserDedup.Owning.{fps_in}
 use Rattle.cloud_memory.proofs.Unowned.{owned_more, owned_all, lacks_it}
 use Rattle.cloud_memory.proofs.cloud.CloudMemory.unowned_place.Goals as goal
 

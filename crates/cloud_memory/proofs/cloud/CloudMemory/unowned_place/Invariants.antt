@@ -1,5 +1,5 @@
 use Rattle.std.specs.Prelude.{take}
-use Rattle.user_dedup.specs.Owning.{fps_in}
+use Rattle.cloud_areas.specs.UserDedup.Owning.{fps_in}
 use Rattle.cloud_memory.specs.Sharing.{AreOwned}
 use Rattle.cloud_memory.proofs.cloud.CloudMemory.unowned_place.Given as goal
 

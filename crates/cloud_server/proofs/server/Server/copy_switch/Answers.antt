@@ -1,5 +1,5 @@
 use Rattle.std.proofs.Common.{subst}
-use Rattle.user_dedup.specs.Compact.{compact}
+use Rattle.server_requests.specs.UserDedup.Compact.{compact}
 use Rattle.server_requests.specs.OpenStore.store.OpenStore.{OpenStore}
 use Rattle.cloud_server.specs.Copies.{SwitchesOver}
 use Rattle.cloud_server.proofs.Copied.{served_after}

@@ -1,7 +1,7 @@
 use Rattle.std.proofs.Common.{◌≡◌, ◌⊎◌, ℕ, Ok, Result, sym, ◌∙◌, subst}
-use Rattle.messages.specs.declared.request.Request.{Request}
+use Rattle.server_requests.specs.Messages.request.Request.{Request}
 use Rattle.server_requests.specs.Asking.{request_of}
-use Rattle.cloud_server.specs.Serving.{ExecutesAs, ChangesBehind, EntersBy, OpensFirst, Refused}
+use Rattle.cloud_server.specs.Serving.{ExecutesAs, ChangesBehind, EntersBy, OpensFirst, IsUnopenedReply}
 use Rattle.cloud_server.proofs.server.Server.execute.Goals as goal
 
 asks : Request → Result Request ℕ
@@ -31,7 +31,7 @@ pub returns-in-Ok-clause-first : goal.returns-in-Ok-clause-first
 unfolding asks
 returns-in-Ok-clause-first g c r told shut asked =
     let old = c.args.self.now.store in let at = g.V.Shelf.cloud_at in let number = old.header.cloud.0 in let before = at c.args.shelf.now number in let after = at c.answer.new.shelf number in
-    subst (λ (x : Request). OpensFirst old c.answer.new.store before after x c.answer.new.reply ⊎ Refused old before after c.answer.new.reply) (same_asked (request_of c.in-Ok.asked) r (sym c.in-Ok.ensures.reads ∙ asked))
+    subst (λ (x : Request). OpensFirst old c.answer.new.store before after x c.answer.new.reply ⊎ IsUnopenedReply old before after c.answer.new.reply) (same_asked (request_of c.in-Ok.asked) r (sym c.in-Ok.ensures.reads ∙ asked))
     (c.answer.ensures.first told shut)
 
 pub returns-in-Ok-clause-enters : goal.returns-in-Ok-clause-enters

@@ -1,7 +1,7 @@
 use Rattle.std.proofs.Common.{length, ap, subst, arith}
 use Rattle.server_requests.specs.OpenStore.Store.{IsOpen}
 use Rattle.server_requests.specs.OpenStore.store.OpenStore.{OpenStore}
-use Rattle.share_index.specs.Placed.{AreAllPlaced}
+use Rattle.blob_copy.specs.ShareIndex.Placed.{AreAllPlaced}
 use Rattle.cloud_server.proofs.server.Server.live_share.Goals as goal
 
 pub returns-clause-few : goal.returns-clause-few

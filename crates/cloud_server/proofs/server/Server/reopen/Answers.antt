@@ -1,7 +1,7 @@
-use Rattle.cd_edges.specs.declared.area.Area.TheVariants.{Journal}
-use Rattle.cd_edges.specs.Disk.{reads}
-use Rattle.store_opening.specs.CloudMemory.Rooms.{memory_of}
-use Rattle.cloud_server.proofs.Bytes.{not_begun_is, other_store_is}
+use Rattle.server_requests.specs.CdEdges.area.Area.TheVariants.{Journal}
+use Rattle.server_requests.specs.CdEdges.Disk.{reads}
+use Rattle.blob_copy.specs.StoreOpening.CloudMemory.Rooms.{memory_of}
+use Rattle.cloud_server.proofs.ByteLaws.{not_begun_is, other_store_is}
 use Rattle.cloud_server.proofs.Openings.{reopens, loads, whole_for, shut_of}
 use Rattle.cloud_server.proofs.server.Server.reopen.Goals as goal
 

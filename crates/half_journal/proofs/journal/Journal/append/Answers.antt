@@ -1,9 +1,9 @@
 use Rattle.std.proofs.Common.{refl}
-use Rattle.cd_edges.specs.declared.area.Area.TheVariants.{Journal}
+use Rattle.journal_halves.specs.CdEdges.area.Area.TheVariants.{Journal}
 use Rattle.journal_halves.specs.Journals.{all_bodies}
 use Rattle.journal_halves.specs.States as records
 use Rattle.half_journal.specs.declared.journal.Stage.TheVariants.{AtEnd}
-use Rattle.half_journal.specs.States.{State, state_of}
+use Rattle.half_journal.specs.States.{JournalState, state_of}
 use Rattle.half_journal.proofs.Steps.{appending, apart, ended_more}
 use Rattle.half_journal.proofs.journal.Journal.append.Goals as goal
 
@@ -30,6 +30,6 @@ returns-clause-other g c told w is =
 pub returns-clause-added : goal.returns-clause-added
 returns-clause-added g c told w is =
     let number = c.args.cloud.0 in let before = state_of c.args.self.now in
-    let after : State = record before { stage = AtEnd; current = records.state_of c.append.new.self } in
+    let after : JournalState = record before { stage = AtEnd; current = records.state_of c.append.new.self } in
     let more = c.in_ok-append.ensures.added told (all_bodies w) is.read in
     ended_more before after ((g.V.Shelf.cloud_at c.args.shelf.now number).now Journal) ((g.V.Shelf.cloud_at c.append.new.shelf number).now Journal) w c.args.body.now is more.0 more.1 c.append.ensures.half refl

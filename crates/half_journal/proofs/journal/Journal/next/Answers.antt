@@ -1,4 +1,4 @@
-use Rattle.cd_edges.specs.declared.area.Area.TheVariants.{Journal}
+use Rattle.journal_halves.specs.CdEdges.area.Area.TheVariants.{Journal}
 use Rattle.journal_halves.specs.Journals.{all_bodies}
 use Rattle.journal_halves.specs.States as records
 use Rattle.half_journal.specs.States.{state_of}

@@ -1,7 +1,7 @@
 use Rattle.std.proofs.Common.{◌≡◌, true, false, IsTrue, List, Err, refl, sym, ◌∙◌, ap, subst, rules, length}
-use Rattle.cd_edges.specs.declared.area.Area.TheVariants.{Journal}
-use Rattle.cd_edges.specs.Disk.{Store, Areas}
-use Rattle.cd_edges.proofs.Moments.{told_on}
+use Rattle.journal_halves.specs.CdEdges.area.Area.TheVariants.{Journal}
+use Rattle.journal_halves.specs.CdEdges.Disk.{Store, Areas}
+use Rattle.journal_halves.proofs.CdEdges.Moments.{told_on}
 use Rattle.journal_halves.specs.declared.found.FindErr.{FindErr}
 use Rattle.journal_halves.specs.Findings.{FindIs}
 use Rattle.half_journal.specs.declared.errors.OpenErr.TheVariants.{Fault, NotBegun, Damaged}

@@ -1,9 +1,9 @@
 use Rattle.std.proofs.Common.{◌∙◌, sym, ap}
-use Rattle.cd_edges.specs.declared.area.Area.TheVariants.{Journal}
-use Rattle.cd_edges.specs.Disk.{Store}
-use Rattle.cd_edges.specs.Shelf.{stable}
-use Rattle.cd_edges.proofs.Moments.{told_on}
-use Rattle.cd_edges.proofs.Shrinks.{begun, sync_goes_on}
+use Rattle.journal_halves.specs.CdEdges.area.Area.TheVariants.{Journal}
+use Rattle.journal_halves.specs.CdEdges.Disk.{Store}
+use Rattle.journal_halves.specs.CdEdges.Shelf.{stable}
+use Rattle.journal_halves.proofs.CdEdges.Moments.{told_on}
+use Rattle.journal_halves.proofs.CdEdges.Shrinks.{begun, sync_goes_on}
 use Rattle.half_journal.specs.States.{state_of}
 use Rattle.half_journal.proofs.Opening.{sync_failed, sync_opened, reopened}
 use Rattle.half_journal.proofs.journal.Journal.reopen.Goals as goal

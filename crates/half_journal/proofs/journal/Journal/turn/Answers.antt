@@ -1,12 +1,12 @@
 use Rattle.std.proofs.Common.{◌≡◌, ◌-◌, ◌+◌, ◌<◌, ◌^◌, ℕ, length, refl, sym, ◌∙◌, ap, subst, arith, rules}
-use Rattle.cd_edges.specs.declared.area.Area.TheVariants.{Journal}
-use Rattle.journal_start.specs.declared.start.Start.{Start}
-use Rattle.journal_start.specs.Spelling.{start_bytes, records_of}
-use Rattle.journal_start.proofs.Lengths.{second}
+use Rattle.journal_halves.specs.CdEdges.area.Area.TheVariants.{Journal}
+use Rattle.journal_halves.specs.JournalStart.start.Start.{Start}
+use Rattle.journal_halves.specs.JournalStart.Spelling.{start_bytes, records_of}
+use Rattle.journal_halves.proofs.JournalStart.Lengths.{second}
 use Rattle.journal_halves.specs.Journals.{MayFollow}
 use Rattle.half_journal.specs.Turning as writer
 use Rattle.half_journal.specs.declared.journal.Stage.TheVariants.{Laying}
-use Rattle.half_journal.specs.States.{State, state_of, next_start}
+use Rattle.half_journal.specs.States.{JournalState, state_of, next_start}
 use Rattle.half_journal.proofs.Steps.{stands_of, other_of, may_follow, turned}
 use Rattle.half_journal.proofs.journal.Journal.turn.Goals as goal
 
@@ -29,9 +29,9 @@ returns-clause-turned g c told w is =
     let next = c.next_start-next.ensures in
     let follows = may_follow state store w _ header commands records region is half c.requires.header c.requires.format (search rules) (search rules) c.requires.region in
     let laid = c.in_ok-turn.ensures.turned told w (stands_of state store w is) (subst (λ (s : Start). MayFollow w (1 - c.half-half.result) s) (sym next) follows) in
-    let after : State = record state { stage = Laying; next = c.next_start-next.result; laid = writer.state_of c.turn.new.self } in
+    let after : JournalState = record state { stage = Laying; next = c.next_start-next.result; laid = writer.state_of c.turn.new.self } in
     turned state after store last w (1 - c.half-half.result) header commands records region is half refl next
-    (subst (λ (s : Start). writer.IsLaying after.laid last w (writer.begun_with (1 - c.half-half.result) s)) next laid)
+    (subst (λ (s : Start). writer.IsWriterLaying after.laid last w (writer.begun_with (1 - c.half-half.result) s)) next laid)
 
 pub returns-clause-state : goal.returns-clause-state
 returns-clause-state g c =

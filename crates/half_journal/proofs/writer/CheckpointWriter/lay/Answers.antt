@@ -1,5 +1,5 @@
 use Rattle.std.proofs.Common.{arith}
-use Rattle.cd_edges.specs.declared.area.Area.TheVariants.{Journal}
+use Rattle.journal_halves.specs.CdEdges.area.Area.TheVariants.{Journal}
 use Rattle.half_journal.specs.Turning.{state_of}
 use Rattle.half_journal.proofs.Calls.{one_more}
 use Rattle.half_journal.proofs.writer.CheckpointWriter.lay.Goals as goal

@@ -1,7 +1,7 @@
 use Rattle.std.proofs.Common.{◌+◌, ◌*◌, ℕ, List, refl, sym, ap, arith}
-use Rattle.cd_edges.specs.declared.area.Area.TheVariants.{Journal}
+use Rattle.journal_halves.specs.CdEdges.area.Area.TheVariants.{Journal}
 use Rattle.journal_halves.specs.Halves.{half_len}
-use Rattle.half_journal.specs.Turning.{State, state_of}
+use Rattle.half_journal.specs.Turning.{WriterState, state_of}
 use Rattle.half_journal.proofs.Calls.{unflushed, flushing, flushed}
 use Rattle.half_journal.proofs.writer.CheckpointWriter.make_room.Goals as goal
 

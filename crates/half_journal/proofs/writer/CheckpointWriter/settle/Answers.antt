@@ -1,8 +1,8 @@
 use Rattle.std.proofs.Common.{◌+◌, ◌*◌, ℕ, List, [], ◌∷◌, ◌∙◌, ap, subst}
-use Rattle.cd_edges.specs.declared.area.Area.TheVariants.{Journal}
-use Rattle.cd_edges.specs.Disk.{LeavesOnly, IsAtArea, MayLeave, overwritten}
-use Rattle.cd_edges.specs.Shelf.{wrote, stable}
-use Rattle.cd_edges.proofs.Moments.{told_on}
+use Rattle.journal_halves.specs.CdEdges.area.Area.TheVariants.{Journal}
+use Rattle.journal_halves.specs.CdEdges.Disk.{LeavesOnly, IsAtArea, MayLeave, overwritten}
+use Rattle.journal_halves.specs.CdEdges.Shelf.{wrote, stable}
+use Rattle.journal_halves.proofs.CdEdges.Moments.{told_on}
 use Rattle.half_journal.specs.Turning.{state_of}
 use Rattle.half_journal.proofs.Calls.{on_ok, first_part, laid_whole, second_part, stands_then}
 use Rattle.half_journal.proofs.writer.CheckpointWriter.settle.Goals as goal

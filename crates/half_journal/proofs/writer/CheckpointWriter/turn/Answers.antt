@@ -1,4 +1,4 @@
-use Rattle.cd_edges.specs.declared.area.Area.TheVariants.{Journal}
+use Rattle.journal_halves.specs.CdEdges.area.Area.TheVariants.{Journal}
 use Rattle.half_journal.specs.Turning.{state_of}
 use Rattle.half_journal.proofs.Calls.{begun_laying}
 use Rattle.half_journal.proofs.writer.CheckpointWriter.turn.Goals as goal

@@ -1,18 +1,18 @@
 use Rattle.std.proofs.Common.{◌≡◌, ◌+◌, ◌*◌, ◌⊎◌, inl, inr, ℕ, zero, suc, ◌≤◌, List, [], ◌∷◌, length, take, refl, sym, ◌∙◌, ap, subst, arith, length-append}
-use Rattle.cd_edges.specs.declared.area.Area.TheVariants.{Journal}
-use Rattle.cd_edges.specs.Disk.{LeavesOnly, IsAtArea, MayLeave, overwritten}
-use Rattle.cd_edges.specs.Shelf.{wrote, stable}
-use Rattle.cd_edges.proofs.Moments.{told_on}
-use Rattle.commit_journal.specs.Records.{IsBody, framed}
+use Rattle.commit_journal.specs.CdEdges.area.Area.TheVariants.{Journal}
+use Rattle.commit_journal.specs.CdEdges.Disk.{LeavesOnly, IsAtArea, MayLeave, overwritten}
+use Rattle.commit_journal.specs.CdEdges.Shelf.{wrote, stable}
+use Rattle.commit_journal.proofs.CdEdges.Moments.{told_on}
+use Rattle.commit_journal.specs.Records.{IsJournalBody, framed}
 use Rattle.journal_halves.specs.Halves.{half_len}
-use Rattle.journal_halves.specs.States.{State, state_of}
+use Rattle.journal_halves.specs.States.{HalfState, state_of}
 use Rattle.journal_halves.proofs.Adding.{either, read_left, after_first, staged, after_second, added}
 use Rattle.journal_halves.proofs.records.HalfRecords.append.Goals as goal
 
 pub returns-in_err-write_synced-clause-any_moment : goal.returns-in_err-write_synced-clause-any_moment
 returns-in_err-write_synced-clause-any_moment g c told bodies ended =
     let number = c.args.cloud.0 in let body = c.args.body.now in let self = c.args.self.now in let old = state_of self in
-    let one : IsBody body = record { some = c.requires.some; few = c.requires.few } in let half = either self.half self.is_half in
+    let one : IsJournalBody body = record { some = c.requires.some; few = c.requires.few } in let half = either self.half self.is_half in
     let c0 = g.V.Shelf.cloud_at c.args.shelf.now number in let c1 = g.V.Shelf.cloud_at c.write_synced.new.shelf number in
     let place : c.gate_at-place.result ≡ old.half * half_len + old.gate =
     c.gate_at-place.ensures.value ∙ ap (λ (h : ℕ). h * half_len + c.fill.new.self.gate) c.fill.ensures.rest.0 ∙ ap (λ (n : ℕ). old.half * half_len + n) c.fill.ensures.rest.1 in
@@ -24,7 +24,7 @@ returns-in_err-write_synced-clause-any_moment g c told bodies ended =
 pub returns-in_err-write_synced-2-clause-any_moment : goal.returns-in_err-write_synced-2-clause-any_moment
 returns-in_err-write_synced-2-clause-any_moment g c told bodies ended =
     let number = c.args.cloud.0 in let body = c.args.body.now in let self = c.args.self.now in let old = state_of self in
-    let one : IsBody body = record { some = c.requires.some; few = c.requires.few } in let half = either self.half self.is_half in
+    let one : IsJournalBody body = record { some = c.requires.some; few = c.requires.few } in let half = either self.half self.is_half in
     let c0 = g.V.Shelf.cloud_at c.args.shelf.now number in let c1 = g.V.Shelf.cloud_at c.write_synced.new.shelf number in
     let place : c.gate_at-place.result ≡ old.half * half_len + old.gate =
     c.gate_at-place.ensures.value ∙ ap (λ (h : ℕ). h * half_len + c.fill.new.self.gate) c.fill.ensures.rest.0 ∙ ap (λ (n : ℕ). old.half * half_len + n) c.fill.ensures.rest.1 in
@@ -45,7 +45,7 @@ returns-in_err-write_synced-2-clause-any_moment g c told bodies ended =
 pub returns-clause-any_moment : goal.returns-clause-any_moment
 returns-clause-any_moment g c told bodies ended =
     let number = c.args.cloud.0 in let body = c.args.body.now in let self = c.args.self.now in let old = state_of self in
-    let one : IsBody body = record { some = c.requires.some; few = c.requires.few } in let half = either self.half self.is_half in
+    let one : IsJournalBody body = record { some = c.requires.some; few = c.requires.few } in let half = either self.half self.is_half in
     let c0 = g.V.Shelf.cloud_at c.args.shelf.now number in let c1 = g.V.Shelf.cloud_at c.write_synced.new.shelf number in
     let place : c.gate_at-place.result ≡ old.half * half_len + old.gate =
     c.gate_at-place.ensures.value ∙ ap (λ (h : ℕ). h * half_len + c.fill.new.self.gate) c.fill.ensures.rest.0 ∙ ap (λ (n : ℕ). old.half * half_len + n) c.fill.ensures.rest.1 in
@@ -66,7 +66,7 @@ returns-clause-any_moment g c told bodies ended =
 pub returns-clause-added : goal.returns-clause-added
 returns-clause-added g c told bodies ended =
     let number = c.args.cloud.0 in let body = c.args.body.now in let self = c.args.self.now in let old = state_of self in
-    let one : IsBody body = record { some = c.requires.some; few = c.requires.few } in let half = either self.half self.is_half in
+    let one : IsJournalBody body = record { some = c.requires.some; few = c.requires.few } in let half = either self.half self.is_half in
     let c0 = g.V.Shelf.cloud_at c.args.shelf.now number in let c1 = g.V.Shelf.cloud_at c.write_synced.new.shelf number in
     let place : c.gate_at-place.result ≡ old.half * half_len + old.gate =
     c.gate_at-place.ensures.value ∙ ap (λ (h : ℕ). h * half_len + c.fill.new.self.gate) c.fill.ensures.rest.0 ∙ ap (λ (n : ℕ). old.half * half_len + n) c.fill.ensures.rest.1 in
@@ -85,5 +85,5 @@ returns-clause-added g c told bodies ended =
     let image2 = g.met.V.Shelf.reads_image c.write_synced-2.new.shelf number told2 in
     let last : c2.now Journal ≡ stable (overwritten (c1.now Journal).read (old.half * half_len + old.gate) (1 ∷ [])) =
     c.in_ok-write_synced-2.ensures.written told1 ∙ ap (λ (n : ℕ). stable (overwritten (c1.now Journal).read n (1 ∷ []))) place in
-    let new : State = record (state_of c.fill.new.self) { gate = c.fill.new.self.gate + (length body + 5) } in
+    let new : HalfState = record (state_of c.fill.new.self) { gate = c.fill.new.self.gate + (length body + 5) } in
     added old bodies body one half c.requires.room new (c0.now Journal) (c1.now Journal) (c2.now Journal) ended s last (read_left c1 c2 _ run2 image2) c.fill.ensures.rest.0 (omega (arith, c.fill.ensures.rest.1, length-append body (0 ∷ [])))

@@ -1,5 +1,5 @@
 use Rattle.std.proofs.Common.{◌≡◌, ◌≤◌, ◌+◌, ◌-◌, ℕ, List, length, take, drop, refl, sym, ◌∙◌, ap, subst, arith}
-use Rattle.commit_journal.specs.Records.{IsBody}
+use Rattle.commit_journal.specs.Records.{IsJournalBody}
 use Rattle.commit_journal.specs.Frames.{IsRecord}
 use Rattle.commit_journal.proofs.Taken.{record_on, body_ahead, length_ahead, part_of, window_on, length_window}
 use Rattle.journal_halves.proofs.records.HalfRecords.step.Goals as goal
@@ -50,7 +50,7 @@ returns-clause-over c =
     let is : take len (drop (from + 5) buffer) ≡ body =
     part_of buffer from filled 5 len (omega (arith, long, enough, c.requires.2, self.from_in)) inside ∙ ap (λ (n : ℕ). take n (drop 5 ahead)) (sym c.requires.2) ∙ body_ahead ahead body r in
     record {
-      is_body = subst IsBody (sym is) r.is_body;
+      is_body = subst IsJournalBody (sym is) r.is_body;
       half = refl;
       gate = omega (arith, ap length is, c.requires.2);
       body_at = ap (λ (n : ℕ). n + 5) c.gate_at-place.ensures.value;

@@ -1,6 +1,6 @@
 use Rattle.std.proofs.Common.{refl, sym, subst, arith, inl, inr}
 use Rattle.std.proofs.lemmas.Bool.{ltb-true}
-use Rattle.user_dedup.specs.Link.{LeavesOthers, serves}
+use Rattle.cloud_server.specs.UserDedup.Link.{LeavesOthers, serves}
 use Rattle.cloud_server.specs.CloudAreas.Peers.{MayBecome}
 use Rattle.local_link.specs.Tells.{server_at, rooms_at, header_at, telling, LeavesRest}
 use Rattle.local_link.proofs.Standing.{rest_by, others_by, rooms_same, here_now, images_now}

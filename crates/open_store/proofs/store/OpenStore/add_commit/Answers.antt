@@ -1,14 +1,14 @@
 use Rattle.std.proofs.Common.{◌≡◌, ◌≤◌, ℕ, [], ◌∷◌, ◌++◌, inl, Err, sym, ap, ◌∙◌, subst, arith, ◌+◌, IsTrue, refl}
-use Rattle.cd_edges.proofs.Moments.{started}
+use Rattle.checkpoints.proofs.CdEdges.Moments.{started}
 use Rattle.std.specs.Prelude.{◌-◌, ◌^◌, min}
 use Rattle.open_store.specs.Adding.{IsTooLong}
 use Rattle.checkpoints.specs.CloudMemory.Steps.{with_commit}
-use Rattle.journal_start.specs.declared.start.Header.{Header}
-use Rattle.record_bodies.specs.Spelling as bodies
-use Rattle.record_bodies.specs.Spelling.{body_bytes}
-use Rattle.user_dedup.specs.declared.command.Command.TheVariants as asked
-use Rattle.cloud_areas.specs.Adding.{with_record}
-use Rattle.cloud_areas.specs.Standing.{Chain}
+use Rattle.checkpoints.specs.JournalStart.start.Header.{Header}
+use Rattle.checkpoints.specs.RecordBodies.Spelling as bodies
+use Rattle.checkpoints.specs.RecordBodies.Spelling.{body_bytes}
+use Rattle.checkpoints.specs.UserDedup.command.Command.TheVariants as asked
+use Rattle.checkpoints.specs.CloudAreas.Adding.{with_record}
+use Rattle.checkpoints.specs.CloudAreas.Standing.{Chain}
 use Rattle.checkpoints.specs.CloudDisk.Disk.{IsOn, KeepsOrAdds, StandsForEither}
 use Rattle.checkpoints.proofs.DiskProofs.Standing.{images_on}
 use Rattle.checkpoints.specs.CloudMemory.Rooms.{memory_of, full_commit}
@@ -18,19 +18,19 @@ use Rattle.open_store.specs.declared.store.OpenStore.{OpenStore}
 use Rattle.open_store.specs.Store.{Serves, Fits, chain_with_room}
 use Rattle.open_store.proofs.Rooming.{chain_next}
 use Rattle.open_store.proofs.Next.{images_both, images_kept}
-use Rattle.container_log.specs.Laying.{Placed}
-use Rattle.container_log.specs.Places.{container_len, place_of}
-use Rattle.record_body.proofs.Spelled.{length-commit}
-use Rattle.user_dedup.specs.Owning.{fps_in}
+use Rattle.checkpoints.specs.ContainerLog.Laying.{Placed}
+use Rattle.checkpoints.specs.ContainerLog.Places.{container_len, place_of}
+use Rattle.checkpoints.proofs.RecordBody.Spelled.{length-commit}
+use Rattle.checkpoints.specs.UserDedup.Owning.{fps_in}
 use Rattle.checkpoints.proofs.MemoryProofs.FullRooms.{full_commit_is}
 use Rattle.open_store.specs.Adding.{commit_body}
 use Rattle.open_store.proofs.Fields.{commit_fits}
 use Rattle.open_store.proofs.Moving.{commit_moved}
 use Rattle.open_store.proofs.Preparing.{ends_near}
 use Rattle.open_store.proofs.Stepping.{staged_small}
-use Rattle.cd_edges.specs.Disk.{moment}
-use Rattle.cd_edges.proofs.Moments.{told_on}
-use Rattle.container_log.specs.States as logs
+use Rattle.checkpoints.specs.CdEdges.Disk.{moment}
+use Rattle.checkpoints.proofs.CdEdges.Moments.{told_on}
+use Rattle.checkpoints.specs.ContainerLog.States as logs
 use Rattle.checkpoints.specs.CloudDisk.Held.{flush_moments}
 use Rattle.checkpoints.specs.CloudDisk.Disk.{KeepsOrGrows as GrowsBy}
 use Rattle.open_store.proofs.Growing.{grows_both, grows_sums, grows_still}

@@ -3,14 +3,14 @@ use Rattle.std.specs.Prelude.{◌-◌, ◌^◌, min}
 use Rattle.open_store.specs.Adding.{IsTooLong}
 use Rattle.checkpoints.specs.CloudMemory.Steps.{without_entry}
 use Rattle.checkpoints.specs.CloudMemory.Rooms.{memory_of}
-use Rattle.file_index.specs.Files.{key_of}
-use Rattle.user_dedup.specs.Requests.{fps_of}
-use Rattle.journal_start.specs.declared.start.Header.{Header}
-use Rattle.record_bodies.specs.Spelling as bodies
-use Rattle.record_bodies.specs.Spelling.{body_bytes}
-use Rattle.user_dedup.specs.declared.command.Command.TheVariants as asked
-use Rattle.cloud_areas.specs.Adding.{with_record}
-use Rattle.cloud_areas.specs.Standing.{Chain}
+use Rattle.checkpoints.specs.FileIndex.Files.{key_of}
+use Rattle.checkpoints.specs.UserDedup.Requests.{fps_of}
+use Rattle.checkpoints.specs.JournalStart.start.Header.{Header}
+use Rattle.checkpoints.specs.RecordBodies.Spelling as bodies
+use Rattle.checkpoints.specs.RecordBodies.Spelling.{body_bytes}
+use Rattle.checkpoints.specs.UserDedup.command.Command.TheVariants as asked
+use Rattle.checkpoints.specs.CloudAreas.Adding.{with_record}
+use Rattle.checkpoints.specs.CloudAreas.Standing.{Chain}
 use Rattle.checkpoints.specs.CloudDisk.Disk.{IsOn, KeepsOrAdds}
 use Rattle.checkpoints.specs.declared.whole.Unsettled.{Unsettled}
 use Rattle.checkpoints.specs.Known.{IfLong}
@@ -18,12 +18,12 @@ use Rattle.open_store.specs.declared.store.OpenStore.{OpenStore}
 use Rattle.open_store.specs.Store.{Serves, Fits, chain_with_room}
 use Rattle.open_store.proofs.Rooming.{chain_next}
 use Rattle.open_store.proofs.Next.{images_both, images_kept}
-use Rattle.record_bodies.proofs.Spelled.{length-delete}
+use Rattle.checkpoints.proofs.RecordBodies.Spelled.{length-delete}
 use Rattle.open_store.proofs.Fields.{delete_fits}
 use Rattle.open_store.proofs.Moving.{delete_moved}
-use Rattle.cd_edges.specs.Disk.{moment}
-use Rattle.cd_edges.proofs.Moments.{told_on}
-use Rattle.container_log.specs.States as logs
+use Rattle.checkpoints.specs.CdEdges.Disk.{moment}
+use Rattle.checkpoints.proofs.CdEdges.Moments.{told_on}
+use Rattle.checkpoints.specs.ContainerLog.States as logs
 use Rattle.checkpoints.specs.CloudDisk.Held.{flush_moments}
 use Rattle.checkpoints.specs.CloudDisk.Disk.{KeepsOrGrows as GrowsBy}
 use Rattle.open_store.proofs.Growing.{grows_both, grows_sums}

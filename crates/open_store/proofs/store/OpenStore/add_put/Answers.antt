@@ -1,12 +1,12 @@
 use Rattle.std.proofs.Common.{◌≡◌, ℕ, [], ◌∷◌, ◌++◌, inl, Err, sym, ap, ◌∙◌, subst, arith, ◌+◌, IsTrue, refl}
-use Rattle.cd_edges.proofs.Moments.{started}
+use Rattle.checkpoints.proofs.CdEdges.Moments.{started}
 use Rattle.std.specs.Prelude.{◌-◌, ◌^◌, min}
 use Rattle.open_store.specs.Adding.{IsTooLong}
 use Rattle.checkpoints.specs.CloudMemory.Steps.{parts_of, with_put}
-use Rattle.journal_start.specs.declared.start.Header.{Header}
-use Rattle.user_dedup.specs.declared.command.Command.TheVariants as asked
-use Rattle.cloud_areas.specs.Adding.{with_record}
-use Rattle.cloud_areas.specs.Standing.{Chain}
+use Rattle.checkpoints.specs.JournalStart.start.Header.{Header}
+use Rattle.checkpoints.specs.UserDedup.command.Command.TheVariants as asked
+use Rattle.checkpoints.specs.CloudAreas.Adding.{with_record}
+use Rattle.checkpoints.specs.CloudAreas.Standing.{Chain}
 use Rattle.checkpoints.specs.CloudDisk.Disk.{IsOn, KeepsOrAdds, StandsForEither}
 use Rattle.checkpoints.proofs.DiskProofs.Standing.{images_on}
 use Rattle.checkpoints.specs.CloudMemory.Rooms.{memory_of}
@@ -21,17 +21,17 @@ use Rattle.open_store.specs.Adding.{put_record}
 use Rattle.open_store.proofs.Moving.{put_moved}
 use Rattle.store_opening.proofs.Spends.{ends_far}
 use Rattle.open_store.proofs.Putting.{put_short}
-use Rattle.cd_edges.specs.Disk.{moment}
-use Rattle.cd_edges.specs.Shelf.{IsCall}
-use Rattle.cd_edges.proofs.Calls.{called_twice}
-use Rattle.cd_edges.proofs.Moments.{told_on}
-use Rattle.container_log.specs.States as logs
+use Rattle.checkpoints.specs.CdEdges.Disk.{moment}
+use Rattle.checkpoints.specs.CdEdges.Shelf.{IsCall}
+use Rattle.checkpoints.proofs.CdEdges.Calls.{called_twice}
+use Rattle.checkpoints.proofs.CdEdges.Moments.{told_on}
+use Rattle.checkpoints.specs.ContainerLog.States as logs
 use Rattle.checkpoints.specs.CloudDisk.Held.{flush_moments}
 use Rattle.checkpoints.specs.CloudDisk.Disk.{KeepsOrGrows as GrowsBy}
 use Rattle.open_store.proofs.Growing.{grows_both, grows_sums, grows_still}
 use Rattle.checkpoints.specs.CloudDisk.Disk.{Disk}
 use Rattle.open_store.proofs.Keeping.{serves_on}
-use Rattle.record_bodies.specs.Spelling.{body_bytes}
+use Rattle.checkpoints.specs.RecordBodies.Spelling.{body_bytes}
 use Rattle.open_store.proofs.store.OpenStore.add_put.Goals as goal
 
 pub returns-in-Some-clause-any_moment : goal.returns-in-Some-clause-any_moment

@@ -1,6 +1,6 @@
 use Rattle.std.proofs.Common.{◌≡◌, sym, ◌∙◌, ap, subst, arith}
-use Rattle.half_journal.specs.declared.journal.Stage.{Stage}
-use Rattle.half_journal.specs.declared.journal.Stage.TheVariants.{AtEnd, Shut}
+use Rattle.checkpoints.specs.HalfJournal.journal.Stage.{Stage}
+use Rattle.checkpoints.specs.HalfJournal.journal.Stage.TheVariants.{AtEnd, Shut}
 use Rattle.checkpoints.specs.CloudMemory.Fitting.{FitsRecords}
 use Rattle.checkpoints.proofs.MemoryProofs.Fitting.{begun_fits}
 use Rattle.open_store.proofs.store.OpenStore.make.Goals as goal

@@ -1,8 +1,8 @@
 use Rattle.std.proofs.Common.{inr, sym, subst, arith}
-use Rattle.cd_edges.specs.declared.area.Area.TheVariants.{Journal}
-use Rattle.cd_edges.specs.Disk.{IsAtArea}
-use Rattle.cd_edges.proofs.Moments.{started}
-use Rattle.cloud_areas.specs.Standing.{Chain, StandsFor}
+use Rattle.checkpoints.specs.CdEdges.area.Area.TheVariants.{Journal}
+use Rattle.checkpoints.specs.CdEdges.Disk.{IsAtArea}
+use Rattle.checkpoints.proofs.CdEdges.Moments.{started}
+use Rattle.checkpoints.specs.CloudAreas.Standing.{Chain, StandsFor}
 use Rattle.checkpoints.proofs.DiskProofs.Standing.{images_on}
 use Rattle.open_store.specs.Store.{ServesBy}
 use Rattle.open_store.proofs.Carrying.{serves_summed}

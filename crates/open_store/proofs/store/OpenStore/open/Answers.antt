@@ -1,11 +1,11 @@
 use Rattle.std.proofs.Common.{◌≡◌, ℕ, sym, ap, ◌∙◌, subst, arith}
-use Rattle.container_log.specs.States as logs
-use Rattle.half_journal.specs.declared.journal.Stage.{Stage}
-use Rattle.half_journal.specs.declared.journal.Stage.TheVariants.{AtEnd, Shut}
-use Rattle.half_journal.specs.States as journals
-use Rattle.journal_start.specs.declared.start.Start.{Start}
-use Rattle.journal_start.specs.Spelling.{region_of}
-use Rattle.cloud_areas.specs.Standing.{region_in}
+use Rattle.checkpoints.specs.ContainerLog.States as logs
+use Rattle.checkpoints.specs.HalfJournal.journal.Stage.{Stage}
+use Rattle.checkpoints.specs.HalfJournal.journal.Stage.TheVariants.{AtEnd, Shut}
+use Rattle.checkpoints.specs.HalfJournal.States as journals
+use Rattle.checkpoints.specs.JournalStart.start.Start.{Start}
+use Rattle.checkpoints.specs.JournalStart.Spelling.{region_of}
+use Rattle.checkpoints.specs.CloudAreas.Standing.{region_in}
 use Rattle.checkpoints.proofs.DiskProofs.Standing.{start_on}
 use Rattle.checkpoints.specs.CloudMemory.Memory.{HasEnds}
 use Rattle.checkpoints.specs.CloudMemory.Rooms.{memory_of}
@@ -19,7 +19,7 @@ returns-in-Ok-clause-serves g c told list stands may =
     let l = c.in-Ok.ensures.loaded told c.requires.settled.disk list stands may in
     let loaded = l.1 in let chain = loaded.c in
     let region : c.region-self.result ≡ region_in chain =
-    c.region-self.ensures ∙ ap (λ (j : journals.State). region_of j.start.checkpoint) c.journal.ensures ∙ ap (λ (s : Start). region_of s.checkpoint) (start_on header list chain disk c1 loaded.on) in
+    c.region-self.ensures ∙ ap (λ (j : journals.JournalState). region_of j.start.checkpoint) c.journal.ensures ∙ ap (λ (s : Start). region_of s.checkpoint) (start_on header list chain disk c1 loaded.on) in
     record {
       c = chain;
       serves = record {
@@ -41,7 +41,7 @@ returns-in-Ok-clause-serves g c told list stands may =
 pub returns-in-Ok-clause-settled : goal.returns-in-Ok-clause-settled
 returns-in-Ok-clause-settled g c =
     let settled = c.requires.settled in
-    let region : c.region-self.result ≡ region_of c.reopen.new.disk.journal.start.checkpoint = c.region-self.ensures ∙ ap (λ (j : journals.State). region_of j.start.checkpoint) c.journal.ensures in
+    let region : c.region-self.result ≡ region_of c.reopen.new.disk.journal.start.checkpoint = c.region-self.ensures ∙ ap (λ (j : journals.JournalState). region_of j.start.checkpoint) c.journal.ensures in
     record {
       header = settled.header;
       format = settled.format;

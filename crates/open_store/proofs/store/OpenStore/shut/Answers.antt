@@ -1,6 +1,6 @@
 use Rattle.std.proofs.Common.{◌≡◌, sym, ap, ◌∙◌, subst}
-use Rattle.half_journal.specs.declared.journal.Stage.{Stage}
-use Rattle.half_journal.specs.declared.journal.Stage.TheVariants.{AtEnd, Shut}
+use Rattle.checkpoints.specs.HalfJournal.journal.Stage.{Stage}
+use Rattle.checkpoints.specs.HalfJournal.journal.Stage.TheVariants.{AtEnd, Shut}
 use Rattle.checkpoints.specs.CloudDisk.Disk.{Disk}
 use Rattle.open_store.proofs.store.OpenStore.shut.Goals as goal
 

@@ -1,6 +1,6 @@
 use Rattle.std.proofs.Common.{◌∙◌, ap, arith}
-use Rattle.slot_pool.specs.Pool.{Pool}
-use Rattle.pool_map.specs.declared.Entry.{Entry}
+use Rattle.slot_pool.specs.Pool.{PoolContents}
+use Rattle.pool_map.specs.declared.KeyedValue.{KeyedValue}
 use Rattle.pool_map.specs.Table.{contents}
 use Rattle.pool_map.proofs.Standing.{here-at, key-read}
 use Rattle.pool_map.proofs.Walks.{get-some}
@@ -18,7 +18,7 @@ overflow_sub-self g c =
 
 pub invariant_of-self : goal.invariant_of-self
 invariant_of-self g c =
-    let slots = ap (λ (p : Pool (Entry g.row.K.Denot g.row.W.Denot)). p.slots) c.give-entry.ensures.emptied in
+    let slots = ap (λ (p : PoolContents (KeyedValue g.row.K.Denot g.row.W.Denot)). p.slots) c.give-entry.ensures.emptied in
     let count = drop-count g.K.Ord.cmp g.met.K.Ord.total g.met.K.Key.exact g.K.Key.word_of c.self.inside.pool c.self.inside.chains.heads.items c.self.inside.chains.next.items c.self.invariant.0 c.get-held.result.now.key c.args.slot (key-read g.K.Ord.cmp g.met.K.Ord.total c.self.inside.pool c.args.slot c.get-held.result.now c.get-held.ensures) in
     let was = c.self.invariant.1 in
     rw slots (c.unlink.ensures, omega arith)

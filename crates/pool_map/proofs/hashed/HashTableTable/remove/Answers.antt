@@ -1,6 +1,6 @@
 use Rattle.std.proofs.Common.{◌∙◌, ap, arith}
-use Rattle.slot_pool.specs.Pool.{Pool}
-use Rattle.pool_map.specs.declared.Entry.{Entry}
+use Rattle.slot_pool.specs.Pool.{PoolContents}
+use Rattle.pool_map.specs.declared.KeyedValue.{KeyedValue}
 use Rattle.pool_map.specs.Table.{contents}
 use Rattle.pool_map.proofs.Walks.{get-some, get-none, at-none}
 use Rattle.pool_map.proofs.Contents.{absent-remove}
@@ -9,7 +9,7 @@ use Rattle.pool_map.proofs.hashed.HashTableTable.remove.Goals as goal
 
 pub invariant_of-self : goal.invariant_of-self
 invariant_of-self g c =
-    let slots = ap (λ (p : Pool (Entry g.row.K.Denot g.row.W.Denot)). p.slots) c.give-entry.ensures.emptied in
+    let slots = ap (λ (p : PoolContents (KeyedValue g.row.K.Denot g.row.W.Denot)). p.slots) c.give-entry.ensures.emptied in
     let count = drop-count g.K.Ord.cmp g.met.K.Ord.total g.met.K.Key.exact g.K.Key.word_of c.self.inside.pool c.self.inside.chains.heads.items c.self.inside.chains.next.items c.self.invariant.0 c.args.key.now c.in-Some.number c.in-Some.ensures.found in
     let was = c.self.invariant.1 in
     rw slots (c.unlink.ensures, omega arith)

@@ -1,7 +1,7 @@
 use Rattle.std.proofs.Common.{◌≡◌, ◌+◌, length, get_or, set, subst, ap, ◌∙◌, arith, length-set, sym}
 use Rattle.std.proofs.lemmas.List.{take_at, get_or_default}
-use Rattle.slot_pool.specs.Pool.{Pool}
-use Rattle.pool_map.specs.declared.Entry.{Entry}
+use Rattle.slot_pool.specs.Pool.{PoolContents}
+use Rattle.pool_map.specs.declared.KeyedValue.{KeyedValue}
 use Rattle.pool_map.specs.Index.{IsBeforeGap}
 use Rattle.pool_map.specs.Table.{contents}
 use Rattle.pool_map.proofs.Walks.{fill-count, insert-hashed, lacks-from-none}
@@ -21,7 +21,7 @@ link-after-requires-clause-before g c = omega (arith, c.deref.ensures.len, c.der
 
 pub overflow_add-self : goal.overflow_add-self
 overflow_add-self g c =
-    let e : Entry g.row.K.Denot g.row.W.Denot = record { key = c.args.key; value = c.args.value } in
+    let e : KeyedValue g.row.K.Denot g.row.W.Denot = record { key = c.args.key; value = c.args.value } in
     let counts = fill-count c.self.inside.pool.slots c.in-Ok-take.slot.number c.args.account e c.in-Ok-take.ensures.in_range c.in-Ok-take.ensures.was_empty in
     let small = c.self.invariant.0.index.small in
     let len = c.self.invariant.1 in
@@ -31,9 +31,9 @@ pub invariant_of-self : goal.invariant_of-self
 invariant_of-self g c =
     let s = c.in-Ok-take.slot.number in
     let b = c.in-Err.before in
-    let e : Entry g.row.K.Denot g.row.W.Denot = record { key = c.args.key; value = c.args.value } in
+    let e : KeyedValue g.row.K.Denot g.row.W.Denot = record { key = c.args.key; value = c.args.value } in
     let gap = subst (λ o. IsBeforeGap g.K.Ord.cmp c.self.inside.pool.slots o c.args.key b) c.deref.ensures.value c.in-Err.ensures.absent in
-    let slots : c.take.new.self.slots ≡ _ = ap (λ (p : Pool (Entry g.row.K.Denot g.row.W.Denot)). p.slots) c.in-Ok-take.ensures.ok in
+    let slots : c.take.new.self.slots ≡ _ = ap (λ (p : PoolContents (KeyedValue g.row.K.Denot g.row.W.Denot)). p.slots) c.in-Ok-take.ensures.ok in
     let links : c.link-after.new.next ≡ set (set c.self.inside.next.items s (get_or c.self.inside.next.items b 0)) b s = c.link-after.ensures.linked ∙ ap (λ d. set (set d s (get_or d b 0)) b s) c.deref_mut.ensures.value in
     let n : length c.link-after.new.next ≡ length c.self.inside.next.items = ap length links ∙ length-set (set c.self.inside.next.items s (get_or c.self.inside.next.items b 0)) b s ∙ length-set c.self.inside.next.items s (get_or c.self.inside.next.items b 0) in
     let m : length c.link-after.new.next ≡ c.self.inside.next.len = omega arith in
@@ -50,7 +50,7 @@ invariant_of-self g c =
 pub returns-in-Ok-take-clause-ok : goal.returns-in-Ok-take-clause-ok
 returns-in-Ok-take-clause-ok g c =
     let h = c.in-Err.ensures.absent in
-    let e : Entry g.row.K.Denot g.row.W.Denot = record { key = c.args.key; value = c.args.value } in
+    let e : KeyedValue g.row.K.Denot g.row.W.Denot = record { key = c.args.key; value = c.args.value } in
     ap (contents g.K.Ord.cmp) c.in-Ok-take.ensures.ok
     ∙ (rw (← c.self.view_is) (insert-step g.K.Ord.cmp g.met.K.Ord.total g.met.K.Key.exact c.self.inside.pool.slots h.ordered.order h.ordered.index h.place c.in-Ok-take.slot.number c.args.account e h.gap c.in-Ok-take.ensures.in_range c.in-Ok-take.ensures.was_empty))
 

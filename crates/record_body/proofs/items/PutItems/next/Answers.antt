@@ -1,11 +1,11 @@
 use Rattle.std.proofs.Common.{◌-◌, arith, refl, sym, ap, ◌∙◌}
-use Rattle.record_body.specs.InPlace.{Walk}
+use Rattle.record_body.specs.InPlace.{FirstWalk}
 use Rattle.record_body.proofs.Walks.{none_left, item_there, steps}
 use Rattle.record_body.proofs.items.PutItems.next.Goals as goal
 
 pub returns-then-self-eq0 : goal.returns-then-self-eq0
 returns-then-self-eq0 c =
-    (sym (ap (λ (w : Walk). w.items) c.self.view_is) ∙ none_left c.self.inside.body.now c.self.inside.at c.self.inside.count c.if-self-eq0.true, refl)
+    (sym (ap (λ (w : FirstWalk). w.items) c.self.view_is) ∙ none_left c.self.inside.body.now c.self.inside.at c.self.inside.count c.if-self-eq0.true, refl)
 
 pub invariant_of-self : goal.invariant_of-self
 invariant_of-self c = (steps c.self.inside.body.now c.self.inside.at c.self.inside.count c.in-Some.next (c.self.inside.count - 1) c.in-Some.item c.self.invariant (omega arith) c.in-Some.ensures).lies

@@ -1,8 +1,8 @@
 use Rattle.std.proofs.Common.{ℕ, ◌-◌, ◌<◌, ◌∙◌, ap, sym, arith}
 use Rattle.std.specs.Prelude.{is_some}
 use Rattle.std.specs.FinMap.{insert}
-use Rattle.slot_pool.specs.Pool.{Pool}
-use Rattle.pool_map.specs.declared.Entry.{Entry as Pair}
+use Rattle.pool_map.specs.SlotPool.Pool.{PoolContents}
+use Rattle.pool_map.specs.declared.KeyedValue.{KeyedValue as Pair}
 use Rattle.share_index.specs.declared.key.UserNumber.{UserNumber}
 use Rattle.pool_map.specs.Table.{contents}
 use Rattle.pool_map.specs.Shown.{shown, shown-insert, shown-remove}
@@ -31,7 +31,7 @@ invariant_of-self-else-count-eq1 c =
     let x = owning c.self.inside.table c.self.inside.batches c.self.invariant c.args.user some in
     let same = (c.count-count.ensures ∙ ap (λ (u : UserCounts). count_at u.counts c.args.user) (sym c.self.view_is)) in
     let other = c.if-count-eq1.false in
-    counting-put c.self.inside.table c.self.inside.batches c.self.invariant c.replace.new.self c.args.user (c.count-count.result - 1) _ (ap (λ (p : Pool (Pair UserNumber ℕ)). p.limits) c.replace.ensures.slots.now_is)
+    counting-put c.self.inside.table c.self.inside.batches c.self.invariant c.replace.new.self c.args.user (c.count-count.result - 1) _ (ap (λ (p : PoolContents (Pair UserNumber ℕ)). p.limits) c.replace.ensures.slots.now_is)
     (c.replace.ensures.replaced ∙ rewritten-is c.self.inside.table c.self.inside.batches c.self.invariant c.args.user (c.count-count.result - 1) x.0 x.1 x.2)
     (omega arith)
     c.ranges.user.fits

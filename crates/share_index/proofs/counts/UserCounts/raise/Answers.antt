@@ -1,7 +1,7 @@
 use Rattle.std.proofs.Common.{◌≡◌, ℕ, ◌+◌, ◌∙◌, ap, sym, arith, refl}
 use Rattle.std.specs.FinMap.{insert}
-use Rattle.slot_pool.specs.Pool.{Pool}
-use Rattle.pool_map.specs.declared.Entry.{Entry as Pair}
+use Rattle.pool_map.specs.SlotPool.Pool.{PoolContents}
+use Rattle.pool_map.specs.declared.KeyedValue.{KeyedValue as Pair}
 use Rattle.share_index.specs.declared.key.UserNumber.{UserNumber}
 use Rattle.pool_map.specs.Table.{contents}
 use Rattle.pool_map.specs.Shown.{shown, shown-insert}
@@ -32,7 +32,7 @@ overflow_add-count-in-Some c =
 pub invariant_of-self : goal.invariant_of-self
 invariant_of-self c =
     let h = had c.self.inside.table c.self.inside.batches c.self.invariant c.args.user c.in-Some.count (sym c.in-Some.is ∙ c.copied.ensures ∙ c.get.ensures.value) in
-    counting-put c.self.inside.table c.self.inside.batches c.self.invariant c.replace.new.self c.args.user (c.in-Some.count + 1) _ (ap (λ (p : Pool (Pair UserNumber ℕ)). p.limits) c.replace.ensures.slots.now_is)
+    counting-put c.self.inside.table c.self.inside.batches c.self.invariant c.replace.new.self c.args.user (c.in-Some.count + 1) _ (ap (λ (p : PoolContents (Pair UserNumber ℕ)). p.limits) c.replace.ensures.slots.now_is)
     (c.replace.ensures.replaced ∙ rewritten-is c.self.inside.table c.self.inside.batches c.self.invariant c.args.user (c.in-Some.count + 1) h.0 h.1 h.2)
     (omega arith)
     c.ranges.user.fits
@@ -44,7 +44,7 @@ overflow_add-self-in-None c = let fits = one-more-fits c.self.inside.table c.sel
 pub invariant_of-self-in-Ok : goal.invariant_of-self-in-Ok
 invariant_of-self-in-Ok c =
     let none = (had-none c.self.inside.table c.self.inside.batches c.self.invariant c.args.user (none-copied c.get.result _ (sym c.copied.ensures ∙ c.in-None.is) c.get.ensures.absent)) in
-    counting-put c.self.inside.table c.self.inside.batches c.self.invariant c.insert.new.self c.args.user 1 _ (ap (λ (p : Pool (Pair UserNumber ℕ)). p.limits) c.in-Ok.ensures.placed.now_is)
+    counting-put c.self.inside.table c.self.inside.batches c.self.invariant c.insert.new.self c.args.user 1 _ (ap (λ (p : PoolContents (Pair UserNumber ℕ)). p.limits) c.in-Ok.ensures.placed.now_is)
     c.in-Ok.ensures.ok
     (omega arith)
     c.ranges.user.fits

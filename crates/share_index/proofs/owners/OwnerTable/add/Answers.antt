@@ -1,7 +1,7 @@
 use Rattle.std.proofs.Common.{ℕ, ◌∙◌, ap, length, length-set, refl}
 use Rattle.std.specs.FinMap.{get, insert}
-use Rattle.slot_pool.specs.Pool.{Pool}
-use Rattle.pool_map.specs.declared.Entry.{Entry as Pair}
+use Rattle.pool_map.specs.SlotPool.Pool.{PoolContents}
+use Rattle.pool_map.specs.declared.KeyedValue.{KeyedValue as Pair}
 use Rattle.share_index.specs.declared.key.Owner.{Owner}
 use Rattle.share_index.specs.Owning.{Owners}
 use Rattle.share_index.proofs.Owning.{absent, add-is, owning-add, has-room, refusal, refusal-full, stranger}
@@ -21,13 +21,13 @@ pub insert-requires-clause-absent : goal.insert-requires-clause-absent
 insert-requires-clause-absent c = absent c.self.inside.table c.self.inside.counts c.self.inside.accounts c.self.invariant c.args.owner (ap (λ (o : Owners). get o.owners c.args.owner) c.self.view_is ∙ c.requires)
 
 pub raise-requires : goal.raise-requires
-raise-requires c = has-room c.self.inside.table c.self.inside.counts c.self.inside.accounts c.self.invariant c.insert.new.self c.args.owner c.in-Some.account c.len-owned.result c.in-Ok.ensures.ok (ap (λ (p : Pool (Pair Owner ℕ)). length p.slots) c.in-Ok.ensures.placed.now_is ∙ length-set c.self.inside.table.slots c.in-Ok.ensures.placed.slot _) (ap (λ (o : Owners). get o.owners c.args.owner) c.self.view_is ∙ c.requires) c.len-owned.ensures.keys c.len-owned.ensures.fits
+raise-requires c = has-room c.self.inside.table c.self.inside.counts c.self.inside.accounts c.self.invariant c.insert.new.self c.args.owner c.in-Some.account c.len-owned.result c.in-Ok.ensures.ok (ap (λ (p : PoolContents (Pair Owner ℕ)). length p.slots) c.in-Ok.ensures.placed.now_is ∙ length-set c.self.inside.table.slots c.in-Ok.ensures.placed.slot _) (ap (λ (o : Owners). get o.owners c.args.owner) c.self.view_is ∙ c.requires) c.len-owned.ensures.keys c.len-owned.ensures.fits
 
 pub invariant_of-self : goal.invariant_of-self
 invariant_of-self c =
     owning-add c.self.inside.table c.self.inside.counts c.self.inside.accounts c.self.invariant c.insert.new.self c.raise.new.self c.args.owner c.in-Some.account
-    (ap (λ (p : Pool (Pair Owner ℕ)). p.limits) c.in-Ok.ensures.placed.now_is)
-    (ap (λ (p : Pool (Pair Owner ℕ)). length p.slots) c.in-Ok.ensures.placed.now_is ∙ length-set c.self.inside.table.slots c.in-Ok.ensures.placed.slot _) c.in-Ok.ensures.ok (ap (λ (o : Owners). get o.owners c.args.owner) c.self.view_is ∙ c.requires) c.in-Some.ensures.account c.in-Some.ensures.known c.raise.ensures.counts c.raise.ensures.room
+    (ap (λ (p : PoolContents (Pair Owner ℕ)). p.limits) c.in-Ok.ensures.placed.now_is)
+    (ap (λ (p : PoolContents (Pair Owner ℕ)). length p.slots) c.in-Ok.ensures.placed.now_is ∙ length-set c.self.inside.table.slots c.in-Ok.ensures.placed.slot _) c.in-Ok.ensures.ok (ap (λ (o : Owners). get o.owners c.args.owner) c.self.view_is ∙ c.requires) c.in-Some.ensures.account c.in-Some.ensures.known c.raise.ensures.counts c.raise.ensures.room
 
 pub returns-in-Ok-clause-ok : goal.returns-in-Ok-clause-ok
 returns-in-Ok-clause-ok c =

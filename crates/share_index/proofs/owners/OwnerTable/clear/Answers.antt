@@ -1,6 +1,6 @@
 use Rattle.std.proofs.Common.{◌∙◌, ap, sym, length}
 use Rattle.std.proofs.lemmas.List.{length-replicate}
-use Rattle.slot_pool.specs.declared.Content.TheVariants.{Empty}
+use Rattle.pool_map.specs.SlotPool.Content.TheVariants.{Empty}
 use Rattle.pool_map.specs.Shown.{shown, shown-empty}
 use Rattle.share_index.specs.Order.{owner_exact}
 use Rattle.share_index.proofs.Counting.{plain}

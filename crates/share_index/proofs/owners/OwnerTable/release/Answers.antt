@@ -1,7 +1,7 @@
 use Rattle.std.proofs.Common.{ℕ, ◌∙◌, ◌-◌, ap, sym, arith, length, length-set}
 use Rattle.std.specs.Prelude.{is_some}
-use Rattle.slot_pool.specs.Pool.{Pool}
-use Rattle.pool_map.specs.declared.Entry.{Entry as Pair}
+use Rattle.pool_map.specs.SlotPool.Pool.{PoolContents}
+use Rattle.pool_map.specs.declared.KeyedValue.{KeyedValue as Pair}
 use Rattle.pool_map.specs.Shown.{shown}
 use Rattle.pool_map.specs.Slots.{length-shown_slots}
 use Rattle.pool_map.specs.Table.{contents}
@@ -27,8 +27,8 @@ invariant_of-self-then-uses-gt1 c =
     let x = present c.self.inside.table c.self.inside.counts c.self.inside.accounts c.self.invariant c.args.owner.now (ap is_some (uses-read c.self.inside.table c.self.inside.counts c.self.inside.accounts c.self.invariant c.args.owner.now c.in-Some.held.now c.in-Some.ensures.value)) in
     let rewrites = c.set_at.ensures.slots c.args.owner.now c.in-Some.ensures.slot in
     owning-set c.self.inside.table c.self.inside.counts c.self.inside.accounts c.self.invariant c.set_at.new.self c.args.owner.now (c.in-Some.held.now - 1) x.0
-    (ap (λ (p : Pool (Pair Owner ℕ)). p.limits) rewrites.now_is)
-    (ap (λ (p : Pool (Pair Owner ℕ)). length p.slots) rewrites.now_is ∙ length-set c.self.inside.table.slots rewrites.slot _)
+    (ap (λ (p : PoolContents (Pair Owner ℕ)). p.limits) rewrites.now_is)
+    (ap (λ (p : PoolContents (Pair Owner ℕ)). length p.slots) rewrites.now_is ∙ length-set c.self.inside.table.slots rewrites.slot _)
     (c.set_at.ensures.replaced c.args.owner.now c.in-Some.ensures.slot) x.1 x.2
 
 pub returns-then-uses-eq1-clause-gone : goal.returns-then-uses-eq1-clause-gone
@@ -61,7 +61,7 @@ pub returns-then-uses-gt1-clause-slots : goal.returns-then-uses-gt1-clause-slots
 returns-then-uses-gt1-clause-slots c =
     let rewrites = c.set_at.ensures.slots c.args.owner.now c.in-Some.ensures.slot in
     length-shown_slots (λ (uses : ℕ). uses) c.set_at.new.self.slots
-    ∙ ap (λ (p : Pool (Pair Owner ℕ)). length p.slots) rewrites.now_is ∙ length-set c.self.inside.table.slots rewrites.slot _
+    ∙ ap (λ (p : PoolContents (Pair Owner ℕ)). length p.slots) rewrites.now_is ∙ length-set c.self.inside.table.slots rewrites.slot _
     ∙ sym (length-shown_slots (λ (uses : ℕ). uses) c.self.inside.table.slots)
     ∙ ap (λ (o : Owners). length o.slots) c.self.view_is
 

@@ -1,7 +1,7 @@
 use Rattle.std.proofs.Common.{◌∙◌, ap, arith, refl}
 use Rattle.std.specs.FinMap.{get, insert}
-use Rattle.slot_pool.specs.Pool.{Pool}
-use Rattle.pool_map.specs.declared.Entry.{Entry as Pair}
+use Rattle.pool_map.specs.SlotPool.Pool.{PoolContents}
+use Rattle.pool_map.specs.declared.KeyedValue.{KeyedValue as Pair}
 use Rattle.share_index.specs.declared.key.Kept.{Kept}
 use Rattle.share_index.specs.Placing.{Places}
 use Rattle.std.proofs.Common.{List, ℕ}
@@ -17,7 +17,7 @@ overflow_add-self c = let fits = add-fits c.self.inside.table c.self.inside.owne
 pub invariant_of-self : goal.invariant_of-self
 invariant_of-self c =
     placing-add c.self.inside.table c.self.inside.ownerless c.self.invariant c.insert.new.self c.args.fp c.args.kept c.unowned.result
-    (ap (λ (p : Pool (Pair (List ℕ) Kept)). p.limits) c.in-Ok.ensures.placed.now_is)
+    (ap (λ (p : PoolContents (Pair (List ℕ) Kept)). p.limits) c.in-Ok.ensures.placed.now_is)
     c.in-Ok.ensures.ok (ap (λ (p : Places). get p.kept c.args.fp) c.self.view_is ∙ c.requires.absent) (rw (← c.self.view_is) at c.requires.room) c.unowned.ensures
 
 pub unreachable-requires : goal.unreachable-requires

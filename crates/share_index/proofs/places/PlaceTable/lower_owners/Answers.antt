@@ -1,7 +1,7 @@
 use Rattle.std.proofs.Common.{List, ℕ, ◌∙◌, ◌-◌, ◌<◌, ap, sym, subst, arith, Option}
 use Rattle.std.specs.Prelude.{is_some, IfSome}
-use Rattle.slot_pool.specs.Pool.{Pool}
-use Rattle.pool_map.specs.declared.Entry.{Entry as Pair}
+use Rattle.pool_map.specs.SlotPool.Pool.{PoolContents}
+use Rattle.pool_map.specs.declared.KeyedValue.{KeyedValue as Pair}
 use Rattle.pool_map.specs.Shown.{shown}
 use Rattle.pool_map.specs.Slots.{rewritten-shown, length-rewritten}
 use Rattle.pool_map.specs.Table.{contents}
@@ -31,7 +31,7 @@ invariant_of-self c =
     let fewer : Kept = record { place = c.in-Some.kept.now.place; owners = c.in-Some.kept.now.owners - 1 } in
     let x = present c.self.inside.table c.self.inside.ownerless c.self.invariant c.args.fp.now (ap is_some (kept-read c.self.inside.table c.self.inside.ownerless c.self.invariant c.args.fp.now c.in-Some.kept.now c.in-Some.ensures.value)) in
     placing-set c.self.inside.table c.self.inside.ownerless c.self.invariant c.set_at-old.new.self c.args.fp.now c.set_at-old.result fewer x.0 c.unowned.result c.unowned-in-Some.result
-    (ap (λ (p : Pool (Pair (List ℕ) Kept)). p.limits) (c.set_at-old.ensures.slots c.args.fp.now c.in-Some.ensures.slot).now_is)
+    (ap (λ (p : PoolContents (Pair (List ℕ) Kept)). p.limits) (c.set_at-old.ensures.slots c.args.fp.now c.in-Some.ensures.slot).now_is)
     (c.set_at-old.ensures.replaced c.args.fp.now c.in-Some.ensures.slot) x.1 (kept-read c.self.inside.table c.self.inside.ownerless c.self.invariant c.args.fp.now c.set_at-old.result (sym (c.set_at-old.ensures.value c.args.fp.now c.in-Some.ensures.slot))) c.unowned.ensures c.unowned-in-Some.ensures
 
 pub returns-in-Some-clause-placed : goal.returns-in-Some-clause-placed
@@ -58,5 +58,5 @@ returns-in-None-clause-kept c = rw (← c.self.view_is) (sym (ap (fewer_at (show
 
 pub returns-in-Some-clause-room : goal.returns-in-Some-clause-room
 returns-in-Some-clause-room c =
-    ap (λ (p : Pool (Pair (List ℕ) Kept)). room_of p.limits) (c.set_at-old.ensures.slots c.args.fp.now c.in-Some.ensures.slot).now_is
+    ap (λ (p : PoolContents (Pair (List ℕ) Kept)). room_of p.limits) (c.set_at-old.ensures.slots c.args.fp.now c.in-Some.ensures.slot).now_is
     ∙ ap (λ (p : Places). p.room) c.self.view_is

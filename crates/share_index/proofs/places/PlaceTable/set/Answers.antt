@@ -1,8 +1,8 @@
 use Rattle.std.proofs.Common.{◌∙◌, ap, sym, arith, Some}
 use Rattle.std.specs.Prelude.{is_some}
 use Rattle.std.specs.FinMap.{get, insert}
-use Rattle.slot_pool.specs.Pool.{Pool}
-use Rattle.pool_map.specs.declared.Entry.{Entry as Pair}
+use Rattle.pool_map.specs.SlotPool.Pool.{PoolContents}
+use Rattle.pool_map.specs.declared.KeyedValue.{KeyedValue as Pair}
 use Rattle.share_index.specs.declared.key.Kept.{Kept}
 use Rattle.pool_map.specs.Slots.{rewritten-shown}
 use Rattle.cd_base.specs.Order.{fp_exact}
@@ -34,7 +34,7 @@ pub invariant_of-self : goal.invariant_of-self
 invariant_of-self c =
     let x = present c.self.inside.table c.self.inside.ownerless c.self.invariant c.args.fp.now (ap (λ (p : Places). is_some (get p.kept c.args.fp.now)) c.self.view_is ∙ c.requires) in
     placing-set c.self.inside.table c.self.inside.ownerless c.self.invariant c.replace-old.new.self c.args.fp.now c.replace-old.result c.args.kept x.0 c.unowned.result c.unowned-2.result
-    (ap (λ (p : Pool (Pair (List ℕ) Kept)). p.limits) c.replace-old.ensures.slots.now_is)
+    (ap (λ (p : PoolContents (Pair (List ℕ) Kept)). p.limits) c.replace-old.ensures.slots.now_is)
     c.replace-old.ensures.replaced x.1 (x.2 ∙ ap Some (sym (value-is c.self.inside.table c.self.inside.ownerless c.self.invariant c.args.fp.now x.0 c.replace-old.result x.1 c.replace-old.ensures.value))) c.unowned.ensures c.unowned-2.ensures
 
 pub returns-clause-kept : goal.returns-clause-kept

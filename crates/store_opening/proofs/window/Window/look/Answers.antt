@@ -1,5 +1,5 @@
 use Rattle.std.proofs.Common.{refl}
-use Rattle.cd_edges.specs.declared.area.Area.TheVariants.{Recipes}
+use Rattle.cloud_disk.specs.CdEdges.area.Area.TheVariants.{Recipes}
 use Rattle.store_opening.specs.declared.window.Window.{Window}
 use Rattle.store_opening.proofs.Looking.{found, read_there, shows_read, shows_none, shows_taken}
 use Rattle.store_opening.proofs.window.Window.look.Goals as goal

@@ -1,6 +1,6 @@
 use Rattle.std.proofs.Common.{ℕ, List, sym, ap, subst}
 use Rattle.std.specs.Bool.{MatchBool}
-use Rattle.cd_base.specs.Numbers.{numbers_of}
+use Rattle.transcript.specs.CdBase.Numbers.{numbers_of}
 use Rattle.subset_restore.specs.Tracking.{HoldsMarked}
 use Rattle.subset_restore.proofs.Marks.{holds_more}
 use Rattle.subset_restore.proofs.refusals.Refusals.+hold.Goals as goal

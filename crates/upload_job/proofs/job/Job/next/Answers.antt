@@ -1,5 +1,5 @@
 use Rattle.std.proofs.Common.{Option, subst, arith}
-use Rattle.messages.specs.declared.request.Request.{Request}
+use Rattle.user_dedup.specs.Messages.request.Request.{Request}
 use Rattle.upload_job.specs.Lanes.{IsAsked}
 use Rattle.upload_job.proofs.Laning.{below_seen, inside_here, request_found, asked_yes, asked_no}
 use Rattle.upload_job.proofs.job.Job.next.Goals as goal

@@ -1,7 +1,7 @@
 use Rattle.std.proofs.Common.{ℕ, List, ◌<◌, length, refl, sym, ap, ◌∙◌, subst}
 use Rattle.std.specs.Prelude.{All}
 use Rattle.file_recipe.specs.declared.cloud_file.CloudFile.{CloudFile}
-use Rattle.upload_job.specs.declared.lane.FileKey.{FileKey}
+use Rattle.upload_job.specs.declared.lane.VersionKey.{VersionKey}
 use Rattle.upload_job.specs.Upload.{FileVersion}
 use Rattle.upload_job.specs.Lanes.{LaneView, entered_at}
 use Rattle.upload_job.specs.Index.{AreLanes, lanes_in, done_at}
@@ -25,7 +25,7 @@ invariant_of-result c =
 
 pub returns : goal.returns
 returns c =
-    let key : FileKey = record { user = c.args.user; tag = c.in_ok-tag.tag; version = c.args.version } in
+    let key : VersionKey = record { user = c.args.user; tag = c.in_ok-tag.tag; version = c.args.version } in
     let v : FileVersion = record { user = c.args.user; path = c.args.path.now; number = c.args.version; file = c.args.bytes.now } in
     let begun = all_begun c.args.shape v key c.into_vec.result.items c.in_ok-lanes.lanes.items refl c.in_ok-tag.ensures refl
     (c.into_vec.ensures ∙ c.in_ok-files.ensures) c.in_ok-lanes.ensures.len c.in_ok-lanes.ensures.each in

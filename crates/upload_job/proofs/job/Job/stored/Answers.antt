@@ -2,7 +2,7 @@ use Rattle.std.proofs.Common.{◌≡◌, List, subst}
 use Rattle.std.proofs.Common.{◌↔◌}
 use Rattle.std.specs.Prelude.{IsTrue, All}
 use Rattle.upload_job.specs.declared.lane.Lane.{Lane}
-use Rattle.upload_job.specs.declared.lane.Stage.TheVariants as stages
+use Rattle.upload_job.specs.declared.lane.LaneStage.TheVariants as stages
 use Rattle.upload_job.specs.Lane.{Done}
 use Rattle.upload_job.specs.Lanes.{LaneView}
 use Rattle.upload_job.proofs.Laning.{done_in}

@@ -1,8 +1,8 @@
 use Rattle.std.proofs.Common.{sym, ◌∙◌}
-use Rattle.cd_edges.proofs.Moments.{told_on}
+use Rattle.half_journal.proofs.CdEdges.Moments.{told_on}
 use Rattle.upload_job.specs.Upload.{FileVersion}
 use Rattle.half_journal.specs.States as half
-use Rattle.upload_spool.specs.States.{State, state_of}
+use Rattle.upload_spool.specs.States.{SpoolState, state_of}
 use Rattle.upload_spool.proofs.Begins.{none_kept, begun_kept, spool_begun, none_on}
 use Rattle.upload_spool.proofs.spool.Spool.begin.Goals as goal
 
@@ -36,7 +36,7 @@ returns-in-Ok-keep-clause-begun g c told none =
     let v : FileVersion = record { user = c.args.user; path = c.args.path.now; number = c.args.version; file = c.args.bytes.now } in
     let told1 = told_on c0 c1 c.find_filled.ensures.call.told told in
     let draft = c.in-Ok.ensures in let s = state_of c.in-Ok.spool in
-    let after : State = record s { journal = half.state_of c.keep.new.journal } in
+    let after : SpoolState = record s { journal = half.state_of c.keep.new.journal } in
     spool_begun after c.args.shape v c.header_of-header.result c.as_slice.result.now c2 (c.in-Ok-keep.ensures.kept told1 (none_on c0 c1 c.find_filled.ensures.stays none)) draft.shape_is c.header_of-header.ensures.value
     (c.as_slice.ensures ∙ draft.body_is) (record { user = draft.of.user; number = draft.of.number; path = draft.of.path; len = draft.of.len; digest = draft.of.digest }) draft.none c.requires.path.few
 

@@ -1,11 +1,11 @@
 use Rattle.std.proofs.Common.{◌≡◌, ℕ, ◌<◌, nat_eq, List, [], ◌∷◌, ◌++◌, refl, sym, ◌∙◌, subst, arith}
 use Rattle.std.specs.Prelude.{All}
 use Rattle.std.specs.List.{IsDistinct}
-use Rattle.cd_base.specs.declared.ids.CloudNo.{CloudNo}
-use Rattle.cd_base.specs.Numbers.{numbers_of}
-use Rattle.cd_edges.proofs.Moments.{told_on}
+use Rattle.grammar.specs.CdBase.ids.CloudNo.{CloudNo}
+use Rattle.grammar.specs.CdBase.Numbers.{numbers_of}
+use Rattle.half_journal.proofs.CdEdges.Moments.{told_on}
 use Rattle.half_journal.specs.States as half
-use Rattle.upload_spool.specs.States.{State, state_of}
+use Rattle.upload_spool.specs.States.{SpoolState, state_of}
 use Rattle.upload_spool.specs.Spools.{spool_chain}
 use Rattle.upload_spool.proofs.Lanes.{distinct_more, below_more}
 use Rattle.upload_spool.proofs.Notes.{near, pushed, room_after, not_noted, noted_images, noted_spool}
@@ -47,7 +47,7 @@ returns-in-Ok-clause-noted g c told v lanes is =
     let c0 = g.V.Shelf.cloud_at c.args.shelf.now 0 in let c1 = g.V.Shelf.cloud_at c.append.new.shelf 0 in
     let items : c.push.new.self.items ≡ more = pushed c.push.result c.push.new.self.items more s.noted.items (sym c.is_err.ensures.value ∙ c.if-is_err.false) c.push.ensures.items in
     let w = spool_chain before.shape v lanes in
-    let after : State = record before { noted = c.push.new.self.items; journal = half.state_of c.append.new.self } in
+    let after : SpoolState = record before { noted = c.push.new.self.items; journal = half.state_of c.append.new.self } in
     noted_spool before after v lanes lane c0 c1 is c.requires.below c.requires.new (near s c.requires.open) (c.in-Ok.ensures.added told w is.ended) refl
     (λ of. record { user = of.user; number = of.number; path = of.path; len = of.len; digest = of.digest }) items
     (c.append.ensures.other told w is.ended) (g.met.V.Shelf.reads_image c.append.new.shelf 0 (told_on c0 c1 c.append.ensures.call.told told)) (c.in-Ok.ensures.others told)

@@ -1,11 +1,11 @@
 use Rattle.std.proofs.Common.{Option, Ok, Err, Some, None, subst}
 use Rattle.std.specs.Prelude.{IfSome}
-use Rattle.cd_edges.specs.Disk.{IsImage, reads}
-use Rattle.cd_edges.proofs.Moments.{told_on}
-use Rattle.cd_edges.specs.declared.area.Area.TheVariants.{Journal}
+use Rattle.half_journal.specs.CdEdges.Disk.{IsImage, reads}
+use Rattle.half_journal.proofs.CdEdges.Moments.{told_on}
+use Rattle.half_journal.specs.CdEdges.area.Area.TheVariants.{Journal}
 use Rattle.half_journal.specs.States as half
 use Rattle.upload_spool.specs.Opens.{answer_of}
-use Rattle.upload_spool.specs.Steps.{FoundIs, HasEnded}
+use Rattle.upload_spool.specs.Steps.{FoundIs, HasSpoolEnded}
 use Rattle.upload_spool.specs.declared.opening.Records.{Records}
 use Rattle.upload_spool.proofs.Again.{found_again}
 use Rattle.upload_spool.proofs.Begins.{still_none}
@@ -55,7 +55,7 @@ returns-in-Ok-bring-clause-found g c told =
     let told1 = told_on c0 c1 c.sync.ensures.call.told told in let told2 = told_on c1 c2 c.kept_in.ensures.call.told told1 in
     let records = c.in-Ok-Some.records in let state = half.state_of c.kept_in.new.journal in
     let found = subst (λ (o : Option Records). FoundIs c.args.shape (c1.now Journal).read (Ok o)) c.in-Ok-Some.field-0-is (c.in-Ok-Some.ensures.found told1) in
-    let ended = subst (λ (o : Option Records). IfSome o (HasEnded c.args.shape state c1 c2)) c.in-Ok-Some.field-0-is (c.in-Ok-Some.ensures.ended told1) in
+    let ended = subst (λ (o : Option Records). IfSome o (HasSpoolEnded c.args.shape state c1 c2)) c.in-Ok-Some.field-0-is (c.in-Ok-Some.ensures.ended told1) in
     ok_opens c.args.shape c0 c1 c2 records state c.in-Ok-bring.opened (synced_shares c0 c1 (c.in-Ok.ensures.sync told).ok) found ended told2 c.in-Ok-bring.ensures.brings
 
 pub returns-in-Ok-bring-clause-kept : goal.returns-in-Ok-bring-clause-kept
@@ -63,7 +63,7 @@ returns-in-Ok-bring-clause-kept g c told v lanes fits spool =
     let c0 = g.V.Shelf.cloud_at c.args.shelf.now 0 in let c1 = g.V.Shelf.cloud_at c.sync.new.self 0 in let c2 = g.V.Shelf.cloud_at c.kept_in.new.shelf 0 in
     let told1 = told_on c0 c1 c.sync.ensures.call.told told in
     let records = c.in-Ok-Some.records in let state = half.state_of c.kept_in.new.journal in
-    let ended = subst (λ (o : Option Records). IfSome o (HasEnded c.args.shape state c1 c2)) c.in-Ok-Some.field-0-is (c.in-Ok-Some.ensures.ended told1) in
+    let ended = subst (λ (o : Option Records). IfSome o (HasSpoolEnded c.args.shape state c1 c2)) c.in-Ok-Some.field-0-is (c.in-Ok-Some.ensures.ended told1) in
     spool_opened c.args.shape c0 c1 c2 (g.V.Shelf.cloud_at c.bring.new.shelf 0) records state c.in-Ok-bring.opened (synced_shares c0 c1 (c.in-Ok.ensures.sync told).ok) ended c.bring.ensures.stays c.in-Ok-bring.ensures.brings v lanes fits spool
 
 pub returns-in-Ok-None-clause-found_again : goal.returns-in-Ok-None-clause-found_again
@@ -84,7 +84,7 @@ returns-in-Err-bring-clause-found g c told =
     let told1 = told_on c0 c1 c.sync.ensures.call.told told in let told2 = told_on c1 c2 c.kept_in.ensures.call.told told1 in
     let records = c.in-Ok-Some.records in let state = half.state_of c.kept_in.new.journal in
     let found = subst (λ (o : Option Records). FoundIs c.args.shape (c1.now Journal).read (Ok o)) c.in-Ok-Some.field-0-is (c.in-Ok-Some.ensures.found told1) in
-    let ended = subst (λ (o : Option Records). IfSome o (HasEnded c.args.shape state c1 c2)) c.in-Ok-Some.field-0-is (c.in-Ok-Some.ensures.ended told1) in
+    let ended = subst (λ (o : Option Records). IfSome o (HasSpoolEnded c.args.shape state c1 c2)) c.in-Ok-Some.field-0-is (c.in-Ok-Some.ensures.ended told1) in
     unbrought_opens c.args.shape c0 c1 c2 records state c.in-Err-bring.error (synced_shares c0 c1 (c.in-Ok.ensures.sync told).ok) found ended told2 c.in-Err-bring.ensures.brings
 
 pub returns-in-Err-bring-clause-found_again : goal.returns-in-Err-bring-clause-found_again

@@ -1,0 +1,2 @@
+-- What gf256 says, for callers.
+pub use Rattle.gf256.specs.Field

@@ -1,0 +1,2 @@
+-- What certificate says, for callers.
+pub use Rattle.own_certificate.specs.Certificate.Lines

@@ -1,0 +1,3 @@
+-- What cd_edges has proved, for callers.
+pub use Rattle.cd_edges.proofs.Calls
+pub use Rattle.cd_edges.proofs.Moments

@@ -1,0 +1,2 @@
+-- What audit_base has proved, for callers.
+pub use Rattle.audit_base.proofs.Wholeness

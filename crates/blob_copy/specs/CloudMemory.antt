@@ -1,0 +1,4 @@
+-- What cloud_memory says, for callers.
+pub use Rattle.fresh_checkpoints.specs.CloudMemory.Live
+pub use Rattle.fresh_checkpoints.specs.CloudMemory.Memory
+pub use Rattle.fresh_checkpoints.specs.CloudMemory.Rooms

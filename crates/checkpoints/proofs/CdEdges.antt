@@ -1,0 +1,3 @@
+-- What cd_edges has proved, for callers.
+pub use Rattle.cloud_disk.proofs.CdEdges.Calls
+pub use Rattle.cloud_disk.proofs.CdEdges.Moments

@@ -1,0 +1,4 @@
+-- What pool_map says, for callers.
+pub use Rattle.cloud_memory.specs.PoolMap.Accounts
+pub use Rattle.cloud_memory.specs.PoolMap.MapSums
+pub use Rattle.cloud_memory.specs.PoolMap.Slots

@@ -1,0 +1,2 @@
+-- What record_bodies has proved, for callers.
+pub use Rattle.cloud_areas.proofs.RecordBodies.BodyLaws

@@ -1,0 +1,4 @@
+-- What container_log says, for callers.
+pub use Rattle.cloud_areas.specs.ContainerLog.Laying
+pub use Rattle.cloud_areas.specs.ContainerLog.Places
+pub use Rattle.cloud_areas.specs.ContainerLog.States

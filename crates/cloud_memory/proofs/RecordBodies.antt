@@ -1,0 +1,3 @@
+-- What record_bodies has proved, for callers.
+pub use Rattle.cloud_areas.proofs.RecordBodies.BodyLaws
+pub use Rattle.cloud_areas.proofs.RecordBodies.Spelled

@@ -1,0 +1,14 @@
+-- What user_dedup says, for callers.
+pub use Rattle.cloud_areas.specs.UserDedup.Cloud
+pub use Rattle.cloud_areas.specs.UserDedup.Compact
+pub use Rattle.cloud_areas.specs.UserDedup.Dedup
+pub use Rattle.cloud_areas.specs.UserDedup.Exec
+pub use Rattle.cloud_areas.specs.UserDedup.Link
+pub use Rattle.cloud_areas.specs.UserDedup.Owning
+pub use Rattle.cloud_areas.specs.UserDedup.Pages
+pub use Rattle.cloud_areas.specs.UserDedup.Requests
+pub use Rattle.cloud_areas.specs.UserDedup.Served
+pub use Rattle.cloud_areas.specs.UserDedup.Spending
+pub use Rattle.cloud_areas.specs.UserDedup.command
+pub use Rattle.cloud_areas.specs.UserDedup.file_list
+pub use Rattle.cloud_areas.specs.UserDedup.view

@@ -1,0 +1,2 @@
+-- What server_requests says, for callers.
+pub use Rattle.server_requests.specs.Asking

@@ -1,0 +1,2 @@
+-- What journal_start says, for callers.
+pub use Rattle.compact_lists.specs.JournalStart.rooms

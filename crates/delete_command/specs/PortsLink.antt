@@ -1,0 +1,2 @@
+-- What ports_link says, for callers.
+pub use Rattle.ports_link.specs.Dialled

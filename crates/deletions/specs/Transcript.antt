@@ -1,0 +1,3 @@
+-- What transcript says, for callers.
+pub use Rattle.transcript.specs.Transcript
+pub use Rattle.transcript.specs.declared.line

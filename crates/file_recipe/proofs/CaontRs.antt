@@ -1,0 +1,3 @@
+-- What caont_rs has proved, for callers.
+pub use Rattle.caont_rs.proofs.Opened
+pub use Rattle.caont_rs.proofs.Openings

@@ -1,0 +1,2 @@
+-- What first_records has proved, for callers.
+pub use Rattle.first_records.proofs.OneAnswer

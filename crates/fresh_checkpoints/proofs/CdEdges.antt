@@ -1,0 +1,5 @@
+-- What cd_edges has proved, for callers.
+pub use Rattle.cloud_disk.proofs.CdEdges.Calls
+pub use Rattle.cloud_disk.proofs.CdEdges.Moments
+pub use Rattle.cloud_disk.proofs.CdEdges.Overwritten
+pub use Rattle.cloud_disk.proofs.CdEdges.Since

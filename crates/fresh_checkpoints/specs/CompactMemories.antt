@@ -1,0 +1,4 @@
+-- What compact_memories says, for callers.
+pub use Rattle.compact_memories.specs.Kept
+pub use Rattle.compact_memories.specs.Moved
+pub use Rattle.compact_memories.specs.Tables

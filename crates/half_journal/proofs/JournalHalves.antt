@@ -1,0 +1,4 @@
+-- What journal_halves has proved, for callers.
+pub use Rattle.journal_halves.proofs.Current
+pub use Rattle.journal_halves.proofs.Laying
+pub use Rattle.journal_halves.proofs.Looks

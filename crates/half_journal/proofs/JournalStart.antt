@@ -1,0 +1,3 @@
+-- What journal_start has proved, for callers.
+pub use Rattle.journal_halves.proofs.JournalStart.Lengths
+pub use Rattle.journal_halves.proofs.JournalStart.Whole

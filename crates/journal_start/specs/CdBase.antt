@@ -1,0 +1,10 @@
+-- What cd_base says, for callers.
+pub use Rattle.message_fields.specs.CdBase.Lengths
+pub use Rattle.message_fields.specs.CdBase.Limits
+pub use Rattle.message_fields.specs.CdBase.Numbers
+pub use Rattle.message_fields.specs.CdBase.Order
+pub use Rattle.message_fields.specs.CdBase.Reading
+pub use Rattle.message_fields.specs.CdBase.ids
+pub use Rattle.message_fields.specs.CdBase.place
+pub use Rattle.message_fields.specs.CdBase.rooms
+pub use Rattle.message_fields.specs.CdBase.shape

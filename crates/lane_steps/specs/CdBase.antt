@@ -1,0 +1,8 @@
+-- What cd_base says, for callers.
+pub use Rattle.grammar.specs.CdBase.Lengths
+pub use Rattle.grammar.specs.CdBase.Limits
+pub use Rattle.grammar.specs.CdBase.Numbers
+pub use Rattle.grammar.specs.CdBase.Reading
+pub use Rattle.grammar.specs.CdBase.ids
+pub use Rattle.grammar.specs.CdBase.rooms
+pub use Rattle.grammar.specs.CdBase.shape

@@ -1,0 +1,4 @@
+-- What cd_edges says, for callers.
+pub use Rattle.cd_edges.specs.Causes
+pub use Rattle.cd_edges.specs.Disk
+pub use Rattle.cd_edges.specs.declared.area

@@ -1,0 +1,2 @@
+-- What checkpoints has proved, for callers.
+pub use Rattle.checkpoints.proofs.Apartness

@@ -1,0 +1,2 @@
+-- What checkpoints says, for callers.
+pub use Rattle.checkpoints.specs.Known

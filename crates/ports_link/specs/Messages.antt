@@ -1,0 +1,5 @@
+-- What messages says, for callers.
+pub use Rattle.user_dedup.specs.Messages.ReplyReading
+pub use Rattle.user_dedup.specs.Messages.Requests
+pub use Rattle.user_dedup.specs.Messages.reply
+pub use Rattle.user_dedup.specs.Messages.request

@@ -1,0 +1,4 @@
+-- What transcript says, for callers.
+pub use Rattle.transcript.specs.Endings
+pub use Rattle.transcript.specs.Transcript
+pub use Rattle.transcript.specs.declared.ending

@@ -1,0 +1,4 @@
+-- What message_fields says, for callers.
+pub use Rattle.message_fields.specs.Fingerprints
+pub use Rattle.message_fields.specs.Parts
+pub use Rattle.message_fields.specs.Readings

@@ -1,0 +1,3 @@
+-- What cloud_memory has proved, for callers.
+pub use Rattle.cloud_memory.proofs.Fitting
+pub use Rattle.cloud_memory.proofs.Puts

@@ -1,0 +1,9 @@
+-- What user_dedup has proved, for callers.
+pub use Rattle.cloud_memory.proofs.UserDedup.CompactSound
+pub use Rattle.cloud_memory.proofs.UserDedup.Deleting
+pub use Rattle.cloud_memory.proofs.UserDedup.Filtered
+pub use Rattle.cloud_memory.proofs.UserDedup.New
+pub use Rattle.cloud_memory.proofs.UserDedup.Owned
+pub use Rattle.cloud_memory.proofs.UserDedup.Sound
+pub use Rattle.cloud_memory.proofs.UserDedup.Spending
+pub use Rattle.cloud_memory.proofs.UserDedup.Views

@@ -1,0 +1,6 @@
+-- What cd_base says, for callers.
+pub use Rattle.cd_base.specs.Lengths
+pub use Rattle.cd_base.specs.Limits
+pub use Rattle.cd_base.specs.Reading
+pub use Rattle.cd_base.specs.declared.ids
+pub use Rattle.cd_base.specs.declared.shape

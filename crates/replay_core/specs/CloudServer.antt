@@ -1,0 +1,2 @@
+-- What cloud_server says, for callers.
+pub use Rattle.cloud_server.specs.declared.server

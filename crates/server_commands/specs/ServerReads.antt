@@ -1,0 +1,4 @@
+-- What server_reads says, for callers.
+pub use Rattle.server_reads.specs.Allowed
+pub use Rattle.server_reads.specs.CloudMemory
+pub use Rattle.server_reads.specs.Found

@@ -1,0 +1,4 @@
+-- What cd_edges has proved, for callers.
+pub use Rattle.cd_edges.proofs.Calls
+pub use Rattle.cd_edges.proofs.Moments
+pub use Rattle.cd_edges.proofs.Torn

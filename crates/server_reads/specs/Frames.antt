@@ -1,0 +1,2 @@
+-- What frames says, for callers.
+pub use Rattle.messages.specs.Frames.Frames

@@ -1,0 +1,9 @@
+-- What messages says, for callers.
+pub use Rattle.messages.specs.Answering
+pub use Rattle.messages.specs.Parts
+pub use Rattle.messages.specs.Replies
+pub use Rattle.messages.specs.RequestReading
+pub use Rattle.messages.specs.Requests
+pub use Rattle.messages.specs.Seen
+pub use Rattle.messages.specs.declared.reply
+pub use Rattle.messages.specs.declared.request

@@ -1,0 +1,3 @@
+-- What journal_start has proved, for callers.
+pub use Rattle.server_commands.proofs.JournalStart.Lengths
+pub use Rattle.server_commands.proofs.JournalStart.Whole

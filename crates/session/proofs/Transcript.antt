@@ -1,0 +1,3 @@
+-- What transcript has proved, for callers.
+pub use Rattle.transcript.proofs.Joined
+pub use Rattle.transcript.proofs.Shapes

@@ -1,0 +1,2 @@
+-- What reed_solomon says, for callers.
+pub use Rattle.rebuild.specs.ReedSolomon.Dispersal

@@ -1,0 +1,3 @@
+-- What cd_base says, for callers.
+pub use Rattle.fresh_checkpoints.specs.CdBase.ids
+pub use Rattle.fresh_checkpoints.specs.CdBase.rooms

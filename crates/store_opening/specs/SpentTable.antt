@@ -1,0 +1,2 @@
+-- What spent_table says, for callers.
+pub use Rattle.record_laws.specs.SpentTable.Spent

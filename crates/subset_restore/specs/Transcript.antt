@@ -1,0 +1,5 @@
+-- What transcript says, for callers.
+pub use Rattle.transcript.specs.Transcript
+pub use Rattle.transcript.specs.declared.line
+pub use Rattle.transcript.specs.declared.news
+pub use Rattle.transcript.specs.declared.refusal

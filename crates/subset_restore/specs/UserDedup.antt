@@ -1,0 +1,14 @@
+-- What user_dedup says, for callers.
+pub use Rattle.restore_job.specs.UserDedup.Cloud
+pub use Rattle.restore_job.specs.UserDedup.Dedup
+pub use Rattle.restore_job.specs.UserDedup.Exec
+pub use Rattle.restore_job.specs.UserDedup.Link
+pub use Rattle.restore_job.specs.UserDedup.Owning
+pub use Rattle.restore_job.specs.UserDedup.Pages
+pub use Rattle.restore_job.specs.UserDedup.Requests
+pub use Rattle.restore_job.specs.UserDedup.Served
+pub use Rattle.restore_job.specs.UserDedup.Spending
+pub use Rattle.restore_job.specs.UserDedup.command
+pub use Rattle.restore_job.specs.UserDedup.file_list
+pub use Rattle.restore_job.specs.UserDedup.link
+pub use Rattle.restore_job.specs.UserDedup.view

@@ -1,0 +1,2 @@
+-- What upload_job says, for callers.
+pub use Rattle.session_model.specs.UploadJob.Lanes

@@ -1,0 +1,3 @@
+-- What messages has proved, for callers.
+pub use Rattle.user_dedup.proofs.Messages.ByKind
+pub use Rattle.user_dedup.proofs.Messages.ReplyLaws

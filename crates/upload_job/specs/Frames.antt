@@ -1,0 +1,2 @@
+-- What frames says, for callers.
+pub use Rattle.user_dedup.specs.Frames.Frames

@@ -1,0 +1,7 @@
+-- What message_fields says, for callers.
+pub use Rattle.user_dedup.specs.MessageFields.Fingerprints
+pub use Rattle.user_dedup.specs.MessageFields.Flags
+pub use Rattle.user_dedup.specs.MessageFields.Keys
+pub use Rattle.user_dedup.specs.MessageFields.Parts
+pub use Rattle.user_dedup.specs.MessageFields.Readings
+pub use Rattle.user_dedup.specs.MessageFields.Shares

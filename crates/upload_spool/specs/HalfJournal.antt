@@ -1,0 +1,2 @@
+-- What half_journal says, for callers.
+pub use Rattle.half_journal.specs.declared.journal

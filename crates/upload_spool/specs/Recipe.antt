@@ -1,0 +1,2 @@
+-- What recipe says, for callers.
+pub use Rattle.upload_job.specs.Recipe.Spelling

@@ -1,0 +1,3 @@
+-- What frames has proved, for callers.
+pub use Rattle.messages.proofs.Frames.FrameLaws
+pub use Rattle.messages.proofs.Frames.StreamLaws

@@ -1,0 +1,3 @@
+-- What recipe has proved, for callers.
+pub use Rattle.recipe.proofs.Recipes
+pub use Rattle.recipe.proofs.Written
