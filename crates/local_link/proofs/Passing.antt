@@ -1,6 +1,6 @@
 -- Asks that add nothing, one after another.
-use Rattle.std.proofs.Common.{◌≡◌, ℕ, ◌<◌, Bool, List, [], ◌∷◌, ◌++◌, Option, Some, None, Result, Ok, Err, refl, sym, ap, ◌∙◌, subst, inl, inr, ◌⊎◌, append-nil}
-use Rattle.std.specs.Prelude.{◌≢◌, IsTrue, IsSomeAnd, option_to_list}
+use Rattle.std.proofs.Common.{◌≡◌, ℕ, zero, suc, ◌<◌, ◌≤◌, arith, Bool, List, [], ◌∷◌, ◌++◌, Option, Some, None, Result, Ok, Err, refl, sym, ap, ◌∙◌, subst, inl, inr, ◌⊎◌, append-nil}
+use Rattle.std.specs.Prelude.{◌≢◌, true, false, IsOk, IsTrue, OnOk, IsSomeAnd, option_to_list}
 use Rattle.std.specs.Bool.{MatchBool}
 use Rattle.std.specs.List.{Contains}
 use Rattle.std.proofs.lemmas.Bool.{cases_eq}
@@ -11,17 +11,25 @@ use Rattle.cloud_server.specs.JournalStart.start.Header.{Header}
 use Rattle.cloud_server.specs.Messages.request.Request.{Request}
 use Rattle.cloud_server.specs.Messages.request.Request.TheVariants as requests
 use Rattle.cloud_server.specs.Messages.reply.Reply.{Reply}
+use Rattle.cloud_server.specs.Messages.reply.Reply.TheVariants as replies
+use Rattle.cloud_server.specs.Messages.Answering.{IsReplyTo}
+use Rattle.cloud_server.specs.Messages.Replies.{IsReply, reply_bytes}
+use Rattle.messages.proofs.ReplyLaws.{reply_law}
+use Rattle.cloud_server.specs.CdEdges.Causes.{Rose}
+use Rattle.cloud_server.proofs.UserDedup.Owned.{contains_cases, contains_nothing}
 use Rattle.cloud_server.specs.UserDedup.command.Command.{Command}
 use Rattle.cloud_server.specs.UserDedup.Dedup.{FullRoom}
 use Rattle.cloud_server.specs.UserDedup.Requests.{asked_at, HasRecipe}
-use Rattle.cloud_server.specs.UserDedup.Exec.{Peer, MaySettleAs, KeepsPeer, CountsOn, Exec, ExecTold, ExecUntold, IsCut, served}
+use Rattle.cloud_server.specs.UserDedup.Exec.{Peer, MaySettleAs, KeepsPeer, CountsOn, Exec, ExecTold, ExecUntold, IsCut, items_of, served}
 use Rattle.cloud_server.proofs.UserDedup.Asked.{asked_law}
 use Rattle.cloud_server.specs.CloudAreas.Peers.{StandsForSome, ImagesSince, MayBecome}
 use Rattle.local_link.specs.declared.link.LocalLink.{LocalLink}
-use Rattle.local_link.specs.Tells.{server_at, header_at, rooms_at, full_at, IsPeer, LeavesRest, serving_at, StandsAt, PassesOn, telling}
-use Rattle.cloud_server.specs.UserDedup.Link.{Exchange, exchange_of, AddsNothing, Passes, ReadsFrom, Asks, serves}
+use Rattle.local_link.specs.Tells.{server_at, header_at, rooms_at, full_at, is_delivered, IsPeer, LeavesRest, serving_at, StandsAt, PassesOn, telling}
+use Rattle.cloud_server.specs.UserDedup.Link.{Exchange, IsReading, exchange_of, AddsNothing, Passes, ReadsFrom, Asks, serves}
 use Rattle.cloud_server.specs.CdBase.Reading.{AreBytes}
-use Rattle.local_link.specs.declared.fate.Fate.TheVariants.{Deliver}
+use Rattle.local_link.specs.declared.fate.Fate.{Fate}
+use Rattle.local_link.specs.declared.fate.Fate.TheVariants.{Deliver, LoseReply, LoseRequest}
+use Rattle.local_link.specs.Steps.{Replied}
 use Rattle.local_link.proofs.Standing.{images_now, header_stays, peer_moves}
 
 -- ---- what adds nothing
@@ -73,6 +81,19 @@ module _ (shape : Shape) (cloud : ℕ) (full : List Command → Command → Opti
       failed (inr cut) = subst (MaySettleAs p) (sym (nothing_pending q list (cut.pending ∙ adds_none shape cloud full q.list r none) settles)) cut.list
 
 -- ---- the chain
+
+rose_behind : (a b c : ℕ) → a ≤ b → Rose b c → Rose a c
+rose_behind a b c le rose = omega (arith, rose)
+
+rose_before : (a b c : ℕ) → Rose a b → b ≤ c → Rose a c
+rose_before a b c rose le = omega (arith, rose)
+
+fault_bytes : AreBytes (reply_bytes replies.Fault)
+fault_bytes zero = omega arith
+fault_bytes (suc i) = omega arith
+
+one_answer : (a b : Reply) → (let r : Result Reply ℕ = Ok a in let s : Result Reply ℕ = Ok b in r ≡ s) → a ≡ b
+one_answer a b e = cc
 
 module _ {V : Type 0} (clouds : V → ℕ → Cloud) where
   -- one ask, and what follows
@@ -160,31 +181,93 @@ module _ {V : Type 0} (clouds : V → ℕ → Cloud) where
   read_same named [] old new same = ap (λ (l : LocalLink V). l.shelf.ghost_name) same
   read_same named (e ∷ es) old new chain = read_same named es chain.1.0 new chain.1.2 ∙ chain.1.1.same_reference
 
+  -- no count of faults falls
+  pub read_later : (es : List Exchange) (old new : LocalLink V) (cloud : ℕ) → Passes (telling clouds) (λ e. IsReading e.content) old es new
+      → (clouds old.shelf.now cloud).faults ≤ (clouds new.shelf.now cloud).faults
+  read_later [] old new cloud same = subst (λ (l : LocalLink V). (clouds old.shelf.now cloud).faults ≤ (clouds l.shelf.now cloud).faults) (sym same) (omega arith)
+  read_later (e ∷ es) old new cloud chain =
+      let first = one_later e old chain.1.0 cloud chain.1.1 (cases_eq cloud e.cloud) in
+      let rest = read_later es chain.1.0 new cloud chain.1.2 in
+      omega arith
+    where
+      one_later : (e : Exchange) (a b : LocalLink V) (cloud : ℕ) → PassesOn clouds a e b → (cloud ≡ e.cloud) ⊎ (cloud ≢ e.cloud) → (clouds a.shelf.now cloud).faults ≤ (clouds b.shelf.now cloud).faults
+      one_later e a b cloud step (inl same) = subst (λ (n : ℕ). (clouds a.shelf.now n).faults ≤ (clouds b.shelf.now n).faults) (sym same) step.later
+      one_later e a b cloud step (inr ne) = subst (λ (x : Cloud). (clouds a.shelf.now cloud).faults ≤ x.faults) (sym (step.rest.clouds_stay cloud ne)) (omega arith)
+
+  -- a reply that's Fault came where the cloud's count rose
+  pub read_fault : (es : List Exchange) (old new : LocalLink V) (e : Exchange) (content : List ℕ) → Passes (telling clouds) (λ e. IsReading e.content) old es new → Contains es e
+      → e.reply ≡ Some content → IsReply content replies.Fault → Rose (clouds old.shelf.now e.cloud).faults (clouds new.shelf.now e.cloud).faults
+  read_fault [] old new e content chain has came fault = absurd (contains_nothing e has)
+  read_fault (x ∷ es) old new e content chain has came fault = elim (contains_cases x es e has) [
+    | inl same ↦ subst (λ (y : Exchange). Rose (clouds old.shelf.now y.cloud).faults (clouds new.shelf.now y.cloud).faults) same
+        (here (subst (λ (y : Exchange). y.reply ≡ Some content) (sym same) came))
+    | inr more ↦
+        let rest = read_fault es chain.1.0 new e content chain.1.2 more came fault in
+        let first = read_later (x ∷ []) old chain.1.0 e.cloud (chain.0, (chain.1.0, chain.1.1, refl)) in
+        rose_behind (clouds old.shelf.now e.cloud).faults (clouds chain.1.0.shelf.now e.cloud).faults (clouds new.shelf.now e.cloud).faults first rest
+  ]
+    where
+      here : x.reply ≡ Some content → Rose (clouds old.shelf.now x.cloud).faults (clouds new.shelf.now x.cloud).faults
+      here came =
+          let reads = chain.0 in
+          let step = chain.1.1 in
+          let asked = (asked_law old.servers.shape x.content reads.0 step.bytes).1 (record { asked = reads.1; recipe = has_recipe old.servers.shape reads.0 reads.2 }) in
+          let said = step.said reads.0 content asked came in
+          let are : AreBytes content = subst AreBytes (sym fault.spelled) fault_bytes in
+          let answer_is : said.0 ≡ replies.Fault = one_answer said.0 replies.Fault (sym ((reply_law content said.0 are).1 said.1) ∙ (reply_law content replies.Fault are).1 fault) in
+          let rest = read_later es chain.1.0 new x.cloud chain.1.2 in
+          rose_before (clouds old.shelf.now x.cloud).faults (clouds chain.1.0.shelf.now x.cloud).faults (clouds new.shelf.now x.cloud).faults (said.4 answer_is) rest
+
 -- ---- one ask
+
+-- What came back from a cloud, whatever it has.
+abbrev pub SaidBy : {V : Type 0} → (V → ℕ → Cloud) → LocalLink V → LocalLink V → ℕ → Request → List ℕ → Type 0
+SaidBy clouds old new cloud r content = (answer : Reply) × IsReply content answer × IsReplyTo (items_of old.servers.shape r) r answer × (answer ≢ replies.NoMemory)
+    × (answer ≡ replies.Fault → Rose (clouds old.shelf.now cloud).faults (clouds new.shelf.now cloud).faults)
+
+pub heard : (fate : Fate) → IsTrue (is_delivered fate) → fate ≢ LoseRequest
+heard Deliver is e = (let never : Deliver ≡ LoseRequest = e in cc)
+heard LoseRequest is e = (let never : false ≡ true = is in cc)
+heard LoseReply is e = (let never : LoseReply ≡ LoseRequest = e in cc)
+
+pub said_by : {V E : Type 0} (clouds : V → ℕ → Cloud) (old new : LocalLink V) (cloud : ℕ) (r : Request) (reply : List ℕ) (before now : ℕ) (result : Result (Unit {0}) E)
+    → (content : List ℕ) × OnOk result (reply ≡ content) × Replied old.servers.shape (clouds old.shelf.now cloud) (clouds new.shelf.now cloud) before now r content → IsOk result → SaidBy clouds old new cloud r reply
+said_by clouds old new cloud r reply before now (Ok u) x ok =
+    (x.2.answer, subst (λ (l : List ℕ). IsReply l x.2.answer) (sym x.1) x.2.is, x.2.kind, x.2.memory, λ fault. (x.2.fault fault).cloud)
+said_by clouds old new cloud r reply before now (Err e) x ok = absurd (let never : false ≡ true = ok in cc)
+
+one_reply : (reply heard : List ℕ) → Some reply ≡ Some heard → reply ≡ heard
+one_reply reply heard e = cc
 
 pub passes_by : {V E : Type 0} (clouds : V → ℕ → Cloud) (old new : LocalLink V) (cloud : ℕ) (content reply : List ℕ) (result : Result (Unit {0}) E) → cloud < old.servers.shape.n → AreBytes content
     → LeavesRest clouds cloud old new → rooms_at new.servers cloud ≡ rooms_at old.servers cloud → new.fate ≡ Deliver → new.shelf.ghost_name ≡ old.shelf.ghost_name
+    → (clouds old.shelf.now cloud).faults ≤ (clouds new.shelf.now cloud).faults
+    → (IsOk result → (r : Request) → asked_at old.servers.shape content ≡ Ok r → SaidBy clouds old new cloud r reply)
     → ((r : Request) → asked_at old.servers.shape content ≡ Ok r → Asks (telling clouds) cloud old r reply result new)
     → ((p : Peer) (r : Request) → IsTrue (clouds old.shelf.now cloud).told → StandsAt clouds old cloud p → asked_at old.servers.shape content ≡ Ok r
     → ImagesSince (clouds old.shelf.now cloud) (clouds new.shelf.now cloud) (header_at old.servers cloud) (MayBecome (serves (telling clouds) old cloud) p r))
     → PassesOn clouds old (exchange_of cloud content result reply) new
-passes_by clouds old new cloud content reply (Ok u) lt bytes rest rooms fate same exec images = record {
+passes_by clouds old new cloud content reply (Ok u) lt bytes rest rooms fate same later said exec images = record {
   reached = lt;
   bytes = bytes;
   rest = rest;
   rooms = rooms;
   fate = fate;
   same_reference = same;
+  later = later;
+  said = λ r heard asked came. subst (SaidBy clouds old new cloud r) (one_reply reply heard came) (said refl r asked);
   goes = λ p r asked is. let x = exec r asked p is in (x.0, x.1, inr (x.2.0, x.2.2));
   images = images;
 }
-passes_by clouds old new cloud content reply (Err e) lt bytes rest rooms fate same exec images = record {
+passes_by clouds old new cloud content reply (Err e) lt bytes rest rooms fate same later said exec images = record {
   reached = lt;
   bytes = bytes;
   rest = rest;
   rooms = rooms;
   fate = fate;
   same_reference = same;
+  later = later;
+  said = λ r heard asked came. absurd (let never : None ≡ Some heard = came in cc);
   goes = λ p r asked is. let x = exec r asked p is in (x.0, x.1, x.2);
   images = images;
 }

@@ -5,6 +5,7 @@ pub mod CloudServer
 pub mod HalfJournal
 pub mod JournalStart
 pub mod Members
+pub mod Messages
 pub mod Sounds
 pub mod Steps
 pub mod StoreOpening

@@ -1,14 +1,18 @@
 -- What the link tells of its clouds.
-use Rattle.std.specs.Prelude.{◌≡◌, ◌≢◌, ◌⊎◌, ℕ, ◌<◌, Bool, true, false, IsTrue, List, Option, Some, None, Ok, IsSomeAnd, nat_lt, slice_get}
+use Rattle.std.specs.Prelude.{◌≡◌, ◌≢◌, ◌⊎◌, ℕ, ◌<◌, ◌≤◌, Bool, true, false, IsTrue, List, Option, Some, None, Ok, IsSomeAnd, nat_lt, slice_get}
 use Rattle.cloud_server.specs.CdBase.Reading.{AreBytes}
 use Rattle.cloud_server.specs.CdBase.shape.Shape.{Shape}
 use Rattle.cloud_server.specs.CdEdges.Disk.{Cloud}
 use Rattle.cloud_server.specs.UserDedup.command.Command.{Command}
 use Rattle.cloud_server.specs.Messages.request.Request.{Request}
 use Rattle.cloud_server.specs.Messages.reply.Reply.{Reply}
+use Rattle.cloud_server.specs.Messages.reply.Reply.TheVariants as replies
+use Rattle.cloud_server.specs.Messages.Answering.{IsReplyTo}
+use Rattle.cloud_server.specs.Messages.Replies.{IsReply}
+use Rattle.cloud_server.specs.CdEdges.Causes.{Rose}
 use Rattle.cloud_server.specs.UserDedup.Dedup.{Outcome, FullRoom}
 use Rattle.cloud_server.specs.UserDedup.Requests.{asked_at}
-use Rattle.cloud_server.specs.UserDedup.Exec.{Peer, KeepsPeer, CountsOn, Exec, StandsSound, served}
+use Rattle.cloud_server.specs.UserDedup.Exec.{Peer, KeepsPeer, CountsOn, Exec, StandsSound, items_of, served}
 use Rattle.cloud_server.specs.UserDedup.Link.{LinkTelling, Exchange}
 use Rattle.cloud_server.specs.CloudAreas.Peers.{ImagesSince, MayBecome}
 use Rattle.cloud_server.specs.JournalStart.rooms.UserRooms.{UserRooms}
@@ -76,6 +80,8 @@ StandsAt clouds link cloud p = IsPeer link.servers.shape cloud (clouds link.shel
 
 -- Only its cloud was touched, and nothing but the fate beside it; the shelf is the same one; the cloud went on from each peer that it stood
 -- for; and whenever a crash came it left a list that the cloud might have settled as, or one with the command that the request adds.
+-- Whatever the cloud has, its count of faults doesn't fall, and a reply that came is one that some server gives to
+-- the request, Fault only where that count rose.
 pub record PassesOn {V : Type 0} (clouds : V → ℕ → Cloud) (old : LocalLink V) (e : Exchange) (new : LocalLink V) : Type 0 where
   pub reached : e.cloud < old.servers.shape.n
   pub bytes : AreBytes e.content
@@ -83,6 +89,11 @@ pub record PassesOn {V : Type 0} (clouds : V → ℕ → Cloud) (old : LocalLink
   pub rooms : rooms_at new.servers e.cloud ≡ rooms_at old.servers e.cloud
   pub fate : new.fate ≡ Deliver
   pub same_reference : new.shelf.ghost_name ≡ old.shelf.ghost_name
+  pub later : (clouds old.shelf.now e.cloud).faults ≤ (clouds new.shelf.now e.cloud).faults
+  pub said : (r : Request) (content : List ℕ) → asked_at old.servers.shape e.content ≡ Ok r → e.reply ≡ Some content
+      → (answer : Reply) × IsReply content answer × IsReplyTo (items_of old.servers.shape r) r answer
+      × (answer ≢ replies.NoMemory)
+      × (answer ≡ replies.Fault → Rose (clouds old.shelf.now e.cloud).faults (clouds new.shelf.now e.cloud).faults)
   pub goes : (p : Peer) (r : Request) → asked_at old.servers.shape e.content ≡ Ok r → StandsAt clouds old e.cloud p
       → (q : Peer) × StandsAt clouds new e.cloud q × ((KeepsPeer p q × CountsOn p q)
       ⊎ ((answer : Reply) × Exec old.servers.shape (clouds old.shelf.now e.cloud).told (serving_at old e.cloud) p r answer q))

@@ -1,13 +1,16 @@
 //! The link to all clouds of a shelf.
 
-ghost use Rattle.std.specs.Prelude.{◌≡◌, ◌<◌, ℕ, List, Some, IsTrue};
+ghost use Rattle.std.specs.Prelude.{◌≡◌, ◌<◌, ◌≤◌, ℕ, List, Some, IsTrue};
+ghost use Rattle.cloud_server.specs.CdEdges.Causes.{Rose};
+ghost use Rattle.cloud_server.specs.Messages.Replies.{IsReply};
+ghost use Rattle.cloud_server.specs.Messages.reply.Reply.TheVariants as replies;
 ghost use Rattle.std.specs.List.{Contains};
 ghost use Rattle.cloud_server.specs.UserDedup.Exec.{Peer, MaySettleAs};
 ghost use Rattle.cloud_server.specs.declared.server.Server.{Server};
 ghost use Rattle.local_link.specs.declared.servers.Servers.{Servers};
 ghost use Rattle.cloud_server.specs.CloudAreas.Peers.{ImagesSince};
 ghost use Rattle.local_link.specs.declared.link.LocalLink.{LocalLink};
-ghost use Rattle.cloud_server.specs.UserDedup.Link.{Exchange, Passes, ReadsFrom};
+ghost use Rattle.cloud_server.specs.UserDedup.Link.{Exchange, IsReading, Passes, ReadsFrom};
 ghost use Rattle.local_link.specs.Tells.{server_at, header_at, telling, StandsAt};
 
 use crate::Fate;
@@ -496,6 +499,16 @@ pub fn law_of_readings<V: Shelf>()
         → cloud < old.servers.shape.n → IsTrue (V.cloud_at old.shelf.now cloud).told → StandsAt V.cloud_at old cloud p
         → ImagesSince (V.cloud_at old.shelf.now cloud) (V.cloud_at new.shelf.now cloud)
         (header_at old.servers cloud) (MaySettleAs p) }
+    // no cloud's count of faults falls
+    ensures later { (asks : List Exchange) (old new : LocalLink V) (cloud : ℕ)
+        → Passes (telling V.cloud_at) (λ ask. IsReading ask.content) old asks new
+        → (V.cloud_at old.shelf.now cloud).faults ≤ (V.cloud_at new.shelf.now cloud).faults }
+    // and where one was answered Fault its cloud's count rose, whatever the cloud has
+    ensures fault { (asks : List Exchange) (old new : LocalLink V) (ask : Exchange) (content : List ℕ)
+        → Passes (telling V.cloud_at) (λ ask. IsReading ask.content) old asks new → Contains asks ask
+        → ask.reply ≡ Some content
+        → IsReply content replies.Fault
+        → Rose (V.cloud_at old.shelf.now ask.cloud).faults (V.cloud_at new.shelf.now ask.cloud).faults }
     // the clouds that aren't named are as they were
     ensures others { (named : List ℕ) (asks : List Exchange) (old new : LocalLink V) (cloud : ℕ)
         → Passes (telling V.cloud_at) (ReadsFrom named) old asks new

@@ -1,5 +1,5 @@
 -- What a restore from opened clouds comes to.
-use Rattle.std.proofs.Common.{◌≡◌, ℕ, ◌<◌, ◌⊎◌, Bool, true, false, cond, nat_eq, List, [], ◌∷◌, ◌++◌, refl, sym, ap, ◌∙◌, subst, inl, inr}
+use Rattle.std.proofs.Common.{◌≡◌, ℕ, ◌<◌, ◌≤◌, ◌⊎◌, Bool, true, false, cond, nat_eq, List, [], ◌∷◌, ◌++◌, map, arith, refl, sym, ap, ◌∙◌, subst, inl, inr}
 use Rattle.std.specs.Prelude.{IsTrue, Some, None, Result, Ok, Err, IfErr, All}
 use Rattle.std.specs.List.{Contains}
 use Rattle.std.proofs.lemmas.Bool.{cases_eq, eq-eqb, ne_eqb}
@@ -17,7 +17,13 @@ use Rattle.cloud_areas.specs.UserDedup.Exec.{Peer, MaySettleAs}
 use Rattle.cloud_areas.specs.UserDedup.Spending.{IsWithin}
 use Rattle.half_journal.specs.JournalStart.rooms.UserRooms.{UserRooms}
 use Rattle.half_journal.specs.JournalStart.start.Header.{Header}
-use Rattle.cloud_areas.specs.UserDedup.Link.{Talk}
+use Rattle.cloud_areas.specs.UserDedup.Link.{IsReading, Passes, ReadsFrom, Talk}
+use Rattle.cloud_areas.specs.UserDedup.Link.{Exchange as Asked_one}
+use Rattle.local_link.specs.Messages.Replies.{IsReply}
+use Rattle.local_link.specs.Messages.reply.Reply.TheVariants as replies
+use Rattle.subset_restore.specs.RestoreJob.Exchanges.{passed_on}
+use Rattle.subset_restore.proofs.RestoreJob.Faulting.{restore_fault}
+use Rattle.subset_restore.proofs.RestoreJob.Leading.{rose_off}
 use Rattle.cloud_areas.proofs.UserDedup.Owned.{contains_here, contains_later, contains_cases, contains_nothing}
 use Rattle.cloud_areas.specs.Peers.{StandsForSome, ImagesSince}
 use Rattle.cloud_areas.specs.Standing.{StandsFor}
@@ -30,7 +36,7 @@ use Rattle.subset_restore.specs.RestoreJob.Asking.{among as only_of}
 use Rattle.subset_restore.specs.RestoreJob.Asking.{PeersOf, AreOnlyAsked, MayRead, HasAskedClouds, is_lost, TellsAll}
 use Rattle.subset_restore.specs.RestoreJob.Brought.{Brought}
 use Rattle.subset_restore.specs.RestoreJob.Reading.{Ends}
-use Rattle.subset_restore.specs.RestoreJob.Refusals.{Names, Caused}
+use Rattle.subset_restore.specs.RestoreJob.Refusals.{Names}
 use Rattle.subset_restore.specs.RestoreJob.Restored
 use Rattle.subset_restore.specs.RestoreJob.Restored.{Unrestored, restored_file}
 use Rattle.subset_restore.specs.RestoreJob.error.RestoreErr.{RestoreErr}
@@ -40,17 +46,17 @@ use Rattle.subset_restore.specs.Transcript.refusal.Refusal.TheVariants as refusa
 use Rattle.read_command.specs.Disks.{AreReadable, KeepsDisks}
 use Rattle.read_command.specs.Opening.{AreOpened}
 use Rattle.subset_restore.specs.Refusals.{refusal_of, refusal_text}
-use Rattle.subset_restore.specs.Ends.{Sought, AnyEnds, GivesNone, NoneBy, NoneCame, WasLost, any_outcome, outcome_of}
+use Rattle.subset_restore.specs.Ends.{Sought, AllRefused, AnyEnds, GivesNone, NoneBy, NoneCame, WasLost, any_outcome, outcome_of}
 use Rattle.subset_restore.specs.Ends.{IsNone as AnyNone}
 use Rattle.subset_restore.specs.Subsets.{subsets}
 use Rattle.subset_restore.specs.Tries.{Try}
 use Rattle.subset_restore.proofs.Calling.{among_chosen, none_by, none_lost}
 use Rattle.subset_restore.proofs.Choices.{subset_among}
-use Rattle.subset_restore.proofs.Elements.{all_of, contains_back, contains_front, of_all}
+use Rattle.subset_restore.proofs.Elements.{all_of, contains_back, contains_front, contains_mapped, of_all}
 use Rattle.subset_restore.proofs.Going.{any_at, any_none}
 use Rattle.subset_restore.proofs.Files.{same_file}
 use Rattle.subset_restore.proofs.RestoreJob.Wrong.{both_true}
-use Rattle.read_command.specs.Ends.{Outside, HaveLists, RoseBy, Due, due_of, IsNone, HoldsFailed, IsFileDue, IsRefusalDue, IsRefused, GivesAnyway}
+use Rattle.read_command.specs.Ends.{Outside, RoseBy, Due, due_of, IsNone, HoldsFailed, IsFileDue, IsRefusalDue, IsRefused, GivesAnyway}
 use Rattle.read_command.specs.Ends.{IsFaultLine, IsLineOf, CameTo, CameDue}
 use Rattle.read_command.proofs.Disks.{OneHeader, rooms_one}
 use Rattle.read_command.proofs.Row.{of_one}
@@ -214,26 +220,17 @@ module _ (c : Outside) (s : Sought) (tries : List Try) (before after : ℕ → P
       of_first free (inr fault) same =
           absurd (free (fault.0, among_chosen s.shape.k s.clouds first [] rest split fault.0 fault.1, fault.3))
 
--- a device that failed is one whose cloud's count rose
-rose_by : (c : Outside) (named : List ℕ) (e : RestoreErr) (before after : ℕ → Peer) → Names (Contains named) e
-    → ((cloud : ℕ) → Contains named cloud → (before cloud).faults ≡ (c.old cloud).faults)
-    → ((cloud : ℕ) → Contains named cloud → (after cloud).faults ≡ (c.new cloud).faults)
-    → ((cloud : CloudNo) → e ≡ errors.CloudFault cloud → Rose (before cloud.0).faults (after cloud.0).faults) → RoseBy c e
-rose_by c named (errors.CloudFault cloud) before after names olds news caused =
-    subst (λ (n : ℕ). Rose n (c.new cloud.0).faults) (olds cloud.0 names)
-    (subst (λ (n : ℕ). Rose (before cloud.0).faults n) (news cloud.0 names) (caused cloud refl))
-rose_by c named (errors.Missing cloud) before after names olds news caused = tt
-rose_by c named (errors.RecipesDiffer a b place) before after names olds news caused = tt
-rose_by c named (errors.ShareLength cloud secret wrong wanted) before after names olds news caused = tt
-rose_by c named (errors.BadSecret secret name wrong) before after names olds news caused = tt
-rose_by c named (errors.BadPad secret at byte) before after names olds news caused = tt
-rose_by c named (errors.Lost cloud) before after names olds news caused = tt
-rose_by c named errors.NoMemory before after names olds news caused = tt
-rose_by c named (errors.CloudDamaged cloud at byte) before after names olds news caused = tt
-rose_by c named (errors.CloudRotten cloud name wrong) before after names olds news caused = tt
-rose_by c named (errors.CloudNoMemory cloud) before after names olds news caused = tt
-rose_by c named (errors.Strange cloud kind) before after names olds news caused = tt
-rose_by c named (errors.BadShare cloud secret name wrong) before after names olds news caused = tt
+-- These lists stand at the named clouds that are told, each within these rooms.
+abbrev HaveLists : Outside → Shape → List ℕ → (ℕ → UserRooms) → (ℕ → List Command) → Type 0
+HaveLists c shape named rooms lists = (cloud : ℕ) → Contains named cloud → IsTrue (c.old cloud).told
+    → StandsFor (reads (c.old cloud).now) (header_of shape (rooms cloud) cloud) (lists cloud)
+    × IsWithin shape (rooms cloud) (lists cloud)
+
+-- asks of some clouds are asks that add nothing
+reading_chain : {V : Type 0} (clouds : V → ℕ → Cloud) (subset : List ℕ) (es : List Asked_one) (a b : LocalLink V)
+    → Passes (telling clouds) (ReadsFrom subset) a es b → Passes (telling clouds) (λ e. IsReading e.content) a es b
+reading_chain clouds subset [] a b chain = chain
+reading_chain clouds subset (e ∷ es) a b chain = (chain.0.1, (chain.1.0, chain.1.1, reading_chain clouds subset es chain.1.0 b chain.1.2))
 
 module _ {V : Type 0} (clouds : V → ℕ → Cloud) (named : List ℕ) (shape : Shape) (total_before between total_after : ℕ) (old mid new : LocalLink V)
     (same : old.servers.shape ≡ shape) (opened : AreOpened clouds total_before between old mid named) where
@@ -286,7 +283,11 @@ module _ {V : Type 0} (clouds : V → ℕ → Cloud) (named : List ℕ) (shape :
     found = (asked.lossless lossless).0
 
     module _ (names : IfErr result (Names (Contains named)))
-        (restored : AnyEnds (telling clouds) talk wanted mid new was file result) where
+        (restored : AnyEnds (telling clouds) talk wanted mid new was file result)
+        (later : (asks : List Asked_one) (a b : LocalLink V) (cloud : ℕ) → Passes (telling clouds) (λ e. IsReading e.content) a asks b
+        → (clouds a.shelf.now cloud).faults ≤ (clouds b.shelf.now cloud).faults)
+        (fault : (asks : List Asked_one) (a b : LocalLink V) (ask : Asked_one) (content : List ℕ) → Passes (telling clouds) (λ e. IsReading e.content) a asks b → Contains asks ask
+        → ask.reply ≡ Some content → IsReply content replies.Fault → Rose (clouds a.shelf.now ask.cloud).faults (clouds b.shelf.now ask.cloud).faults) where
       counts_of : (lists : ℕ → List Command) (after : ℕ → Peer) → PeersOf (telling clouds) new (among named) after
           → Counts around named (peers lists) after
       counts_of lists after stand_now = record {
@@ -294,19 +295,41 @@ module _ {V : Type 0} (clouds : V → ℕ → Cloud) (named : List ℕ) (shape :
         news = λ cloud has. (stand_now cloud (among_has named cloud has)).faults;
       }
 
-      rose_in : (e : RestoreErr) → Names (Contains named) e → NoneCame (telling clouds) talk wanted mid new was e
-          → (rooms : ℕ → UserRooms) (lists : ℕ → List Command) → HaveLists around shape named rooms lists → RoseBy around e
-      rose_in e n came rooms lists have =
-          let went = came.leads (among named) (λ cloud has. among_has named cloud has) (peers lists) (stand rooms lists have) in
-          let y : Try = record { subset = came.first; refusal = e } in
-          let here : Contains came.tries y = subst (λ (l : List Try). Contains l y) (sym came.tries_are)
-          (contains_here y came.more) in
-          let caused = of_all (λ (x : Try). Caused (telling clouds) mid shape user (tag, version) x.refusal (peers lists) went.0)
-          came.tries y went.3 here in
-          let counts = counts_of lists went.0 went.1 in
-          rose_by around named e (peers lists) went.0 n counts.olds counts.news
-          (λ cloud is. subst (λ (x : RestoreErr). Caused (telling clouds) mid shape user (tag, version) x (peers lists) went.0)
-          is caused)
+      -- one try after another: no count falls
+      later_all : (tries : List Try) (a b : LocalLink V) → AllRefused (telling clouds) talk wanted was a tries b → (cloud : ℕ)
+          → (clouds a.shelf.now cloud).faults ≤ (clouds b.shelf.now cloud).faults
+      later_all [] a b same cloud = subst (λ (l : LocalLink V). (clouds a.shelf.now cloud).faults ≤ (clouds l.shelf.now cloud).faults) (sym same) (omega arith)
+      later_all (x ∷ tries) a b all cloud =
+          let first = later all.1.asked.asks a all.0 cloud (reading_chain clouds x.subset all.1.asked.asks a all.0 all.1.asked.passed) in
+          let rest = later_all tries all.0 b all.2 cloud in
+          omega arith
+
+      -- the first try ended by this
+      first_fault : (cloud : CloudNo) → Contains named cloud.0 → NoneCame (telling clouds) talk wanted mid new was (errors.CloudFault cloud)
+          → Rose (clouds old.shelf.now cloud.0).faults (clouds new.shelf.now cloud.0).faults
+      first_fault cloud has came =
+          let all = subst (λ (l : List Try). AllRefused (telling clouds) talk wanted was mid l new) came.tries_are came.refused in
+          let said = all.1.passed in
+          let w = restore_fault shape user tag version said.said.chosen said.said.log was said.said.left _ cloud said.said.run refl in
+          let rose = fault (map passed_on said.said.log) mid all.0 (passed_on w.x) w.x.reply said.passed (contains_mapped passed_on said.said.log w.x w.has) refl w.fault in
+          let here = subst (λ (n : ℕ). Rose (clouds mid.shelf.now n).faults (clouds all.0.shelf.now n).faults) w.cloud_is rose in
+          subst (λ (n : ℕ). Rose n (clouds new.shelf.now cloud.0).faults) (opened.each cloud.0 has).faults
+          (rose_off (clouds mid.shelf.now cloud.0).faults (clouds all.0.shelf.now cloud.0).faults (clouds new.shelf.now cloud.0).faults here (later_all came.more all.0 new all.2 cloud.0))
+
+      rose_in : (e : RestoreErr) → Names (Contains named) e → NoneCame (telling clouds) talk wanted mid new was e → RoseBy around e
+      rose_in (errors.CloudFault cloud) names came = first_fault cloud names came
+      rose_in (errors.Missing cloud) names came = tt
+      rose_in (errors.RecipesDiffer a b place) names came = tt
+      rose_in (errors.ShareLength cloud secret wrong expected) names came = tt
+      rose_in (errors.BadSecret secret name wrong) names came = tt
+      rose_in (errors.BadPad secret at byte) names came = tt
+      rose_in (errors.Lost cloud) names came = tt
+      rose_in errors.NoMemory names came = tt
+      rose_in (errors.CloudDamaged cloud at byte) names came = tt
+      rose_in (errors.CloudRotten cloud name wrong) names came = tt
+      rose_in (errors.CloudNoMemory cloud) names came = tt
+      rose_in (errors.Strange cloud kind) names came = tt
+      rose_in (errors.BadShare cloud secret name wrong) names came = tt
 
       pub came_to : CameTo around shape named result file
       came_to = by_result result names restored found
@@ -322,9 +345,8 @@ module _ {V : Type 0} (clouds : V → ℕ → Cloud) (named : List ℕ) (shape :
           )
           by_result (Err e) n came f = record {
             names = n;
-            rose = none_by (telling clouds) talk wanted was mid new
-                (λ x. Names (Contains named) x → (rooms : ℕ → UserRooms) (lists : ℕ → List Command) → HaveLists around shape named rooms lists
-                → RoseBy around x) (λ names rooms lists have. tt) (λ x is names. rose_in x names is) e came n;
+            rose = none_by (telling clouds) talk wanted was mid new (λ x. Names (Contains named) x → RoseBy around x)
+                (λ names. tt) (λ x is names. rose_in x names is) e came n;
             found = f;
           }
 
@@ -353,7 +375,7 @@ module _ {V : Type 0} (clouds : V → ℕ → Cloud) (named : List ℕ) (shape :
               subst (λ (g : ℕ → List Command). IsRefusalDue around named (due_of shape user (tag, version) named g)
               (refusal_text why)) (same_lists went.0 went.2)
               (refusal_due around wanted came.tries (peers lists) went.0 counts unlost came.first came.rest e was was
-              came.first_is known.ends known.none f (rose_in e n came rooms lists have) why is)
+              came.first_is known.ends known.none f (rose_in e n came) why is)
 
           by_result : (r : Result (Unit {0}) RestoreErr) → IfErr r (Names (Contains named))
               → AnyEnds (telling clouds) talk wanted mid new was file r → is_lost r ≡ false

@@ -25,7 +25,7 @@ nothing_more (Some bytes) = sym (append-nil bytes)
 
 -- a whole text that came of a restore
 whole_said : (c : Outside) (r : Wanted) (came : Result (Unit {0}) RestoreErr) (file text : List ℕ) → Restored c r came file → IsText came file text
-    → IsBrought r.shape r.clouds.now text ⊎ IsRefusalLine c r.shape r.clouds.now text
+    → IsBrought r.shape r.clouds.now text ⊎ IsRefusalLine c r.clouds.now text
 whole_said c r (Ok u) file text is same = inl (subst (IsBrought r.shape r.clouds.now) (sym same) is.came_to)
 whole_said c r (Err e) file text is same = inr (e, same.0, same.1, same.2, is.came_to)
 

@@ -7,11 +7,8 @@ use Rattle.half_journal.specs.CdBase.ids.UserId.{UserId}
 use Rattle.half_journal.specs.CdBase.ids.Version.{Version}
 use Rattle.half_journal.specs.CdBase.shape.Shape.{Shape}
 use Rattle.half_journal.specs.CdEdges.Causes.{Rose}
-use Rattle.half_journal.specs.CdEdges.Disk.{Cloud, reads}
+use Rattle.half_journal.specs.CdEdges.Disk.{Cloud}
 use Rattle.cloud_areas.specs.UserDedup.command.Command.{Command}
-use Rattle.cloud_areas.specs.UserDedup.Spending.{IsWithin}
-use Rattle.cloud_areas.specs.Standing.{StandsFor}
-use Rattle.local_link.specs.CloudServer.Names.{header_of}
 use Rattle.half_journal.specs.JournalStart.rooms.UserRooms.{UserRooms}
 use Rattle.half_journal.specs.JournalStart.start.Header.{Header}
 use Rattle.kept_files.specs.Kept.{key_of}
@@ -116,17 +113,10 @@ GivesAnyway c shape user key named It = (rooms : ℕ → UserRooms) (lists : ℕ
     → Contains (subsets shape.k named) chosen → AreReadable shape chosen c.old rooms lists
     → restored_file shape lists user key chosen ≡ Ok file → (HoldsFailed c chosen → ⊥) → It → ⊥
 
--- These lists stand at the named clouds that are told, each within these rooms.
-abbrev pub HaveLists : Outside → Shape → List ℕ → (ℕ → UserRooms) → (ℕ → List Command) → Type 0
-HaveLists c shape named rooms lists = (cloud : ℕ) → Contains named cloud → IsTrue (c.old cloud).told
-    → StandsFor (reads (c.old cloud).now) (header_of shape (rooms cloud) cloud) (lists cloud)
-    × IsWithin shape (rooms cloud) (lists cloud)
-
--- A refusal names no other clouds than the named ones, and is no lost ask. Where lists stand at all that are told, a
--- device failed only where its count rose.
-pub record IsRefusal (c : Outside) (shape : Shape) (named : List ℕ) (e : RestoreErr) : Type 0 where
+-- A refusal names no other clouds than the named ones, and is no lost ask. A device failed only where its count rose.
+pub record IsRefusal (c : Outside) (named : List ℕ) (e : RestoreErr) : Type 0 where
   pub names : Names (Contains named) e
-  pub rose : (rooms : ℕ → UserRooms) (lists : ℕ → List Command) → HaveLists c shape named rooms lists → RoseBy c e
+  pub rose : RoseBy c e
   pub found : let came : Result (Unit {0}) RestoreErr = Err e in is_lost came ≡ false
 
 -- The bytes are what strings open to which the recipes of k of the clouds name.
@@ -138,7 +128,7 @@ IsBrought shape named file =
 -- refusal.
 abbrev pub CameTo : Outside → Shape → List ℕ → Result (Unit {0}) RestoreErr → List ℕ → Type 0
 CameTo c shape named (Ok u) file = IsBrought shape named file
-CameTo c shape named (Err e) file = IsRefusal c shape named e
+CameTo c shape named (Err e) file = IsRefusal c named e
 
 -- What it came to where this is due.
 abbrev pub CameDue : Outside → List ℕ → Due → Result (Unit {0}) RestoreErr → List ℕ → Type 0
@@ -191,19 +181,19 @@ IsWritten came file old new end = ⊥
 -- ---- the whole read
 
 -- the line of a refusal
-abbrev pub IsRefusalLine : Outside → Shape → List ℕ → List ℕ → Type 0
-IsRefusalLine c shape named text =
+abbrev pub IsRefusalLine : Outside → List ℕ → List ℕ → Type 0
+IsRefusalLine c named text =
     (e : RestoreErr) × (why : Refusal)
-    × (refusal_of e ≡ Some why) × (text ≡ refusal_text why) × IsRefusal c shape named e
+    × (refusal_of e ≡ Some why) × (text ≡ refusal_text why) × IsRefusal c named e
 
 -- What is written by the end, whatever is told. Behind the openings it is a file or a refusal, whole; or a front of it,
 -- where the sink failed. Where the openings end, or memory ran out, nothing is written.
 abbrev pub Says : Outside → Shape → List ℕ → ReadEnd → List ℕ → Type 0
 Says c shape named ends.Done text = AllOpened c shape named × IsBrought shape named text
-Says c shape named ends.Refused text = AllOpened c shape named × IsRefusalLine c shape named text
+Says c shape named ends.Refused text = AllOpened c shape named × IsRefusalLine c named text
 Says c shape named ends.SinkFault text = AllOpened c shape named
     × ((whole : List ℕ) × (rest : List ℕ) × (whole ≡ text ++ rest)
-    × (IsBrought shape named whole ⊎ IsRefusalLine c shape named whole))
+    × (IsBrought shape named whole ⊎ IsRefusalLine c named whole))
 Says c shape named end text = (text ≡ []) × EndsOpening shape named c.old c.new c.total_before c.total_after end
 
 -- What is written by the end, over clouds of which this is due: the file; its refusal, or that of a cloud whose device

@@ -5,6 +5,7 @@ pub mod Bringing
 pub mod Held
 pub mod Taking
 pub mod Wrong
+pub mod Faulting
 pub mod Asks
 pub mod Sharing
 pub mod Batches

@@ -1,5 +1,5 @@
 -- What was said with the clouds of a link: which replies came to which requests, in order.
-use Rattle.std.specs.Prelude.{◌≡◌, ◌≢◌, ℕ, ◌+◌, ◌-◌, ◌<◌, ◌≤◌, min, length, ◌==◌, List, [], ◌∷◌, ◌++◌, take, drop, if◌then◌else◌, Result, Ok, Err, OnOk}
+use Rattle.std.specs.Prelude.{◌≡◌, ◌≢◌, ℕ, ◌+◌, ◌-◌, ◌<◌, ◌≤◌, min, length, map, ◌==◌, Some, List, [], ◌∷◌, ◌++◌, take, drop, if◌then◌else◌, Result, Ok, Err, OnOk}
 use Rattle.user_dedup.specs.CdBase.ids.UserId.{UserId}
 use Rattle.user_dedup.specs.MessageFields.Fingerprints.{batch_limit}
 use Rattle.user_dedup.specs.Messages.Requests.{IsRequest}
@@ -10,7 +10,9 @@ use Rattle.user_dedup.specs.CdBase.ids.CloudNo.{CloudNo}
 use Rattle.user_dedup.specs.CdBase.shape.Shape.{Shape}
 use Rattle.user_dedup.specs.Messages.ReplyReading.{reply_at}
 use Rattle.user_dedup.specs.Recipe.recipe.Recipe.{Recipe}
-use Rattle.user_dedup.specs.Link.{Talk, first_reply, said}
+use Rattle.user_dedup.specs.Link.{IsReading, LinkTelling, Passes, Talk, first_reply, said}
+use Rattle.user_dedup.specs.Link.{Exchange as Passed}
+use Rattle.user_dedup.specs.CdBase.Reading.{AreBytes}
 use Rattle.restore_job.specs.Steps.{RecipeFrom, SharesFrom, NamesKind, Takes, OpensTo, Compares, room_of}
 use Rattle.user_dedup.specs.CdBase.Numbers.{numbers_of}
 use Rattle.user_dedup.specs.CdBase.ids.Tag.{Tag}
@@ -43,6 +45,18 @@ AreReplies cloud (x ∷ log) talk = (x.cloud ≡ cloud → x.reply ≡ first_rep
 abbrev pub HasSpoken : {L : Type 0} → (L → ℕ → Talk → Type 0) → L → L → List CloudExchange → Type 0
 HasSpoken talk old new log = (cloud : ℕ) (before : Talk) → talk old cloud before → talk new cloud (behind_all cloud log before) × AreReplies cloud log before
 
+-- an exchange as the link's own, which brought its reply
+abbrev pub passed_on : CloudExchange → Passed
+passed_on x = record { cloud = x.cloud; content = x.request; reply = Some x.reply }
+
+-- The link passed on these exchanges, one after another, and each asked for what adds nothing.
+abbrev pub PassesAll : {L : Type 0} → LinkTelling L → L → L → List CloudExchange → Type 0
+PassesAll t old new log = Passes t (λ e. IsReading e.content) old (map passed_on log) new
+
+-- So it was said, and passed on by the link.
+abbrev pub Exchanged : {L : Type 0} → LinkTelling L → (L → ℕ → Talk → Type 0) → L → L → List CloudExchange → Type 0
+Exchanged t talk old new log = HasSpoken talk old new log × PassesAll t old new log
+
 -- Unless an ask was lost, or memory ran out.
 abbrev pub Unlost : {A : Type 0} → Result A RestoreErr → Type 0 → Type 0
 Unlost (Ok x) P = P
@@ -67,6 +81,7 @@ pub record RecipeSaid (shape : Shape) (request : List ℕ) (cloud : CloudNo) (x 
   pub request_is : x.request ≡ request
   pub came : RecipeFrom shape cloud (reply_at x.reply) result
   pub kind : NamesKind x.reply result
+  pub bytes : AreBytes x.reply
 
 -- a recipe in front of a result
 abbrev pub with_first : Recipe → Result (List Recipe) RestoreErr → Result (List Recipe) RestoreErr
@@ -103,6 +118,7 @@ pub record SharesSaid (shape : Shape) (user : UserId) (cloud : CloudNo) (firsts 
   pub brought : Result (List (List ℕ)) RestoreErr
   pub came : SharesFrom cloud n (reply_at x.reply) brought
   pub kind : NamesKind x.reply brought
+  pub bytes : AreBytes x.reply
   pub taken : TakenAs shape cloud firsts recipe.items place n brought old new result
 
 -- Clouds were asked so in order, up to the first that refused or whose shares are wrong.
@@ -188,3 +204,10 @@ pub record RestoreSaid {L : Type 0} (talk : L → ℕ → Talk → Type 0) (befo
   pub left : List ℕ
   pub run : RestoreRun shape user tag version chosen log old left result
   pub stands : OnOk result (new ≡ left)
+
+-- Its exchanges are those that the link passed on, one after another.
+pub record RestorePassed {L : Type 0} (t : LinkTelling L) (talk : L → ℕ → Talk → Type 0) (before after : L)
+    (shape : Shape) (user : UserId) (tag : Tag) (version : Version) (clouds : List ℕ) (old new : List ℕ)
+    (result : Result (Unit {0}) RestoreErr) : Type 0 where
+  pub said : RestoreSaid talk before after shape user tag version clouds old new result
+  pub passed : PassesAll t before after said.log

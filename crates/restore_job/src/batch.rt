@@ -11,7 +11,7 @@ ghost use Rattle.caont_rs.specs.ReedSolomon.Dispersal.{AreChoice};
 ghost use Rattle.restore_job.specs.Asking.{HasAskedClouds, LeadsAny, Readable, among, is_lost};
 ghost use Rattle.restore_job.specs.Reading.{Ends};
 ghost use Rattle.restore_job.specs.Brought.{AreSecrets, Extends};
-ghost use Rattle.restore_job.specs.Exchanges.{BatchRun, CloudExchange, HasSpoken, ItemsRun, LostSaid, Unlost};
+ghost use Rattle.restore_job.specs.Exchanges.{BatchRun, CloudExchange, Exchanged, ItemsRun, LostSaid, Unlost};
 ghost use Rattle.restore_job.specs.Refusals.{Names};
 ghost use Rattle.restore_job.specs.Restored.{batch_opened, items_opened};
 ghost use Rattle.restore_job.specs.Steps.{AreItemsAt, BatchShown, Grows, Ready, givens};
@@ -77,7 +77,7 @@ fn restore_batch<L: Link>(
         (Extends shape (numbers_of clouds.now) firsts.now recipes.now place (place + count) out.old out.new) }
     ensures grows { Grows out.old out.new }
     ensures rooms { length rooms.new ≡ length rooms.old }
-    ensures said { Unlost result ((log : List CloudExchange) × HasSpoken L.talk link.old link.new log
+    ensures said { Unlost result ((log : List CloudExchange) × Exchanged L.tells L.talk link.old link.new log
         × BatchRun shape user clouds.now points.now firsts.now recipes.now place count log out.old out.new result) }
     ensures beside { LostSaid L.talk link.old link.new result }
     ensures readable { Readable L.tells link.old link.new result }
@@ -129,7 +129,7 @@ pub fn restore_items<L: Link>(
     ensures brought { OnOk result ((file : List ℕ) × (out.new ≡ out.old ++ file)
         × AreSecrets shape (numbers_of clouds.now) firsts.now recipes.now (length firsts.now) file) }
     ensures grows { Grows out.old out.new }
-    ensures said { Unlost result ((log : List CloudExchange) × HasSpoken L.talk link.old link.new log
+    ensures said { Unlost result ((log : List CloudExchange) × Exchanged L.tells L.talk link.old link.new log
         × ItemsRun shape user clouds.now points.now firsts.now recipes.now 0 log out.old out.new result) }
     ensures beside { LostSaid L.talk link.old link.new result }
     ensures readable { Readable L.tells link.old link.new result }

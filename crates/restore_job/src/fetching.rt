@@ -20,7 +20,7 @@ ghost use Rattle.user_dedup.specs.Requests.{IsAsked};
 ghost use Rattle.restore_job.specs.Asking.{HasAskedClouds, LeadsAny, Readable, among, is_lost};
 ghost use Rattle.restore_job.specs.Brought.{HasShares};
 ghost use Rattle.restore_job.specs.Refusals.{Names};
-ghost use Rattle.restore_job.specs.Exchanges.{BatchSaid, CloudExchange, HasSpoken, LostSaid, RecipeSaid, RecipesSaid};
+ghost use Rattle.restore_job.specs.Exchanges.{BatchSaid, CloudExchange, Exchanged, LostSaid, RecipeSaid, RecipesSaid};
 ghost use Rattle.restore_job.specs.Exchanges.{SharesSaid, Unlost};
 ghost use Rattle.restore_job.specs.Restored.{item_of};
 ghost use Rattle.restore_job.specs.Steps.{AreItemsAt, BatchShown, BatchTold, Ready, ReadyAt, RecipeShown, RecipeTold};
@@ -54,8 +54,8 @@ fn ask<L: Link>(
     ensures others { LeavesOthers L.tells cloud.0 link.old link.new }
     ensures lost { OnErr result (result ≡ Err (RestoreErr.Lost cloud)) }
     ensures spoken { OnOk result
-        (HasSpoken L.talk link.old link.new (record { cloud = cloud.0; request = request.now; reply = reply.new }
-        ∷ [])) }
+        (Exchanged L.tells L.talk link.old link.new
+        (record { cloud = cloud.0; request = request.now; reply = reply.new } ∷ [])) }
     ensures beside { LostSaid L.talk link.old link.new result }
     ensures passes { L.tells.passes link.old (exchange_of cloud.0 request.now result reply.new) link.new }
 {
@@ -87,7 +87,7 @@ fn fetch_recipe<L: Link>(
         (λ before after. RecipeTold shape user (tag, version) cloud result (before cloud.0) (after cloud.0)) }
     ensures named { IfErr result (Names (λ c. c ≡ cloud.0)) }
     ensures fits { IfOk result (Fits shape) }
-    ensures said { Unlost result ((x : CloudExchange) × HasSpoken L.talk link.old link.new (x ∷ [])
+    ensures said { Unlost result ((x : CloudExchange) × Exchanged L.tells L.talk link.old link.new (x ∷ [])
         × RecipeSaid shape request.now cloud x result) }
     ensures beside { LostSaid L.talk link.old link.new result }
     ensures readable { Readable L.tells link.old link.new result }
@@ -131,7 +131,7 @@ pub fn fetch_recipes<L: Link>(
     ensures named { IfErr result (Names (Contains (numbers_of clouds.now))) }
     ensures fits { IfOk result (All (Fits shape)) }
     ensures pairs { IfOk result (λ recipes. length recipes ≡ length clouds.now) }
-    ensures said { Unlost result ((log : List CloudExchange) × HasSpoken L.talk link.old link.new log
+    ensures said { Unlost result ((log : List CloudExchange) × Exchanged L.tells L.talk link.old link.new log
         × RecipesSaid shape request.now clouds.now log result) }
     ensures beside { LostSaid L.talk link.old link.new result }
     ensures readable { Readable L.tells link.old link.new result }
@@ -226,7 +226,7 @@ fn fetch_shares<L: Link>(
         → length (room_of rooms.new j) ≡ length (room_of rooms.old j)
         + share_len_of shape.k (item_of firsts.now (place + j)).secret_len) }
     ensures rooms { length rooms.new ≡ length rooms.old }
-    ensures said { Unlost result ((x : CloudExchange) × HasSpoken L.talk link.old link.new (x ∷ [])
+    ensures said { Unlost result ((x : CloudExchange) × Exchanged L.tells L.talk link.old link.new (x ∷ [])
         × SharesSaid shape user cloud firsts.now recipe.now place count x rooms.old rooms.new result) }
     ensures beside { LostSaid L.talk link.old link.new result }
     ensures readable { Readable L.tells link.old link.new result }
@@ -304,7 +304,7 @@ pub fn fetch_batch<L: Link>(
         → length (room_of rooms.new j) ≡ length (room_of rooms.old j)
         + length clouds.now * share_len_of shape.k (item_of firsts.now (place + j)).secret_len) }
     ensures rooms { length rooms.new ≡ length rooms.old }
-    ensures said { Unlost result ((log : List CloudExchange) × HasSpoken L.talk link.old link.new log
+    ensures said { Unlost result ((log : List CloudExchange) × Exchanged L.tells L.talk link.old link.new log
         × BatchSaid shape user firsts.now place count clouds.now recipes.now log rooms.old rooms.new result) }
     ensures beside { LostSaid L.talk link.old link.new result }
     ensures readable { Readable L.tells link.old link.new result }

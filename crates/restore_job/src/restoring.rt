@@ -15,7 +15,7 @@ ghost use Rattle.caont_rs.specs.ReedSolomon.Dispersal.{AreChoice};
 ghost use Rattle.restore_job.specs.Asking.{HasAskedClouds, Leads, LeadsAny, Readable, among, is_lost};
 ghost use Rattle.restore_job.specs.Reading.{Ends, Restores};
 ghost use Rattle.restore_job.specs.Brought.{Agree, Appends, Brought};
-ghost use Rattle.restore_job.specs.Exchanges.{AgreedRun, CloudExchange, HasSpoken, LostSaid, RestoreRun, RestoreSaid, Unlost};
+ghost use Rattle.restore_job.specs.Exchanges.{AgreedRun, CloudExchange, Exchanged, LostSaid, RestorePassed, RestoreRun, RestoreSaid, Unlost};
 ghost use Rattle.restore_job.specs.Refusals.{CausesAmong, Names, Shows};
 ghost use Rattle.restore_job.specs.Restored.{agreed};
 ghost use Rattle.restore_job.specs.Steps.{AgreedShown, BatchCaused, Grows, Ready, givens};
@@ -96,7 +96,7 @@ pub fn restore_agreed<L: Link>(
     ensures brought { OnOk result (Agree recipes.now
         × Appends shape (numbers_of clouds.now) recipes.now out.old out.new) }
     ensures grows { Grows out.old out.new }
-    ensures said { Unlost result ((log : List CloudExchange) × HasSpoken L.talk link.old link.new log
+    ensures said { Unlost result ((log : List CloudExchange) × Exchanged L.tells L.talk link.old link.new log
         × AgreedRun shape user clouds.now recipes.now log out.old out.new result) }
     ensures beside { LostSaid L.talk link.old link.new result }
     ensures readable { Readable L.tells link.old link.new result }
@@ -145,7 +145,7 @@ fn restore_into<L: Link>(
     ensures named { IfErr result (Names (Contains (numbers_of clouds.now))) }
     ensures brought { OnOk result (Brought shape (numbers_of clouds.now) out.old out.new) }
     ensures grows { Grows out.old out.new }
-    ensures said { Unlost result ((log : List CloudExchange) × HasSpoken L.talk link.old link.new log
+    ensures said { Unlost result ((log : List CloudExchange) × Exchanged L.tells L.talk link.old link.new log
         × RestoreRun shape user (record { 0 = tag_at shape path.now }) version clouds.now log out.old out.new result) }
     ensures beside { LostSaid L.talk link.old link.new result }
     ensures readable { Readable L.tells link.old link.new result }
@@ -224,6 +224,11 @@ pub fn restore<L: Link>(
     // where an ask was lost or memory ran out.
     ensures said { Unlost result
         (RestoreSaid L.talk link.old link.new shape user
+        (record { 0 = tag_at shape path.now }) version clouds.now out.old out.new result) }
+
+    // The same of what the link passed on, whatever it tells.
+    ensures passed { Unlost result
+        (RestorePassed L.tells L.talk link.old link.new shape user
         (record { 0 = tag_at shape path.now }) version clouds.now out.old out.new result) }
 
     // Where an ask was lost: with each other cloud exchanges were had, which say what is to come of it.

@@ -8,7 +8,7 @@ ghost use Rattle.user_dedup.specs.Messages.request.Request.TheVariants as reques
 ghost use Rattle.user_dedup.specs.Messages.Requests.{IsRequest};
 ghost use Rattle.user_dedup.specs.Recipe.Spelling.{Fits};
 ghost use Rattle.restore_job.specs.Asking.{HasAskedClouds, Leads, is_lost};
-ghost use Rattle.restore_job.specs.Exchanges.{CloudExchange, HasSpoken, RecipesSaid, Unlost};
+ghost use Rattle.restore_job.specs.Exchanges.{CloudExchange, Exchanged, RecipesSaid, Unlost};
 ghost use Rattle.restore_job.specs.Refusals.{Names};
 ghost use Rattle.restore_job.specs.Steps.{RecipesCaused, RecipesTold};
 
@@ -67,9 +67,9 @@ pub fn fetch_version<L: Link>(
     ensures fits { IfOk result (All (Fits shape)) }
     ensures pairs { IfOk result (λ recipes. length recipes ≡ length clouds.now) }
 
-    // Over a link that tells its replies: what was asked and what came, in order, and the result by it.
+    // What was asked and what came, in order, as the link passed it on, and the result by it.
     ensures said { Unlost result ((request : List ℕ) × IsRequest request (requests.GetRecipe user tag version)
-        × ((log : List CloudExchange) × HasSpoken L.talk link.old link.new log
+        × ((log : List CloudExchange) × Exchanged L.tells L.talk link.old link.new log
         × RecipesSaid shape request clouds.now log result)) }
 {
     let request = match version_request(alloc, user, tag, version) {

@@ -11,7 +11,7 @@ use Rattle.restore_job.specs.UserDedup.Link.{LinkTelling, Talk}
 use Rattle.restore_job.proofs.UserDedup.Owned.{contains_here, contains_later, contains_nothing}
 use Rattle.restore_job.specs.Asking.{HasAskedClouds, LeadsAny, AreOnlyAsked, AreRead, Readable, TellsAll, among, is_loss, is_lost}
 use Rattle.restore_job.specs.Brought.{Brought}
-use Rattle.restore_job.specs.Exchanges.{LostSaid, RestoreSaid, Unlost}
+use Rattle.restore_job.specs.Exchanges.{LostSaid, RestorePassed, RestoreSaid, Unlost}
 use Rattle.restore_job.specs.Reading.{Ends, ReadsBy, Restores}
 use Rattle.restore_job.specs.Refusals.{Caused, CausesAmong, ShownAmong, Names}
 use Rattle.restore_job.specs.Restored.{Unrestored}
@@ -180,6 +180,7 @@ module _ {L : Type 0} (t : LinkTelling L) (talk : L → ℕ → Talk → Type 0)
     pub asked : HasAskedClouds t subset now new (is_lost result)
     pub restored : LeadsAny t subset now new (CausesAmong t now s.shape s.user (s.tag, s.version) result) (Restores s.shape s.user (s.tag, s.version) subset result bytes bytes')
     pub said : Unlost result (RestoreSaid talk now new s.shape s.user s.tag s.version subset bytes bytes' result)
+    pub passed : Unlost result (RestorePassed t talk now new s.shape s.user s.tag s.version subset bytes bytes' result)
     pub beside : LostSaid talk now new result
     pub readable : Readable t now new result
 
@@ -225,7 +226,7 @@ module _ {L : Type 0} (t : LinkTelling L) (talk : L → ℕ → Talk → Type 0)
             (λ x has is. rose_off (t.losses start) (t.losses now) (t.losses new) (f.lost x has is) later)
             (λ is. rose_on (t.losses start) (t.losses now) (t.losses new) f.asked.later (step.asked.lost is));
         lossless = λ h. of_more (λ x. is_loss x.refusal ≡ false) tries y (f.lossless h) (step.asked.lossless (f.asked.lossless h).1).0;
-        refused = all_refused_more t talk s bytes start now new tries y f.refused (record { asked = step.asked; said = step.said; beside = step.beside; readable = step.readable });
+        refused = all_refused_more t talk s bytes start now new tries y f.refused (record { asked = step.asked; said = step.said; passed = step.passed; beside = step.beside; readable = step.readable });
         leads = λ these. leads_on (among these t) s.clouds subset s.clouds start now new _ _ (TriesStand t start s (tries ++ y ∷ []) bytes these) _ _ (AllStand s (tries ++ y ∷ []) bytes)
             (f.leads these) (told_among t these start now f.asked.told) (step_says now new subset bytes (Err e) step these)
             (λ x has. has) step.among
@@ -340,7 +341,7 @@ module _ {L : Type 0} (t : LinkTelling L) (talk : L → ℕ → Talk → Type 0)
     brought = brought;
     mid = now;
     refused = f.refused;
-    restored = record { asked = step.asked; said = step.said; beside = step.beside; readable = step.readable };
+    restored = record { asked = step.asked; said = step.said; passed = step.passed; beside = step.beside; readable = step.readable };
     leads = leads_to t s.clouds s.clouds start new (CameAlone t start s tries done subset bytes bytes' (λ x. true)) (AllCaused t start s tries) _ _
         (leads_whole t s.clouds start new (CameAlone t start s tries done subset bytes bytes' (λ x. true)) _ (came_any now new done tries subset rest bytes' f free step split (λ x. true)))
         (λ x has. has) (λ a c only r known. all_caused tries a c f.named r.shown) (λ a c only r. r);
@@ -573,12 +574,14 @@ module _ {L : Type 0} (t : LinkTelling L) (talk : L → ℕ → Talk → Type 0)
         LeadsAny t subset old new (CausesAmong t old s.shape s.user (s.tag, s.version) result) (Restores s.shape s.user (s.tag, s.version) subset result bytes bytes')
     pub said : (clouds : List ℕ) → let s = sought shape user path version clouds in
         Unlost result (RestoreSaid talk old new s.shape s.user s.tag s.version subset bytes bytes' result)
+    pub passed : (clouds : List ℕ) → let s = sought shape user path version clouds in
+        Unlost result (RestorePassed t talk old new s.shape s.user s.tag s.version subset bytes bytes' result)
     pub beside : LostSaid talk old new result
     pub readable : Readable t old new result
 
   step_of : (old new : L) (start : L) (bytes bytes' subset : List ℕ) (result : Result (Unit {0}) RestoreErr) (clouds : List ℕ) → ((x : ℕ) → Contains subset x → Contains clouds x)
       → Restored old new bytes bytes' subset result → OneStep t talk (sought shape user path version clouds) start bytes old new subset bytes' result
-  step_of old new start bytes bytes' subset result clouds all r = record { among = all; asked = r.asked; restored = r.restored clouds; said = r.said clouds; beside = r.beside; readable = r.readable }
+  step_of old new start bytes bytes' subset result clouds all r = record { among = all; asked = r.asked; restored = r.restored clouds; said = r.said clouds; passed = r.passed clouds; beside = r.beside; readable = r.readable }
 
   pub goes_refused : (old new : L) (bytes bytes' subset : List ℕ) (r r' : Refusals) (e : RestoreErr) → (HoldsMarked r.marks subset → ⊥) → e ≢ errors.NoMemory → bytes' ≡ bytes → Names (Contains subset) e
       → Restored old new bytes bytes' subset (Err e) → ((tries : List Try) (x : List ℕ) → Tracks tries r → Tracks (tries ++ record { subset = x; refusal = e } ∷ []) r')

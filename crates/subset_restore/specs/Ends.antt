@@ -10,7 +10,7 @@ use Rattle.restore_job.specs.UserDedup.Exec.{Peer}
 use Rattle.restore_job.specs.UserDedup.Link.{LinkTelling, Talk}
 use Rattle.restore_job.specs.Asking.{HasAskedClouds, Leads, LeadsAny, AreRead, Readable, TellsAll, among, is_lost}
 use Rattle.restore_job.specs.Brought.{Brought}
-use Rattle.restore_job.specs.Exchanges.{LostSaid, RestoreSaid, Unlost}
+use Rattle.restore_job.specs.Exchanges.{LostSaid, RestorePassed, RestoreSaid, Unlost}
 use Rattle.restore_job.specs.Reading.{Ends, Restores}
 use Rattle.restore_job.specs.Refusals.{Caused, ShownAmong}
 use Rattle.restore_job.specs.Restored.{Unrestored, restored_file}
@@ -66,12 +66,14 @@ pub record NoneFailed (s : Sought) (losses losses_after : ℕ) (before after : �
 
 -- ---- what was said with the clouds
 
--- One restore from a choice of clouds: what was asked, and how its result follows from what came. Where an ask was lost,
--- what is to come of the other clouds is told. Each reply can be read but that which the result calls lost or strange.
+-- One restore from a choice of clouds: what was asked and passed on, and how its result follows from what came. Where an
+-- ask was lost, what is to come of the other clouds is told. Each reply can be read but that which the result calls lost
+-- or strange.
 pub record OneRestore {L : Type 0} (t : LinkTelling L) (talk : L → ℕ → Talk → Type 0) (s : Sought)
     (subset old new : List ℕ) (before : L) (result : Result (Unit {0}) RestoreErr) (after : L) : Type 0 where
   pub asked : HasAskedClouds t subset before after (is_lost result)
   pub said : Unlost result (RestoreSaid talk before after s.shape s.user s.tag s.version subset old new result)
+  pub passed : Unlost result (RestorePassed t talk before after s.shape s.user s.tag s.version subset old new result)
   pub beside : LostSaid talk before after result
   pub readable : Readable t before after result
 

@@ -1,4 +1,4 @@
-use Rattle.local_link.proofs.Passing.{read_images, read_others, read_same}
+use Rattle.local_link.proofs.Passing.{read_fault, read_images, read_later, read_others, read_same}
 use Rattle.local_link.proofs.link.law_of_readings.Goals as goal
 
 pub returns-clause-images : goal.returns-clause-images
@@ -9,3 +9,9 @@ returns-clause-others g c = read_others g.V.Shelf.cloud_at
 
 pub returns-clause-same_reference : goal.returns-clause-same_reference
 returns-clause-same_reference g c = read_same g.V.Shelf.cloud_at
+
+pub returns-clause-later : goal.returns-clause-later
+returns-clause-later g c = read_later g.V.Shelf.cloud_at
+
+pub returns-clause-fault : goal.returns-clause-fault
+returns-clause-fault g c = read_fault g.V.Shelf.cloud_at

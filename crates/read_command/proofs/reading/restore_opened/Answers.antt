@@ -33,11 +33,11 @@ returns-clause-came g c =
     record {
       opened = λ cloud has told. subst (λ (s : Shape). InItsRooms s cloud (clouds old.shelf.now cloud) (λ (header : Header). IsOpenedToRead header (clouds old.shelf.now cloud))) c.requires.shape ((opened.each cloud has).opened told);
       came_to = came_to clouds named r.shape before between now old mid new c.requires.shape opened r.user tag r.version _
-          c.restore_any.result c.args.file.now c.restore_any.new.out c.requires.empty c.requires.fate e.asked e.named e.restored;
+          c.restore_any.result c.args.file.now c.restore_any.new.out c.requires.empty c.requires.fate e.asked e.named e.restored c.law_of_readings.ensures.later c.law_of_readings.ensures.fault;
       due = is_due clouds named r.shape before between now old mid new c.requires.shape opened r.user tag r.version _
-          c.restore_any.result c.args.file.now c.restore_any.new.out c.requires.empty c.requires.fate e.asked e.named e.restored;
+          c.restore_any.result c.args.file.now c.restore_any.new.out c.requires.empty c.requires.fate e.asked e.named e.restored c.law_of_readings.ensures.later c.law_of_readings.ensures.fault;
       anyway = given_anyway clouds named r.shape before between now old mid new c.requires.shape opened r.user tag r.version _
-          c.restore_any.result c.args.file.now c.restore_any.new.out c.requires.empty c.requires.fate e.asked e.named e.restored;
+          c.restore_any.result c.args.file.now c.restore_any.new.out c.requires.empty c.requires.fate e.asked e.named e.restored c.law_of_readings.ensures.later c.law_of_readings.ensures.fault;
     }
 
 pub returns-clause-kept : goal.returns-clause-kept

@@ -72,7 +72,7 @@ returns-in-Err-clause-said g c =
 pub returns-in-Err-open_batch-clause-beside : goal.returns-in-Err-open_batch-clause-beside
 returns-in-Err-open_batch-clause-beside g c =
     let said = c.in-Ok.ensures.said in
-    lost_spoken g.L.Link.talk c.args.link.now c.fetch_batch.new.link said.0 (bad c.in-Err-open_batch.e) said.1
+    lost_spoken g.L.Link.talk c.args.link.now c.fetch_batch.new.link said.0 (bad c.in-Err-open_batch.e) said.1.0
 
 pub returns-in-Err-open_batch-clause-readable : goal.returns-in-Err-open_batch-clause-readable
 returns-in-Err-open_batch-clause-readable g c =

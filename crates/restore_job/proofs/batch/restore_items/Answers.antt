@@ -23,7 +23,7 @@ loop-place-init g c = record {
   within = omega arith;
   extends = extends_none c.args.shape (numbers_of c.args.clouds.now) c.args.firsts.now c.args.recipes.now 0 0 c.args.out.now refl;
   rooms = c.in-Ok.ensures;
-  said = items_none g.L.Link.talk c.args.shape c.args.user c.args.clouds.now c.args.points.now c.args.firsts.now c.args.recipes.now c.args.link.now c.args.out.now;
+  said = items_none g.L.Link.tells g.L.Link.talk c.args.shape c.args.user c.args.clouds.now c.args.points.now c.args.firsts.now c.args.recipes.now c.args.link.now c.args.out.now;
   readable = none_asked g.L.Link.tells c.args.link.now;
 }
 
@@ -41,7 +41,7 @@ loop-place-preserved g c = record {
   extends = extends_on c.args.shape (numbers_of c.args.clouds.now) c.args.firsts.now c.args.recipes.now 0 c.loop-place.place (c.loop-place.place + c.size_of-count.result) c.args.out.now c.loop-place.out c.restore_batch.new.out
       c.loop-place.invariant.extends c.in-Ok-restore_batch.ensures.brought;
   rooms = c.in-Ok-restore_batch.ensures.rooms ∙ c.loop-place.invariant.rooms;
-  said = items_more g.L.Link.talk c.args.shape c.args.user c.args.clouds.now c.args.points.now c.args.firsts.now c.args.recipes.now c.args.link.now c.loop-place.link c.restore_batch.new.link c.loop-place.place c.size_of-count.result
+  said = items_more g.L.Link.tells g.L.Link.talk c.args.shape c.args.user c.args.clouds.now c.args.points.now c.args.firsts.now c.args.recipes.now c.args.link.now c.loop-place.link c.restore_batch.new.link c.loop-place.place c.size_of-count.result
       c.args.out.now c.loop-place.out c.restore_batch.new.out c.loop-place-test.true c.size_of-count.ensures c.in-Ok-restore_batch.ensures.said c.loop-place.invariant.said;
   readable = readable_on g.L.Link.tells c.args.link.now c.loop-place.link c.restore_batch.new.link
       c.loop-place.invariant.readable c.in-Ok-restore_batch.ensures.readable;
@@ -65,12 +65,12 @@ returns-in-Err-restore_batch-clause-asked g c =
 
 pub returns-clause-said : goal.returns-clause-said
 returns-clause-said g c =
-    items_end g.L.Link.talk c.args.shape c.args.user c.args.clouds.now c.args.points.now c.args.firsts.now c.args.recipes.now c.args.link.now c.loop-place.link c.loop-place.place c.args.out.now c.loop-place.out c.loop-place-test.false c.loop-place.invariant.said
+    items_end g.L.Link.tells g.L.Link.talk c.args.shape c.args.user c.args.clouds.now c.args.points.now c.args.firsts.now c.args.recipes.now c.args.link.now c.loop-place.link c.loop-place.place c.args.out.now c.loop-place.out c.loop-place-test.false c.loop-place.invariant.said
 
 pub returns-in-Err-restore_batch-clause-said : goal.returns-in-Err-restore_batch-clause-said
 returns-in-Err-restore_batch-clause-said g c =
     unlost_as Unit Unit c.in-Err-restore_batch.e _ _
-    (items_stop g.L.Link.talk c.args.shape c.args.user c.args.clouds.now c.args.points.now c.args.firsts.now c.args.recipes.now c.args.link.now c.loop-place.link c.restore_batch.new.link c.loop-place.place c.size_of-count.result
+    (items_stop g.L.Link.tells g.L.Link.talk c.args.shape c.args.user c.args.clouds.now c.args.points.now c.args.firsts.now c.args.recipes.now c.args.link.now c.loop-place.link c.restore_batch.new.link c.loop-place.place c.size_of-count.result
     c.args.out.now c.loop-place.out c.restore_batch.new.out c.in-Err-restore_batch.e c.loop-place-test.true c.size_of-count.ensures c.loop-place.invariant.said)
     c.in-Err-restore_batch.ensures.said
 
@@ -78,7 +78,7 @@ pub returns-in-Err-restore_batch-clause-beside : goal.returns-in-Err-restore_bat
 returns-in-Err-restore_batch-clause-beside g c =
     let said = c.loop-place.invariant.said in
     lost_on g.L.Link.talk (Unit {0}) (Unit {0}) c.args.link.now c.loop-place.link c.restore_batch.new.link said.log
-    c.in-Err-restore_batch.e said.spoken c.in-Err-restore_batch.ensures.beside
+    c.in-Err-restore_batch.e said.spoken.0 c.in-Err-restore_batch.ensures.beside
 
 pub returns-in-Err-clause-readable : goal.returns-in-Err-clause-readable
 returns-in-Err-clause-readable g c = none_asked_to g.L.Link.tells c.args.link.now errors.NoMemory

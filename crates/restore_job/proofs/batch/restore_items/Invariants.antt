@@ -14,7 +14,7 @@ invariant-loop-place g l = record {
   within : l.place ≤ length l.firsts;
   extends : Extends l.shape (numbers_of l.clouds) l.firsts l.recipes 0 l.place l.fn.out l.out;
   rooms : length l.rooms ≡ 256;
-  said : ItemsAlong g.L.Link.talk l.shape l.user l.clouds l.points l.firsts l.recipes l.fn.link l.link l.place l.fn.out l.out;
+  said : ItemsAlong g.L.Link.tells g.L.Link.talk l.shape l.user l.clouds l.points l.firsts l.recipes l.fn.link l.link l.place l.fn.out l.out;
   readable : AllReadable g.L.Link.tells l.fn.link l.link;
 }
 

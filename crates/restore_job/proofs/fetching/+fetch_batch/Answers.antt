@@ -107,24 +107,24 @@ returns-in-Err-fetch_batch-clause-asked g t c =
 
 pub returns-in_default-clause-said : goal.returns-in_default-clause-said
 returns-in_default-clause-said g t c =
-    batch_said_none g.L.Link.talk c.args.shape c.args.user c.args.firsts.now c.args.place c.args.count c.args.link.now c.args.clouds.now c.args.recipes.now c.args.rooms.now c.in_default.ensures.clouds c.in_default.ensures.recipes
+    batch_said_none g.L.Link.tells g.L.Link.talk c.args.shape c.args.user c.args.firsts.now c.args.place c.args.count c.args.link.now c.args.clouds.now c.args.recipes.now c.args.rooms.now c.in_default.ensures.clouds c.in_default.ensures.recipes
 
 pub returns-in-Err-clause-said : goal.returns-in-Err-clause-said
 returns-in-Err-clause-said g t c =
     unlost_as Unit Unit c.in-Err.e _ _
-    (batch_said_stop g.L.Link.talk c.args.shape c.args.user c.args.firsts.now c.args.place c.args.count c.args.link.now c.fetch_shares.new.link c.args.clouds.now c.args.recipes.now
+    (batch_said_stop g.L.Link.tells g.L.Link.talk c.args.shape c.args.user c.args.firsts.now c.args.place c.args.count c.args.link.now c.fetch_shares.new.link c.args.clouds.now c.args.recipes.now
     c.in-Some.cloud c.in-Some.more.now c.in-Some.recipe.now c.in-Some.rest.now c.args.rooms.now c.fetch_shares.new.rooms c.in-Err.e c.in-Some.ensures.clouds c.in-Some.ensures.recipes) c.in-Err.ensures.said
 
 pub returns-in-Ok-fetch_batch-clause-said : goal.returns-in-Ok-fetch_batch-clause-said
 returns-in-Ok-fetch_batch-clause-said g t c =
-    batch_said_one g.L.Link.talk c.args.shape c.args.user c.args.firsts.now c.args.place c.args.count c.args.link.now c.fetch_shares.new.link c.fetch_batch.new.link c.args.clouds.now c.args.recipes.now
+    batch_said_one g.L.Link.tells g.L.Link.talk c.args.shape c.args.user c.args.firsts.now c.args.place c.args.count c.args.link.now c.fetch_shares.new.link c.fetch_batch.new.link c.args.clouds.now c.args.recipes.now
     c.in-Some.cloud c.in-Some.more.now c.in-Some.recipe.now c.in-Some.rest.now c.args.rooms.now c.fetch_shares.new.rooms c.fetch_batch.new.rooms (Ok tt) c.in-Some.ensures.clouds c.in-Some.ensures.recipes
     c.in-Ok.ensures.said c.in-Ok-fetch_batch.ensures.said
 
 pub returns-in-Err-fetch_batch-clause-said : goal.returns-in-Err-fetch_batch-clause-said
 returns-in-Err-fetch_batch-clause-said g t c =
     unlost_as Unit Unit c.in-Err-fetch_batch.e _ _
-    (batch_said_one g.L.Link.talk c.args.shape c.args.user c.args.firsts.now c.args.place c.args.count c.args.link.now c.fetch_shares.new.link c.fetch_batch.new.link c.args.clouds.now c.args.recipes.now
+    (batch_said_one g.L.Link.tells g.L.Link.talk c.args.shape c.args.user c.args.firsts.now c.args.place c.args.count c.args.link.now c.fetch_shares.new.link c.fetch_batch.new.link c.args.clouds.now c.args.recipes.now
     c.in-Some.cloud c.in-Some.more.now c.in-Some.recipe.now c.in-Some.rest.now c.args.rooms.now c.fetch_shares.new.rooms c.fetch_batch.new.rooms (Err c.in-Err-fetch_batch.e) c.in-Some.ensures.clouds c.in-Some.ensures.recipes
     c.in-Ok.ensures.said) c.in-Err-fetch_batch.ensures.said
 
@@ -132,7 +132,7 @@ pub returns-in-Err-fetch_batch-clause-beside : goal.returns-in-Err-fetch_batch-c
 returns-in-Err-fetch_batch-clause-beside g t c =
     let one = c.in-Ok.ensures.said in
     lost_on g.L.Link.talk (Unit {0}) (Unit {0}) c.args.link.now c.fetch_shares.new.link c.fetch_batch.new.link
-    (one.0 ∷ []) c.in-Err-fetch_batch.e one.1 c.in-Err-fetch_batch.ensures.beside
+    (one.0 ∷ []) c.in-Err-fetch_batch.e one.1.0 c.in-Err-fetch_batch.ensures.beside
 
 pub returns-in_default-clause-readable : goal.returns-in_default-clause-readable
 returns-in_default-clause-readable g t c = none_asked g.L.Link.tells c.args.link.now

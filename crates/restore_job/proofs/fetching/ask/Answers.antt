@@ -1,7 +1,9 @@
 use Rattle.std.proofs.Common.{arith, refl, Some, None, true, false, ◌≡◌}
 use Rattle.user_dedup.proofs.Asked.{asked_law}
+use Rattle.user_dedup.specs.declared.link.Lost.{Lost}
 use Rattle.restore_job.proofs.Leading.{asked_once}
 use Rattle.restore_job.proofs.Beside.{beside_ask}
+use Rattle.restore_job.proofs.Speaking.{exchanged_one}
 use Rattle.restore_job.proofs.fetching.ask.Goals as goal
 
 pub returns-in-Ok-clause-exec : goal.returns-in-Ok-clause-exec
@@ -27,3 +29,8 @@ returns-in-Err-clause-asked g c =
 pub returns-in-Err-clause-beside : goal.returns-in-Err-clause-beside
 returns-in-Err-clause-beside g c =
     beside_ask g.L.Link.talk c.args.link.now c.ask.new.self c.args.cloud.0 c.in-Err.ensures.says_else
+
+pub returns-in-Ok-clause-spoken : goal.returns-in-Ok-clause-spoken
+returns-in-Ok-clause-spoken g c =
+    let e = c.in-Ok.ensures in
+    exchanged_one g.L.Link.tells g.L.Link.talk Lost c.args.link.now c.ask.new.self c.args.cloud.0 c.args.request.now c.ask.new.reply e.says e.says_else c.requires.reading e.passes

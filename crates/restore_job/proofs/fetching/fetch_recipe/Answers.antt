@@ -1,5 +1,6 @@
 use Rattle.std.proofs.Common.{◌≡◌, List, [], ◌∷◌, ℕ, Result, Ok, Err, refl, sym, subst}
 use Rattle.std.specs.Prelude.{IfErr}
+use Rattle.user_dedup.specs.CdBase.Reading.{AreBytes}
 use Rattle.user_dedup.specs.CdBase.ids.CloudNo.{CloudNo}
 use Rattle.user_dedup.specs.CdBase.shape.Shape.{Shape}
 use Rattle.user_dedup.specs.Messages.ReplyReading.{reply_at}
@@ -61,13 +62,14 @@ returns-in-Ok-clause-said g c = unlost c.recipe_from.result _ (
     request_is = refl;
     came = subst (λ (l : List ℕ). RecipeFrom c.args.shape c.args.cloud (reply_at l) c.recipe_from.result) c.content.ensures.value c.recipe_from.ensures.from;
     kind = subst (λ (l : List ℕ). NamesKind l c.recipe_from.result) c.content.ensures.value c.recipe_from.ensures.kind;
+    bytes = subst AreBytes c.content.ensures.value c.recipe_from.ensures.bytes;
   },
 )
 
 pub returns-in-Ok-clause-beside : goal.returns-in-Ok-clause-beside
 returns-in-Ok-clause-beside g c =
     let x : CloudExchange = record { cloud = c.args.cloud.0; request = c.args.request.now; reply = c.ask.new.reply } in
-    lost_spoken g.L.Link.talk c.args.link.now c.ask.new.link (x ∷ []) c.recipe_from.result c.in-Ok.ensures.spoken
+    lost_spoken g.L.Link.talk c.args.link.now c.ask.new.link (x ∷ []) c.recipe_from.result c.in-Ok.ensures.spoken.0
 
 pub returns-in-Err-clause-beside : goal.returns-in-Err-clause-beside
 returns-in-Err-clause-beside g c =

@@ -17,8 +17,8 @@ pub clouds-init : goal.clouds-init
 clouds-init g c = record {
   fetched = subst (λ (l : List Recipe). Fetched g.L.Link.tells c.args.shape c.args.link.now c.args.link.now c.args.request.now (numbers_of c.args.clouds.now) (numbers_of c.args.clouds.now) l) (sym c.new-recipes.ensures)
       (fetched_none g.L.Link.tells c.args.shape c.args.link.now c.args.request.now (numbers_of c.args.clouds.now));
-  said = subst (λ (l : List Recipe). SaidAlong g.L.Link.talk c.args.shape c.args.request.now c.args.clouds.now c.args.clouds.now c.args.link.now c.args.link.now l) (sym c.new-recipes.ensures)
-      (along_none g.L.Link.talk c.args.shape c.args.request.now c.args.clouds.now c.args.link.now);
+  said = subst (λ (l : List Recipe). SaidAlong g.L.Link.tells g.L.Link.talk c.args.shape c.args.request.now c.args.clouds.now c.args.clouds.now c.args.link.now c.args.link.now l) (sym c.new-recipes.ensures)
+      (along_none g.L.Link.tells g.L.Link.talk c.args.shape c.args.request.now c.args.clouds.now c.args.link.now);
   readable = none_asked g.L.Link.tells c.args.link.now;
 }
 
@@ -51,12 +51,12 @@ clouds-preserved g c =
     let t = g.L.Link.tells in
     let f = rest_is t c.args.shape c.args.link.now c.clouds.link c.args.request.now (numbers_of c.args.clouds.now) (numbers_of c.clouds.rest.now) _ c.clouds.recipes (numbers_next c.clouds.rest.now c.in-Some.cloud c.in-Some.more.now c.in-Some.ensures) c.clouds.invariant.fetched in
     let came = c.in-Ok.ensures.said in
-    let so_far = subst (λ (l : List CloudNo). SaidAlong g.L.Link.talk c.args.shape c.args.request.now c.args.clouds.now l c.args.link.now c.clouds.link c.clouds.recipes) c.in-Some.ensures c.clouds.invariant.said in
+    let so_far = subst (λ (l : List CloudNo). SaidAlong g.L.Link.tells g.L.Link.talk c.args.shape c.args.request.now c.args.clouds.now l c.args.link.now c.clouds.link c.clouds.recipes) c.in-Some.ensures c.clouds.invariant.said in
     record {
       fetched = subst (λ (l : List Recipe). Fetched t c.args.shape c.args.link.now c.fetch_recipe.new.link c.args.request.now (numbers_of c.args.clouds.now) (numbers_of c.in-Some.more.now) l) (sym c.in-Ok-push.ensures.ok)
           (fetched_more t c.args.shape c.args.link.now c.clouds.link c.fetch_recipe.new.link c.args.request.now (numbers_of c.args.clouds.now) c.in-Some.cloud (numbers_of c.in-Some.more.now) c.clouds.recipes c.in-Ok.recipe f c.in-Ok.ensures.asked c.in-Ok.ensures.fits c.in-Ok.ensures.told);
-      said = subst (λ (l : List Recipe). SaidAlong g.L.Link.talk c.args.shape c.args.request.now c.args.clouds.now c.in-Some.more.now c.args.link.now c.fetch_recipe.new.link l) (sym c.in-Ok-push.ensures.ok)
-          (along_more g.L.Link.talk c.args.shape c.args.request.now c.args.clouds.now c.args.link.now c.clouds.link c.fetch_recipe.new.link c.in-Some.cloud c.in-Some.more.now c.clouds.recipes c.in-Ok.recipe came.0 so_far came.1 came.2);
+      said = subst (λ (l : List Recipe). SaidAlong g.L.Link.tells g.L.Link.talk c.args.shape c.args.request.now c.args.clouds.now c.in-Some.more.now c.args.link.now c.fetch_recipe.new.link l) (sym c.in-Ok-push.ensures.ok)
+          (along_more g.L.Link.tells g.L.Link.talk c.args.shape c.args.request.now c.args.clouds.now c.args.link.now c.clouds.link c.fetch_recipe.new.link c.in-Some.cloud c.in-Some.more.now c.clouds.recipes c.in-Ok.recipe came.0 so_far came.1 came.2);
       readable = readable_on t c.args.link.now c.clouds.link c.fetch_recipe.new.link c.clouds.invariant.readable
           c.in-Ok.ensures.readable;
     }
@@ -84,20 +84,20 @@ returns-in-Err-clause-asked g c =
 
 pub returns-in_default-clause-said : goal.returns-in_default-clause-said
 returns-in_default-clause-said g c =
-    let ended = along_end g.L.Link.talk c.args.shape c.args.request.now c.args.clouds.now c.args.link.now c.clouds.link c.clouds.recipes
-    (subst (λ (l : List CloudNo). SaidAlong g.L.Link.talk c.args.shape c.args.request.now c.args.clouds.now l c.args.link.now c.clouds.link c.clouds.recipes) c.in_default.ensures c.clouds.invariant.said) in
+    let ended = along_end g.L.Link.tells g.L.Link.talk c.args.shape c.args.request.now c.args.clouds.now c.args.link.now c.clouds.link c.clouds.recipes
+    (subst (λ (l : List CloudNo). SaidAlong g.L.Link.tells g.L.Link.talk c.args.shape c.args.request.now c.args.clouds.now l c.args.link.now c.clouds.link c.clouds.recipes) c.in_default.ensures c.clouds.invariant.said) in
     (ended.log, ended.spoken, ended.said_so)
 
 pub returns-in-Err-clause-said : goal.returns-in-Err-clause-said
 returns-in-Err-clause-said g c =
-    stops_unlost g.L.Link.talk c.args.shape c.args.request.now c.args.clouds.now c.args.link.now c.clouds.link c.fetch_recipe.new.link c.in-Some.cloud c.in-Some.more.now c.clouds.recipes c.in-Err.e
-    (subst (λ (l : List CloudNo). SaidAlong g.L.Link.talk c.args.shape c.args.request.now c.args.clouds.now l c.args.link.now c.clouds.link c.clouds.recipes) c.in-Some.ensures c.clouds.invariant.said)
+    stops_unlost g.L.Link.tells g.L.Link.talk c.args.shape c.args.request.now c.args.clouds.now c.args.link.now c.clouds.link c.fetch_recipe.new.link c.in-Some.cloud c.in-Some.more.now c.clouds.recipes c.in-Err.e
+    (subst (λ (l : List CloudNo). SaidAlong g.L.Link.tells g.L.Link.talk c.args.shape c.args.request.now c.args.clouds.now l c.args.link.now c.clouds.link c.clouds.recipes) c.in-Some.ensures c.clouds.invariant.said)
     c.in-Err.ensures.said
 
 pub returns-in-Err-clause-beside : goal.returns-in-Err-clause-beside
 returns-in-Err-clause-beside g c =
     lost_on g.L.Link.talk Recipe (List Recipe) c.args.link.now c.clouds.link c.fetch_recipe.new.link
-    c.clouds.invariant.said.log c.in-Err.e c.clouds.invariant.said.spoken c.in-Err.ensures.beside
+    c.clouds.invariant.said.log c.in-Err.e c.clouds.invariant.said.spoken.0 c.in-Err.ensures.beside
 
 pub returns-in_default-clause-readable : goal.returns-in_default-clause-readable
 returns-in_default-clause-readable g c = c.clouds.invariant.readable

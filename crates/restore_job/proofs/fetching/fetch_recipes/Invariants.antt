@@ -8,7 +8,7 @@ use Rattle.restore_job.proofs.fetching.fetch_recipes.Given as goal
 abbrev pub invariant-clouds : goal.invariant-clouds
 invariant-clouds g l = record {
   fetched : Fetched g.L.Link.tells l.shape l.fn.link l.link l.request (numbers_of l.clouds) (numbers_of l.rest) l.recipes;
-  said : SaidAlong g.L.Link.talk l.shape l.request l.clouds l.rest l.fn.link l.link l.recipes;
+  said : SaidAlong g.L.Link.tells g.L.Link.talk l.shape l.request l.clouds l.rest l.fn.link l.link l.recipes;
   readable : AllReadable g.L.Link.tells l.fn.link l.link;
 }
 

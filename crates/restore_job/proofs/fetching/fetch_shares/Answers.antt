@@ -1,5 +1,6 @@
 use Rattle.std.proofs.Common.{◌≡◌, ◌+◌, ◌≤◌, ℕ, List, [], ◌∷◌, length, Result, Ok, Err, refl, sym, subst, arith}
 use Rattle.std.specs.Prelude.{IfErr}
+use Rattle.user_dedup.specs.CdBase.Reading.{AreBytes}
 use Rattle.user_dedup.specs.CdBase.ids.CloudNo.{CloudNo}
 use Rattle.user_dedup.specs.CdBase.shape.Shape.{Shape}
 use Rattle.user_dedup.specs.Messages.ReplyReading.{reply_at}
@@ -98,6 +99,7 @@ returns-in-Ok-shares_from-clause-said g c =
         brought = Ok c.in-Ok-shares_from.shares;
         came = subst (λ (l : List ℕ). SharesFrom c.args.cloud n (reply_at l) (Ok c.in-Ok-shares_from.shares)) c.content.ensures.value c.in-Ok-shares_from.ensures.from;
         kind = tt;
+        bytes = subst AreBytes c.content.ensures.value c.in-Ok-shares_from.ensures.bytes;
         taken = subst (λ (l : List Item). Takes c.args.shape c.args.cloud c.args.firsts.now l place n c.in-Ok-shares_from.shares c.args.rooms.now c.take_shares.new.rooms c.take_shares.result) c.as_slice-items.ensures c.take_shares.ensures.takes;
       },
     )
@@ -117,6 +119,7 @@ returns-in-Ok-ask-clause-said g c =
         brought = Err c.in-Err-shares_from.e;
         came = subst (λ (l : List ℕ). SharesFrom c.args.cloud n (reply_at l) (Err c.in-Err-shares_from.e)) c.content.ensures.value c.in-Err-shares_from.ensures.from;
         kind = subst (λ (l : List ℕ). NamesKind {A = List (List ℕ)} l (Err c.in-Err-shares_from.e)) c.content.ensures.value c.in-Err-shares_from.ensures.kind;
+        bytes = subst AreBytes c.content.ensures.value c.in-Err-shares_from.ensures.bytes;
         taken = refl;
       },
     )
@@ -124,13 +127,13 @@ returns-in-Ok-ask-clause-said g c =
 pub returns-in-Ok-shares_from-clause-beside : goal.returns-in-Ok-shares_from-clause-beside
 returns-in-Ok-shares_from-clause-beside g c =
     let x : CloudExchange = record { cloud = c.args.cloud.0; request = c.as_slice.result.now; reply = c.ask.new.reply } in
-    lost_spoken g.L.Link.talk c.args.link.now c.ask.new.link (x ∷ []) c.take_shares.result c.in-Ok-ask.ensures.spoken
+    lost_spoken g.L.Link.talk c.args.link.now c.ask.new.link (x ∷ []) c.take_shares.result c.in-Ok-ask.ensures.spoken.0
 
 pub returns-in-Ok-ask-clause-beside : goal.returns-in-Ok-ask-clause-beside
 returns-in-Ok-ask-clause-beside g c =
     let x : CloudExchange = record { cloud = c.args.cloud.0; request = c.as_slice.result.now; reply = c.ask.new.reply } in
     lost_spoken g.L.Link.talk c.args.link.now c.ask.new.link (x ∷ []) (bad c.in-Err-shares_from.e)
-    c.in-Ok-ask.ensures.spoken
+    c.in-Ok-ask.ensures.spoken.0
 
 pub returns-in-Err-clause-readable : goal.returns-in-Err-clause-readable
 returns-in-Err-clause-readable g c = none_asked_to g.L.Link.tells c.args.link.now errors.NoMemory

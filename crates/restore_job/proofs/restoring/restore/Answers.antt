@@ -44,28 +44,50 @@ returns-in-Err-clause-named g c = subst (λ (l : List ℕ). Names (Contains l) c
 pub returns-in-Ok-clause-brought : goal.returns-in-Ok-clause-brought
 returns-in-Ok-clause-brought g c = subst (λ (l : List ℕ). Brought c.args.shape l c.args.out.now c.restore_into.new.out) c.as_slice.ensures c.in-Ok.ensures.brought
 
-pub returns-in-Ok-clause-said : goal.returns-in-Ok-clause-said
-returns-in-Ok-clause-said g c =
-    let said = c.in-Ok.ensures.said in
+pub returns-in-Ok-clause-passed : goal.returns-in-Ok-clause-passed
+returns-in-Ok-clause-passed g c =
+    let came = c.in-Ok.ensures.said in
     record {
-      chosen = c.as_slice.result.now;
-      chosen_are = c.as_slice.ensures;
-      log = said.0;
-      spoken = said.1;
-      left = c.restore_into.new.out;
-      run = said.2;
-      stands = refl;
+      said = record {
+        chosen = c.as_slice.result.now;
+        chosen_are = c.as_slice.ensures;
+        log = came.0;
+        spoken = came.1.0;
+        left = c.restore_into.new.out;
+        run = came.2;
+        stands = refl;
+      };
+      passed = came.1.1;
     }
+
+pub returns-in-Ok-clause-said : goal.returns-in-Ok-clause-said
+returns-in-Ok-clause-said g c = (returns-in-Ok-clause-passed g c).said
+
+pub returns-in-Err-clause-passed : goal.returns-in-Err-clause-passed
+returns-in-Err-clause-passed g c =
+    unlost_as Unit Unit c.in-Err.e _ _
+    (λ came. record {
+      said = record {
+        chosen = c.as_slice.result.now;
+        chosen_are = c.as_slice.ensures;
+        log = came.0;
+        spoken = came.1.0;
+        left = c.restore_into.new.out;
+        run = came.2;
+        stands = tt;
+      };
+      passed = came.1.1;
+    }) c.in-Err.ensures.said
 
 pub returns-in-Err-clause-said : goal.returns-in-Err-clause-said
 returns-in-Err-clause-said g c =
     unlost_as Unit Unit c.in-Err.e _ _
-    (λ said. record {
+    (λ came. record {
       chosen = c.as_slice.result.now;
       chosen_are = c.as_slice.ensures;
-      log = said.0;
-      spoken = said.1;
+      log = came.0;
+      spoken = came.1.0;
       left = c.restore_into.new.out;
-      run = said.2;
+      run = came.2;
       stands = tt;
     }) c.in-Err.ensures.said

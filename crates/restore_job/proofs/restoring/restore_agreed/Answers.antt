@@ -22,7 +22,7 @@ use Rattle.user_dedup.specs.CdBase.shape.Shape.{Shape}
 use Rattle.restore_job.specs.declared.error.RestoreErr.{RestoreErr}
 use Rattle.restore_job.specs.Steps.{Compares}
 use Rattle.restore_job.specs.Exchanges.{CloudExchange, AgreedRun, NothingAsked, Differ, Compared, ItemsRun}
-use Rattle.restore_job.proofs.Speaking.{unlost, unlost_as, spoken_none}
+use Rattle.restore_job.proofs.Speaking.{unlost, unlost_as, exchanged_none}
 use Rattle.restore_job.proofs.Beside.{lost_spoken}
 use Rattle.restore_job.proofs.Readable.{none_asked, none_asked_to}
 use Rattle.restore_job.specs.declared.error.RestoreErr.TheVariants as errors
@@ -127,14 +127,14 @@ returns-in-Ok-restore_items-clause-brought g c =
 pub returns-in_default-clause-said : goal.returns-in_default-clause-said
 returns-in_default-clause-said g c = (
   [],
-  spoken_none g.L.Link.talk c.args.link.now,
+  exchanged_none g.L.Link.tells g.L.Link.talk c.args.link.now,
   subst (λ (r : List Recipe). AgreedRun c.args.shape c.args.user c.args.clouds.now r [] c.args.out.now c.args.out.now (Ok tt)) (sym c.in_default.ensures.recipes) (NothingAsked c.args.out.now),
 )
 
 pub returns-in-Err-clause-said : goal.returns-in-Err-clause-said
 returns-in-Err-clause-said g c = unlost (bad c.in-Err.e) _ (
   [],
-  spoken_none g.L.Link.talk c.args.link.now,
+  exchanged_none g.L.Link.tells g.L.Link.talk c.args.link.now,
   subst (λ (r : List Recipe). AgreedRun c.args.shape c.args.user c.args.clouds.now r [] c.args.out.now c.args.out.now (Err c.in-Err.e)) (sym c.in-Some.ensures.recipes)
       (Differ c.in-Some.first c.in-Some.others.now c.in-Some.recipe.now c.in-Some.rest.now c.args.out.now c.in-Err.e c.in-Some.ensures.clouds c.in-Err.ensures.compares),
 )
@@ -172,7 +172,7 @@ returns-clause-said g c =
 pub returns-in-Err-clause-beside : goal.returns-in-Err-clause-beside
 returns-in-Err-clause-beside g c =
     let link = c.args.link.now in
-    lost_spoken g.L.Link.talk link link [] (bad c.in-Err.e) (spoken_none g.L.Link.talk link)
+    lost_spoken g.L.Link.talk link link [] (bad c.in-Err.e) (exchanged_none g.L.Link.tells g.L.Link.talk link).0
 
 pub returns-in_default-clause-readable : goal.returns-in_default-clause-readable
 returns-in_default-clause-readable g c = none_asked g.L.Link.tells c.args.link.now

@@ -11,7 +11,7 @@ use Rattle.restore_job.proofs.Ending.{AgreedLeads, all_restored, first_refused, 
 use Rattle.restore_job.proofs.Leading.{asked_on}
 use Rattle.std.proofs.Common.{◌++◌}
 use Rattle.restore_job.specs.Exchanges.{AgreedRun, HasRecipes, NoRecipes}
-use Rattle.restore_job.proofs.Speaking.{unlost_as, spoken_twice}
+use Rattle.restore_job.proofs.Speaking.{unlost_as, exchanged_twice}
 use Rattle.restore_job.proofs.Beside.{lost_as, lost_on}
 use Rattle.restore_job.proofs.Readable.{none_asked_to, readable_on, readable_stop}
 use Rattle.restore_job.specs.declared.error.RestoreErr.TheVariants as errors
@@ -71,7 +71,7 @@ returns-in-Ok-restore_agreed-clause-said g c =
     let one = c.in-Ok-fetch_recipes.ensures.said in
     let two = c.in-Ok-restore_agreed.ensures.said in (
       one.0 ++ two.0,
-      spoken_twice g.L.Link.talk c.args.link.now c.fetch_recipes.new.link c.restore_agreed.new.link one.0 two.0 one.1 two.1,
+      exchanged_twice g.L.Link.tells g.L.Link.talk c.args.link.now c.fetch_recipes.new.link c.restore_agreed.new.link one.0 two.0 one.1 two.1,
       HasRecipes c.as_slice.result.now c.in-Ok-fetch_recipes.recipes one.0 two.0 c.args.out.now c.restore_agreed.new.out (Ok tt) asks one.2
           (subst (λ (r : List Recipe). AgreedRun c.args.shape c.args.user c.args.clouds.now r two.0 c.args.out.now c.restore_agreed.new.out (Ok tt)) c.as_slice-in-Ok-fetch_recipes.ensures two.2),
     )
@@ -83,7 +83,7 @@ returns-in-Ok-fetch_recipes-clause-said g c =
     unlost_as Unit Unit c.in-Err-restore_agreed.e _ _
     (λ two. (
       one.0 ++ two.0,
-      spoken_twice g.L.Link.talk c.args.link.now c.fetch_recipes.new.link c.restore_agreed.new.link one.0 two.0 one.1 two.1,
+      exchanged_twice g.L.Link.tells g.L.Link.talk c.args.link.now c.fetch_recipes.new.link c.restore_agreed.new.link one.0 two.0 one.1 two.1,
       HasRecipes c.as_slice.result.now c.in-Ok-fetch_recipes.recipes one.0 two.0 c.args.out.now c.restore_agreed.new.out (Err c.in-Err-restore_agreed.e) asks one.2
           (subst (λ (r : List Recipe). AgreedRun c.args.shape c.args.user c.args.clouds.now r two.0 c.args.out.now c.restore_agreed.new.out (Err c.in-Err-restore_agreed.e)) c.as_slice-in-Ok-fetch_recipes.ensures two.2),
     )) c.in-Err-restore_agreed.ensures.said
@@ -98,7 +98,7 @@ pub returns-in-Ok-fetch_recipes-clause-beside : goal.returns-in-Ok-fetch_recipes
 returns-in-Ok-fetch_recipes-clause-beside g c =
     let one = c.in-Ok-fetch_recipes.ensures.said in
     lost_on g.L.Link.talk (Unit {0}) (Unit {0}) c.args.link.now c.fetch_recipes.new.link c.restore_agreed.new.link one.0
-    c.in-Err-restore_agreed.e one.1 c.in-Err-restore_agreed.ensures.beside
+    c.in-Err-restore_agreed.e one.1.0 c.in-Err-restore_agreed.ensures.beside
 
 pub returns-clause-beside : goal.returns-clause-beside
 returns-clause-beside g c =

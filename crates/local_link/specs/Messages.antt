@@ -1,0 +1,3 @@
+-- What messages says, for callers.
+pub use Rattle.cloud_server.specs.Messages.Replies
+pub use Rattle.cloud_server.specs.Messages.reply
