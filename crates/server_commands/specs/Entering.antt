@@ -1,6 +1,7 @@
 -- What a reply says of the server's memory, whatever the cloud has.
 use Rattle.std.specs.Prelude.{◌≡◌, ◌≢◌, ℕ, ◌≤◌, ◌||◌, List, [], ◌∷◌, ◌++◌, length, map, Option, Some, None, IsSome, is_some, if◌then◌else◌}
 use Rattle.std.specs.FinMap.{FinMap, get}
+use Rattle.std.specs.List.{Contains}
 use Rattle.server_reads.specs.CdBase.ids.Fp.{Fp}
 use Rattle.server_reads.specs.CdBase.ids.Tag.{Tag}
 use Rattle.server_reads.specs.CdBase.ids.UserId.{UserId}
@@ -26,6 +27,8 @@ use Rattle.server_reads.specs.CloudMemory.Memory.{Memory}
 use Rattle.server_reads.specs.CloudMemory.Rooms.{full_news, full_commit}
 use Rattle.server_reads.specs.CloudMemory.Sharing.{AreOwned, IsFirstUnowned}
 use Rattle.server_reads.specs.CloudMemory.Steps.{parts_of, with_put, with_commit, without_entry}
+use Rattle.server_reads.specs.Found.{IsNamed, HasNone}
+use Rattle.server_reads.specs.Owned.{first_unowned, owned_flags}
 
 -- ---- a Put
 
@@ -117,16 +120,49 @@ Deletes shape m new user key (replies.Rotten named found) = IsSome (get m.files 
 Deletes shape m new user key (replies.Full room used need limit) = (room ≡ names.Journal) × IsSome (get m.files key) × (new ≡ m)
 Deletes shape m new user key reply = ⊥
 
+-- ---- what only asks
+
+-- To a Query: one flag for each fingerprint, by the owners that the memory has.
+abbrev pub KnownBy : Memory → UserId → List Fp → Reply → Type 0
+KnownBy m user fps (replies.Known flags) = flags ≡ owned_flags m user fps
+KnownBy m user fps reply = ⊥
+
+-- To a GetRecipe: Missing where the memory has no entry. Where it has one, Recipe has bytes of the entry's fingerprint, and Rotten names that.
+abbrev pub RecipeBy : Memory → FileKey → Reply → Type 0
+RecipeBy m key (replies.Recipe bytes) = IsNamed m key bytes
+RecipeBy m key replies.Missing = HasNone m key
+RecipeBy m key (replies.Rotten named found) = (entry : Entry) × (get m.files key ≡ Some entry) × (named ≡ entry.fp)
+RecipeBy m key reply = ⊥
+
+-- To a GetShares: NotYours names the place of the first fingerprint that isn't the user's. Where all are, Shares has strings of just these
+-- fingerprints, and Rotten names one of them.
+abbrev pub SharesBy : Memory → UserId → List Fp → Reply → Type 0
+SharesBy m user fps (replies.Shares shares) = (first_unowned m user fps ≡ None) × (map fingerprint shares ≡ fps)
+SharesBy m user fps (replies.NotYours place) = first_unowned m user fps ≡ Some place
+SharesBy m user fps (replies.Rotten named found) = (first_unowned m user fps ≡ None) × Contains fps named
+SharesBy m user fps reply = ⊥
+
+-- What the reply to a request that adds nothing says of the memory. Of Hello and List nothing is said here, nor of what adds.
+abbrev pub ReadsBy : Memory → Request → Reply → Type 0
+ReadsBy m requests.Hello reply = Unit {0}
+ReadsBy m (requests.Query user fps) reply = KnownBy m user fps reply
+ReadsBy m (requests.Put user shares) reply = Unit {0}
+ReadsBy m (requests.Commit user tag version recipe) reply = Unit {0}
+ReadsBy m (requests.GetRecipe user tag version) reply = RecipeBy m (key_of user.0 tag.0 version.0) reply
+ReadsBy m (requests.GetShares user fps) reply = SharesBy m user fps reply
+ReadsBy m (requests.List user after) reply = Unit {0}
+ReadsBy m (requests.Delete user tag version) reply = Unit {0}
+
 -- ---- all of them
 
--- What the reply says of the memory before and behind a request.
+-- What the reply says of the memory before and behind a request. What only asks leaves it, and its reply is by it.
 abbrev pub Enters : Header → Memory → Memory → Request → Reply → Type 0
 Enters header m new requests.Hello reply = new ≡ m
-Enters header m new (requests.Query user fps) reply = new ≡ m
+Enters header m new (requests.Query user fps) reply = (new ≡ m) × KnownBy m user fps reply
 Enters header m new (requests.Put user shares) reply = Stores header.rooms m new user (news_of m user shares) reply
 Enters header m new (requests.Commit user tag version recipe) reply =
     Commits header.rooms m new user tag version (fps_of header.shape recipe) recipe reply
-Enters header m new (requests.GetRecipe user tag version) reply = new ≡ m
-Enters header m new (requests.GetShares user fps) reply = new ≡ m
+Enters header m new (requests.GetRecipe user tag version) reply = (new ≡ m) × RecipeBy m (key_of user.0 tag.0 version.0) reply
+Enters header m new (requests.GetShares user fps) reply = (new ≡ m) × SharesBy m user fps reply
 Enters header m new (requests.List user after) reply = new ≡ m
 Enters header m new (requests.Delete user tag version) reply = Deletes header.shape m new user (key_of user.0 tag.0 version.0) reply

@@ -2,3 +2,4 @@
 pub use Rattle.server_reads.specs.Allowed
 pub use Rattle.server_reads.specs.CloudMemory
 pub use Rattle.server_reads.specs.Found
+pub use Rattle.server_reads.specs.Owned
