@@ -2,4 +2,5 @@
 pub use Rattle.server_commands.specs.Entering
 pub use Rattle.server_commands.specs.Executing
 pub use Rattle.server_commands.specs.Leaving
+pub use Rattle.server_commands.specs.ServerReads
 pub use Rattle.server_commands.specs.Serving

@@ -18,6 +18,7 @@ ghost use Rattle.server_commands.specs.ServerReads.CloudMemory.Memory.{Remembers
 ghost use Rattle.server_commands.specs.ServerReads.CloudMemory.Rooms.{memory_of};
 ghost use Rattle.server_commands.specs.ServerReads.Allowed.{Replies, RecipeReply};
 ghost use Rattle.server_commands.specs.ServerReads.Found.{IsNamed, HasNone, IsFoundRecipe};
+ghost use Rattle.server_commands.specs.Entering.{RecipeBy};
 ghost use Rattle.server_commands.specs.Executing.{IsStoreReady, Executes};
 ghost use Rattle.server_requests.specs.Hashed.{IsHashed};
 ghost use Rattle.server_requests.specs.Reading.{ReadsDisk};
@@ -97,6 +98,8 @@ pub(crate) fn send_recipe<V: Shelf>(
         (V.faults shelf.old) (V.faults shelf.new) (requests.GetRecipe user tag.now version) reply.new result }
     ensures hashed { (answer : Reply) → OnOk result (IsReply reply.new answer
         → IsHashed (memory_of store.old.memory) (requests.GetRecipe user tag.now version) answer) }
+    ensures says { OnOk result (Replies reply.new
+        (RecipeBy (memory_of store.old.memory) (key_of user.0 tag.now.0 version.0))) }
 {
     let cloud = store.header.cloud;
     match recipe_on_disk(

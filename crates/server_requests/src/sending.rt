@@ -20,6 +20,7 @@ ghost use Rattle.server_commands.specs.ServerReads.CloudMemory.Memory.{Remembers
 ghost use Rattle.server_commands.specs.ServerReads.CloudMemory.Rooms.{memory_of};
 ghost use Rattle.server_commands.specs.ServerReads.Allowed.{Replies, SharesReply};
 ghost use Rattle.server_commands.specs.ServerReads.Found.{IsFoundShare};
+ghost use Rattle.server_commands.specs.Entering.{SharesBy};
 ghost use Rattle.server_commands.specs.Executing.{IsStoreReady, Executes};
 ghost use Rattle.server_requests.specs.Hashed.{IsHashed};
 ghost use Rattle.server_requests.specs.Reading.{ReadsDisk};
@@ -54,6 +55,7 @@ fn shares_on_disk<V: Shelf>(
         (SharesReply fps.now (IsFoundShare (V.cloud_at shelf.old cloud.0) (memory_of memory.now)))) }
     ensures hashed { (shares : List (List ℕ)) → OnOk result (IsReply reply.new (replies.Shares shares)
         → map fingerprint shares ≡ fps.now) }
+    ensures says { OnOk result (Replies reply.new (SharesBy (memory_of memory.now) user fps.now)) }
     ensures untouched { (place : ℕ) → OnOk result (IsReply reply.new (replies.NotYours place)
         → (shelf.new ≡ shelf.old) × (disk.new ≡ disk.old)) }
     ensures disk { ReadsDisk disk.old disk.new (V.cloud_at shelf.old cloud.0) (V.cloud_at shelf.new cloud.0) }
@@ -95,6 +97,7 @@ pub(crate) fn send_shares<V: Shelf>(
         (V.faults shelf.old) (V.faults shelf.new) (requests.GetShares user fps.now) reply.new result }
     ensures hashed { (answer : Reply) → OnOk result (IsReply reply.new answer
         → IsHashed (memory_of store.old.memory) (requests.GetShares user fps.now) answer) }
+    ensures says { OnOk result (Replies reply.new (SharesBy (memory_of store.old.memory) user fps.now)) }
 {
     let cloud = store.header.cloud;
     match shares_on_disk(

@@ -5,7 +5,7 @@ use Rattle.server_commands.specs.ServerReads.CloudMemory.Rooms.{memory_of}
 use Rattle.server_commands.specs.ServerReads.Found.{IsNamed, HasNone, IsFoundRecipe}
 use Rattle.server_commands.proofs.ServerReads.Plain.{recipe_plain}
 use Rattle.server_commands.proofs.ServerReads.Rotting.{recipe_rotten}
-use Rattle.server_requests.proofs.Contents.{gives_plain, missing_leaves, is_of_entry}
+use Rattle.server_requests.proofs.Contents.{gives_plain, missing_leaves, is_of_entry, recipe_by}
 use Rattle.server_requests.proofs.Readings.{ready_after, was_read, was_failed}
 use Rattle.server_requests.proofs.fetching.send_recipe.Goals as goal
 
@@ -38,3 +38,8 @@ returns-in-Err-clause-does g c =
     was_failed (new.shelf ≡ c.args.shelf.now) old new.disk (at c.args.shelf.now) (at new.shelf) (faults c.args.shelf.now) (faults new.shelf)
     (requests.GetRecipe c.args.user c.args.tag.now c.args.version) new.reply
     c.requires.ready e.disk e.stays e.call c.shut.new.self e.failed c.shut.ensures.same c.shut.ensures.settled c.shut.ensures.shut
+
+pub returns-in-Ok-clause-says : goal.returns-in-Ok-clause-says
+returns-in-Ok-clause-says g c =
+    recipe_by (g.V.Shelf.cloud_at c.args.shelf.now c.args.store.now.header.cloud.0) (memory_of c.args.store.now.memory) (key_of c.args.user.0 c.args.tag.now.0 c.args.version.0)
+    c.recipe_on_disk.new.reply c.in-Ok.ensures.kind

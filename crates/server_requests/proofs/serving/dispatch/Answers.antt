@@ -5,12 +5,13 @@ use Rattle.server_commands.specs.Messages.request.Request.TheVariants as request
 use Rattle.server_commands.specs.ServerReads.CloudMemory.Rooms.{memory_of}
 use Rattle.server_commands.specs.ServerReads.Allowed.{Replies}
 use Rattle.server_commands.proofs.ServerReads.Plain.{known_plain, entries_plain}
-use Rattle.server_commands.specs.Entering.{Enters}
+use Rattle.server_commands.specs.FileIndex.Files.{key_of}
+use Rattle.server_commands.specs.Entering.{Enters, KnownBy, RecipeBy, SharesBy}
 use Rattle.server_commands.specs.Executing.{Executes}
 use Rattle.server_commands.proofs.Calls.{ok_result}
 use Rattle.server_requests.specs.Asking.{request_of}
 use Rattle.server_requests.proofs.Alone.{was_told}
-use Rattle.server_requests.proofs.Contents.{gives_plain, greets, says, says_on}
+use Rattle.server_requests.proofs.Contents.{enters_by, enters_by_on, gives_plain, greets, known_by, says}
 use Rattle.server_requests.proofs.serving.dispatch.Goals as goal
 
 -- ---- by the memory alone
@@ -60,9 +61,9 @@ returns-in-Hello-clause-enters g c =
 pub returns-in-Query-clause-enters : goal.returns-in-Query-clause-enters
 returns-in-Query-clause-enters g c =
     let s = c.args.store.now in let m = memory_of s.memory in let content = c.known.new.reply in
-    let user = c.in-Query.user in let fps = c.in-Query.fps in let request = requests.Query user fps in
+    let user = c.in-Query.user in let fps = c.in-Query.fps in
     subst (λ (r : Request). Replies content (Enters s.header m m r)) (ap request_of (sym c.in-Query.is))
-    (says s.header.shape request content (Enters s.header m m request) (gives_plain s.header.shape request content _ c.known.ensures.kind (known_plain user fps)) (λ reply. refl))
+    (enters_by (KnownBy m user fps) content m m refl (known_by m user fps content c.known.ensures.kept c.known.ensures.kind))
 
 pub returns-in-List-clause-enters : goal.returns-in-List-clause-enters
 returns-in-List-clause-enters g c =
@@ -73,19 +74,19 @@ returns-in-List-clause-enters g c =
 
 pub returns-in-GetRecipe-clause-enters : goal.returns-in-GetRecipe-clause-enters
 returns-in-GetRecipe-clause-enters g c =
-    let s = c.args.store.now in let new = c.send_recipe.new in let d = c.send_recipe.ensures.does in
-    let request = requests.GetRecipe c.in-GetRecipe.user c.in-GetRecipe.tag c.in-GetRecipe.version in
-    let E : Request → Type 0 = λ r. OnOk c.send_recipe.result (Replies new.reply (Enters s.header (memory_of s.memory) (memory_of new.store.memory) r)) in
+    let s = c.args.store.now in let new = c.send_recipe.new in let d = c.send_recipe.ensures.does in let m = memory_of s.memory in
+    let user = c.in-GetRecipe.user in let tag = c.in-GetRecipe.tag in let version = c.in-GetRecipe.version in
+    let E : Request → Type 0 = λ r. OnOk c.send_recipe.result (Replies new.reply (Enters s.header m (memory_of new.store.memory) r)) in
     subst E (ap request_of (sym c.in-GetRecipe.is))
-    (says_on c.send_recipe.result s.header.shape request new.reply (Enters s.header (memory_of s.memory) (memory_of new.store.memory) request) d.kind (λ reply. ap memory_of (d.steady tt).memory))
+    (enters_by_on c.send_recipe.result (RecipeBy m (key_of user.0 tag.0 version.0)) new.reply m (memory_of new.store.memory) (ap memory_of (d.steady tt).memory) c.send_recipe.ensures.says)
 
 pub returns-in-GetShares-clause-enters : goal.returns-in-GetShares-clause-enters
 returns-in-GetShares-clause-enters g c =
-    let s = c.args.store.now in let new = c.send_shares.new in let d = c.send_shares.ensures.does in
-    let request = requests.GetShares c.in-GetShares.user c.in-GetShares.fps in
-    let E : Request → Type 0 = λ r. OnOk c.send_shares.result (Replies new.reply (Enters s.header (memory_of s.memory) (memory_of new.store.memory) r)) in
+    let s = c.args.store.now in let new = c.send_shares.new in let d = c.send_shares.ensures.does in let m = memory_of s.memory in
+    let user = c.in-GetShares.user in let fps = c.in-GetShares.fps in
+    let E : Request → Type 0 = λ r. OnOk c.send_shares.result (Replies new.reply (Enters s.header m (memory_of new.store.memory) r)) in
     subst E (ap request_of (sym c.in-GetShares.is))
-    (says_on c.send_shares.result s.header.shape request new.reply (Enters s.header (memory_of s.memory) (memory_of new.store.memory) request) d.kind (λ reply. ap memory_of (d.steady tt).memory))
+    (enters_by_on c.send_shares.result (SharesBy m user fps) new.reply m (memory_of new.store.memory) (ap memory_of (d.steady tt).memory) c.send_shares.ensures.says)
 
 pub returns-in-Commit-clause-enters : goal.returns-in-Commit-clause-enters
 returns-in-Commit-clause-enters g c =
