@@ -114,10 +114,12 @@ abbrev pub CanOpen : OpenStore → Cloud → Type 0
 CanOpen store cloud = (commands : ℕ) × OpensTo store.header true (reads cloud.now) (Ok commands)
 
 -- Whatever the records say: the areas stay, or the current chain gets one record more, or that behind the memory's checkpoint in its place, and all
--- that lay below the ends of both logs stays; and where the memory has it that the request adds nothing, areas and memory stay.
+-- that lay below the ends of both logs stays; and where the memory has it that the request adds nothing, areas and memory stay. The store is open
+-- behind it, or the cloud's count rose.
 pub record ChangesBehind (old new : OpenStore) (before after : Cloud) (request : Request) : Type 0 where
   pub behind : StaysIn before after ⊎ GrowsBehind old before after
   pub steady : IsSteady (memory_of old.memory) request → LeavesBoth old new before after
+  pub stays_open : Rose before.faults after.faults ⊎ IsOpen new
 
 -- The content is a reply that says of the memory before and behind the request just what is so; of Fault nothing is said.
 abbrev pub EntersBy : OpenStore → OpenStore → Request → List ℕ → Type 0

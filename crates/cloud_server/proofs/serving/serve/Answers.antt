@@ -1,4 +1,4 @@
-use Rattle.std.proofs.Common.{refl, arith}
+use Rattle.std.proofs.Common.{refl, arith, inl, inr}
 use Rattle.server_requests.specs.Messages.reply.Reply.TheVariants as replies
 use Rattle.server_requests.specs.Asking.{request_of}
 use Rattle.cloud_server.proofs.Bounds.{reply_fits}
@@ -71,10 +71,10 @@ returns-in-Err-clause-answered g c =
     (g.V.Shelf.faults c.args.shelf.now) (g.V.Shelf.faults c.dispatch.new.shelf) c.write_fault.new.out c.write_fault.ensures.is d.failed d.shut
 
 pub returns-in-Ok-clause-behind : goal.returns-in-Ok-clause-behind
-returns-in-Ok-clause-behind g c = (let d = c.in-Ok.ensures.does in record { behind = d.behind; steady = d.steady })
+returns-in-Ok-clause-behind g c = (let d = c.in-Ok.ensures.does in record { behind = d.behind; steady = d.steady; stays_open = inr d.ready.at_end })
 
 pub returns-in-Err-clause-behind : goal.returns-in-Err-clause-behind
-returns-in-Err-clause-behind g c = (let d = c.in-Err.ensures.does in record { behind = d.behind; steady = d.steady })
+returns-in-Err-clause-behind g c = (let d = c.in-Err.ensures.does in record { behind = d.behind; steady = d.steady; stays_open = inl d.failed.cloud })
 
 pub returns-in-Ok-clause-enters : goal.returns-in-Ok-clause-enters
 returns-in-Ok-clause-enters g c = (let e = c.in-Ok.ensures.enters in (e.reply, e.is, λ other. e.said))
