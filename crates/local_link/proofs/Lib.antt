@@ -1,3 +1,4 @@
+pub mod ByMemory
 pub mod Calling
 pub mod CloudServer
 pub mod Executing

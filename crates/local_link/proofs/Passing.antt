@@ -22,9 +22,10 @@ use Rattle.cloud_server.specs.UserDedup.Dedup.{FullRoom}
 use Rattle.cloud_server.specs.UserDedup.Requests.{asked_at, HasRecipe}
 use Rattle.cloud_server.specs.UserDedup.Exec.{Peer, MaySettleAs, KeepsPeer, CountsOn, Exec, ExecTold, ExecUntold, IsCut, items_of, served}
 use Rattle.cloud_server.proofs.UserDedup.Asked.{asked_law}
+use Rattle.cloud_server.specs.CloudMemory.Memory.{Memory}
 use Rattle.cloud_server.specs.CloudAreas.Peers.{StandsForSome, ImagesSince, MayBecome}
 use Rattle.local_link.specs.declared.link.LocalLink.{LocalLink}
-use Rattle.local_link.specs.Tells.{server_at, header_at, rooms_at, full_at, is_delivered, IsPeer, LeavesRest, serving_at, StandsAt, PassesOn, telling}
+use Rattle.local_link.specs.Tells.{server_at, header_at, rooms_at, full_at, is_delivered, IsPeer, LeavesRest, serving_at, StandsAt, IsOpenWith, ReadsOpen, PassesOn, telling}
 use Rattle.cloud_server.specs.UserDedup.Link.{Exchange, IsReading, exchange_of, AddsNothing, Passes, ReadsFrom, Asks, serves}
 use Rattle.cloud_server.specs.CdBase.Reading.{AreBytes}
 use Rattle.local_link.specs.declared.fate.Fate.{Fate}
@@ -44,7 +45,7 @@ adds_none shape cloud full list (requests.GetShares user fps) none = refl
 adds_none shape cloud full list (requests.List user after) none = refl
 adds_none shape cloud full list (requests.Delete user tag version) none = absurd none
 
-has_recipe : (shape : Shape) (r : Request) → AddsNothing r → HasRecipe shape r
+pub has_recipe : (shape : Shape) (r : Request) → AddsNothing r → HasRecipe shape r
 has_recipe shape requests.Hello none = tt
 has_recipe shape (requests.Query user fps) none = tt
 has_recipe shape (requests.Put user shares) none = absurd none
@@ -82,17 +83,17 @@ module _ (shape : Shape) (cloud : ℕ) (full : List Command → Command → Opti
 
 -- ---- the chain
 
-rose_behind : (a b c : ℕ) → a ≤ b → Rose b c → Rose a c
+pub rose_behind : (a b c : ℕ) → a ≤ b → Rose b c → Rose a c
 rose_behind a b c le rose = omega (arith, rose)
 
-rose_before : (a b c : ℕ) → Rose a b → b ≤ c → Rose a c
+pub rose_before : (a b c : ℕ) → Rose a b → b ≤ c → Rose a c
 rose_before a b c rose le = omega (arith, rose)
 
-fault_bytes : AreBytes (reply_bytes replies.Fault)
+pub fault_bytes : AreBytes (reply_bytes replies.Fault)
 fault_bytes zero = omega arith
 fault_bytes (suc i) = omega arith
 
-one_answer : (a b : Reply) → (let r : Result Reply ℕ = Ok a in let s : Result Reply ℕ = Ok b in r ≡ s) → a ≡ b
+pub one_answer : (a b : Reply) → (let r : Result Reply ℕ = Ok a in let s : Result Reply ℕ = Ok b in r ≡ s) → a ≡ b
 one_answer a b e = cc
 
 module _ {V : Type 0} (clouds : V → ℕ → Cloud) where
@@ -236,18 +237,20 @@ said_by clouds old new cloud r reply before now (Ok u) x ok =
     (x.2.answer, subst (λ (l : List ℕ). IsReply l x.2.answer) (sym x.1) x.2.is, x.2.kind, x.2.memory, λ fault. (x.2.fault fault).cloud)
 said_by clouds old new cloud r reply before now (Err e) x ok = absurd (let never : false ≡ true = ok in cc)
 
-one_reply : (reply heard : List ℕ) → Some reply ≡ Some heard → reply ≡ heard
+pub one_reply : (reply heard : List ℕ) → Some reply ≡ Some heard → reply ≡ heard
 one_reply reply heard e = cc
 
 pub passes_by : {V E : Type 0} (clouds : V → ℕ → Cloud) (old new : LocalLink V) (cloud : ℕ) (content reply : List ℕ) (result : Result (Unit {0}) E) → cloud < old.servers.shape.n → AreBytes content
     → LeavesRest clouds cloud old new → rooms_at new.servers cloud ≡ rooms_at old.servers cloud → new.fate ≡ Deliver → new.shelf.ghost_name ≡ old.shelf.ghost_name
     → (clouds old.shelf.now cloud).faults ≤ (clouds new.shelf.now cloud).faults
     → (IsOk result → (r : Request) → asked_at old.servers.shape content ≡ Ok r → SaidBy clouds old new cloud r reply)
+    → ((m : Memory) (r : Request) → asked_at old.servers.shape content ≡ Ok r → AddsNothing r → IsOpenWith old.servers cloud m
+    → ReadsOpen (clouds old.shelf.now cloud) (clouds new.shelf.now cloud) new.servers (exchange_of cloud content result reply) m r)
     → ((r : Request) → asked_at old.servers.shape content ≡ Ok r → Asks (telling clouds) cloud old r reply result new)
     → ((p : Peer) (r : Request) → IsTrue (clouds old.shelf.now cloud).told → StandsAt clouds old cloud p → asked_at old.servers.shape content ≡ Ok r
     → ImagesSince (clouds old.shelf.now cloud) (clouds new.shelf.now cloud) (header_at old.servers cloud) (MayBecome (serves (telling clouds) old cloud) p r))
     → PassesOn clouds old (exchange_of cloud content result reply) new
-passes_by clouds old new cloud content reply (Ok u) lt bytes rest rooms fate same later said exec images = record {
+passes_by clouds old new cloud content reply (Ok u) lt bytes rest rooms fate same later said reads exec images = record {
   reached = lt;
   bytes = bytes;
   rest = rest;
@@ -256,10 +259,11 @@ passes_by clouds old new cloud content reply (Ok u) lt bytes rest rooms fate sam
   same_reference = same;
   later = later;
   said = λ r heard asked came. subst (SaidBy clouds old new cloud r) (one_reply reply heard came) (said refl r asked);
+  reads = reads;
   goes = λ p r asked is. let x = exec r asked p is in (x.0, x.1, inr (x.2.0, x.2.2));
   images = images;
 }
-passes_by clouds old new cloud content reply (Err e) lt bytes rest rooms fate same later said exec images = record {
+passes_by clouds old new cloud content reply (Err e) lt bytes rest rooms fate same later said reads exec images = record {
   reached = lt;
   bytes = bytes;
   rest = rest;
@@ -268,6 +272,7 @@ passes_by clouds old new cloud content reply (Err e) lt bytes rest rooms fate sa
   same_reference = same;
   later = later;
   said = λ r heard asked came. absurd (let never : None ≡ Some heard = came in cc);
+  reads = reads;
   goes = λ p r asked is. let x = exec r asked p is in (x.0, x.1, x.2);
   images = images;
 }

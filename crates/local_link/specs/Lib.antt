@@ -6,6 +6,7 @@ pub mod HalfJournal
 pub mod JournalStart
 pub mod Members
 pub mod Messages
+pub mod ServerCommands
 pub mod Sounds
 pub mod Steps
 pub mod StoreOpening

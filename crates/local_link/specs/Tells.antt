@@ -1,8 +1,10 @@
 -- What the link tells of its clouds.
 use Rattle.std.specs.Prelude.{◌≡◌, ◌≢◌, ◌⊎◌, ℕ, ◌<◌, ◌≤◌, Bool, true, false, IsTrue, List, Option, Some, None, Ok, IsSomeAnd, nat_lt, slice_get}
 use Rattle.cloud_server.specs.CdBase.Reading.{AreBytes}
+use Rattle.cloud_server.specs.CdBase.ids.Fp.{Fp}
 use Rattle.cloud_server.specs.CdBase.shape.Shape.{Shape}
 use Rattle.cloud_server.specs.CdEdges.Disk.{Cloud}
+use Rattle.cloud_server.specs.CdEdges.Shelf.{Stays}
 use Rattle.cloud_server.specs.UserDedup.command.Command.{Command}
 use Rattle.cloud_server.specs.Messages.request.Request.{Request}
 use Rattle.cloud_server.specs.Messages.reply.Reply.{Reply}
@@ -13,7 +15,7 @@ use Rattle.cloud_server.specs.CdEdges.Causes.{Rose}
 use Rattle.cloud_server.specs.UserDedup.Dedup.{Outcome, FullRoom}
 use Rattle.cloud_server.specs.UserDedup.Requests.{asked_at}
 use Rattle.cloud_server.specs.UserDedup.Exec.{Peer, KeepsPeer, CountsOn, Exec, StandsSound, items_of, served}
-use Rattle.cloud_server.specs.UserDedup.Link.{LinkTelling, Exchange}
+use Rattle.cloud_server.specs.UserDedup.Link.{LinkTelling, Exchange, AddsNothing}
 use Rattle.cloud_server.specs.CloudAreas.Peers.{ImagesSince, MayBecome}
 use Rattle.cloud_server.specs.JournalStart.rooms.UserRooms.{UserRooms}
 use Rattle.cloud_server.specs.JournalStart.start.Header.{Header}
@@ -21,6 +23,11 @@ use Rattle.cloud_server.specs.JournalStart.Ranges.{usual_rooms}
 use Rattle.cloud_server.specs.Names.{header_of}
 use Rattle.cloud_server.specs.UserDedup.Spending.{full_for}
 use Rattle.cloud_server.specs.declared.server.Server.{Server}
+use Rattle.cloud_server.specs.CloudMemory.Memory.{Memory}
+use Rattle.cloud_server.specs.CloudMemory.Rooms.{memory_of}
+use Rattle.cloud_server.specs.OpenStore.Store.{IsOpen}
+use Rattle.cloud_server.specs.ServerCommands.Entering.{ReadsBy}
+use Rattle.cloud_server.specs.ServerCommands.Leaving.{IsFound}
 use Rattle.cloud_server.specs.Serving.{IsServing}
 use Rattle.local_link.specs.declared.fate.Fate.{Fate}
 use Rattle.local_link.specs.declared.fate.Fate.TheVariants as fates
@@ -78,10 +85,28 @@ serving_at link cloud = served link.servers.shape cloud (full_at link.servers cl
 abbrev pub StandsAt : {V : Type 0} → (V → ℕ → Cloud) → LocalLink V → ℕ → Peer → Type 0
 StandsAt clouds link cloud p = IsPeer link.servers.shape cloud (clouds link.shelf.now cloud) (server_at link.servers cloud) p
 
+-- The cloud's server is open, and this is its memory.
+abbrev pub IsOpenWith : Servers → ℕ → Memory → Type 0
+IsOpenWith servers cloud m = IsSomeAnd (server_at servers cloud) (λ (server : Server). IsOpen server.store × (memory_of server.store.memory ≡ m))
+
+-- The content is a reply to this request, and says what this memory has; where it is Rotten it names what lies at the memory's place.
+pub record IsSaidBy (cloud : Cloud) (m : Memory) (request : Request) (content : List ℕ) : Type 0 where
+  pub answer : Reply
+  pub is : IsReply content answer
+  pub by : ReadsBy m request answer
+  pub found : (named what : Fp) → IsReply content (replies.Rotten named what) → IsFound cloud m request named what
+
+-- An open server with this memory was asked for what adds nothing. The areas stay. The cloud's count rose, or the server is open with this memory
+-- still, and what came back is by it.
+pub record ReadsOpen (old new : Cloud) (servers : Servers) (e : Exchange) (m : Memory) (request : Request) : Type 0 where
+  pub stays : Stays old new
+  pub at_end : Rose old.faults new.faults ⊎ IsOpenWith servers e.cloud m
+  pub says : (content : List ℕ) → e.reply ≡ Some content → Rose old.faults new.faults ⊎ IsSaidBy old m request content
+
 -- Only its cloud was touched, and nothing but the fate beside it; the shelf is the same one; the cloud went on from each peer that it stood
 -- for; and whenever a crash came it left a list that the cloud might have settled as, or one with the command that the request adds.
 -- Whatever the cloud has, its count of faults doesn't fall, and a reply that came is one that some server gives to
--- the request, Fault only where that count rose.
+-- the request, Fault only where that count rose. Where the server was open and the request adds nothing, the reply is what its memory says.
 pub record PassesOn {V : Type 0} (clouds : V → ℕ → Cloud) (old : LocalLink V) (e : Exchange) (new : LocalLink V) : Type 0 where
   pub reached : e.cloud < old.servers.shape.n
   pub bytes : AreBytes e.content
@@ -94,6 +119,8 @@ pub record PassesOn {V : Type 0} (clouds : V → ℕ → Cloud) (old : LocalLink
       → (answer : Reply) × IsReply content answer × IsReplyTo (items_of old.servers.shape r) r answer
       × (answer ≢ replies.NoMemory)
       × (answer ≡ replies.Fault → Rose (clouds old.shelf.now e.cloud).faults (clouds new.shelf.now e.cloud).faults)
+  pub reads : (m : Memory) (r : Request) → asked_at old.servers.shape e.content ≡ Ok r → AddsNothing r → IsOpenWith old.servers e.cloud m
+      → ReadsOpen (clouds old.shelf.now e.cloud) (clouds new.shelf.now e.cloud) new.servers e m r
   pub goes : (p : Peer) (r : Request) → asked_at old.servers.shape e.content ≡ Ok r → StandsAt clouds old e.cloud p
       → (q : Peer) × StandsAt clouds new e.cloud q × ((KeepsPeer p q × CountsOn p q)
       ⊎ ((answer : Reply) × Exec old.servers.shape (clouds old.shelf.now e.cloud).told (serving_at old e.cloud) p r answer q))

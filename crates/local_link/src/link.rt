@@ -1,7 +1,11 @@
 //! The link to all clouds of a shelf.
 
-ghost use Rattle.std.specs.Prelude.{◌≡◌, ◌<◌, ◌≤◌, ℕ, List, Some, IsTrue};
+ghost use Rattle.std.specs.Prelude.{◌≡◌, ◌⊎◌, ◌<◌, ◌≤◌, ℕ, List, Some, IsTrue};
 ghost use Rattle.cloud_server.specs.CdEdges.Causes.{Rose};
+ghost use Rattle.cloud_server.specs.CdEdges.Shelf.{Stays};
+ghost use Rattle.cloud_server.specs.CloudMemory.Memory.{Memory};
+ghost use Rattle.cloud_server.specs.Messages.Requests.{IsRequest};
+ghost use Rattle.cloud_server.specs.Messages.request.Request.{Request};
 ghost use Rattle.cloud_server.specs.Messages.Replies.{IsReply};
 ghost use Rattle.cloud_server.specs.Messages.reply.Reply.TheVariants as replies;
 ghost use Rattle.std.specs.List.{Contains};
@@ -10,8 +14,8 @@ ghost use Rattle.cloud_server.specs.declared.server.Server.{Server};
 ghost use Rattle.local_link.specs.declared.servers.Servers.{Servers};
 ghost use Rattle.cloud_server.specs.CloudAreas.Peers.{ImagesSince};
 ghost use Rattle.local_link.specs.declared.link.LocalLink.{LocalLink};
-ghost use Rattle.cloud_server.specs.UserDedup.Link.{Exchange, IsReading, Passes, ReadsFrom};
-ghost use Rattle.local_link.specs.Tells.{server_at, header_at, telling, StandsAt};
+ghost use Rattle.cloud_server.specs.UserDedup.Link.{AddsNothing, Exchange, IsReading, Passes, ReadsFrom};
+ghost use Rattle.local_link.specs.Tells.{server_at, header_at, telling, StandsAt, IsOpenWith, IsSaidBy};
 
 use crate::Fate;
 use crate::servers::Servers;
@@ -509,6 +513,18 @@ pub fn law_of_readings<V: Shelf>()
         → ask.reply ≡ Some content
         → IsReply content replies.Fault
         → Rose (V.cloud_at old.shelf.now ask.cloud).faults (V.cloud_at new.shelf.now ask.cloud).faults }
+    // an open server keeps its memory, and the cloud its areas, unless the cloud's count rose
+    ensures memory { (asks : List Exchange) (old new : LocalLink V) (cloud : ℕ) (m : Memory)
+        → Passes (telling V.cloud_at) (λ ask. IsReading ask.content) old asks new → IsOpenWith old.servers cloud m
+        → Rose (V.cloud_at old.shelf.now cloud).faults (V.cloud_at new.shelf.now cloud).faults
+        ⊎ (IsOpenWith new.servers cloud m × Stays (V.cloud_at old.shelf.now cloud) (V.cloud_at new.shelf.now cloud)) }
+    // and then each of its replies is by that memory
+    ensures said { (asks : List Exchange) (old new : LocalLink V) (ask : Exchange) (content : List ℕ) (m : Memory)
+        (request : Request) → Passes (telling V.cloud_at) (λ ask. IsReading ask.content) old asks new
+        → Contains asks ask → ask.reply ≡ Some content → IsRequest ask.content request → AddsNothing request
+        → IsOpenWith old.servers ask.cloud m
+        → Rose (V.cloud_at old.shelf.now ask.cloud).faults (V.cloud_at new.shelf.now ask.cloud).faults
+        ⊎ IsSaidBy (V.cloud_at old.shelf.now ask.cloud) m request content }
     // the clouds that aren't named are as they were
     ensures others { (named : List ℕ) (asks : List Exchange) (old new : LocalLink V) (cloud : ℕ)
         → Passes (telling V.cloud_at) (ReadsFrom named) old asks new

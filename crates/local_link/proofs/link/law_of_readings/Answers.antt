@@ -1,3 +1,4 @@
+use Rattle.local_link.proofs.ByMemory.{open_on, said_on}
 use Rattle.local_link.proofs.Passing.{read_fault, read_images, read_later, read_others, read_same}
 use Rattle.local_link.proofs.link.law_of_readings.Goals as goal
 
@@ -15,3 +16,9 @@ returns-clause-later g c = read_later g.V.Shelf.cloud_at
 
 pub returns-clause-fault : goal.returns-clause-fault
 returns-clause-fault g c = read_fault g.V.Shelf.cloud_at
+
+pub returns-clause-memory : goal.returns-clause-memory
+returns-clause-memory g c = open_on g.V.Shelf.cloud_at
+
+pub returns-clause-said : goal.returns-clause-said
+returns-clause-said g c = said_on g.V.Shelf.cloud_at

@@ -1,5 +1,6 @@
 use Rattle.std.proofs.Common.{arith}
 use Rattle.std.proofs.lemmas.Bool.{ltb-true}
+use Rattle.local_link.proofs.ByMemory.{reads_by}
 use Rattle.local_link.proofs.Passing.{heard, passes_by, said_by}
 use Rattle.local_link.proofs.link.LocalLinkLink.ask.Goals as goal
 
@@ -9,4 +10,8 @@ returns-clause-passes g c =
     passes_by g.V.Shelf.cloud_at c.args.self.now c.ask_cloud.new.self c.args.cloud.0 c.args.request.now c.ask_cloud.new.reply c.ask_cloud.result
     (ltb-true c.args.cloud.0 c.args.self.now.servers.shape.n c.requires.reached) (λ i. omega (arith, c.type_inv.request i)) e.rest e.rooms e.next e.same_reference e.call.later
     (λ ok r asked. said_by g.V.Shelf.cloud_at c.args.self.now c.ask_cloud.new.self c.args.cloud.0 r c.ask_cloud.new.reply (g.V.Shelf.faults c.args.self.now.shelf.now) (g.V.Shelf.faults c.ask_cloud.new.self.shelf.now) c.ask_cloud.result (e.answered (heard c.args.self.now.fate (e.delivered.0 ok)) r asked) ok)
+    (λ m r asked none is.
+    reads_by g.V.Shelf.cloud_at c.args.self.now c.ask_cloud.new.self c.args.cloud.0 m r none is e.rest e.unheard (λ arrives. e.behind arrives r asked)
+    c.args.request.now c.ask_cloud.new.reply (g.V.Shelf.faults c.args.self.now.shelf.now) (g.V.Shelf.faults c.ask_cloud.new.self.shelf.now) c.ask_cloud.result
+    (λ ok. heard c.args.self.now.fate (e.delivered.0 ok)) (λ arrives. e.enters arrives r asked) (λ arrives. e.found arrives r asked) (λ arrives. e.answered arrives r asked))
     e.exec e.images
