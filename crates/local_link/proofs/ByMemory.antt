@@ -19,6 +19,7 @@ use Rattle.cloud_server.specs.Messages.Requests.{IsRequest}
 use Rattle.cloud_server.specs.Messages.reply.Reply.{Reply}
 use Rattle.cloud_server.specs.Messages.reply.Reply.TheVariants as replies
 use Rattle.cloud_server.specs.Messages.Replies.{IsReply}
+use Rattle.messages.specs.ReplyReading.{reply_at}
 use Rattle.messages.proofs.ReplyLaws.{reply_law}
 use Rattle.cloud_server.specs.OpenStore.Store.{IsOpen}
 use Rattle.cloud_server.specs.ServerCommands.Entering.{Enters, ReadsBy}
@@ -199,6 +200,15 @@ module _ {V : Type 0} (clouds : V → ℕ → Cloud) (old new : LocalLink V) (cl
         at_end = x.1;
         says = λ heard came. subst (λ (l : List ℕ). Rose one.faults two.faults ⊎ IsSaidBy one m r l) (one_reply reply heard came) says;
       }
+
+-- what a content that reads as a reply says
+pub said_is : (cloud : Cloud) (m : Memory) (r : Request) (content : List ℕ) (answer : Reply) → AreBytes content → reply_at content ≡ Ok answer → IsSaidBy cloud m r content
+    → ReadsBy m r answer
+said_is cloud m r content answer are read x = subst (ReadsBy m r) (one_answer x.answer answer (sym ((reply_law content x.answer are).1 x.is) ∙ read)) x.by
+
+pub found_is : (cloud : Cloud) (m : Memory) (r : Request) (content : List ℕ) (named what : Fp) → AreBytes content → reply_at content ≡ Ok (replies.Rotten named what)
+    → IsSaidBy cloud m r content → IsFound cloud m r named what
+found_is cloud m r content named what are read x = x.found named what ((reply_law content (replies.Rotten named what) are).0 read)
 
 -- ---- the chain
 

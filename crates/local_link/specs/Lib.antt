@@ -1,4 +1,5 @@
 pub mod Calls
+pub mod CdBase
 pub mod CloudAreas
 pub mod CloudMemory
 pub mod CloudServer
@@ -6,6 +7,7 @@ pub mod HalfJournal
 pub mod JournalStart
 pub mod Members
 pub mod Messages
+pub mod OpenStore
 pub mod ServerCommands
 pub mod Sounds
 pub mod Steps

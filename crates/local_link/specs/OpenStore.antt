@@ -1,0 +1,2 @@
+-- What open_store says, for callers.
+pub use Rattle.cloud_server.specs.OpenStore.Store
