@@ -77,7 +77,7 @@ module _ (end : ReadEnd) (before middle : Option (List ℕ)) (faults count : ℕ
 -- ---- the whole read
 
 nothing_said : (end : ReadEnd) (c : Outside) (r : AskedRead) (text : List ℕ) → IsOfOpening end
-    → Says c r.shape r.clouds end text → text ≡ []
+    → Says c r.shape r.user (key_of r.shape r.path r.version) r.clouds end text → text ≡ []
 nothing_said ends.Done c r text is says = absurd is
 nothing_said ends.Refused c r text is says = absurd is
 nothing_said (ends.NotBegun cloud len) c r text is says = says.0
@@ -102,7 +102,7 @@ pub read_to : (status : ℕ) (r : AskedRead) (end : ReadEnd) (middle old new : �
       total_after = total_after;
       old = middle;
       new = new;
-    }) r.shape r.clouds end text
+    }) r.shape r.user (key_of r.shape r.path r.version) r.clouds end text
     × ((rooms : ℕ → UserRooms) (lists : ℕ → List Command) → AreReadable r.shape r.clouds middle rooms lists
     → Gives (record {
       total_before = count;

@@ -61,7 +61,7 @@ given_of r lists = due_of r.shape r.user (key_of r.shape r.path r.version) r.clo
 -- The text is that of the end: whatever is told, by what the named clouds' disks open to; and over named clouds that are
 -- told, begun and stand for lists, each within rooms of its own, by what these lists give.
 pub record BelongsTo (c : Outside) (r : AskedRead) (end : ReadEnd) (text : List ℕ) : Type 0 where
-  pub says : Says c r.shape r.clouds end text
+  pub says : Says c r.shape r.user (key_of r.shape r.path r.version) r.clouds end text
   pub gives : (rooms : ℕ → UserRooms) (lists : ℕ → List Command) → AreReadable r.shape r.clouds c.old rooms lists
       → Gives c r.clouds (given_of r lists) end text
 

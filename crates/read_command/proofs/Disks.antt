@@ -1,11 +1,12 @@
 -- One cloud opened, and clouds in order.
 use Rattle.std.proofs.Common.{◌≡◌, ℕ, true, false, List, Option, refl, sym, ap, ◌∙◌, subst, inl, inr}
-use Rattle.std.specs.Prelude.{IsTrue, Some, None, Result, Ok, Err, IfOk, IsSomeAnd}
+use Rattle.std.specs.Prelude.{IsTrue, Some, None, Result, Ok, Err, IfOk, OnOk, IsSomeAnd}
 use Rattle.std.specs.List.{Contains}
 use Rattle.half_journal.specs.CdBase.ids.CloudNo.{CloudNo}
 use Rattle.half_journal.specs.JournalStart.rooms.UserRooms.{UserRooms}
-use Rattle.half_journal.specs.CdEdges.area.Area.TheVariants.{Journal}
-use Rattle.half_journal.specs.CdEdges.Disk.{Areas, Cloud, Image, IsImage, reads}
+use Rattle.half_journal.specs.CdEdges.area.Area.{Area}
+use Rattle.half_journal.specs.CdEdges.area.Area.TheVariants.{Journal, Shares, Recipes}
+use Rattle.half_journal.specs.CdEdges.Disk.{Areas, Cloud, Image, IsImage, Store, reads}
 use Rattle.half_journal.specs.CdEdges.Shelf.{HasFailed, KeepsCounts, Stays}
 use Rattle.half_journal.proofs.CdEdges.Moments.{stayed, weaker}
 use Rattle.half_journal.specs.declared.errors.OpenErr.{OpenErr}
@@ -21,6 +22,8 @@ use Rattle.local_link.specs.StoreOpening.Exact.{Opens}
 use Rattle.local_link.specs.CloudMemory.Rooms.{memory_of}
 use Rattle.local_link.specs.CloudServer.Openings.{HasNoOther, NotBegunIs, OpensTo, OtherStoreIs}
 use Rattle.local_link.specs.StoreOpening.Spared.{IsOkOrFault, MayBegin, Spares}
+use Rattle.local_link.specs.StoreOpening.Synced.{AreSynced}
+use Rattle.local_link.specs.OpenStore.Store.{IsOpen}
 use Rattle.cloud_areas.specs.UserDedup.Spending.{IsWithin}
 use Rattle.cloud_areas.specs.Peers.{StandsForSome, ImagesNow, ImagesSince}
 use Rattle.cloud_areas.specs.Standing.{StandsFor}
@@ -32,10 +35,10 @@ use Rattle.local_link.specs.declared.link.LocalLink.{LocalLink}
 use Rattle.local_link.specs.declared.servers.Servers.{Servers}
 use Rattle.local_link.specs.Calls.{header_of}
 use Rattle.local_link.specs.Steps.{IsClosedIn}
-use Rattle.local_link.specs.Tells.{server_at, rooms_at, rooms_of, header_at, StandsAt}
+use Rattle.local_link.specs.Tells.{server_at, rooms_at, rooms_of, header_at, IsOpenWith, StandsAt}
 use Rattle.read_command.specs.declared.end.ReadEnd.{ReadEnd}
 use Rattle.read_command.specs.declared.end.ReadEnd.TheVariants as ends
-use Rattle.read_command.specs.Disks.{IsUnopenedToRead, IsSpared, InItsRooms, NamesRooms, StaysShut, Current, Unbegun, Broken}
+use Rattle.read_command.specs.Disks.{IsUnopenedToRead, IsSpared, InItsRooms, NamesRooms, OpensWith, StaysShut, Current, Unbegun, Broken}
 use Rattle.read_command.specs.Opening.{EndsOne, IsFree, Opening, end_by}
 
 -- ---- where nothing is begun
@@ -102,6 +105,38 @@ opens_to header image (Err (errors.NotBegun len)) (Some s) is = (memory_of s.sto
 opens_to header image (Err (errors.Damaged at byte)) (Some s) is = (memory_of s.store.memory, is)
 opens_to header image (Err (errors.OtherStore found asked at)) (Some s) is = (memory_of s.store.memory, is)
 
+-- the server that opened has the memory that the opening read
+opens_with : (header : Header) (old : Cloud) (commands : ℕ) (servers : Servers) (cloud : ℕ)
+    → (let answer : Result ℕ OpenErr = Ok commands in IsSomeAnd (server_at servers cloud) (λ (s : Server). OnFault answer (Unit {0}) (Opens header false (reads old.now) (memory_of s.store.memory) answer)))
+    → IsSomeAnd (server_at servers cloud) (λ (s : Server). IsOpen s.store) → OpensWith header old (IsOpenWith servers cloud)
+opens_with header old commands servers cloud exact at_end = by_server (server_at servers cloud) refl exact at_end
+  where
+    by_server : (at : Option Server) → server_at servers cloud ≡ at
+        → (let answer : Result ℕ OpenErr = Ok commands in IsSomeAnd at (λ (s : Server). OnFault answer (Unit {0}) (Opens header false (reads old.now) (memory_of s.store.memory) answer)))
+        → IsSomeAnd at (λ (s : Server). IsOpen s.store) → OpensWith header old (IsOpenWith servers cloud)
+    by_server None is opens open_there = absurd opens
+    by_server (Some s) is opens open_there = record {
+      memory = memory_of s.store.memory;
+      commands = commands;
+      opens = opens;
+      has = subst (λ (o : Option Server). IsSomeAnd o (λ (t : Server). IsOpen t.store × (memory_of t.store.memory ≡ memory_of s.store.memory))) (sym is) (open_there, refl);
+    }
+
+-- areas that were synced alone read as they did
+synced_same : (old new : Cloud) → AreSynced old new → reads new.now ≡ reads old.now
+synced_same old new s = λ i area. by_area area i
+  where
+    by_area : (area : Area) → (new.now area).read ≡ (old.now area).read
+    by_area Journal =
+        ap (λ (x : Store). x.read) (s.recipes.others Journal (λ e. let never : Journal ≡ Recipes = e in cc))
+        ∙ ap (λ (x : Store). x.read) (s.shares.others Journal (λ e. let never : Journal ≡ Shares = e in cc)) ∙ ap (λ (x : Store). x.read) s.journal.area
+    by_area Shares =
+        ap (λ (x : Store). x.read) (s.recipes.others Shares (λ e. let never : Shares ≡ Recipes = e in cc))
+        ∙ ap (λ (x : Store). x.read) s.shares.area ∙ ap (λ (x : Store). x.read) (s.journal.others Shares (λ e. let never : Shares ≡ Journal = e in cc))
+    by_area Recipes =
+        ap (λ (x : Store). x.read) s.recipes.area
+        ∙ ap (λ (x : Store). x.read) (s.shares.others Recipes (λ e. let never : Recipes ≡ Shares = e in cc)) ∙ ap (λ (x : Store). x.read) (s.journal.others Recipes (λ e. let never : Recipes ≡ Journal = e in cc))
+
 -- ---- what an opening comes to
 
 abbrev pub came_by : CloudNo → Result ℕ OpenErr → Result (Unit {0}) ReadEnd
@@ -149,10 +184,11 @@ module _ {V : Type 0} (clouds : V → ℕ → Cloud) where
       → OnFault result (HasFailed (clouds mid.shelf.now cloud.0) (clouds new.shelf.now cloud.0) before now) (KeepsCounts (clouds mid.shelf.now cloud.0) (clouds new.shelf.now cloud.0) before now)
       → (IsTrue (clouds mid.shelf.now cloud.0).told → Spares (header_at mid.servers cloud.0) false (clouds mid.shelf.now cloud.0) (clouds new.shelf.now cloud.0) result)
       → rooms_at new.servers cloud.0 ≡ rooms_at mid.servers cloud.0
+      → OnOk result (IsSomeAnd (server_at new.servers cloud.0) (λ (s : Server). IsOpen s.store))
       → came ≡ came_by cloud result
       → Opening clouds mid.servers.shape (clouds mid.shelf.now cloud.0) before new now cloud.0 came
-  opening_by one_header mid new cloud rooms before now result came in_rooms named exact begun own whole loaded counts areas stay is =
-      subst (Opening clouds mid.servers.shape (clouds mid.shelf.now cloud.0) before new now cloud.0) (sym is) (by_result result exact begun own whole loaded counts)
+  opening_by one_header mid new cloud rooms before now result came in_rooms named exact begun own whole loaded counts areas stay at_end is =
+      subst (Opening clouds mid.servers.shape (clouds mid.shelf.now cloud.0) before new now cloud.0) (sym is) (by_result result exact begun own whole loaded counts areas at_end)
     where
       old : Cloud
       old = clouds mid.shelf.now cloud.0
@@ -197,8 +233,10 @@ module _ {V : Type 0} (clouds : V → ℕ → Cloud) where
           → (IsTrue old.told → (list : List Command) → StandsFor (reads old.now) (header_at mid.servers cloud.0) list → IsWithin shape (rooms_at mid.servers cloud.0) list
           → IfOk r (λ commands. (commands ≡ counted list) × StandsAt clouds new cloud.0 (settled_with list after)))
           → OnFault r (HasFailed old after before now) (KeepsCounts old after before now)
+          → (IsTrue old.told → Spares (header_at mid.servers cloud.0) false old after r)
+          → OnOk r (IsSomeAnd (server_at new.servers cloud.0) (λ (s : Server). IsOpen s.store))
           → Opening clouds mid.servers.shape old before new now cloud.0 (came_by cloud r)
-      by_result (Ok commands) exact begun own whole loaded counts = record {
+      by_result (Ok commands) exact begun own whole loaded counts spares at_end = record {
         opened = λ told. (
           rooms,
           named told,
@@ -210,6 +248,12 @@ module _ {V : Type 0} (clouds : V → ℕ → Cloud) where
           },
         );
         rooms = λ told. subst (NamesRooms (reads old.now Journal)) (sym (stay ∙ in_rooms)) (named told);
+        memory = λ told. (
+          rooms,
+          named told,
+          subst (λ (h : Header). OpensWith h old (IsOpenWith new.servers cloud.0)) header (opens_with (header_at mid.servers cloud.0) old commands new.servers cloud.0 (exact told) at_end),
+        );
+        same = λ told. synced_same old after ((spares told).unasked refl);
         loaded = λ told any list stands is.
             let begins = begun_by (reads old.now Journal) (begun told) in
             (loaded told list (stands_by told any list stands begins) (within told any list stands begins is)).1;
@@ -218,9 +262,11 @@ module _ {V : Type 0} (clouds : V → ℕ → Cloud) where
         end = tt;
         spared = spared;
       }
-      by_result (Err error) exact begun own whole loaded counts = record {
+      by_result (Err error) exact begun own whole loaded counts spares at_end = record {
         opened = λ told. tt;
         rooms = λ told. tt;
+        memory = λ told. tt;
+        same = λ told. tt;
         loaded = λ told any list stands is. tt;
         counts = tt;
         readable = λ any list is. free_by cloud error (whole is.told list (stands_by is.told any list is.stands is.begun)
@@ -245,6 +291,8 @@ module _ {V : Type 0} (clouds : V → ℕ → Cloud) where
       subst (Opening clouds shape old before new now number) (sym is) (record {
         opened = λ told. tt;
         rooms = λ told. tt;
+        memory = λ told. tt;
+        same = λ told. tt;
         loaded = λ told any list stands is. tt;
         counts = tt;
         readable = λ any list readable. free;

@@ -5,3 +5,5 @@ pub mod Restoring
 pub mod Whole
 pub mod KeptFiles
 pub mod JournalHalves
+pub mod Refusing
+pub mod Saying

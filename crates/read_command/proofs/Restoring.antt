@@ -46,7 +46,7 @@ use Rattle.subset_restore.specs.Transcript.refusal.Refusal.TheVariants as refusa
 use Rattle.read_command.specs.Disks.{AreReadable, KeepsDisks}
 use Rattle.read_command.specs.Opening.{AreOpened}
 use Rattle.subset_restore.specs.Refusals.{refusal_of, refusal_text}
-use Rattle.subset_restore.specs.Ends.{Sought, AllRefused, AnyEnds, GivesNone, NoneBy, NoneCame, WasLost, any_outcome, outcome_of}
+use Rattle.subset_restore.specs.Ends.{Sought, AllRefused, AnyEnds, GivesNone, HasFileCome, NoneBy, NoneCame, WasLost, any_outcome, outcome_of}
 use Rattle.subset_restore.specs.Ends.{IsNone as AnyNone}
 use Rattle.subset_restore.specs.Subsets.{subsets}
 use Rattle.subset_restore.specs.Tries.{Try}
@@ -57,7 +57,7 @@ use Rattle.subset_restore.proofs.Going.{any_at, any_none}
 use Rattle.subset_restore.proofs.Files.{same_file}
 use Rattle.subset_restore.proofs.RestoreJob.Wrong.{both_true}
 use Rattle.read_command.specs.Ends.{Outside, RoseBy, Due, due_of, IsNone, HoldsFailed, IsFileDue, IsRefusalDue, IsRefused, GivesAnyway}
-use Rattle.read_command.specs.Ends.{IsFaultLine, IsLineOf, CameTo, CameDue}
+use Rattle.read_command.specs.Ends.{IsFaultLine, IsLineOf, CameTo, CameDue, CameOf, SaysOf}
 use Rattle.read_command.proofs.Disks.{OneHeader, rooms_one}
 use Rattle.read_command.proofs.Row.{of_one}
 
@@ -227,7 +227,7 @@ HaveLists c shape named rooms lists = (cloud : ℕ) → Contains named cloud →
     × IsWithin shape (rooms cloud) (lists cloud)
 
 -- asks of some clouds are asks that add nothing
-reading_chain : {V : Type 0} (clouds : V → ℕ → Cloud) (subset : List ℕ) (es : List Asked_one) (a b : LocalLink V)
+pub reading_chain : {V : Type 0} (clouds : V → ℕ → Cloud) (subset : List ℕ) (es : List Asked_one) (a b : LocalLink V)
     → Passes (telling clouds) (ReadsFrom subset) a es b → Passes (telling clouds) (λ e. IsReading e.content) a es b
 reading_chain clouds subset [] a b chain = chain
 reading_chain clouds subset (e ∷ es) a b chain = (chain.0.1, (chain.1.0, chain.1.1, reading_chain clouds subset es chain.1.0 b chain.1.2))
@@ -331,23 +331,36 @@ module _ {V : Type 0} (clouds : V → ℕ → Cloud) (named : List ℕ) (shape :
       rose_in (errors.Strange cloud kind) names came = tt
       rose_in (errors.BadShare cloud secret name wrong) names came = tt
 
-      pub came_to : CameTo around shape named result file
-      came_to = by_result result names restored found
+      -- what is said of it by what the clouds said
+      pub record BySaying : Type 0 where
+        pub ok : HasFileCome (telling clouds) talk wanted mid new was file → CameOf around shape user (tag, version) named (Ok tt) file
+        pub err : (e : RestoreErr) (why : Refusal) → (let r : Result (Unit {0}) RestoreErr = Err e in is_lost r ≡ false) → refusal_of e ≡ Some why
+            → NoneCame (telling clouds) talk wanted mid new was e → CameOf around shape user (tag, version) named (Err e) []
+        pub says : (e : RestoreErr) → NoneCame (telling clouds) talk wanted mid new was e → Names (Contains named) e → SaysOf around shape user (tag, version) e
+
+      pub came_to : BySaying → CameTo around shape user (tag, version) named result file
+      came_to by = by_result result names restored found
         where
           by_result : (r : Result (Unit {0}) RestoreErr) → IfErr r (Names (Contains named))
               → AnyEnds (telling clouds) talk wanted mid new was file r → is_lost r ≡ false
-              → CameTo around shape named r file
-          by_result (Ok u) n came f = (
-            came.subset,
-            subst (λ (l : List (List ℕ)). Contains l came.subset) (sym came.split)
-                (contains_back came.front (came.subset ∷ came.rest) came.subset (contains_here came.subset came.rest)),
-            subst (λ (l : List ℕ). Brought shape came.subset l file) none came.brought,
-          )
+              → CameTo around shape user (tag, version) named r file
+          by_result (Ok u) n came f = record {
+            chosen = came.subset;
+            in_order = subst (λ (l : List (List ℕ)). Contains l came.subset) (sym came.split)
+                (contains_back came.front (came.subset ∷ came.rest) came.subset (contains_here came.subset came.rest));
+            brought = subst (λ (l : List ℕ). Brought shape came.subset l file) none came.brought;
+            came = by.ok came;
+          }
           by_result (Err e) n came f = record {
             names = n;
             rose = none_by (telling clouds) talk wanted was mid new (λ x. Names (Contains named) x → RoseBy around x)
                 (λ names. tt) (λ x is names. rose_in x names is) e came n;
             found = f;
+            says = none_by (telling clouds) talk wanted was mid new (λ x. Names (Contains named) x → SaysOf around shape user (tag, version) x)
+                (λ names. tt) (λ x is names. by.says x is names) e came n;
+            came = none_by (telling clouds) talk wanted was mid new
+                (λ x. (let r : Result (Unit {0}) RestoreErr = Err x in is_lost r ≡ false) → (why : Refusal) → refusal_of x ≡ Some why → CameOf around shape user (tag, version) named (Err x) [])
+                (λ unlost why is. absurd (let never : None ≡ Some why = is in cc)) (λ x of unlost why is. by.err x why unlost is of) e came f;
           }
 
       pub is_due : (rooms : ℕ → UserRooms) (lists : ℕ → List Command) → AreReadable shape named (clouds old.shelf.now) rooms lists

@@ -1,6 +1,6 @@
 -- Rising clouds opened in order.
 use Rattle.std.proofs.Common.{◌≡◌, ℕ, ◌<◌, List, [], ◌∷◌, ◌++◌, length, refl, sym, ap, ◌∙◌, subst, inl, inr, arith, append_assoc, append-nil, length-append}
-use Rattle.std.specs.Prelude.{◌≢◌, IsTrue, Option, Result, Ok, Err, All}
+use Rattle.std.specs.Prelude.{◌≢◌, IsSomeAnd, IsTrue, Option, Result, Ok, Err, All}
 use Rattle.std.specs.List.{Contains}
 use Rattle.std.specs.List.Sorted.{IsStrictlyIncreasing}
 use Rattle.std.proofs.lemmas.Bool.{cases_eq}
@@ -20,10 +20,13 @@ use Rattle.cloud_areas.proofs.UserDedup.Owned.{contains_here, contains_nothing}
 use Rattle.local_link.specs.CloudServer.server.Server.{Server}
 use Rattle.local_link.specs.CloudServer.Serving.{settled_with}
 use Rattle.local_link.specs.declared.link.LocalLink.{LocalLink}
-use Rattle.local_link.specs.Tells.{server_at, rooms_of, IsPeer, LeavesRest}
+use Rattle.half_journal.specs.JournalStart.start.Header.{Header}
+use Rattle.local_link.specs.CloudMemory.Rooms.{memory_of}
+use Rattle.local_link.specs.OpenStore.Store.{IsOpen}
+use Rattle.local_link.specs.Tells.{server_at, rooms_of, IsOpenWith, IsPeer, LeavesRest}
 use Rattle.read_command.specs.declared.end.ReadEnd.{ReadEnd}
 use Rattle.read_command.specs.declared.end.ReadEnd.TheVariants as ends
-use Rattle.read_command.specs.Disks.{AreReadable, IsSpared, IsStoppedAtCloud, KeepsDisks, NamesRooms, StaysShut}
+use Rattle.read_command.specs.Disks.{AreReadable, InItsRooms, IsSpared, IsStoppedAtCloud, KeepsDisks, NamesRooms, OpensWith, StaysShut}
 use Rattle.read_command.proofs.Disks.{images_by, opening_from, spared_still}
 use Rattle.read_command.specs.Opening.{Opening, BecomesOpen, AreOpened, EndsBy, EndsOpening, IsFree}
 
@@ -82,12 +85,29 @@ stands_later number s t k l o p list ts lk po is =
     (subst (λ (x : Cloud). IsPeer s number x p (settled_with list x)) (sym lk)
     (subst (λ (x : Option Server). IsPeer s number k x (settled_with list k)) (sym po) is))
 
+-- a server that stays has its memory still
+later_memory : {V : Type 0} (shape : Shape) (number : ℕ) (cloud : Cloud) (mid new : LocalLink V) → server_at new.servers number ≡ server_at mid.servers number
+    → InItsRooms shape number cloud (λ (h : Header). OpensWith h cloud (IsOpenWith mid.servers number))
+    → InItsRooms shape number cloud (λ (h : Header). OpensWith h cloud (IsOpenWith new.servers number))
+later_memory shape number cloud mid new server is = (
+  is.0,
+  is.1,
+  record {
+    memory = is.2.memory;
+    commands = is.2.commands;
+    opens = is.2.opens;
+    has = subst (λ (o : Option Server). IsSomeAnd o (λ (s : Server). IsOpen s.store × (memory_of s.store.memory ≡ is.2.memory))) (sym server) is.2.has;
+  },
+)
+
 module _ {V : Type 0} (clouds : V → ℕ → Cloud) where
   becomes_later : (old mid new : LocalLink V) (number : ℕ) → new.servers.shape ≡ mid.servers.shape → clouds new.shelf.now number ≡ clouds mid.shelf.now number
       → server_at new.servers number ≡ server_at mid.servers number → BecomesOpen clouds old mid number → BecomesOpen clouds old new number
   becomes_later old mid new number shape cloud server is = record {
     opened = is.opened;
     rooms = λ told. subst (λ (o : Option Server). NamesRooms (reads (clouds old.shelf.now number).now Journal) (rooms_of o)) (sym server) (is.rooms told);
+    memory = λ told. later_memory old.servers.shape number (clouds old.shelf.now number) mid new server (is.memory told);
+    same = λ told. ap (λ (k : Cloud). reads k.now) cloud ∙ is.same told;
     loaded = λ told rooms list stands within. stands_later number mid.servers.shape new.servers.shape (clouds mid.shelf.now number) (clouds new.shelf.now number)
         (server_at mid.servers number) (server_at new.servers number) list shape cloud server (is.loaded told rooms list stands within);
     faults = ap (λ (k : Cloud). k.faults) cloud ∙ is.faults;
@@ -176,7 +196,7 @@ module _ {V : Type 0} (clouds : V → ℕ → Cloud) where
     pub one_more : (u : Unit {0}) → result ≡ Ok u → new.fate ≡ mid.fate → new.shelf.ghost_name ≡ mid.shelf.ghost_name → SoFar clouds named more before now old new
     one_more u ok fate same =
         let h = subst (Opening clouds old.servers.shape (clouds old.shelf.now number) before new now number) ok here in
-        let becomes : BecomesOpen clouds old new number = record { opened = h.opened; rooms = h.rooms; loaded = h.loaded; faults = h.counts.cloud } in
+        let becomes : BecomesOpen clouds old new number = record { opened = h.opened; rooms = h.rooms; memory = h.memory; same = h.same; loaded = h.loaded; faults = h.counts.cloud } in
         record {
           front = so.front ++ number ∷ [];
           place = so.place ∙ sym (append_assoc so.front (number ∷ []) more);

@@ -25,8 +25,8 @@ nothing_more (Some bytes) = sym (append-nil bytes)
 
 -- a whole text that came of a restore
 whole_said : (c : Outside) (r : Wanted) (came : Result (Unit {0}) RestoreErr) (file text : List ℕ) → Restored c r came file → IsText came file text
-    → IsBrought r.shape r.clouds.now text ⊎ IsRefusalLine c r.clouds.now text
-whole_said c r (Ok u) file text is same = inl (subst (IsBrought r.shape r.clouds.now) (sym same) is.came_to)
+    → (let key = key_of r.shape r.path.now r.version in IsBrought c r.shape r.user key r.clouds.now text ⊎ IsRefusalLine c r.shape r.user key r.clouds.now text)
+whole_said c r (Ok u) file text is same = inl (subst (IsBrought c r.shape r.user (key_of r.shape r.path.now r.version) r.clouds.now) (sym same) is.came_to)
 whole_said c r (Err e) file text is same = inr (e, same.0, same.1, same.2, is.came_to)
 
 whole_due : (c : Outside) (r : Wanted) (came : Result (Unit {0}) RestoreErr) (file text : List ℕ) (due : Due) → CameDue c r.clouds.now due came file

@@ -14,6 +14,8 @@ use Rattle.half_journal.specs.JournalStart.rooms.UserRooms.{UserRooms}
 use Rattle.half_journal.specs.JournalStart.start.Start.{Start}
 use Rattle.half_journal.specs.JournalStart.Ranges.{usual_rooms}
 use Rattle.cloud_areas.specs.UserDedup.command.Command.{Command}
+use Rattle.local_link.specs.CloudMemory.Memory.{Memory}
+use Rattle.local_link.specs.StoreOpening.Exact.{Opens}
 use Rattle.local_link.specs.CloudServer.Openings.{HasNoOther, NotBegunIs, OpensTo, OtherStoreIs}
 use Rattle.cloud_areas.specs.UserDedup.Spending.{IsWithin}
 use Rattle.cloud_areas.specs.Peers.{ImagesNow, ImagesSince}
@@ -50,6 +52,13 @@ pub record IsOpenedToRead (header : Header) (cloud : Cloud) : Type 0 where
   pub opens : OpensTo header false (reads cloud.now) (Ok commands)
   pub begun : ¬ IsUnbegun (reads cloud.now Journal)
   pub own : HasNoOther (reads cloud.now Journal) header
+
+-- What the areas read opens, and of the memory that its opening reads this is said.
+pub record OpensWith (header : Header) (cloud : Cloud) (P : Memory → Type 0) : Type 0 where
+  pub memory : Memory
+  pub commands : ℕ
+  pub opens : Opens header false (reads cloud.now) memory (Ok commands)
+  pub has : P memory
 
 -- What the areas read doesn't open: it comes to this error, unless the error is that a device call failed.
 pub record IsUnopenedToRead (header : Header) (old new : Cloud) (error : OpenErr) : Type 0 where

@@ -1,7 +1,10 @@
 -- How a read ends, and what is written then.
-use Rattle.std.specs.Prelude.{◌≡◌, ℕ, ◌⊎◌, false, IsTrue, List, [], ◌∷◌, ◌++◌, Option, Some, Result, Ok, Err, All}
+use Rattle.std.specs.Prelude.{◌≡◌, ℕ, ◌⊎◌, false, IsTrue, List, [], ◌∷◌, ◌++◌, Option, Some, Result, Ok, Err, OnOk, All}
 use Rattle.std.specs.List.{Contains}
 use Rattle.std.specs.Io.KnownBytes.{Appends}
+use Rattle.half_journal.specs.CdBase.Numbers.{numbers_of}
+use Rattle.half_journal.specs.CdBase.ids.CloudNo.{CloudNo}
+use Rattle.half_journal.specs.CdBase.ids.Fp.{Fp}
 use Rattle.half_journal.specs.CdBase.ids.Tag.{Tag}
 use Rattle.half_journal.specs.CdBase.ids.UserId.{UserId}
 use Rattle.half_journal.specs.CdBase.ids.Version.{Version}
@@ -11,9 +14,19 @@ use Rattle.half_journal.specs.CdEdges.Disk.{Cloud}
 use Rattle.cloud_areas.specs.UserDedup.command.Command.{Command}
 use Rattle.half_journal.specs.JournalStart.rooms.UserRooms.{UserRooms}
 use Rattle.half_journal.specs.JournalStart.start.Header.{Header}
+use Rattle.cloud_areas.specs.UserDedup.Link.{AddsNothing}
 use Rattle.kept_files.specs.Kept.{key_of}
+use Rattle.local_link.specs.CloudMemory.Memory.{Memory}
+use Rattle.local_link.specs.Messages.Requests.{IsRequest}
+use Rattle.local_link.specs.Messages.reply.Reply.TheVariants as replies
+use Rattle.local_link.specs.Messages.request.Request.{Request}
+use Rattle.local_link.specs.Messages.request.Request.TheVariants as requests
+use Rattle.local_link.specs.ServerCommands.Entering.{ReadsBy}
+use Rattle.local_link.specs.ServerCommands.Leaving.{IsFound}
+use Rattle.local_link.specs.Tells.{IsSaidBy}
 use Rattle.subset_restore.specs.RestoreJob.Asking.{is_lost}
 use Rattle.subset_restore.specs.RestoreJob.Brought.{Brought}
+use Rattle.subset_restore.specs.RestoreJob.Exchanges.{CloudExchange, RestoreRun}
 use Rattle.subset_restore.specs.RestoreJob.Refusals.{Names}
 use Rattle.subset_restore.specs.RestoreJob.Restored.{Unrestored, restored_file}
 use Rattle.subset_restore.specs.RestoreJob.error.RestoreErr.{RestoreErr}
@@ -26,7 +39,7 @@ use Rattle.subset_restore.specs.Subsets.{subsets}
 use Rattle.read_command.specs.declared.wanted.Wanted.{Wanted}
 use Rattle.read_command.specs.declared.end.ReadEnd.{ReadEnd}
 use Rattle.read_command.specs.declared.end.ReadEnd.TheVariants as ends
-use Rattle.read_command.specs.Disks.{AreReadable, InItsRooms, IsOpenedToRead}
+use Rattle.read_command.specs.Disks.{AreReadable, InItsRooms, IsOpenedToRead, OpensWith}
 use Rattle.read_command.specs.Opening.{EndsOpening}
 use Rattle.read_command.specs.Refusals.{cloud_no, reason_of}
 
@@ -113,22 +126,66 @@ GivesAnyway c shape user key named It = (rooms : ℕ → UserRooms) (lists : ℕ
     → Contains (subsets shape.k named) chosen → AreReadable shape chosen c.old rooms lists
     → restored_file shape lists user key chosen ≡ Ok file → (HoldsFailed c chosen → ⊥) → It → ⊥
 
--- A refusal names no other clouds than the named ones, and is no lost ask. A device failed only where its count rose.
-pub record IsRefusal (c : Outside) (named : List ℕ) (e : RestoreErr) : Type 0 where
+-- ---- what the clouds said
+
+-- What is said of the memory that the opening of a told cloud reads, in the rooms that its journal names. Of a cloud whose
+-- count rose nothing is said.
+abbrev pub ByMemory : Outside → Shape → ℕ → (Memory → Type 0) → Type 0
+ByMemory c shape cloud P = IsTrue (c.old cloud).told → InItsRooms shape cloud (c.old cloud) (λ (header : Header).
+    OpensWith header (c.old cloud) (λ m. (Rose (c.old cloud).faults (c.new cloud).faults → ⊥) → P m))
+
+-- What a refusal says of its cloud's memory. Missing: it has no entry of the version. Rotten: what lies at the place that it
+-- has for the entry, or for a share, is another or shorter. Damaged never comes.
+abbrev pub SaysOf : Outside → Shape → UserId → Tag × Version → RestoreErr → Type 0
+SaysOf c shape user key (errors.Missing cloud) =
+    ByMemory c shape cloud.0 (λ m. ReadsBy m (requests.GetRecipe user key.0 key.1) replies.Missing)
+SaysOf c shape user key (errors.CloudRotten cloud named found) = ByMemory c shape cloud.0 (λ m.
+    IsFound (c.old cloud.0) m (requests.GetRecipe user key.0 key.1) named found
+    ⊎ ((fps : List Fp) × IsFound (c.old cloud.0) m (requests.GetShares user fps) named found))
+SaysOf c shape user key (errors.CloudDamaged cloud at byte) = ByMemory c shape cloud.0 (λ m. ⊥)
+SaysOf c shape user key e = Unit {0}
+
+-- A cloud's reply is what its memory says: a recipe has the fingerprint of the memory's entry, and shares have those that
+-- were asked for.
+abbrev pub IsSaid : Outside → Shape → CloudExchange → Type 0
+IsSaid c shape x = ByMemory c shape x.cloud
+    (λ m. (r : Request) → IsRequest x.request r → AddsNothing r → IsSaidBy (c.old x.cloud) m r x.reply)
+
+-- The result comes of what k of the named clouds were asked and said, in order; and what each of them said that is told is
+-- what its memory says.
+pub record CameOf (c : Outside) (shape : Shape) (user : UserId) (key : Tag × Version) (named : List ℕ)
+    (result : Result (Unit {0}) RestoreErr) (file : List ℕ) : Type 0 where
+  pub chosen : List CloudNo
+  pub in_order : Contains (subsets shape.k named) (numbers_of chosen)
+  pub log : List CloudExchange
+  pub left : List ℕ
+  pub run : RestoreRun shape user key.0 key.1 chosen log [] left result
+  pub stands : OnOk result (file ≡ left)
+  pub said : (x : CloudExchange) → Contains log x → Contains named x.cloud → IsSaid c shape x
+
+-- A refusal names no other clouds than the named ones, and is no lost ask. A device failed only where its count rose. It
+-- comes of what the clouds said, and says what the memory has of the cloud that it names.
+pub record IsRefusal (c : Outside) (shape : Shape) (user : UserId) (key : Tag × Version) (named : List ℕ)
+    (e : RestoreErr) : Type 0 where
   pub names : Names (Contains named) e
   pub rose : RoseBy c e
   pub found : let came : Result (Unit {0}) RestoreErr = Err e in is_lost came ≡ false
+  pub says : SaysOf c shape user key e
+  pub came : (why : Refusal) → refusal_of e ≡ Some why → CameOf c shape user key named (Err e) []
 
--- The bytes are what strings open to which the recipes of k of the clouds name.
-abbrev pub IsBrought : Shape → List ℕ → List ℕ → Type 0
-IsBrought shape named file =
-    (chosen : List ℕ) × Contains (subsets shape.k named) chosen × Brought shape chosen [] file
+-- The bytes are what strings open to which the recipes of k of the clouds name, and come of what the clouds said.
+pub record IsBrought (c : Outside) (shape : Shape) (user : UserId) (key : Tag × Version) (named : List ℕ)
+    (file : List ℕ) : Type 0 where
+  pub chosen : List ℕ
+  pub in_order : Contains (subsets shape.k named) chosen
+  pub brought : Brought shape chosen [] file
+  pub came : CameOf c shape user key named (Ok tt) file
 
 -- What a restore came to, whatever is told: the bytes that strings open to which the recipes of k clouds name; or a
 -- refusal.
-abbrev pub CameTo : Outside → Shape → List ℕ → Result (Unit {0}) RestoreErr → List ℕ → Type 0
-CameTo c shape named (Ok u) file = IsBrought shape named file
-CameTo c shape named (Err e) file = IsRefusal c named e
+abbrev pub CameTo : Outside → Shape → UserId → Tag × Version → List ℕ → Result (Unit {0}) RestoreErr → List ℕ → Type 0
+CameTo c shape user key named (Ok u) file = IsBrought c shape user key named file
+CameTo c shape user key named (Err e) file = IsRefusal c shape user key named e
 
 -- What it came to where this is due.
 abbrev pub CameDue : Outside → List ℕ → Due → Result (Unit {0}) RestoreErr → List ℕ → Type 0
@@ -143,7 +200,7 @@ IsRefused came = (e : RestoreErr) × (why : Refusal) × (came ≡ Err e) × (ref
 -- The named clouds were opened, and the version restored from them.
 pub record Restored (c : Outside) (r : Wanted) (came : Result (Unit {0}) RestoreErr) (file : List ℕ) : Type 0 where
   pub opened : AllOpened c r.shape r.clouds.now
-  pub came_to : CameTo c r.shape r.clouds.now came file
+  pub came_to : CameTo c r.shape r.user (key_of r.shape r.path.now r.version) r.clouds.now came file
   pub due : (rooms : ℕ → UserRooms) (lists : ℕ → List Command) → AreReadable r.shape r.clouds.now c.old rooms lists
       → CameDue c r.clouds.now (given_of r lists) came file
   pub anyway : GivesAnyway c r.shape r.user (key_of r.shape r.path.now r.version) r.clouds.now (IsRefused came)
@@ -181,20 +238,21 @@ IsWritten came file old new end = ⊥
 -- ---- the whole read
 
 -- the line of a refusal
-abbrev pub IsRefusalLine : Outside → List ℕ → List ℕ → Type 0
-IsRefusalLine c named text =
+abbrev pub IsRefusalLine : Outside → Shape → UserId → Tag × Version → List ℕ → List ℕ → Type 0
+IsRefusalLine c shape user key named text =
     (e : RestoreErr) × (why : Refusal)
-    × (refusal_of e ≡ Some why) × (text ≡ refusal_text why) × IsRefusal c named e
+    × (refusal_of e ≡ Some why) × (text ≡ refusal_text why) × IsRefusal c shape user key named e
 
 -- What is written by the end, whatever is told. Behind the openings it is a file or a refusal, whole; or a front of it,
 -- where the sink failed. Where the openings end, or memory ran out, nothing is written.
-abbrev pub Says : Outside → Shape → List ℕ → ReadEnd → List ℕ → Type 0
-Says c shape named ends.Done text = AllOpened c shape named × IsBrought shape named text
-Says c shape named ends.Refused text = AllOpened c shape named × IsRefusalLine c named text
-Says c shape named ends.SinkFault text = AllOpened c shape named
+abbrev pub Says : Outside → Shape → UserId → Tag × Version → List ℕ → ReadEnd → List ℕ → Type 0
+Says c shape user key named ends.Done text = AllOpened c shape named × IsBrought c shape user key named text
+Says c shape user key named ends.Refused text = AllOpened c shape named × IsRefusalLine c shape user key named text
+Says c shape user key named ends.SinkFault text = AllOpened c shape named
     × ((whole : List ℕ) × (rest : List ℕ) × (whole ≡ text ++ rest)
-    × (IsBrought shape named whole ⊎ IsRefusalLine c named whole))
-Says c shape named end text = (text ≡ []) × EndsOpening shape named c.old c.new c.total_before c.total_after end
+    × (IsBrought c shape user key named whole ⊎ IsRefusalLine c shape user key named whole))
+Says c shape user key named end text =
+    (text ≡ []) × EndsOpening shape named c.old c.new c.total_before c.total_after end
 
 -- What is written by the end, over clouds of which this is due: the file; its refusal, or that of a cloud whose device
 -- failed; a front of these, where the sink failed. Else a device failed as it was opened, or memory ran out.
@@ -211,7 +269,8 @@ Gives c named due (ends.Other cloud found) text = ⊥
 
 -- A read ended so, over what was written before and what is written now.
 abbrev pub Reads : Outside → Wanted → ReadEnd → Option (List ℕ) → Option (List ℕ) → Type 0
-Reads c r end before now = (text : List ℕ) × Appends before now text × Says c r.shape r.clouds.now end text
+Reads c r end before now = (text : List ℕ) × Appends before now text
+    × Says c r.shape r.user (key_of r.shape r.path.now r.version) r.clouds.now end text
     × ((rooms : ℕ → UserRooms) (lists : ℕ → List Command) → AreReadable r.shape r.clouds.now c.old rooms lists
     → Gives c r.clouds.now (given_of r lists) end text)
 

@@ -16,10 +16,10 @@ use Rattle.cloud_areas.specs.UserDedup.Spending.{IsWithin}
 use Rattle.cloud_areas.specs.Standing.{StandsFor}
 use Rattle.local_link.specs.CloudServer.Serving.{settled_with}
 use Rattle.local_link.specs.declared.link.LocalLink.{LocalLink}
-use Rattle.local_link.specs.Tells.{StandsAt, rooms_at}
+use Rattle.local_link.specs.Tells.{IsOpenWith, StandsAt, rooms_at}
 use Rattle.read_command.specs.declared.end.ReadEnd.{ReadEnd}
 use Rattle.read_command.specs.declared.end.ReadEnd.TheVariants as ends
-use Rattle.read_command.specs.Disks.{IsReadable, IsOpenedToRead, IsSpared, IsStoppedAtCloud, InItsRooms, NamesRooms}
+use Rattle.read_command.specs.Disks.{IsReadable, IsOpenedToRead, IsSpared, IsStoppedAtCloud, InItsRooms, NamesRooms, OpensWith}
 use Rattle.read_command.specs.Disks.{StaysShut}
 
 -- the end of a read whose opening of the cloud answered this error
@@ -65,12 +65,16 @@ IsFree ends.Refused = Unit {0}
 IsFree ends.SinkFault = Unit {0}
 
 -- A cloud that was so was to be opened. Where it opens, its server has the rooms that its journal names, and it stands for
--- the list that its areas read as, if there is one within these, and nothing failed. Whatever comes it is spared.
+-- the list that its areas read as, if there is one within these, and nothing failed; the server has the memory that the
+-- opening read, and the areas read as they did. Whatever comes it is spared.
 pub record Opening {V : Type 0} (clouds : V → ℕ → Cloud) (shape : Shape) (old : Cloud) (before : ℕ)
     (new : LocalLink V) (now cloud : ℕ) (result : Result (Unit {0}) ReadEnd) : Type 0 where
   pub opened : IsTrue old.told
       → OnOk result (InItsRooms shape cloud old (λ (header : Header). IsOpenedToRead header old))
   pub rooms : IsTrue old.told → OnOk result (NamesRooms (reads old.now Journal) (rooms_at new.servers cloud))
+  pub memory : IsTrue old.told → OnOk result (InItsRooms shape cloud old
+      (λ (header : Header). OpensWith header old (IsOpenWith new.servers cloud)))
+  pub same : IsTrue old.told → OnOk result (reads (clouds new.shelf.now cloud).now ≡ reads old.now)
   pub loaded : IsTrue old.told → (rooms : UserRooms) (list : List Command)
       → StandsFor (reads old.now) (header_of shape rooms cloud) list
       → IsWithin shape rooms list
@@ -82,13 +86,18 @@ pub record Opening {V : Type 0} (clouds : V → ℕ → Cloud) (shape : Shape) (
   pub spared : IsTrue old.told → IsSpared old (clouds new.shelf.now cloud)
 
 -- A cloud of a link was opened, in the rooms that its journal names. It stands for the list that its areas read as, if
--- there is one within these.
+-- there is one within these. Its server has the memory that the opening read, and the areas read as they did.
 pub record BecomesOpen {V : Type 0} (clouds : V → ℕ → Cloud) (old new : LocalLink V) (cloud : ℕ) : Type 0 where
   pub opened : IsTrue (clouds old.shelf.now cloud).told
       → InItsRooms old.servers.shape cloud (clouds old.shelf.now cloud)
       (λ (header : Header). IsOpenedToRead header (clouds old.shelf.now cloud))
   pub rooms : IsTrue (clouds old.shelf.now cloud).told
       → NamesRooms (reads (clouds old.shelf.now cloud).now Journal) (rooms_at new.servers cloud)
+  pub memory : IsTrue (clouds old.shelf.now cloud).told
+      → InItsRooms old.servers.shape cloud (clouds old.shelf.now cloud)
+      (λ (header : Header). OpensWith header (clouds old.shelf.now cloud) (IsOpenWith new.servers cloud))
+  pub same : IsTrue (clouds old.shelf.now cloud).told
+      → reads (clouds new.shelf.now cloud).now ≡ reads (clouds old.shelf.now cloud).now
   pub loaded : IsTrue (clouds old.shelf.now cloud).told → (rooms : UserRooms) (list : List Command)
       → StandsFor (reads (clouds old.shelf.now cloud).now) (header_of old.servers.shape rooms cloud) list
       → IsWithin old.servers.shape rooms list

@@ -1,12 +1,10 @@
-use Rattle.std.proofs.Common.{◌<◌, refl, sym, ap, subst}
-use Rattle.std.specs.Prelude.{IsTrue, Err}
+use Rattle.std.proofs.Common.{◌<◌, sym, ap, subst}
+use Rattle.std.specs.Prelude.{IsTrue}
 use Rattle.half_journal.specs.CdEdges.area.Area.TheVariants.{Journal}
 use Rattle.half_journal.specs.CdEdges.Disk.{Cloud, reads}
 use Rattle.local_link.specs.declared.servers.Servers.{Servers}
-use Rattle.read_command.specs.declared.end.ReadEnd.{ReadEnd}
-use Rattle.read_command.specs.declared.end.ReadEnd.TheVariants as ends
 use Rattle.read_command.specs.Disks.{NamesRooms}
-use Rattle.read_command.proofs.Disks.{fails_open, opening_from, opening_none}
+use Rattle.read_command.proofs.Disks.{fails_open, opening_from}
 use Rattle.read_command.proofs.opening.open_cloud.Goals as goal
 
 pub open_in-requires : goal.open_in-requires

@@ -7,6 +7,7 @@ use Rattle.subset_restore.specs.CaontRs.Package.{tag as tag_at}
 use Rattle.read_command.specs.Disks.{AreReadable, InItsRooms, IsOpenedToRead, KeepsDisks}
 use Rattle.read_command.specs.Opening.{AreOpened}
 use Rattle.read_command.proofs.Restoring.{came_to, given_anyway, is_due, kept_on}
+use Rattle.read_command.proofs.Saying.{came_err, came_ok, says_of}
 use Rattle.read_command.proofs.reading.restore_opened.Goals as goal
 
 pub returns-in-Err-clause-free : goal.returns-in-Err-clause-free
@@ -30,10 +31,16 @@ returns-clause-came g c =
     let opened = subst (AreOpened clouds before between old mid) c.as_slice.ensures c.in-Ok.ensures.opened in
     let e = c.restore_any.ensures in
     let tag : Tag = record { 0 = tag_at r.shape r.path.now } in
+    let law = c.law_of_readings.ensures in
     record {
       opened = λ cloud has told. subst (λ (s : Shape). InItsRooms s cloud (clouds old.shelf.now cloud) (λ (header : Header). IsOpenedToRead header (clouds old.shelf.now cloud))) c.requires.shape ((opened.each cloud has).opened told);
       came_to = came_to clouds named r.shape before between now old mid new c.requires.shape opened r.user tag r.version _
-          c.restore_any.result c.args.file.now c.restore_any.new.out c.requires.empty c.requires.fate e.asked e.named e.restored c.law_of_readings.ensures.later c.law_of_readings.ensures.fault;
+          c.restore_any.result c.args.file.now c.restore_any.new.out c.requires.empty c.requires.fate e.asked e.named e.restored c.law_of_readings.ensures.later c.law_of_readings.ensures.fault
+          (record {
+            ok = came_ok clouds named r.shape before between now old mid new c.requires.shape opened r.user tag r.version _ c.args.file.now c.requires.empty law.later law.memory law.said c.restore_any.new.out;
+            err = came_err clouds named r.shape before between now old mid new c.requires.shape opened r.user tag r.version _ c.args.file.now c.requires.empty law.later law.memory law.said;
+            says = says_of clouds named r.shape before between now old mid new c.requires.shape opened r.user tag r.version _ c.args.file.now c.requires.empty law.later law.memory law.said;
+          });
       due = is_due clouds named r.shape before between now old mid new c.requires.shape opened r.user tag r.version _
           c.restore_any.result c.args.file.now c.restore_any.new.out c.requires.empty c.requires.fate e.asked e.named e.restored c.law_of_readings.ensures.later c.law_of_readings.ensures.fault;
       anyway = given_anyway clouds named r.shape before between now old mid new c.requires.shape opened r.user tag r.version _
