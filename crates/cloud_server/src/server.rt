@@ -203,7 +203,8 @@ impl Server {
     /// Damaged.
     ///
     /// Whatever the cloud has, what a reply but Fault says of a Put, a Commit or a Delete is so by the memory, and behind it the
-    /// memory is what the reply says (`enters`); of a closed server that is the memory that its opening read.
+    /// memory is what the reply says (`enters`); Known, Recipe, Missing, Shares and NotYours say what the memory has, which
+    /// stays. Of a closed server that is the memory that its opening read.
     pub fn execute<V: Shelf>(&mut self, shelf: &mut V, request: &[u8], reply: &mut ReplyBuf)
         requires { length request.now < 2 ^ 32 }
         ensures same { self.new.store.header ≡ self.old.store.header }

@@ -30,7 +30,8 @@ use server_commands::{
 /// SHA-256 that was asked for, and a recipe has that of the memory's entry. A reply that says that nothing is stored,
 /// entered, taken out or read (Stored with 0, Lacking, Missing, NotYours, Full of a room of the user's) comes with no call of
 /// a device, and nothing has changed; one that says Rotten names what lies there then. What a reply to a Put, a Commit or a Delete
-/// says is so by the memory, which has behind it just what it says; behind the others the memory is what it was.
+/// says is so by the memory, which has behind it just what it says; behind the others the memory is what it was, and their
+/// replies, but Hello and Entries, say what it has.
 ///
 /// Failed comes only where the cloud's count of faults rose. The store is shut then, nothing is known of the content, and the
 /// cloud stands for the list without the command or with it.
