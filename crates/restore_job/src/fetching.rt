@@ -32,6 +32,7 @@ use crate::recipes::Recipes;
 use crate::reply::{recipe_from, shares_from};
 use crate::rooms::SecretRooms;
 use crate::shares::take_shares;
+use crate::sources::SecretBatch;
 use std::alloc::Global;
 use user_dedup::{
     Bytes, CloudNo, Fps, Item, Link, Lost, NoMemory, Recipe, ReplyBuf, Request, Shape, UserId,
@@ -185,60 +186,67 @@ fn shares_request(alloc: Global, user: UserId, items: &[Item]) -> Result<Bytes, 
     Ok(content)
 }
 
-/// Asks a cloud for its shares of the secrets `place` on, looks at them, and appends each in its room.
+// Asks a cloud for its shares of a batch of secrets, looks at them, and appends each in its room.
 fn fetch_shares<L: Link>(
     alloc: Global,
     link: &mut L,
-    shape: Shape,
-    user: UserId,
+    batch: &SecretBatch<'_>,
     cloud: CloudNo,
-    firsts: &[Item],
     recipe: &Recipe,
-    place: usize,
-    count: usize,
     reply: &mut ReplyBuf,
     rooms: &mut SecretRooms,
 ) -> Result<(), RestoreErr>
-    requires shape { L.tells.shape link.old ≡ shape }
+    requires shape { L.tells.shape link.old ≡ batch.now.shape }
     requires reached { IsTrue (L.tells.reaches link.old cloud.0) }
-    requires some { 1 ≤ count }
-    requires batch { count ≤ batch_limit }
-    requires firsts { place + count ≤ length firsts.now }
-    requires same { length recipe.now.items ≡ length firsts.now }
-    requires lens { AreItemsAt firsts.now }
+    requires some { 1 ≤ batch.now.count }
+    requires batch { batch.now.count ≤ batch_limit }
+    requires firsts { batch.now.place + batch.now.count ≤ length batch.now.firsts.now }
+    requires same { length recipe.now.items ≡ length batch.now.firsts.now }
+    requires lens { AreItemsAt batch.now.firsts.now }
     requires items { AreItemsAt recipe.now.items }
-    requires few { length firsts.now ≤ item_limit }
-    requires room { count ≤ length rooms.old }
+    requires few { length batch.now.firsts.now ≤ item_limit }
+    requires room { batch.now.count ≤ length rooms.old }
     ensures asked { HasAskedClouds L.tells (cloud.0 ∷ []) link.old link.new (is_lost result) }
     ensures told { (tag : Tag) (version : Version)
         → LeadsAny L.tells (cloud.0 ∷ []) link.old link.new
-        (λ these. SharesShown (among these L.tells) link.old shape user (tag, version) cloud.0 firsts.now recipe.now
-        result) (λ before after.
-        ReadyAt shape user (tag, version) recipe.now (before cloud.0)
-        → SharesTold shape cloud firsts.now
-        (given_of (before cloud.0) cloud.0 recipe.now) place count result rooms.old rooms.new (before cloud.0)
-        (after cloud.0)) }
+        (λ these. SharesShown (among these L.tells) link.old batch.now.shape batch.now.user (tag, version) cloud.0
+        batch.now.firsts.now recipe.now result)
+        (λ before after.
+        ReadyAt batch.now.shape batch.now.user (tag, version) recipe.now (before cloud.0)
+        → SharesTold batch.now.shape cloud batch.now.firsts.now (given_of (before cloud.0) cloud.0 recipe.now)
+        batch.now.place batch.now.count result rooms.old rooms.new (before cloud.0) (after cloud.0)) }
     ensures named { IfErr result (Names (λ c. c ≡ cloud.0)) }
-    ensures came { OnOk result ((j : ℕ) → j < count
-        → (s : List ℕ) × (sha256_of s ≡ (item_of recipe.now.items (place + j)).fp.0)
+    ensures came { OnOk result ((j : ℕ) → j < batch.now.count
+        → (s : List ℕ) × (sha256_of s ≡ (item_of recipe.now.items (batch.now.place + j)).fp.0)
         × (room_of rooms.new j ≡ room_of rooms.old j ++ s)) }
-    ensures lens { OnOk result ((j : ℕ) → j < count
+    ensures lens { OnOk result ((j : ℕ) → j < batch.now.count
         → length (room_of rooms.new j) ≡ length (room_of rooms.old j)
-        + share_len_of shape.k (item_of firsts.now (place + j)).secret_len) }
+        + share_len_of batch.now.shape.k (item_of batch.now.firsts.now (batch.now.place + j)).secret_len) }
     ensures rooms { length rooms.new ≡ length rooms.old }
     ensures said { Unlost result ((x : CloudExchange) × Exchanged L.tells L.talk link.old link.new (x ∷ [])
-        × SharesSaid shape user cloud firsts.now recipe.now place count x rooms.old rooms.new result) }
+        × SharesSaid batch.now.shape batch.now.user cloud batch.now.firsts.now recipe.now batch.now.place
+        batch.now.count x rooms.old rooms.new result) }
     ensures beside { LostSaid L.talk link.old link.new result }
     ensures readable { Readable L.tells link.old link.new result }
 {
     let items = recipe.items.as_slice();
-    let request = match shares_request(alloc, user, &items[place..place + count]) {
+    let asked = &items[batch.place..batch.place + batch.count];
+    let request = match shares_request(alloc, batch.user, asked) {
         Ok(request) => request,
         Err(NoMemory) => return Err(RestoreErr::NoMemory),
     };
     match ask(link, cloud, request.as_slice(), reply) {
-        Ok(()) => match shares_from(alloc, cloud, count, reply.content()) {
-            Ok(shares) => take_shares(shape, cloud, firsts, items, place, count, &shares, rooms),
+        Ok(()) => match shares_from(alloc, cloud, batch.count, reply.content()) {
+            Ok(shares) => take_shares(
+                batch.shape,
+                cloud,
+                batch.firsts,
+                items,
+                batch.place,
+                batch.count,
+                &shares,
+                rooms,
+            ),
             Err(e) => Err(e),
         },
         Err(e) => Err(e),
@@ -267,60 +275,54 @@ pub fn next_pair<'a>(
 pub fn fetch_batch<L: Link>(
     alloc: Global,
     link: &mut L,
-    shape: Shape,
-    user: UserId,
+    batch: &SecretBatch<'_>,
     clouds: &[CloudNo],
-    firsts: &[Item],
     recipes: &[Recipe],
-    place: usize,
-    count: usize,
     reply: &mut ReplyBuf,
     rooms: &mut SecretRooms,
 ) -> Result<(), RestoreErr>
-    requires shape { L.tells.shape link.old ≡ shape }
+    requires shape { L.tells.shape link.old ≡ batch.now.shape }
     requires reached { (cloud : ℕ) → Contains (numbers_of clouds.now) cloud → IsTrue (L.tells.reaches link.old cloud) }
     requires pairs { length clouds.now ≡ length recipes.now }
-    requires some { 1 ≤ count }
-    requires batch { count ≤ batch_limit }
-    requires firsts { place + count ≤ length firsts.now }
-    requires same { All (λ recipe. length recipe.items ≡ length firsts.now) recipes.now }
-    requires lens { AreItemsAt firsts.now }
+    requires some { 1 ≤ batch.now.count }
+    requires batch { batch.now.count ≤ batch_limit }
+    requires firsts { batch.now.place + batch.now.count ≤ length batch.now.firsts.now }
+    requires same { All (λ recipe. length recipe.items ≡ length batch.now.firsts.now) recipes.now }
+    requires lens { AreItemsAt batch.now.firsts.now }
     requires items { All (λ recipe. AreItemsAt recipe.items) recipes.now }
-    requires few { length firsts.now ≤ item_limit }
-    requires room { count ≤ length rooms.old }
+    requires few { length batch.now.firsts.now ≤ item_limit }
+    requires room { batch.now.count ≤ length rooms.old }
     ensures asked { HasAskedClouds L.tells (numbers_of clouds.now) link.old link.new (is_lost result) }
     ensures told { (tag : Tag) (version : Version)
         → LeadsAny L.tells (numbers_of clouds.now) link.old link.new
-        (λ these. BatchShown (among these L.tells) link.old shape user (tag, version) (numbers_of clouds.now) firsts.now
-        recipes.now result)
+        (λ these. BatchShown (among these L.tells) link.old batch.now.shape batch.now.user (tag, version)
+        (numbers_of clouds.now) batch.now.firsts.now recipes.now result)
         (λ before after.
-        Ready shape user (tag, version) (numbers_of clouds.now) recipes.now before
-        → BatchTold shape (numbers_of clouds.now) firsts.now
-        (givens before (numbers_of clouds.now) recipes.now) place count result rooms.old rooms.new before after) }
+        Ready batch.now.shape batch.now.user (tag, version) (numbers_of clouds.now) recipes.now before
+        → BatchTold batch.now.shape (numbers_of clouds.now) batch.now.firsts.now
+        (givens before (numbers_of clouds.now) recipes.now) batch.now.place batch.now.count result rooms.old rooms.new
+        before after) }
     ensures named { IfErr result (Names (Contains (numbers_of clouds.now))) }
-    ensures came { OnOk result ((j : ℕ) → j < count
-        → HasShares recipes.now (place + j) (room_of rooms.old j) (room_of rooms.new j)) }
-    ensures lens { OnOk result ((j : ℕ) → j < count
-        → length (room_of rooms.new j) ≡ length (room_of rooms.old j)
-        + length clouds.now * share_len_of shape.k (item_of firsts.now (place + j)).secret_len) }
+    ensures came { OnOk result ((j : ℕ) → j < batch.now.count
+        → HasShares recipes.now (batch.now.place + j) (room_of rooms.old j) (room_of rooms.new j)) }
+    ensures lens { OnOk result ((j : ℕ) → j < batch.now.count
+        → length (room_of rooms.new j) ≡ length (room_of rooms.old j) + length clouds.now
+        * share_len_of batch.now.shape.k (item_of batch.now.firsts.now (batch.now.place + j)).secret_len) }
     ensures rooms { length rooms.new ≡ length rooms.old }
     ensures said { Unlost result ((log : List CloudExchange) × Exchanged L.tells L.talk link.old link.new log
-        × BatchSaid shape user firsts.now place count clouds.now recipes.now log rooms.old rooms.new result) }
+        × BatchSaid batch.now.shape batch.now.user batch.now.firsts.now batch.now.place batch.now.count clouds.now
+        recipes.now log rooms.old rooms.new result) }
     ensures beside { LostSaid L.talk link.old link.new result }
     ensures readable { Readable L.tells link.old link.new result }
 {
     let Some((cloud, recipe, more, rest)) = next_pair(clouds, recipes) else {
         return Ok(());
     };
-    match fetch_shares(
-        alloc, link, shape, user, cloud, firsts, recipe, place, count, reply, rooms,
-    ) {
+    match fetch_shares(alloc, link, batch, cloud, recipe, reply, rooms) {
         Ok(()) => {}
         Err(e) => return Err(e),
     }
-    match fetch_batch(
-        alloc, link, shape, user, more, firsts, rest, place, count, reply, rooms,
-    ) {
+    match fetch_batch(alloc, link, batch, more, rest, reply, rooms) {
         Ok(()) => Ok(()),
         Err(e) => Err(e),
     }

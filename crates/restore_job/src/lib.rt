@@ -12,6 +12,7 @@ mod reply;
 mod restoring;
 mod rooms;
 mod shares;
+mod sources;
 mod versions;
 
 pub use caont_rs::tag_of;

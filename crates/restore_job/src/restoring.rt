@@ -24,6 +24,7 @@ use crate::RestoreErr;
 use crate::batch::restore_items;
 use crate::comparing::compare;
 use crate::fetching::{fetch_recipes, next_pair};
+use crate::sources::Sources;
 use crate::versions::version_request;
 use caont_rs::tag_of;
 use std::alloc::Global;
@@ -113,9 +114,12 @@ pub fn restore_agreed<L: Link>(
         Err(NoMemory) => return Err(RestoreErr::NoMemory),
     };
     let firsts = recipe.items.as_slice();
-    match restore_items(
-        alloc, link, shape, user, clouds, &points, firsts, recipes, reply, out,
-    ) {
+    let sources = Sources {
+        clouds,
+        points: &points,
+        recipes,
+    };
+    match restore_items(alloc, link, shape, user, firsts, &sources, reply, out) {
         Ok(()) => Ok(()),
         Err(e) => Err(e),
     }

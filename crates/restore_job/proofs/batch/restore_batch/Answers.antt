@@ -22,29 +22,29 @@ bad e = Err e
 
 pub returns-in-Ok-open_batch-clause-told : goal.returns-in-Ok-open_batch-clause-told
 returns-in-Ok-open_batch-clause-told g c tag version these =
-    opened_batch (among these g.L.Link.tells) c.args.shape c.args.user (tag, version) (numbers_of c.args.clouds.now) c.args.points.now c.args.firsts.now c.args.recipes.now c.args.place c.args.count c.args.link.now c.fetch_batch.new.link c.clear.new.self c.fetch_batch.new.rooms c.args.out.now c.open_batch.new.out (Ok tt)
-    c.requires.points (length-map c.args.clouds.now (λ (cloud : CloudNo). cloud.0) ∙ c.requires.pairs) (λ j lt. c.clear.ensures.empty j (let room = c.requires.room in omega arith)) (c.in-Ok.ensures.told tag version these) c.in-Ok-open_batch.ensures.opens tt
+    opened_batch (among these g.L.Link.tells) c.args.batch.now.shape c.args.batch.now.user (tag, version) (numbers_of c.args.sources.now.clouds.now) c.args.sources.now.points.now c.args.batch.now.firsts.now c.args.sources.now.recipes.now c.args.batch.now.place c.args.batch.now.count c.args.link.now c.fetch_batch.new.link c.clear.new.self c.fetch_batch.new.rooms c.args.out.now c.open_batch.new.out (Ok tt)
+    c.requires.points (length-map c.args.sources.now.clouds.now (λ (cloud : CloudNo). cloud.0) ∙ c.requires.pairs) (λ j lt. c.clear.ensures.empty j (let room = c.requires.room in omega arith)) (c.in-Ok.ensures.told tag version these) c.in-Ok-open_batch.ensures.opens tt
 
 pub returns-in-Err-open_batch-clause-asked : goal.returns-in-Err-open_batch-clause-asked
-returns-in-Err-open_batch-clause-asked g c = asked_as g.L.Link.tells (numbers_of c.args.clouds.now) c.args.link.now c.fetch_batch.new.link _ (is_loss c.in-Err-open_batch.e) (sym c.in-Err-open_batch.ensures.found) c.in-Ok.ensures.asked
+returns-in-Err-open_batch-clause-asked g c = asked_as g.L.Link.tells (numbers_of c.args.sources.now.clouds.now) c.args.link.now c.fetch_batch.new.link _ (is_loss c.in-Err-open_batch.e) (sym c.in-Err-open_batch.ensures.found) c.in-Ok.ensures.asked
 
 pub returns-in-Err-open_batch-clause-told : goal.returns-in-Err-open_batch-clause-told
 returns-in-Err-open_batch-clause-told g c tag version these =
-    opened_batch (among these g.L.Link.tells) c.args.shape c.args.user (tag, version) (numbers_of c.args.clouds.now) c.args.points.now c.args.firsts.now c.args.recipes.now c.args.place c.args.count c.args.link.now c.fetch_batch.new.link c.clear.new.self c.fetch_batch.new.rooms c.args.out.now c.open_batch.new.out (Err c.in-Err-open_batch.e)
-    c.requires.points (length-map c.args.clouds.now (λ (cloud : CloudNo). cloud.0) ∙ c.requires.pairs) (λ j lt. c.clear.ensures.empty j (let room = c.requires.room in omega arith)) (c.in-Ok.ensures.told tag version these) c.in-Err-open_batch.ensures.opens c.in-Err-open_batch.ensures.alone
+    opened_batch (among these g.L.Link.tells) c.args.batch.now.shape c.args.batch.now.user (tag, version) (numbers_of c.args.sources.now.clouds.now) c.args.sources.now.points.now c.args.batch.now.firsts.now c.args.sources.now.recipes.now c.args.batch.now.place c.args.batch.now.count c.args.link.now c.fetch_batch.new.link c.clear.new.self c.fetch_batch.new.rooms c.args.out.now c.open_batch.new.out (Err c.in-Err-open_batch.e)
+    c.requires.points (length-map c.args.sources.now.clouds.now (λ (cloud : CloudNo). cloud.0) ∙ c.requires.pairs) (λ j lt. c.clear.ensures.empty j (let room = c.requires.room in omega arith)) (c.in-Ok.ensures.told tag version these) c.in-Err-open_batch.ensures.opens c.in-Err-open_batch.ensures.alone
 
 pub returns-in-Err-clause-told : goal.returns-in-Err-clause-told
 returns-in-Err-clause-told g c tag version these =
-    refused_batch (among these g.L.Link.tells) c.args.shape c.args.user (tag, version) (numbers_of c.args.clouds.now) c.args.firsts.now c.args.recipes.now c.args.place c.args.count c.args.link.now c.fetch_batch.new.link c.clear.new.self c.fetch_batch.new.rooms c.args.out.now c.in-Err.e (c.in-Err.ensures.told tag version these)
+    refused_batch (among these g.L.Link.tells) c.args.batch.now.shape c.args.batch.now.user (tag, version) (numbers_of c.args.sources.now.clouds.now) c.args.batch.now.firsts.now c.args.sources.now.recipes.now c.args.batch.now.place c.args.batch.now.count c.args.link.now c.fetch_batch.new.link c.clear.new.self c.fetch_batch.new.rooms c.args.out.now c.in-Err.e (c.in-Err.ensures.told tag version these)
 
 pub returns-in-Err-open_batch-clause-named : goal.returns-in-Err-open_batch-clause-named
-returns-in-Err-open_batch-clause-named g c = names_to (λ x. ⊥) (Contains (numbers_of c.args.clouds.now)) c.in-Err-open_batch.e (λ x none. absurd none) c.in-Err-open_batch.ensures.alone
+returns-in-Err-open_batch-clause-named g c = names_to (λ x. ⊥) (Contains (numbers_of c.args.sources.now.clouds.now)) c.in-Err-open_batch.e (λ x none. absurd none) c.in-Err-open_batch.ensures.alone
 
 pub returns-in-Ok-open_batch-clause-brought : goal.returns-in-Ok-open_batch-clause-brought
 returns-in-Ok-open_batch-clause-brought g c =
-    subst (λ (l : List ℕ). Extends c.args.shape l c.args.firsts.now c.args.recipes.now c.args.place (c.args.place + c.args.count) c.args.out.now c.open_batch.new.out) c.requires.points
-    (c.in-Ok-open_batch.ensures.brought c.args.recipes.now
-    (λ j lt. subst (λ (l : List ℕ). HasShares c.args.recipes.now (c.args.place + j) l (room_of c.fetch_batch.new.rooms j)) (c.clear.ensures.empty j (let room = c.requires.room in omega arith)) (c.in-Ok.ensures.came j lt)))
+    subst (λ (l : List ℕ). Extends c.args.batch.now.shape l c.args.batch.now.firsts.now c.args.sources.now.recipes.now c.args.batch.now.place (c.args.batch.now.place + c.args.batch.now.count) c.args.out.now c.open_batch.new.out) c.requires.points
+    (c.in-Ok-open_batch.ensures.brought c.args.sources.now.recipes.now
+    (λ j lt. subst (λ (l : List ℕ). HasShares c.args.sources.now.recipes.now (c.args.batch.now.place + j) l (room_of c.fetch_batch.new.rooms j)) (c.clear.ensures.empty j (let room = c.requires.room in omega arith)) (c.in-Ok.ensures.came j lt)))
 
 pub returns-in-Ok-open_batch-clause-said : goal.returns-in-Ok-open_batch-clause-said
 returns-in-Ok-open_batch-clause-said g c =

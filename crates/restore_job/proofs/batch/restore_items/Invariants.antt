@@ -9,12 +9,12 @@ use Rattle.restore_job.proofs.batch.restore_items.Given as goal
 
 abbrev pub invariant-loop-place : goal.invariant-loop-place
 invariant-loop-place g l = record {
-  restoring : Restoring g.L.Link.tells l.shape l.user (numbers_of l.clouds) l.firsts l.recipes l.fn.link l.link l.place l.fn.out l.out;
+  restoring : Restoring g.L.Link.tells l.shape l.user (numbers_of l.sources.clouds.now) l.firsts l.sources.recipes.now l.fn.link l.link l.place l.fn.out l.out;
   grows : Grows l.fn.out l.out;
   within : l.place ≤ length l.firsts;
-  extends : Extends l.shape (numbers_of l.clouds) l.firsts l.recipes 0 l.place l.fn.out l.out;
+  extends : Extends l.shape (numbers_of l.sources.clouds.now) l.firsts l.sources.recipes.now 0 l.place l.fn.out l.out;
   rooms : length l.rooms ≡ 256;
-  said : ItemsAlong g.L.Link.tells g.L.Link.talk l.shape l.user l.clouds l.points l.firsts l.recipes l.fn.link l.link l.place l.fn.out l.out;
+  said : ItemsAlong g.L.Link.tells g.L.Link.talk l.shape l.user l.sources.clouds.now l.sources.points.now l.firsts l.sources.recipes.now l.fn.link l.link l.place l.fn.out l.out;
   readable : AllReadable g.L.Link.tells l.fn.link l.link;
 }
 
