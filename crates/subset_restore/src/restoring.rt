@@ -10,7 +10,7 @@ ghost use Rattle.subset_restore.specs.Going.{sought};
 
 use crate::chosen::Chosen;
 use crate::refusals::Refusals;
-use crate::trying::{Went, try_from};
+use crate::trying::{Choices, WantedVersion, Went, try_from};
 use restore_job::{Link, RestoreErr};
 use std::alloc::Global;
 use transcript::{Bytes, Clouds, Shape, UserId, Version};
@@ -58,16 +58,22 @@ pub fn restore_any<L: Link>(
     clouds.rises();
     let mut named = Clouds::new(alloc);
     let mut refusals = Refusals::none();
-    match try_from(
-        alloc,
-        link,
+    let wanted = WantedVersion {
         shape,
         user,
         path,
         version,
-        &Chosen::none(),
-        shape.k as usize,
-        clouds.as_slice(),
+    };
+    let choices = Choices {
+        chosen: &Chosen::none(),
+        need: shape.k as usize,
+        rest: clouds.as_slice(),
+    };
+    match try_from(
+        alloc,
+        link,
+        &wanted,
+        &choices,
         &mut named,
         &mut refusals,
         out,

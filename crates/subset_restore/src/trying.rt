@@ -27,6 +27,30 @@ pub enum Went {
     NoMemory,
 }
 
+/// The version of a file that is to be restored.
+#[derive(Clone, Copy)]
+pub struct WantedVersion<'a> {
+    /// The shape of the store.
+    pub shape: Shape,
+    /// Whose file it is.
+    pub user: UserId,
+    /// The file's path.
+    pub path: &'a [u8],
+    /// The version.
+    pub version: Version,
+}
+
+/// The choices of clouds that have all of the chosen ones and `need` of the rest.
+#[derive(Clone, Copy)]
+pub struct Choices<'a> {
+    /// The clouds that each of the choices has.
+    pub chosen: &'a Chosen,
+    /// How many more each of them has.
+    pub need: usize,
+    /// The clouds that these are taken from.
+    pub rest: &'a [CloudNo],
+}
+
 // Appends clouds.
 fn push_all(named: &mut Clouds, clouds: &[CloudNo]) -> Result<(), NoMemory>
     requires { IsStrictlyIncreasing (named.old ++ numbers_of clouds.now) }
@@ -52,25 +76,28 @@ fn is_want(refusal: RestoreErr) -> bool
 fn restore_from<L: Link>(
     alloc: Global,
     link: &mut L,
-    shape: Shape,
-    user: UserId,
-    path: &[u8],
-    version: Version,
+    wanted: &WantedVersion<'_>,
     named: &Clouds,
     refusals: &mut Refusals,
     out: &mut Bytes,
 ) -> Went
-    requires shape { L.tells.shape link.old ≡ shape }
+    requires shape { L.tells.shape link.old ≡ wanted.now.shape }
     requires reached { (cloud : ℕ) → Contains named.now cloud → IsTrue (L.tells.reaches link.old cloud) }
-    requires count { length named.now ≡ shape.k }
-    requires within { All (λ cloud. cloud < shape.n) named.now }
-    requires path { IsPath path.now }
+    requires count { length named.now ≡ wanted.now.shape.k }
+    requires within { All (λ cloud. cloud < wanted.now.shape.n) named.now }
+    requires path { IsPath wanted.now.path.now }
     requires free { HoldsMarked refusals.old.marks named.now → ⊥ }
     ensures keeps { KeepsToldBeside L.tells link.old link.new }
     ensures kept { result ≢ Went.Restored → out.new ≡ out.old }
-    ensures goes { Goes L.tells L.talk shape user path.now version link.old link.new out.old out.new
-        named.now (named.now ∷ []) refusals.old refusals.new result }
+    ensures goes { Goes L.tells L.talk wanted.now.shape wanted.now.user wanted.now.path.now wanted.now.version link.old
+        link.new out.old out.new named.now (named.now ∷ []) refusals.old refusals.new result }
 {
+    let WantedVersion {
+        shape,
+        user,
+        path,
+        version,
+    } = *wanted;
     match restore(alloc, link, shape, user, path, version, named, out) {
         Ok(()) => Went::Restored,
         Err(refusal) => {
@@ -87,80 +114,62 @@ fn restore_from<L: Link>(
 fn try_one<L: Link>(
     alloc: Global,
     link: &mut L,
-    shape: Shape,
-    user: UserId,
-    path: &[u8],
-    version: Version,
+    wanted: &WantedVersion<'_>,
     clouds: &[CloudNo],
     named: &mut Clouds,
     refusals: &mut Refusals,
     out: &mut Bytes,
 ) -> Went
-    requires shape { L.tells.shape link.old ≡ shape }
+    requires shape { L.tells.shape link.old ≡ wanted.now.shape }
     requires reached { (cloud : ℕ) → Contains (numbers_of clouds.now) cloud → IsTrue (L.tells.reaches link.old cloud) }
-    requires count { length (numbers_of clouds.now) ≡ shape.k }
+    requires count { length (numbers_of clouds.now) ≡ wanted.now.shape.k }
     requires rises { IsStrictlyIncreasing (numbers_of clouds.now) }
-    requires within { All (λ cloud. cloud < shape.n) (numbers_of clouds.now) }
-    requires path { IsPath path.now }
+    requires within { All (λ cloud. cloud < wanted.now.shape.n) (numbers_of clouds.now) }
+    requires path { IsPath wanted.now.path.now }
     ensures keeps { KeepsToldBeside L.tells link.old link.new }
     ensures kept { result ≢ Went.Restored → out.new ≡ out.old }
-    ensures goes { Goes L.tells L.talk shape user path.now version link.old link.new out.old out.new
-        (numbers_of clouds.now) (numbers_of clouds.now ∷ []) refusals.old refusals.new result }
+    ensures goes { Goes L.tells L.talk wanted.now.shape wanted.now.user wanted.now.path.now wanted.now.version link.old
+        link.new out.old out.new (numbers_of clouds.now) (numbers_of clouds.now ∷ []) refusals.old refusals.new result }
 {
     if refusals.hold(clouds) {
         return Went::Refused;
     }
     named.clear();
     match push_all(named, clouds) {
-        Ok(()) => restore_from(
-            alloc, link, shape, user, path, version, named, refusals, out,
-        ),
+        Ok(()) => restore_from(alloc, link, wanted, named, refusals, out),
         Err(NoMemory) => Went::NoMemory,
     }
 }
 
-/// Tries the choices that have these clouds and `need` of the rest, in lexicographic order, up to the first from which
-/// the file comes. `named` is room for a choice's list.
+/// Tries some choices of clouds in lexicographic order, up to the first from which the file comes. `named` is room for
+/// a choice's list.
 pub fn try_from<L: Link>(
     alloc: Global,
     link: &mut L,
-    shape: Shape,
-    user: UserId,
-    path: &[u8],
-    version: Version,
-    chosen: &Chosen,
-    need: usize,
-    rest: &[CloudNo],
+    wanted: &WantedVersion<'_>,
+    choices: &Choices<'_>,
     named: &mut Clouds,
     refusals: &mut Refusals,
     out: &mut Bytes,
 ) -> Went
-    requires shape { L.tells.shape link.old ≡ shape }
-    requires reached { (cloud : ℕ) → Contains (chosen.now ++ numbers_of rest.now) cloud
+    requires shape { L.tells.shape link.old ≡ wanted.now.shape }
+    requires reached { (cloud : ℕ) → Contains (choices.now.chosen.now ++ numbers_of choices.now.rest.now) cloud
         → IsTrue (L.tells.reaches link.old cloud) }
-    requires count { length chosen.now + need ≡ shape.k }
-    requires rises { IsStrictlyIncreasing (chosen.now ++ numbers_of rest.now) }
-    requires within { All (λ cloud. cloud < shape.n) (chosen.now ++ numbers_of rest.now) }
-    requires path { IsPath path.now }
+    requires count { length choices.now.chosen.now + choices.now.need ≡ wanted.now.shape.k }
+    requires rises { IsStrictlyIncreasing (choices.now.chosen.now ++ numbers_of choices.now.rest.now) }
+    requires within { All (λ cloud. cloud < wanted.now.shape.n)
+        (choices.now.chosen.now ++ numbers_of choices.now.rest.now) }
+    requires path { IsPath wanted.now.path.now }
     ensures keeps { KeepsToldBeside L.tells link.old link.new }
     ensures kept { result ≢ Went.Restored → out.new ≡ out.old }
-    ensures goes { Goes L.tells L.talk shape user path.now version link.old link.new out.old out.new
-        (chosen.now ++ numbers_of rest.now) (behind chosen.now need (numbers_of rest.now))
-        refusals.old refusals.new result }
+    ensures goes { Goes L.tells L.talk wanted.now.shape wanted.now.user wanted.now.path.now wanted.now.version link.old
+        link.new out.old out.new (choices.now.chosen.now ++ numbers_of choices.now.rest.now)
+        (behind choices.now.chosen.now choices.now.need (numbers_of choices.now.rest.now)) refusals.old refusals.new
+        result }
 {
+    let Choices { chosen, need, rest } = *choices;
     if need == 0 {
-        return try_one(
-            alloc,
-            link,
-            shape,
-            user,
-            path,
-            version,
-            chosen.as_slice(),
-            named,
-            refusals,
-            out,
-        );
+        return try_one(alloc, link, wanted, chosen.as_slice(), named, refusals, out);
     }
     if rest.len() < need {
         return Went::Refused;
@@ -169,23 +178,20 @@ pub fn try_from<L: Link>(
         return Went::Refused;
     };
     let with = chosen.with(cloud);
-    match try_from(
-        alloc,
-        link,
-        shape,
-        user,
-        path,
-        version,
-        &with,
-        need - 1,
-        more,
-        named,
-        refusals,
-        out,
-    ) {
-        Went::Refused => try_from(
-            alloc, link, shape, user, path, version, chosen, need, more, named, refusals, out,
-        ),
+    let with_cloud = Choices {
+        chosen: &with,
+        need: need - 1,
+        rest: more,
+    };
+    match try_from(alloc, link, wanted, &with_cloud, named, refusals, out) {
+        Went::Refused => {
+            let without_cloud = Choices {
+                chosen,
+                need,
+                rest: more,
+            };
+            try_from(alloc, link, wanted, &without_cloud, named, refusals, out)
+        }
         Went::Restored => Went::Restored,
         Went::NoMemory => Went::NoMemory,
     }
