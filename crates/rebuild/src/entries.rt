@@ -11,9 +11,9 @@ ghost use Rattle.rebuild.specs.Over.{HasAskedToRebuild, BringsOwn, HandsOn, HasR
 ghost use Rattle.rebuild.specs.Steps.{VersionFits, found_of};
 ghost use Rattle.rebuild.specs.Turns.{EndsLane, OwnLanes};
 
-use crate::{FoundVersion, RebuildErr, SkipWhy, bring, find_version};
+use crate::{FoundVersion, LaneBuffers, RebuildErr, Refill, SkipWhy, bring, find_version};
 use kept_files::RestoreErr;
-use lane_steps::{Bytes, CloudNo, LaneNews, Link, ReplyBuf, Shape, Tag, UserId, Version};
+use lane_steps::{CloudNo, Link, Tag, Version};
 use std::alloc::Global;
 
 /// A refusal of a cloud that is read, as an error of the rebuild.
@@ -52,43 +52,36 @@ fn skip_of(entered: bool) -> Option<SkipWhy>
 fn bring_found<L: Link>(
     alloc: Global,
     link: &mut L,
-    shape: Shape,
-    user: UserId,
-    target: CloudNo,
+    refill: Refill,
     version: Version,
     found: &FoundVersion,
-    content: &mut Bytes,
-    reply: &mut ReplyBuf,
-    told: &mut Vec<LaneNews>,
+    buffers: &mut LaneBuffers,
 ) -> Result<Option<SkipWhy>, RebuildErr>
-    requires shape { L.tells.shape link.old ≡ shape }
-    requires reached { IsTrue (L.tells.reaches link.old target.0) }
-    requires within { target.0 < shape.n }
+    requires shape { L.tells.shape link.old ≡ refill.shape }
+    requires reached { IsTrue (L.tells.reaches link.old refill.target.0) }
+    requires within { refill.target.0 < refill.shape.n }
     requires fit { VersionFits found.now }
-    ensures brings { (tag : Tag) → Leads L.tells L.talk target.0 [] link.old link.new result
-        (λ turns before after. BringHolds (L.tells.told link.old target.0) (OwnLanes shape user target.0)
-        (EndsLane shape user target.0)
-        result turns (before target.0) (after target.0))
-        (λ turns before at after. EntryBrought shape target.0 (serves L.tells link.old target.0) (tag, version)
-        (found_of user (tag, version) found.now) result turns (before target.0) at (after target.0)) }
+    ensures brings { (tag : Tag) → Leads L.tells L.talk refill.target.0 [] link.old link.new result
+        (λ turns before after. BringHolds (L.tells.told link.old refill.target.0)
+        (OwnLanes refill.shape refill.user refill.target.0) (EndsLane refill.shape refill.user refill.target.0) result
+        turns (before refill.target.0) (after refill.target.0))
+        (λ turns before at after. EntryBrought refill.shape refill.target.0 (serves L.tells link.old refill.target.0)
+        (tag, version) (found_of refill.user (tag, version) found.now) result turns (before refill.target.0) at
+        (after refill.target.0)) }
     ensures own { OfTarget result }
-    ensures asked { HasAskedToRebuild L.tells target.0 [] link.old link.new (is_lost result) }
-    ensures lanes { BringsOwn L.tells shape user target.0 [] link.old link.new }
+    ensures asked { HasAskedToRebuild L.tells refill.target.0 [] link.old link.new (is_lost result) }
+    ensures lanes { BringsOwn L.tells refill.shape refill.user refill.target.0 [] link.old link.new }
 {
     match found {
         FoundVersion::Version { path, file } => {
             match bring(
                 alloc,
                 link,
-                shape,
-                user,
-                target,
+                refill,
                 version,
                 path.as_slice(),
                 file.as_slice(),
-                content,
-                reply,
-                told,
+                buffers,
             ) {
                 Ok(entered) => Ok(skip_of(entered)),
                 Err(e) => Err(e),
@@ -103,39 +96,41 @@ fn bring_found<L: Link>(
 /// is TargetExists where the target has another one.
 ///
 /// An error stops the entry. FromRestore comes before the target was asked, and names one of these clouds; the errors of the
-/// target come as by `bring`; NoMemory may come at any place. Nothing is said of what is left in `content`, `reply` and
-/// `told`.
+/// target come as by `bring`; NoMemory may come at any place. Nothing is said of what is left in `buffers`.
 pub fn rebuild_entry<L: Link>(
     alloc: Global,
     link: &mut L,
-    shape: Shape,
-    user: UserId,
-    target: CloudNo,
+    refill: Refill,
     tag: Tag,
     version: Version,
     clouds: &[CloudNo],
-    content: &mut Bytes,
-    reply: &mut ReplyBuf,
-    told: &mut Vec<LaneNews>,
+    buffers: &mut LaneBuffers,
 ) -> Result<Option<SkipWhy>, RebuildErr>
-    requires shape { L.tells.shape link.old ≡ shape }
-    requires reached { (cloud : ℕ) → Contains (target.0 ∷ numbers_of clouds.now) cloud
+    requires shape { L.tells.shape link.old ≡ refill.shape }
+    requires reached { (cloud : ℕ) → Contains (refill.target.0 ∷ numbers_of clouds.now) cloud
         → IsTrue (L.tells.reaches link.old cloud) }
-    requires choice { AreChoice shape (numbers_of clouds.now) }
-    requires within { target.0 < shape.n }
-    requires apart { ¬ Contains (numbers_of clouds.now) target.0 }
-    ensures rebuilt { Leads L.tells L.talk target.0 (numbers_of clouds.now) link.old link.new result
-        (HasRebuildCause L.tells link.old shape user target.0 result)
-        (EntryTold shape user target.0 (serves L.tells link.old target.0) (numbers_of clouds.now)
-        (tag, version) result) }
+    requires choice { AreChoice refill.shape (numbers_of clouds.now) }
+    requires within { refill.target.0 < refill.shape.n }
+    requires apart { ¬ Contains (numbers_of clouds.now) refill.target.0 }
+    ensures rebuilt { Leads L.tells L.talk refill.target.0 (numbers_of clouds.now) link.old link.new result
+        (HasRebuildCause L.tells link.old refill.shape refill.user refill.target.0 result)
+        (EntryTold refill.shape refill.user refill.target.0 (serves L.tells link.old refill.target.0)
+        (numbers_of clouds.now) (tag, version) result) }
     ensures hands_on { HandsOn (numbers_of clouds.now) result }
-    ensures asked { HasAskedToRebuild L.tells target.0 (numbers_of clouds.now) link.old link.new (is_lost result) }
-    ensures lanes { BringsOwn L.tells shape user target.0 (numbers_of clouds.now) link.old link.new }
+    ensures asked { HasAskedToRebuild L.tells refill.target.0 (numbers_of clouds.now) link.old link.new (is_lost result) }
+    ensures lanes { BringsOwn L.tells refill.shape refill.user refill.target.0 (numbers_of clouds.now) link.old link.new }
 {
-    match find_version(alloc, link, shape, user, tag, version, clouds, reply) {
-        Ok(found) => bring_found(
-            alloc, link, shape, user, target, version, &found, content, reply, told,
-        ),
+    match find_version(
+        alloc,
+        link,
+        refill.shape,
+        refill.user,
+        tag,
+        version,
+        clouds,
+        &mut buffers.reply,
+    ) {
+        Ok(found) => bring_found(alloc, link, refill, version, &found, buffers),
         Err(e) => Err(stopped(e)),
     }
 }

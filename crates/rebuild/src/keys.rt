@@ -9,8 +9,8 @@ ghost use Rattle.rebuild.specs.Entering.{noted};
 ghost use Rattle.rebuild.specs.Over.{HasAskedToRebuild, BringsOwn, HandsOn, HasRebuildCause, Leads, is_lost};
 ghost use Rattle.rebuild.specs.Several.{KeysTold, progress_of};
 
-use crate::{RebuildErr, Rebuilt, Skip, SkipWhy, rebuild_entry};
-use lane_steps::{Bytes, CloudNo, LaneNews, Link, NoMemory, ReplyBuf, Shape, Tag, UserId, Version};
+use crate::{LaneBuffers, RebuildErr, Rebuilt, Refill, Skip, SkipWhy, rebuild_entry};
+use lane_steps::{CloudNo, Link, NoMemory, Tag, Version};
 use std::alloc::Global;
 
 // Counts a version more.
@@ -57,46 +57,37 @@ fn next_key(keys: &[(Tag, Version)]) -> Option<(Tag, Version, &[(Tag, Version)])
 /// and notes each version that is entered there or skipped.
 ///
 /// An error is that of the entry that stopped it; NoMemory comes also where the versions entered are more than a u32
-/// counts. Nothing is said then of what is noted. Nothing is said of what is left in `content`, `reply` and `told`.
+/// counts. Nothing is said then of what is noted. Nothing is said of what is left in `buffers`.
 pub fn rebuild_keys<L: Link>(
     alloc: Global,
     link: &mut L,
-    shape: Shape,
-    user: UserId,
-    target: CloudNo,
+    refill: Refill,
     keys: &[(Tag, Version)],
     clouds: &[CloudNo],
-    content: &mut Bytes,
-    reply: &mut ReplyBuf,
-    told: &mut Vec<LaneNews>,
+    buffers: &mut LaneBuffers,
     rebuilt: &mut Rebuilt,
 ) -> Result<(), RebuildErr>
-    requires shape { L.tells.shape link.old ≡ shape }
-    requires reached { (cloud : ℕ) → Contains (target.0 ∷ numbers_of clouds.now) cloud
+    requires shape { L.tells.shape link.old ≡ refill.shape }
+    requires reached { (cloud : ℕ) → Contains (refill.target.0 ∷ numbers_of clouds.now) cloud
         → IsTrue (L.tells.reaches link.old cloud) }
-    requires choice { AreChoice shape (numbers_of clouds.now) }
-    requires within { target.0 < shape.n }
-    requires apart { ¬ Contains (numbers_of clouds.now) target.0 }
-    ensures rebuilt { Leads L.tells L.talk target.0 (numbers_of clouds.now) link.old link.new result
-        (HasRebuildCause L.tells link.old shape user target.0 result)
-        (KeysTold shape user target.0 (serves L.tells link.old target.0) (numbers_of clouds.now) keys.now
-        (progress_of rebuilt.old) (progress_of rebuilt.new) result) }
+    requires choice { AreChoice refill.shape (numbers_of clouds.now) }
+    requires within { refill.target.0 < refill.shape.n }
+    requires apart { ¬ Contains (numbers_of clouds.now) refill.target.0 }
+    ensures rebuilt { Leads L.tells L.talk refill.target.0 (numbers_of clouds.now) link.old link.new result
+        (HasRebuildCause L.tells link.old refill.shape refill.user refill.target.0 result)
+        (KeysTold refill.shape refill.user refill.target.0 (serves L.tells link.old refill.target.0)
+        (numbers_of clouds.now) keys.now (progress_of rebuilt.old) (progress_of rebuilt.new) result) }
     ensures hands_on { HandsOn (numbers_of clouds.now) result }
-    ensures asked { HasAskedToRebuild L.tells target.0 (numbers_of clouds.now) link.old link.new (is_lost result) }
-    ensures lanes { BringsOwn L.tells shape user target.0 (numbers_of clouds.now) link.old link.new }
+    ensures asked { HasAskedToRebuild L.tells refill.target.0 (numbers_of clouds.now) link.old link.new (is_lost result) }
+    ensures lanes { BringsOwn L.tells refill.shape refill.user refill.target.0 (numbers_of clouds.now) link.old link.new }
     ensures counted { OnOk result (rebuilt.new.files + length rebuilt.new.skipped
         ≡ rebuilt.old.files + length rebuilt.old.skipped + length keys.now) }
 {
     match next_key(keys) {
         Some((tag, version, more)) => {
-            match rebuild_entry(
-                alloc, link, shape, user, target, tag, version, clouds, content, reply, told,
-            ) {
+            match rebuild_entry(alloc, link, refill, tag, version, clouds, buffers) {
                 Ok(skip) => match note(rebuilt, tag, version, skip) {
-                    Ok(()) => rebuild_keys(
-                        alloc, link, shape, user, target, more, clouds, content, reply, told,
-                        rebuilt,
-                    ),
+                    Ok(()) => rebuild_keys(alloc, link, refill, more, clouds, buffers, rebuilt),
                     Err(NoMemory) => Err(RebuildErr::NoMemory),
                 },
                 Err(e) => Err(e),

@@ -22,5 +22,5 @@ pub use laws::{law_of_found_versions, law_of_own_lanes, law_of_pages, law_of_ref
 pub use listing::fetch_page;
 pub use rebuilding::rebuild;
 pub use skips::{Rebuilt, Skip, Skips};
-pub use target::bring;
+pub use target::{LaneBuffers, Refill, bring};
 pub use versions::{FoundVersion, find_version};

@@ -16,10 +16,9 @@ ghost use Rattle.rebuild.specs.Kept.{Refills};
 ghost use Rattle.rebuild.specs.Several.{progress_of, whole};
 
 use crate::entries::stopped;
-use crate::{RebuildErr, Rebuilt, Skips, fetch_page, rebuild_keys};
+use crate::{LaneBuffers, RebuildErr, Rebuilt, Refill, Skips, fetch_page, rebuild_keys};
 use lane_steps::{
-    Bytes, CloudNo, Clouds, KEY_LIMIT, LaneNews, Link, NoMemory, ReplyBuf, Shape, Tag, UserId,
-    Version,
+    Bytes, CloudNo, Clouds, KEY_LIMIT, Link, NoMemory, ReplyBuf, Shape, Tag, UserId, Version,
 };
 use std::alloc::Global;
 
@@ -60,48 +59,49 @@ fn counts(rebuilt: &Rebuilt)
 fn rebuild_pages<L: Link>(
     alloc: Global,
     link: &mut L,
-    shape: Shape,
-    user: UserId,
-    target: CloudNo,
+    refill: Refill,
     clouds: &[CloudNo],
-    content: &mut Bytes,
-    reply: &mut ReplyBuf,
-    told: &mut Vec<LaneNews>,
+    buffers: &mut LaneBuffers,
     rebuilt: &mut Rebuilt,
 ) -> Result<(), RebuildErr>
-    requires shape { L.tells.shape link.old ≡ shape }
-    requires reached { (cloud : ℕ) → Contains (target.0 ∷ numbers_of clouds.now) cloud
+    requires shape { L.tells.shape link.old ≡ refill.shape }
+    requires reached { (cloud : ℕ) → Contains (refill.target.0 ∷ numbers_of clouds.now) cloud
         → IsTrue (L.tells.reaches link.old cloud) }
-    requires choice { AreChoice shape (numbers_of clouds.now) }
-    requires within { target.0 < shape.n }
-    requires apart { ¬ Contains (numbers_of clouds.now) target.0 }
+    requires choice { AreChoice refill.shape (numbers_of clouds.now) }
+    requires within { refill.target.0 < refill.shape.n }
+    requires apart { ¬ Contains (numbers_of clouds.now) refill.target.0 }
     requires fresh { progress_of rebuilt.old ≡ nothing_yet }
-    ensures rebuilt { Leads L.tells L.talk target.0 (numbers_of clouds.now) link.old link.new result
-        (HasRebuildCause L.tells link.old shape user target.0 result)
-        (λ turns before at after. RunsTo shape user target.0 (serves L.tells link.old target.0) (numbers_of clouds.now)
-        (whole rebuilt.new result) turns before at after) }
-    ensures asked { HasAskedToRebuild L.tells target.0 (numbers_of clouds.now) link.old link.new (is_lost result) }
-    ensures lanes { BringsOwn L.tells shape user target.0 (numbers_of clouds.now) link.old link.new }
+    ensures rebuilt { Leads L.tells L.talk refill.target.0 (numbers_of clouds.now) link.old link.new result
+        (HasRebuildCause L.tells link.old refill.shape refill.user refill.target.0 result)
+        (λ turns before at after. RunsTo refill.shape refill.user refill.target.0
+        (serves L.tells link.old refill.target.0) (numbers_of clouds.now) (whole rebuilt.new result) turns before at
+        after) }
+    ensures asked { HasAskedToRebuild L.tells refill.target.0 (numbers_of clouds.now) link.old link.new (is_lost result) }
+    ensures lanes { BringsOwn L.tells refill.shape refill.user refill.target.0 (numbers_of clouds.now) link.old link.new }
     ensures hands_on { HandsOn (numbers_of clouds.now) result }
 {
     let first = first_of(clouds);
     let mut above = None;
     'pages: loop {
-        let page = match fetch_page(alloc, link, shape, user, first, above, reply) {
+        let page = match fetch_page(
+            alloc,
+            link,
+            refill.shape,
+            refill.user,
+            first,
+            above,
+            &mut buffers.reply,
+        ) {
             Ok(page) => page,
             Err(e) => return Err(stopped(e)),
         };
         match rebuild_keys(
             alloc,
             link,
-            shape,
-            user,
-            target,
+            refill,
             page.as_slice(),
             clouds,
-            content,
-            reply,
-            told,
+            buffers,
             rebuilt,
         ) {
             Ok(()) => {}
@@ -172,24 +172,21 @@ pub fn rebuild<L: Link>(
         files: 0,
         skipped: Skips::new(alloc),
     };
-    let mut reply = match ReplyBuf::make(alloc) {
+    let reply = match ReplyBuf::make(alloc) {
         Ok(reply) => reply,
         Err(NoMemory) => return Err(RebuildErr::NoMemory),
     };
-    let mut content = Bytes::new(alloc);
-    let mut told = Vec::new(alloc);
-    match rebuild_pages(
-        alloc,
-        link,
+    let mut buffers = LaneBuffers {
+        content: Bytes::new(alloc),
+        reply,
+        told: Vec::new(alloc),
+    };
+    let refill = Refill {
         shape,
         user,
         target,
-        clouds,
-        &mut content,
-        &mut reply,
-        &mut told,
-        &mut rebuilt,
-    ) {
+    };
+    match rebuild_pages(alloc, link, refill, clouds, &mut buffers, &mut rebuilt) {
         Ok(()) => Ok(rebuilt),
         Err(e) => Err(e),
     }

@@ -17,6 +17,28 @@ use lane_steps::{
 };
 use std::alloc::Global;
 
+/// Whose versions are brought to which cloud.
+#[derive(Clone, Copy, Debug)]
+pub struct Refill {
+    /// The shape of the store.
+    pub shape: Shape,
+    /// The user whose versions they are.
+    pub user: UserId,
+    /// The cloud that they are brought to.
+    pub target: CloudNo,
+}
+
+/// Room for what the target's lanes send and are told. One lane after another uses it.
+#[derive(Drop)]
+pub struct LaneBuffers {
+    /// A request.
+    pub content: Bytes,
+    /// The reply to it, and those of the clouds that are read.
+    pub reply: ReplyBuf,
+    /// The news of a lane.
+    pub told: Vec<LaneNews>,
+}
+
 // The last of some news.
 fn last_news(told: &[LaneNews]) -> Option<LaneNews>
     ensures { result ≡ last_of told.now }
@@ -76,46 +98,55 @@ fn failed(e: StepErr) -> RebuildErr
 /// TargetLost comes only where the link's count of losses rose, and TargetStrange where what came is no reply that a
 /// server which keeps to the rules gives; the other errors but want of memory are the reply that stopped the lane:
 /// TargetFull, TargetFault, TargetDamaged, TargetRotten, TargetNoMemory, and TargetLacking the second time that the
-/// target lacks a share. Nothing is said of what is left in `content`, `reply` and `told`.
+/// target lacks a share. Nothing is said of what is left in `buffers`.
 pub fn bring<L: Link>(
     alloc: Global,
     link: &mut L,
-    shape: Shape,
-    user: UserId,
-    target: CloudNo,
+    refill: Refill,
     version: Version,
     path: &[u8],
     file: &[u8],
-    content: &mut Bytes,
-    reply: &mut ReplyBuf,
-    told: &mut Vec<LaneNews>,
+    buffers: &mut LaneBuffers,
 ) -> Result<bool, RebuildErr>
-    requires shape { L.tells.shape link.old ≡ shape }
-    requires reached { IsTrue (L.tells.reaches link.old target.0) }
-    requires within { target.0 < shape.n }
+    requires shape { L.tells.shape link.old ≡ refill.shape }
+    requires reached { IsTrue (L.tells.reaches link.old refill.target.0) }
+    requires within { refill.target.0 < refill.shape.n }
     requires path { IsPath path.now }
     requires few { length file.now ≤ file_limit }
-    ensures brings { (from : List ℕ) → ¬ Contains from target.0
-        → Leads L.tells L.talk target.0 from link.old link.new result
-        (λ turns before after. BringHolds (L.tells.told link.old target.0)
-        (LaneGoes (lane_of shape target.0 (record { user = user; path = path.now; number = version; file = file.now })))
-        (LaneEnded (lane_of shape target.0
-        (record { user = user; path = path.now; number = version; file = file.now })))
-        result turns (before target.0) (after target.0))
-        (λ turns before at after. BringsTold shape target.0 (serves L.tells link.old target.0)
-        (record { user = user; path = path.now; number = version; file = file.now }) result turns (before target.0) at
-        (after target.0)) }
+    ensures brings { (from : List ℕ) → ¬ Contains from refill.target.0
+        → Leads L.tells L.talk refill.target.0 from link.old link.new result
+        (λ turns before after. BringHolds (L.tells.told link.old refill.target.0)
+        (LaneGoes (lane_of refill.shape refill.target.0
+        (record { user = refill.user; path = path.now; number = version; file = file.now })))
+        (LaneEnded (lane_of refill.shape refill.target.0
+        (record { user = refill.user; path = path.now; number = version; file = file.now }))) result turns
+        (before refill.target.0) (after refill.target.0))
+        (λ turns before at after. BringsTold refill.shape refill.target.0 (serves L.tells link.old refill.target.0)
+        (record { user = refill.user; path = path.now; number = version; file = file.now }) result turns
+        (before refill.target.0) at (after refill.target.0)) }
     ensures own { OfTarget result }
-    ensures asked { HasAskedToRebuild L.tells target.0 [] link.old link.new (is_lost result) }
-    ensures lanes { BringsOwn L.tells shape user target.0 [] link.old link.new }
+    ensures asked { HasAskedToRebuild L.tells refill.target.0 [] link.old link.new (is_lost result) }
+    ensures lanes { BringsOwn L.tells refill.shape refill.user refill.target.0 [] link.old link.new }
 {
+    let Refill {
+        shape,
+        user,
+        target,
+    } = refill;
     let mut job = match Job::for_lane(alloc, shape, user, path, version, file, target) {
         Ok(job) => job,
         Err(NoMemory) => return Err(RebuildErr::NoMemory),
     };
-    told.clear();
-    match finish_any(link, &mut job, target, content, reply, told) {
-        Ok(()) => ended(last_news(told)),
+    buffers.told.clear();
+    match finish_any(
+        link,
+        &mut job,
+        target,
+        &mut buffers.content,
+        &mut buffers.reply,
+        &mut buffers.told,
+    ) {
+        Ok(()) => ended(last_news(&buffers.told)),
         Err(e) => Err(failed(e)),
     }
 }

@@ -7,7 +7,7 @@ use cd_base::{Bytes, CloudNo, Room, UserId, Version, is_path};
 use cd_fakes::MemShelf;
 use frames::ReplyBuf;
 use local_link::{Fate, LocalLink};
-use rebuild::{RebuildErr, bring};
+use rebuild::{LaneBuffers, RebuildErr, Refill, bring};
 use restore_job::RestoreErr;
 use std::alloc::Global;
 use std::test::Fail;
@@ -89,21 +89,24 @@ fn brought(
     if TARGET.0 >= shape.n || !is_path(path) || file.len() > 1_000 {
         return Err(Fail::new("no such file"));
     }
-    let mut content = Bytes::new(alloc);
-    let mut reply = ReplyBuf::make(alloc)?;
-    let mut told = Vec::new(alloc);
+    let refill = Refill {
+        shape,
+        user: UserId(7),
+        target: TARGET,
+    };
+    let mut buffers = LaneBuffers {
+        content: Bytes::new(alloc),
+        reply: ReplyBuf::make(alloc)?,
+        told: Vec::new(alloc),
+    };
     Ok(bring(
         alloc,
         link,
-        shape,
-        UserId(7),
-        TARGET,
+        refill,
         Version(1),
         path,
         file,
-        &mut content,
-        &mut reply,
-        &mut told,
+        &mut buffers,
     ))
 }
 

@@ -23,13 +23,13 @@ abbrev bad : RebuildErr → Result (Option SkipWhy) RebuildErr
 bad e = Err e
 
 pub find_version-requires-clause-reached : goal.find_version-requires-clause-reached
-find_version-requires-clause-reached g c cloud has = c.requires.reached cloud (contains_later c.args.target.0 (numbers_of c.args.clouds.now) cloud has)
+find_version-requires-clause-reached g c cloud has = c.requires.reached cloud (contains_later c.args.refill.target.0 (numbers_of c.args.clouds.now) cloud has)
 
 pub returns-in-Ok-clause-rebuilt : goal.returns-in-Ok-clause-rebuilt
 returns-in-Ok-clause-rebuilt g c =
     let t = g.L.Link.tells in
     let talk = g.L.Link.talk in
-    let target = c.args.target.0 in
+    let target = c.args.refill.target.0 in
     let from = numbers_of c.args.clouds.now in
     let old = c.args.link.now in
     let mid = c.find_version.new.link in
@@ -39,18 +39,18 @@ returns-in-Ok-clause-rebuilt g c =
     let asked = c.in-Ok.ensures.asked in
     let own = c.bring_found.ensures.own in
     let apart = c.requires.apart in
-    let second = subst (λ (serve : List Command → Request → Outcome). Leads t talk target [] mid new r (λ turns before after. BringHolds (t.told mid target) (OwnLanes c.args.shape c.args.user target) (EndsLane c.args.shape c.args.user target) r turns (before target) (after target))
-    (λ turns before at after. EntryBrought c.args.shape target serve key (found_of c.args.user key c.in-Ok.found) r turns (before target) at (after target))) (serves_same t target old mid asked.shape asked.full)
+    let second = subst (λ (serve : List Command → Request → Outcome). Leads t talk target [] mid new r (λ turns before after. BringHolds (t.told mid target) (OwnLanes c.args.refill.shape c.args.refill.user target) (EndsLane c.args.refill.shape c.args.refill.user target) r turns (before target) (after target))
+    (λ turns before at after. EntryBrought c.args.refill.shape target serve key (found_of c.args.refill.user key c.in-Ok.found) r turns (before target) at (after target))) (serves_same t target old mid asked.shape asked.full)
     (c.bring_found.ensures.brings c.args.tag) in
     read_then t talk target from old mid new r _ _ _ _ _ _ apart (asked.asks, asked.passed) asked.told c.in-Ok.ensures.told second
-    (λ turns a b d one leaves x y. own_holds t old c.args.shape c.args.user target (t.told mid target) r turns (b target) a d (ap (λ (f : ℕ → Bool). f target) asked.told) own (one.others target apart) y)
-    (λ turns a b at d one leaves x y. found_brought c.args.shape c.args.user target (serves t old target) from key c.in-Ok.found r turns a b at d apart own one leaves x y)
+    (λ turns a b d one leaves x y. own_holds t old c.args.refill.shape c.args.refill.user target (t.told mid target) r turns (b target) a d (ap (λ (f : ℕ → Bool). f target) asked.told) own (one.others target apart) y)
+    (λ turns a b at d one leaves x y. found_brought c.args.refill.shape c.args.refill.user target (serves t old target) from key c.in-Ok.found r turns a b at d apart own one leaves x y)
 
 pub returns-in-Err-clause-rebuilt : goal.returns-in-Err-clause-rebuilt
 returns-in-Err-clause-rebuilt g c =
     let t = g.L.Link.tells in
     let talk = g.L.Link.talk in
-    let target = c.args.target.0 in
+    let target = c.args.refill.target.0 in
     let from = numbers_of c.args.clouds.now in
     let old = c.args.link.now in
     let new = c.find_version.new.link in
@@ -59,14 +59,14 @@ returns-in-Err-clause-rebuilt g c =
     let e = c.in-Err.e in
     let asked = c.in-Err.ensures.asked in
     let apart = c.requires.apart in
-    subst (λ (x : RebuildErr). Leads t talk target from old new (bad x) (HasRebuildCause t old c.args.shape c.args.user target (bad x)) (EntryTold c.args.shape c.args.user target serve from key (bad x))) (sym c.stopped.ensures)
+    subst (λ (x : RebuildErr). Leads t talk target from old new (bad x) (HasRebuildCause t old c.args.refill.shape c.args.refill.user target (bad x)) (EntryTold c.args.refill.shape c.args.refill.user target serve from key (bad x))) (sym c.stopped.ensures)
     (read_stops t talk target from old new (bad (stopped_as e)) _ _ _ _ apart (asked.asks, asked.passed) c.in-Err.ensures.told (λ p q same. then_stopped (Option SkipWhy) t target new p q e same)
-    (λ a b one x. stopped_holds (Option SkipWhy) t old c.args.shape c.args.user target e a b x) (λ a b one x. stopped_told c.args.shape c.args.user target serve from key e a b (one.others target apart) x))
+    (λ a b one x. stopped_holds (Option SkipWhy) t old c.args.refill.shape c.args.refill.user target e a b x) (λ a b one x. stopped_told c.args.refill.shape c.args.refill.user target serve from key e a b (one.others target apart) x))
 
 pub returns-in-Ok-clause-asked : goal.returns-in-Ok-clause-asked
 returns-in-Ok-clause-asked g c =
     let t = g.L.Link.tells in
-    let target = c.args.target.0 in
+    let target = c.args.refill.target.0 in
     let from = numbers_of c.args.clouds.now in
     asked_on t target from c.args.link.now c.find_version.new.link c.bring_found.new.link _ (asked_reads t target from c.args.link.now c.find_version.new.link _ c.in-Ok.ensures.asked)
     (asked_wider t target from c.find_version.new.link c.bring_found.new.link _ c.bring_found.ensures.asked)
@@ -74,7 +74,7 @@ returns-in-Ok-clause-asked g c =
 pub returns-in-Err-clause-asked : goal.returns-in-Err-clause-asked
 returns-in-Err-clause-asked g c =
     let t = g.L.Link.tells in
-    let target = c.args.target.0 in
+    let target = c.args.refill.target.0 in
     let from = numbers_of c.args.clouds.now in
     asked_as t target from c.args.link.now c.find_version.new.link _ _ (sym (ap (λ (x : RebuildErr). is_lost (bad x)) c.stopped.ensures ∙ stopped_lost (Option SkipWhy) c.in-Err.e))
     (asked_reads t target from c.args.link.now c.find_version.new.link _ c.in-Err.ensures.asked)
@@ -82,10 +82,10 @@ returns-in-Err-clause-asked g c =
 pub returns-in-Ok-clause-lanes : goal.returns-in-Ok-clause-lanes
 returns-in-Ok-clause-lanes g c =
     let t = g.L.Link.tells in
-    let target = c.args.target.0 in
+    let target = c.args.refill.target.0 in
     let from = numbers_of c.args.clouds.now in
-    own_on t c.args.shape c.args.user target from c.args.link.now c.find_version.new.link c.bring_found.new.link (own_reads t c.args.shape c.args.user target from c.args.link.now c.find_version.new.link _ c.in-Ok.ensures.asked)
-    (own_wider t c.args.shape c.args.user target from c.find_version.new.link c.bring_found.new.link c.bring_found.ensures.lanes)
+    own_on t c.args.refill.shape c.args.refill.user target from c.args.link.now c.find_version.new.link c.bring_found.new.link (own_reads t c.args.refill.shape c.args.refill.user target from c.args.link.now c.find_version.new.link _ c.in-Ok.ensures.asked)
+    (own_wider t c.args.refill.shape c.args.refill.user target from c.find_version.new.link c.bring_found.new.link c.bring_found.ensures.lanes)
 
 pub returns-in-Err-clause-lanes : goal.returns-in-Err-clause-lanes
-returns-in-Err-clause-lanes g c = own_reads g.L.Link.tells c.args.shape c.args.user c.args.target.0 (numbers_of c.args.clouds.now) c.args.link.now c.find_version.new.link _ c.in-Err.ensures.asked
+returns-in-Err-clause-lanes g c = own_reads g.L.Link.tells c.args.refill.shape c.args.refill.user c.args.refill.target.0 (numbers_of c.args.clouds.now) c.args.link.now c.find_version.new.link _ c.in-Err.ensures.asked

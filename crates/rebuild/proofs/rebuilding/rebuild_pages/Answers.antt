@@ -26,9 +26,9 @@ pages-init g c =
     let t = g.L.Link.tells in
     let from = numbers_of c.args.clouds.now in
     let first = c.first_of-first.result in
-    let here = first_here c.args.shape from first.0 c.requires.choice.count c.first_of-first.ensures.first in
-    subst (λ (r : Progressed). Paged t g.L.Link.talk c.args.target.0 from c.args.shape c.args.user first.0 c.args.link.now c.args.link.now None r) (sym c.requires.fresh)
-    (paged_none t g.L.Link.talk c.args.target.0 from c.args.shape c.args.user c.requires.apart first here c.args.link.now)
+    let here = first_here c.args.refill.shape from first.0 c.requires.choice.count c.first_of-first.ensures.first in
+    subst (λ (r : Progressed). Paged t g.L.Link.talk c.args.refill.target.0 from c.args.refill.shape c.args.refill.user first.0 c.args.link.now c.args.link.now None r) (sym c.requires.fresh)
+    (paged_none t g.L.Link.talk c.args.refill.target.0 from c.args.refill.shape c.args.refill.user c.requires.apart first here c.args.link.now)
 
 pub fetch_page-requires-clause-shape : goal.fetch_page-requires-clause-shape
 fetch_page-requires-clause-shape g c = c.pages.invariant.asked.shape ∙ c.requires.shape
@@ -37,8 +37,8 @@ pub fetch_page-requires-clause-reached : goal.fetch_page-requires-clause-reached
 fetch_page-requires-clause-reached g c =
     let from = numbers_of c.args.clouds.now in
     let first = c.first_of-first.result in
-    let here = first_here c.args.shape from first.0 c.requires.choice.count c.first_of-first.ensures.first in
-    subst (λ (f : ℕ → Bool). IsTrue (f first.0)) (sym c.pages.invariant.asked.reaches) (c.requires.reached first.0 (contains_later c.args.target.0 from first.0 here))
+    let here = first_here c.args.refill.shape from first.0 c.requires.choice.count c.first_of-first.ensures.first in
+    subst (λ (f : ℕ → Bool). IsTrue (f first.0)) (sym c.pages.invariant.asked.reaches) (c.requires.reached first.0 (contains_later c.args.refill.target.0 from first.0 here))
 
 pub rebuild_keys-requires-clause-shape : goal.rebuild_keys-requires-clause-shape
 rebuild_keys-requires-clause-shape g c = c.in-Ok.ensures.asked.shape ∙ c.pages.invariant.asked.shape ∙ c.requires.shape
@@ -53,38 +53,38 @@ pub returns-in-Err-clause-rebuilt : goal.returns-in-Err-clause-rebuilt
 returns-in-Err-clause-rebuilt g c =
     let t = g.L.Link.tells in
     let talk = g.L.Link.talk in
-    let target = c.args.target.0 in
+    let target = c.args.refill.target.0 in
     let from = numbers_of c.args.clouds.now in
     let first = c.first_of-first.result in
     let is = c.first_of-first.ensures.first in
-    let here = first_here c.args.shape from first.0 c.requires.choice.count is in
+    let here = first_here c.args.refill.shape from first.0 c.requires.choice.count is in
     let old = c.args.link.now in
     let new = c.fetch_page.new.link in
     let e = c.in-Err.e in
     let hands = stopped_hands (Unit {0}) from e (names_to (λ x. x ≡ first.0) (Contains from) e (λ x same. subst (λ (y : ℕ). Contains from y) (sym same) here) c.in-Err.ensures.named) c.in-Err.ensures.refusal in
-    subst (λ (x : RebuildErr). PagesLead t talk target from c.args.shape c.args.user old new c.pages.rebuilt (stopped x)) (sym c.stopped.ensures)
-    (all_leads t talk target from c.args.shape c.args.user c.requires.apart first here old new c.pages.rebuilt (stopped (stopped_as e)) is hands
-    (paged_unread t talk target from c.args.shape c.args.user c.requires.apart first here old c.pages.link new c.pages.above (progress_of c.pages.rebuilt) e _ refl c.pages.invariant c.in-Err.ensures.asked c.in-Err.ensures.told))
+    subst (λ (x : RebuildErr). PagesLead t talk target from c.args.refill.shape c.args.refill.user old new c.pages.rebuilt (stopped x)) (sym c.stopped.ensures)
+    (all_leads t talk target from c.args.refill.shape c.args.refill.user c.requires.apart first here old new c.pages.rebuilt (stopped (stopped_as e)) is hands
+    (paged_unread t talk target from c.args.refill.shape c.args.refill.user c.requires.apart first here old c.pages.link new c.pages.above (progress_of c.pages.rebuilt) e _ refl c.pages.invariant c.in-Err.ensures.asked c.in-Err.ensures.told))
 
 pub returns-in-Err-clause-asked : goal.returns-in-Err-clause-asked
 returns-in-Err-clause-asked g c =
     let t = g.L.Link.tells in
     let talk = g.L.Link.talk in
-    let target = c.args.target.0 in
+    let target = c.args.refill.target.0 in
     let from = numbers_of c.args.clouds.now in
     let first = c.first_of-first.result in
-    let here = first_here c.args.shape from first.0 c.requires.choice.count c.first_of-first.ensures.first in
+    let here = first_here c.args.refill.shape from first.0 c.requires.choice.count c.first_of-first.ensures.first in
     let old = c.args.link.now in
     let new = c.fetch_page.new.link in
     let e = c.in-Err.e in
     subst (λ (x : RebuildErr). HasAskedToRebuild t target from old new (is_lost (stopped x))) (sym c.stopped.ensures)
-    (unread_asked t talk target from c.args.shape c.args.user c.requires.apart first here old c.pages.link new c.pages.above (progress_of c.pages.rebuilt) e _ (sym (stopped_lost (Unit {0}) e)) c.pages.invariant c.in-Err.ensures.asked)
+    (unread_asked t talk target from c.args.refill.shape c.args.refill.user c.requires.apart first here old c.pages.link new c.pages.above (progress_of c.pages.rebuilt) e _ (sym (stopped_lost (Unit {0}) e)) c.pages.invariant c.in-Err.ensures.asked)
 
 pub returns-in-Err-clause-hands_on : goal.returns-in-Err-clause-hands_on
 returns-in-Err-clause-hands_on g c =
     let from = numbers_of c.args.clouds.now in
     let first = c.first_of-first.result in
-    let here = first_here c.args.shape from first.0 c.requires.choice.count c.first_of-first.ensures.first in
+    let here = first_here c.args.refill.shape from first.0 c.requires.choice.count c.first_of-first.ensures.first in
     let e = c.in-Err.e in
     subst (λ (x : RebuildErr). HandsOn from (stopped x)) (sym c.stopped.ensures)
     (stopped_hands (Unit {0}) from e (names_to (λ x. x ≡ first.0) (Contains from) e (λ x same. subst (λ (y : ℕ). Contains from y) (sym same) here) c.in-Err.ensures.named) c.in-Err.ensures.refusal)
@@ -95,10 +95,10 @@ pub returns-in-Err-rebuild_keys-clause-rebuilt : goal.returns-in-Err-rebuild_key
 returns-in-Err-rebuild_keys-clause-rebuilt g c =
     let t = g.L.Link.tells in
     let talk = g.L.Link.talk in
-    let target = c.args.target.0 in
+    let target = c.args.refill.target.0 in
     let from = numbers_of c.args.clouds.now in
-    let shape = c.args.shape in
-    let user = c.args.user in
+    let shape = c.args.refill.shape in
+    let user = c.args.refill.user in
     let apart = c.requires.apart in
     let first = c.first_of-first.result in
     let is = c.first_of-first.ensures.first in
@@ -117,18 +117,18 @@ pub returns-in-Err-rebuild_keys-clause-asked : goal.returns-in-Err-rebuild_keys-
 returns-in-Err-rebuild_keys-clause-asked g c =
     let from = numbers_of c.args.clouds.now in
     let first = c.first_of-first.result in
-    let here = first_here c.args.shape from first.0 c.requires.choice.count c.first_of-first.ensures.first in
-    paged_asked g.L.Link.tells g.L.Link.talk c.args.target.0 from c.args.shape c.args.user c.requires.apart first here c.args.link.now c.pages.link c.fetch_page.new.link c.rebuild_keys.new.link c.pages.above (progress_of c.pages.rebuilt) _
+    let here = first_here c.args.refill.shape from first.0 c.requires.choice.count c.first_of-first.ensures.first in
+    paged_asked g.L.Link.tells g.L.Link.talk c.args.refill.target.0 from c.args.refill.shape c.args.refill.user c.requires.apart first here c.args.link.now c.pages.link c.fetch_page.new.link c.rebuild_keys.new.link c.pages.above (progress_of c.pages.rebuilt) _
     c.pages.invariant c.in-Ok.ensures.asked c.in-Err-rebuild_keys.ensures.asked
 
 pub returns-in-None-clause-rebuilt : goal.returns-in-None-clause-rebuilt
 returns-in-None-clause-rebuilt g c =
     let t = g.L.Link.tells in
     let talk = g.L.Link.talk in
-    let target = c.args.target.0 in
+    let target = c.args.refill.target.0 in
     let from = numbers_of c.args.clouds.now in
-    let shape = c.args.shape in
-    let user = c.args.user in
+    let shape = c.args.refill.shape in
+    let user = c.args.refill.user in
     let apart = c.requires.apart in
     let first = c.first_of-first.result in
     let is = c.first_of-first.ensures.first in
@@ -147,18 +147,18 @@ pub returns-in-None-clause-asked : goal.returns-in-None-clause-asked
 returns-in-None-clause-asked g c =
     let from = numbers_of c.args.clouds.now in
     let first = c.first_of-first.result in
-    let here = first_here c.args.shape from first.0 c.requires.choice.count c.first_of-first.ensures.first in
-    paged_asked g.L.Link.tells g.L.Link.talk c.args.target.0 from c.args.shape c.args.user c.requires.apart first here c.args.link.now c.pages.link c.fetch_page.new.link c.rebuild_keys.new.link c.pages.above (progress_of c.pages.rebuilt) _
+    let here = first_here c.args.refill.shape from first.0 c.requires.choice.count c.first_of-first.ensures.first in
+    paged_asked g.L.Link.tells g.L.Link.talk c.args.refill.target.0 from c.args.refill.shape c.args.refill.user c.requires.apart first here c.args.link.now c.pages.link c.fetch_page.new.link c.rebuild_keys.new.link c.pages.above (progress_of c.pages.rebuilt) _
     c.pages.invariant c.in-Ok.ensures.asked c.in-Ok-rebuild_keys.ensures.asked
 
 pub pages-preserved : goal.pages-preserved
 pages-preserved g c =
     let t = g.L.Link.tells in
     let talk = g.L.Link.talk in
-    let target = c.args.target.0 in
+    let target = c.args.refill.target.0 in
     let from = numbers_of c.args.clouds.now in
-    let shape = c.args.shape in
-    let user = c.args.user in
+    let shape = c.args.refill.shape in
+    let user = c.args.refill.user in
     let apart = c.requires.apart in
     let first = c.first_of-first.result in
     let here = first_here shape from first.0 c.requires.choice.count c.first_of-first.ensures.first in
@@ -176,21 +176,21 @@ pub returns-in-Err-clause-lanes : goal.returns-in-Err-clause-lanes
 returns-in-Err-clause-lanes g c =
     let from = numbers_of c.args.clouds.now in
     let first = c.first_of-first.result in
-    let here = first_here c.args.shape from first.0 c.requires.choice.count c.first_of-first.ensures.first in
-    unread_lanes g.L.Link.tells g.L.Link.talk c.args.target.0 from c.args.shape c.args.user c.requires.apart first here c.args.link.now c.pages.link c.fetch_page.new.link c.pages.above (progress_of c.pages.rebuilt) _ c.pages.invariant c.in-Err.ensures.asked
+    let here = first_here c.args.refill.shape from first.0 c.requires.choice.count c.first_of-first.ensures.first in
+    unread_lanes g.L.Link.tells g.L.Link.talk c.args.refill.target.0 from c.args.refill.shape c.args.refill.user c.requires.apart first here c.args.link.now c.pages.link c.fetch_page.new.link c.pages.above (progress_of c.pages.rebuilt) _ c.pages.invariant c.in-Err.ensures.asked
 
 pub returns-in-Err-rebuild_keys-clause-lanes : goal.returns-in-Err-rebuild_keys-clause-lanes
 returns-in-Err-rebuild_keys-clause-lanes g c =
     let from = numbers_of c.args.clouds.now in
     let first = c.first_of-first.result in
-    let here = first_here c.args.shape from first.0 c.requires.choice.count c.first_of-first.ensures.first in
-    paged_lanes g.L.Link.tells g.L.Link.talk c.args.target.0 from c.args.shape c.args.user c.requires.apart first here c.args.link.now c.pages.link c.fetch_page.new.link c.rebuild_keys.new.link c.pages.above (progress_of c.pages.rebuilt)
+    let here = first_here c.args.refill.shape from first.0 c.requires.choice.count c.first_of-first.ensures.first in
+    paged_lanes g.L.Link.tells g.L.Link.talk c.args.refill.target.0 from c.args.refill.shape c.args.refill.user c.requires.apart first here c.args.link.now c.pages.link c.fetch_page.new.link c.rebuild_keys.new.link c.pages.above (progress_of c.pages.rebuilt)
     c.pages.invariant c.in-Ok.ensures.asked c.in-Err-rebuild_keys.ensures.lanes
 
 pub returns-in-None-clause-lanes : goal.returns-in-None-clause-lanes
 returns-in-None-clause-lanes g c =
     let from = numbers_of c.args.clouds.now in
     let first = c.first_of-first.result in
-    let here = first_here c.args.shape from first.0 c.requires.choice.count c.first_of-first.ensures.first in
-    paged_lanes g.L.Link.tells g.L.Link.talk c.args.target.0 from c.args.shape c.args.user c.requires.apart first here c.args.link.now c.pages.link c.fetch_page.new.link c.rebuild_keys.new.link c.pages.above (progress_of c.pages.rebuilt)
+    let here = first_here c.args.refill.shape from first.0 c.requires.choice.count c.first_of-first.ensures.first in
+    paged_lanes g.L.Link.tells g.L.Link.talk c.args.refill.target.0 from c.args.refill.shape c.args.refill.user c.requires.apart first here c.args.link.now c.pages.link c.fetch_page.new.link c.rebuild_keys.new.link c.pages.above (progress_of c.pages.rebuilt)
     c.pages.invariant c.in-Ok.ensures.asked c.in-Ok-rebuild_keys.ensures.lanes

@@ -26,32 +26,32 @@ bad e = Err e
 pub returns-in-Err-clause-brings : goal.returns-in-Err-clause-brings
 returns-in-Err-clause-brings g c =
     let t = g.L.Link.tells in
-    let target = c.args.target.0 in
+    let target = c.args.refill.target.0 in
     let link = c.args.link.now in
-    let v : FileVersion = record { user = c.args.user; path = c.args.path.now; number = c.args.version; file = c.args.file.now } in
-    let lane = lane_of c.args.shape target v in
+    let v : FileVersion = record { user = c.args.refill.user; path = c.args.path.now; number = c.args.version; file = c.args.file.now } in
+    let lane = lane_of c.args.refill.shape target v in
     let few : length v.file ≤ 67108864 = c.requires.few in
     λ from apart. target_leads t g.L.Link.talk target from link link _ _ _ (no_others t target link)
-    (λ p stands. memory_moves t g.L.Link.talk c.args.shape target from v c.requires.path few link c.requires.shape link lane lane [] [] p refl (refl, refl) refl stands)
+    (λ p stands. memory_moves t g.L.Link.talk c.args.refill.shape target from v c.requires.path few link c.requires.shape link lane lane [] [] p refl (refl, refl) refl stands)
 
 pub finish_any-requires-clause-below : goal.finish_any-requires-clause-below
-finish_any-requires-clause-below g c = let e = lanes_long c.args.shape (record { user = c.args.user; path = c.args.path.now; number = c.args.version; file = c.args.file.now }) c.args.target.0 in let lt = c.requires.within in omega (arith, ap length c.in-Ok.ensures)
+finish_any-requires-clause-below g c = let e = lanes_long c.args.refill.shape (record { user = c.args.refill.user; path = c.args.path.now; number = c.args.version; file = c.args.file.now }) c.args.refill.target.0 in let lt = c.requires.within in omega (arith, ap length c.in-Ok.ensures)
 
 pub finish_any-requires-clause-way : goal.finish_any-requires-clause-way
 finish_any-requires-clause-way g c =
-    let v : FileVersion = record { user = c.args.user; path = c.args.path.now; number = c.args.version; file = c.args.file.now } in
+    let v : FileVersion = record { user = c.args.refill.user; path = c.args.path.now; number = c.args.version; file = c.args.file.now } in
     subst (λ (s : Shape). IsOnItsWay s c.in-Ok.job) (sym c.requires.shape)
-    (subst (IsOnItsWay c.args.shape) (sym c.in-Ok.ensures) (ForOne (BegunAlone v c.args.target.0 c.requires.path c.requires.few (omega arith) (omega arith))))
+    (subst (IsOnItsWay c.args.refill.shape) (sym c.in-Ok.ensures) (ForOne (BegunAlone v c.args.refill.target.0 c.requires.path c.requires.few (omega arith) (omega arith))))
 
 pub returns-in-Ok-finish_any-clause-brings : goal.returns-in-Ok-finish_any-clause-brings
 returns-in-Ok-finish_any-clause-brings g c =
     let t = g.L.Link.tells in
     let talk = g.L.Link.talk in
-    let target = c.args.target.0 in
-    let shape = c.args.shape in
+    let target = c.args.refill.target.0 in
+    let shape = c.args.refill.shape in
     let old = c.args.link.now in
     let new = c.finish_any.new.link in
-    let v : FileVersion = record { user = c.args.user; path = c.args.path.now; number = c.args.version; file = c.args.file.now } in
+    let v : FileVersion = record { user = c.args.refill.user; path = c.args.path.now; number = c.args.version; file = c.args.file.now } in
     let is = ap (λ (l : List LaneView). starting (lane_at l target)) c.in-Ok.ensures ∙ lane_is shape v target c.requires.within in
     let f = c.in-Ok-finish_any.ensures.finishes in
     let few : length v.file ≤ 67108864 = c.requires.few in
@@ -63,11 +63,11 @@ pub returns-clause-brings : goal.returns-clause-brings
 returns-clause-brings g c =
     let t = g.L.Link.tells in
     let talk = g.L.Link.talk in
-    let target = c.args.target.0 in
-    let shape = c.args.shape in
+    let target = c.args.refill.target.0 in
+    let shape = c.args.refill.shape in
     let old = c.args.link.now in
     let new = c.finish_any.new.link in
-    let v : FileVersion = record { user = c.args.user; path = c.args.path.now; number = c.args.version; file = c.args.file.now } in
+    let v : FileVersion = record { user = c.args.refill.user; path = c.args.path.now; number = c.args.version; file = c.args.file.now } in
     let is = ap (λ (l : List LaneView). starting (lane_at l target)) c.in-Ok.ensures ∙ lane_is shape v target c.requires.within in
     let e : StepErr = c.in-Err-finish_any.e in
     let f = c.in-Err-finish_any.ensures.finishes in
@@ -86,7 +86,7 @@ pub returns-in-Err-clause-own : goal.returns-in-Err-clause-own
 returns-in-Err-clause-own g c = tt
 
 pub returns-in-Err-clause-asked : goal.returns-in-Err-clause-asked
-returns-in-Err-clause-asked g c = asked_none g.L.Link.tells c.args.target.0 [] c.args.link.now
+returns-in-Err-clause-asked g c = asked_none g.L.Link.tells c.args.refill.target.0 [] c.args.link.now
 
 pub returns-in-Ok-finish_any-clause-own : goal.returns-in-Ok-finish_any-clause-own
 returns-in-Ok-finish_any-clause-own g c = (ends_own _ c.ended.result c.ended.ensures).0
@@ -95,7 +95,7 @@ pub returns-in-Ok-finish_any-clause-asked : goal.returns-in-Ok-finish_any-clause
 returns-in-Ok-finish_any-clause-asked g c =
     let e = c.in-Ok-finish_any.ensures in
     let own = (ends_own _ c.ended.result c.ended.ensures).1 in
-    asked_lane g.L.Link.tells g.L.Link.talk c.args.target.0 c.args.link.now c.in-Ok.job _ (Ok tt) c.finish_any.new.link c.finish_any.new.job _ (is_lost c.ended.result) e.finishes e.others e.later
+    asked_lane g.L.Link.tells g.L.Link.talk c.args.refill.target.0 c.args.link.now c.in-Ok.job _ (Ok tt) c.finish_any.new.link c.finish_any.new.job _ (is_lost c.ended.result) e.finishes e.others e.later
     (λ lost. absurd (let f : false ≡ true = sym own ∙ lost in cc)) (λ h. (own, (e.lossless h).1))
 
 pub returns-clause-own : goal.returns-clause-own
@@ -105,20 +105,20 @@ pub returns-clause-asked : goal.returns-clause-asked
 returns-clause-asked g c =
     let e = c.in-Err-finish_any.ensures in
     let is = ap (λ (x : RebuildErr). is_lost (bad x)) c.failed.ensures in
-    asked_lane g.L.Link.tells g.L.Link.talk c.args.target.0 c.args.link.now c.in-Ok.job _ (Err c.in-Err-finish_any.e) c.finish_any.new.link c.finish_any.new.job _ (is_lost (bad c.failed.result)) e.finishes e.others e.later
+    asked_lane g.L.Link.tells g.L.Link.talk c.args.refill.target.0 c.args.link.now c.in-Ok.job _ (Err c.in-Err-finish_any.e) c.finish_any.new.link c.finish_any.new.job _ (is_lost (bad c.failed.result)) e.finishes e.others e.later
     (λ lost. failed_lost c.in-Err-finish_any.e _ _ e.lost (sym is ∙ lost)) (λ h. (is ∙ failed_found c.in-Err-finish_any.e (e.lossless h).0, (e.lossless h).1))
 
 pub returns-in-Err-clause-lanes : goal.returns-in-Err-clause-lanes
-returns-in-Err-clause-lanes g c = own_none g.L.Link.tells c.args.shape c.args.user c.args.target.0 [] c.args.link.now
+returns-in-Err-clause-lanes g c = own_none g.L.Link.tells c.args.refill.shape c.args.refill.user c.args.refill.target.0 [] c.args.link.now
 
 pub returns-in-Ok-finish_any-clause-lanes : goal.returns-in-Ok-finish_any-clause-lanes
 returns-in-Ok-finish_any-clause-lanes g c =
-    let v : FileVersion = record { user = c.args.user; path = c.args.path.now; number = c.args.version; file = c.args.file.now } in
-    let is = ap (λ (l : List LaneView). starting (lane_at l c.args.target.0)) c.in-Ok.ensures ∙ lane_is c.args.shape v c.args.target.0 c.requires.within in
-    lane_own g.L.Link.tells g.L.Link.talk c.args.shape c.args.target.0 v c.args.link.now c.in-Ok.job _ (Ok tt) c.finish_any.new.link c.finish_any.new.job _ (ap (λ (p : Progress). p.lane.work) is) c.in-Ok-finish_any.ensures.finishes
+    let v : FileVersion = record { user = c.args.refill.user; path = c.args.path.now; number = c.args.version; file = c.args.file.now } in
+    let is = ap (λ (l : List LaneView). starting (lane_at l c.args.refill.target.0)) c.in-Ok.ensures ∙ lane_is c.args.refill.shape v c.args.refill.target.0 c.requires.within in
+    lane_own g.L.Link.tells g.L.Link.talk c.args.refill.shape c.args.refill.target.0 v c.args.link.now c.in-Ok.job _ (Ok tt) c.finish_any.new.link c.finish_any.new.job _ (ap (λ (p : Progress). p.lane.work) is) c.in-Ok-finish_any.ensures.finishes
 
 pub returns-clause-lanes : goal.returns-clause-lanes
 returns-clause-lanes g c =
-    let v : FileVersion = record { user = c.args.user; path = c.args.path.now; number = c.args.version; file = c.args.file.now } in
-    let is = ap (λ (l : List LaneView). starting (lane_at l c.args.target.0)) c.in-Ok.ensures ∙ lane_is c.args.shape v c.args.target.0 c.requires.within in
-    lane_own g.L.Link.tells g.L.Link.talk c.args.shape c.args.target.0 v c.args.link.now c.in-Ok.job _ (Err c.in-Err-finish_any.e) c.finish_any.new.link c.finish_any.new.job _ (ap (λ (p : Progress). p.lane.work) is) c.in-Err-finish_any.ensures.finishes
+    let v : FileVersion = record { user = c.args.refill.user; path = c.args.path.now; number = c.args.version; file = c.args.file.now } in
+    let is = ap (λ (l : List LaneView). starting (lane_at l c.args.refill.target.0)) c.in-Ok.ensures ∙ lane_is c.args.refill.shape v c.args.refill.target.0 c.requires.within in
+    lane_own g.L.Link.tells g.L.Link.talk c.args.refill.shape c.args.refill.target.0 v c.args.link.now c.in-Ok.job _ (Err c.in-Err-finish_any.e) c.finish_any.new.link c.finish_any.new.job _ (ap (λ (p : Progress). p.lane.work) is) c.in-Err-finish_any.ensures.finishes
