@@ -30,8 +30,8 @@ use crate::reading::read_entry;
 use crate::refusing::refuse_long;
 use open_store::{OpenStore, Unadded};
 use server_reads::{
-    BlobStop, Entry, Failed, Fp, RecipeView, ReplyBuf, Shelf, Tag, UserId, Version, sha256,
-    write_committed, write_exists, write_full, write_lacking, write_rotten,
+    BlobStop, Entry, Failed, Fp, RecipeView, ReplyBuf, Shelf, Tag, UserId, Version, VersionKey,
+    sha256, write_committed, write_exists, write_full, write_lacking, write_rotten,
 };
 
 // The bytes of a Commit's body.
@@ -52,25 +52,25 @@ fn put_compared(there: &[u8], recipe: &[u8], reply: &mut ReplyBuf)
 fn repeat<V: Shelf>(
     store: &mut OpenStore,
     shelf: &mut V,
-    user: UserId,
-    tag: Tag,
-    version: Version,
+    key: VersionKey,
     entry: &Entry,
     recipe: &[u8],
     buffer: &mut [u8],
     reply: &mut ReplyBuf,
 ) -> Result<(), Failed>
     requires ready { IsStoreReady store.old }
-    requires there { get (memory_of store.old.memory).files (key_of user.0 tag.0 version.0) ≡ Some entry.now }
+    requires there { get (memory_of store.old.memory).files (key_of key.user.0 key.tag.0 key.version.0)
+        ≡ Some entry.now }
     requires owned { (list : List Command) → Remembers store.old.header.shape list (memory_of store.old.memory)
-        → first_lacking (user_view store.old.header.shape list user).own
+        → first_lacking (user_view store.old.header.shape list key.user).own
         (fps_of store.old.header.shape recipe.now) ≡ None }
-    requires owns { AreOwned (memory_of store.old.memory).owners user (fps_of store.old.header.shape recipe.now) }
+    requires owns { AreOwned (memory_of store.old.memory).owners key.user (fps_of store.old.header.shape recipe.now) }
     requires buffer { recipe_limit ≤ length buffer.old }
     ensures does { Executes (shelf.new ≡ shelf.old) store.old store.new (V.cloud_at shelf.old) (V.cloud_at shelf.new)
-        (V.faults shelf.old) (V.faults shelf.new) (requests.Commit user tag version recipe.now) reply.new result }
+        (V.faults shelf.old) (V.faults shelf.new) (requests.Commit key.user key.tag key.version recipe.now) reply.new
+        result }
     ensures enters { OnOk result (Replies reply.new (Enters store.old.header (memory_of store.old.memory)
-        (memory_of store.new.memory) (requests.Commit user tag version recipe.now))) }
+        (memory_of store.new.memory) (requests.Commit key.user key.tag key.version recipe.now))) }
 {
     match read_entry(store, shelf, entry, buffer) {
         Ok(()) => {
@@ -108,9 +108,7 @@ fn stage(store: &mut OpenStore, recipe: &[u8])
 fn add_staged<V: Shelf>(
     store: &mut OpenStore,
     shelf: &mut V,
-    user: UserId,
-    tag: Tag,
-    version: Version,
+    key: VersionKey,
     fp: Fp,
     len: u32,
     recipe: &RecipeView<'_>,
@@ -121,27 +119,27 @@ fn add_staged<V: Shelf>(
     requires fp { fingerprint (spelling recipe.now) ≡ fp }
     requires len { length (spelling recipe.now) ≡ len }
     requires some { 1 ≤ len }
-    requires new { get (memory_of store.old.memory).files (key_of user.0 tag.0 version.0) ≡ None }
-    requires owned { AreOwned (memory_of store.old.memory).owners user (fps_in recipe.now.items) }
+    requires new { get (memory_of store.old.memory).files (key_of key.user.0 key.tag.0 key.version.0) ≡ None }
+    requires owned { AreOwned (memory_of store.old.memory).owners key.user (fps_in recipe.now.items) }
     ensures leaves { IsLeftSettled store.old store.new result }
     ensures does { (list : List Command) (c : Chain)
         → Serves list c store.old (V.cloud_at shelf.old store.old.header.cloud.0)
-        → IsAnsweredNew store.old.header list user tag version (spelling recipe.now)
+        → IsAnsweredNew store.old.header list key.user key.tag key.version (spelling recipe.now)
         → Does store.old store.new (V.cloud_at shelf.old store.old.header.cloud.0)
         (V.cloud_at shelf.new store.old.header.cloud.0) list
-        (requests.Commit user tag version (spelling recipe.now)) reply.new result }
+        (requests.Commit key.user key.tag key.version (spelling recipe.now)) reply.new result }
     ensures behind { GrowsBehind store.old (V.cloud_at shelf.old store.old.header.cloud.0)
         (V.cloud_at shelf.new store.old.header.cloud.0) }
     ensures some { OnOk result (Replies reply.new IsOfNew) }
     ensures commits { OnOk result (Replies reply.new (Commits store.old.header.rooms (memory_of store.old.memory)
-        (memory_of store.new.memory) user tag version (fps_in recipe.now.items) (spelling recipe.now))) }
+        (memory_of store.new.memory) key.user key.tag key.version (fps_in recipe.now.items) (spelling recipe.now))) }
     ensures full { (room : Room) (used need limit : ℕ) → room ≢ rooms.Journal
         → OnOk result (IsReply reply.new (replies.Full room used need limit)
         → (shelf.new ≡ shelf.old) × (store.new ≡ unstaged store.old)) }
     ensures calls { Calls (V.cloud_at shelf.old) (V.cloud_at shelf.new) store.old.header.cloud.0 (V.faults shelf.old)
         (V.faults shelf.new) result }
 {
-    match store.add_commit(shelf, user, tag, version, fp, len, recipe) {
+    match store.add_commit(shelf, key.user, key.tag, key.version, fp, len, recipe) {
         Ok(()) => {
             write_committed(reply);
             Ok(())
@@ -162,29 +160,27 @@ fn add_staged<V: Shelf>(
 fn enter<V: Shelf>(
     store: &mut OpenStore,
     shelf: &mut V,
-    user: UserId,
-    tag: Tag,
-    version: Version,
+    key: VersionKey,
     recipe: &RecipeView<'_>,
     reply: &mut ReplyBuf,
 ) -> Result<(), Failed>
     requires ready { IsStoreReady store.old }
     requires recipe { IsRecipe store.old.header.shape (spelling recipe.now) recipe.now }
-    requires new { get (memory_of store.old.memory).files (key_of user.0 tag.0 version.0) ≡ None }
-    requires owned { AreOwned (memory_of store.old.memory).owners user (fps_in recipe.now.items) }
+    requires new { get (memory_of store.old.memory).files (key_of key.user.0 key.tag.0 key.version.0) ≡ None }
+    requires owned { AreOwned (memory_of store.old.memory).owners key.user (fps_in recipe.now.items) }
     requires lacks { (list : List Command) → Remembers store.old.header.shape list (memory_of store.old.memory)
-        → first_lacking (user_view store.old.header.shape list user).own (fps_in recipe.now.items) ≡ None }
+        → first_lacking (user_view store.old.header.shape list key.user).own (fps_in recipe.now.items) ≡ None }
     ensures does { Executes (shelf.new ≡ shelf.old) store.old store.new (V.cloud_at shelf.old) (V.cloud_at shelf.new)
-        (V.faults shelf.old) (V.faults shelf.new) (requests.Commit user tag version (spelling recipe.now)) reply.new
-        result }
+        (V.faults shelf.old) (V.faults shelf.new) (requests.Commit key.user key.tag key.version (spelling recipe.now))
+        reply.new result }
     ensures enters { OnOk result (Replies reply.new (Enters store.old.header (memory_of store.old.memory)
-        (memory_of store.new.memory) (requests.Commit user tag version (spelling recipe.now)))) }
+        (memory_of store.new.memory) (requests.Commit key.user key.tag key.version (spelling recipe.now)))) }
 {
     let bytes = recipe.bytes();
     let fp = sha256(bytes);
     let len = bytes.len() as u32;
     stage(store, bytes);
-    add_staged(store, shelf, user, tag, version, fp, len, recipe, reply)
+    add_staged(store, shelf, key, fp, len, recipe, reply)
 }
 
 /// Serves a Commit: a version of a user's file, whose recipe is of the store's shape. The reply becomes the content.
@@ -232,19 +228,16 @@ pub fn commit<V: Shelf>(
             write_lacking(reply, place);
             Ok(())
         }
-        None => match store.memory.entry(user, tag, version) {
-            Some(entry) => repeat(
-                store,
-                shelf,
+        None => {
+            let key = VersionKey {
                 user,
-                *tag,
+                tag: *tag,
                 version,
-                &entry,
-                recipe.bytes(),
-                buffer,
-                reply,
-            ),
-            None => enter(store, shelf, user, *tag, version, recipe, reply),
-        },
+            };
+            match store.memory.entry(user, tag, version) {
+                Some(entry) => repeat(store, shelf, key, &entry, recipe.bytes(), buffer, reply),
+                None => enter(store, shelf, key, recipe, reply),
+            }
+        }
     }
 }

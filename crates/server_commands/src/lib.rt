@@ -18,6 +18,6 @@ pub use putting::put;
 pub use server_reads::{
     Area, Bytes, CloudMemory, CloudNo, Entry, Failed, Fp, FpsView, Link, Log, Lost, NoMemory,
     Place, Ports, RECIPE_LIMIT, RecipeView, ReplyBuf, RequestView, Shape, SharesView, Shelf, Sink,
-    Source, Tag, UserId, Version, entries, hello, known, recipe, sha256, shares, write_all,
-    write_damaged, write_fault, write_malformed,
+    Source, Tag, UserId, Version, VersionKey, entries, hello, known, recipe, sha256, shares,
+    write_all, write_damaged, write_fault, write_malformed,
 };

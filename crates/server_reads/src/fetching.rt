@@ -27,6 +27,17 @@ use cd_edges::{Failed, Shelf};
 use cloud_memory::{CloudMemory, CloudNo, Entry, Log, RECIPE_LIMIT, Tag, UserId, Version};
 use messages::{ReplyBuf, write_missing, write_recipe, write_rotten};
 
+/// Names a version of a user's file.
+#[derive(Clone, Copy, Debug)]
+pub struct VersionKey {
+    /// The user.
+    pub user: UserId,
+    /// The tag of the file's path.
+    pub tag: Tag,
+    /// The number of the version.
+    pub version: Version,
+}
+
 // The same as `read_recipe`, of an entry that is no longer than the buffer.
 fn read_front<V: Shelf>(
     log: &mut Log,
@@ -125,9 +136,7 @@ pub fn recipe<V: Shelf>(
     log: &mut Log,
     shelf: &mut V,
     cloud: CloudNo,
-    user: UserId,
-    tag: &Tag,
-    version: Version,
+    key: VersionKey,
     buffer: &mut [u8],
     reply: &mut ReplyBuf,
 ) -> Result<(), Failed>
@@ -140,17 +149,18 @@ pub fn recipe<V: Shelf>(
         → Stand shape (reads (V.cloud_at shelf.old cloud.0).now areas.Shares)
         (reads (V.cloud_at shelf.old cloud.0).now areas.Recipes) list (memory_of memory.now)
         → OnOk result (reply.new ≡ reply_bytes
-        (answer_over shape cloud.0 list (requests.GetRecipe user tag.now version)).reply) }
-    ensures kind { OnOk result
-        (Replies reply.new (RecipeReply (IsNamed (memory_of memory.now) (key_of user.0 tag.now.0 version.0))
-        (HasNone (memory_of memory.now) (key_of user.0 tag.now.0 version.0))
-        (IsFoundRecipe (V.cloud_at shelf.old cloud.0) (memory_of memory.now) (key_of user.0 tag.now.0 version.0)))) }
+        (answer_over shape cloud.0 list (requests.GetRecipe key.user key.tag key.version)).reply) }
+    ensures kind { OnOk result (Replies reply.new (RecipeReply
+        (IsNamed (memory_of memory.now) (key_of key.user.0 key.tag.0 key.version.0))
+        (HasNone (memory_of memory.now) (key_of key.user.0 key.tag.0 key.version.0))
+        (IsFoundRecipe (V.cloud_at shelf.old cloud.0) (memory_of memory.now)
+        (key_of key.user.0 key.tag.0 key.version.0)))) }
     ensures hashed { (bytes : List ℕ) → OnOk result (IsReply reply.new (replies.Recipe bytes)
-        → IsNamed (memory_of memory.now) (key_of user.0 tag.now.0 version.0) bytes) }
-    ensures missing { HasNone (memory_of memory.now) (key_of user.0 tag.now.0 version.0)
+        → IsNamed (memory_of memory.now) (key_of key.user.0 key.tag.0 key.version.0) bytes) }
+    ensures missing { HasNone (memory_of memory.now) (key_of key.user.0 key.tag.0 key.version.0)
         → IsOk result × (shelf.new ≡ shelf.old) × (log.new ≡ log.old) × (reply.new ≡ reply_bytes replies.Missing) }
     ensures untouched { OnOk result (IsReply reply.new replies.Missing
-        → HasNone (memory_of memory.now) (key_of user.0 tag.now.0 version.0)
+        → HasNone (memory_of memory.now) (key_of key.user.0 key.tag.0 key.version.0)
         × (shelf.new ≡ shelf.old) × (log.new ≡ log.old)) }
     ensures log { ReadsLog log.old log.new (V.cloud_at shelf.old cloud.0) (V.cloud_at shelf.new cloud.0) }
     ensures stays { Stays (V.cloud_at shelf.old cloud.0) (V.cloud_at shelf.new cloud.0) }
@@ -163,7 +173,7 @@ pub fn recipe<V: Shelf>(
         (KeepsCounts (V.cloud_at shelf.old cloud.0) (V.cloud_at shelf.new cloud.0) (V.faults shelf.old)
         (V.faults shelf.new)) }
 {
-    match memory.entry(user, tag, version) {
+    match memory.entry(key.user, &key.tag, key.version) {
         Some(entry) => match read_recipe(log, shelf, cloud, &entry, buffer) {
             Ok(()) => {
                 let (recipe, _) = buffer.split_at(entry.len as usize);

@@ -19,7 +19,7 @@ pub use cloud_memory::{
     Bytes, CloudMemory, CloudNo, Entry, Fp, Link, Log, Lost, New, NoMemory, Place, RECIPE_LIMIT,
     RecipeView, Room, Shape, Tag, UserId, Version, sha256,
 };
-pub use fetching::{read_recipe, recipe};
+pub use fetching::{VersionKey, read_recipe, recipe};
 pub use greeting::hello;
 pub use listing::entries;
 pub use messages::{

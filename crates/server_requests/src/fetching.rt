@@ -25,7 +25,7 @@ ghost use Rattle.server_requests.specs.Reading.{ReadsDisk};
 
 use server_commands::{
     CloudDisk, CloudMemory, CloudNo, Failed, OpenStore, ReplyBuf, Shelf, Tag, UserId, Version,
-    recipe,
+    VersionKey, recipe,
 };
 
 // The same as `recipe`, by the disk.
@@ -34,9 +34,7 @@ fn recipe_on_disk<V: Shelf>(
     disk: &mut CloudDisk,
     shelf: &mut V,
     cloud: CloudNo,
-    user: UserId,
-    tag: &Tag,
-    version: Version,
+    key: VersionKey,
     buffer: &mut [u8],
     reply: &mut ReplyBuf,
 ) -> Result<(), Failed>
@@ -49,13 +47,14 @@ fn recipe_on_disk<V: Shelf>(
         → Stand shape (reads (V.cloud_at shelf.old cloud.0).now areas.Shares)
         (reads (V.cloud_at shelf.old cloud.0).now areas.Recipes) list (memory_of memory.now)
         → OnOk result (reply.new ≡ reply_bytes
-        (answer_over shape cloud.0 list (requests.GetRecipe user tag.now version)).reply) }
-    ensures kind { OnOk result
-        (Replies reply.new (RecipeReply (IsNamed (memory_of memory.now) (key_of user.0 tag.now.0 version.0))
-        (HasNone (memory_of memory.now) (key_of user.0 tag.now.0 version.0))
-        (IsFoundRecipe (V.cloud_at shelf.old cloud.0) (memory_of memory.now) (key_of user.0 tag.now.0 version.0)))) }
+        (answer_over shape cloud.0 list (requests.GetRecipe key.user key.tag key.version)).reply) }
+    ensures kind { OnOk result (Replies reply.new (RecipeReply
+        (IsNamed (memory_of memory.now) (key_of key.user.0 key.tag.0 key.version.0))
+        (HasNone (memory_of memory.now) (key_of key.user.0 key.tag.0 key.version.0))
+        (IsFoundRecipe (V.cloud_at shelf.old cloud.0) (memory_of memory.now)
+        (key_of key.user.0 key.tag.0 key.version.0)))) }
     ensures hashed { (bytes : List ℕ) → OnOk result (IsReply reply.new (replies.Recipe bytes)
-        → IsNamed (memory_of memory.now) (key_of user.0 tag.now.0 version.0) bytes) }
+        → IsNamed (memory_of memory.now) (key_of key.user.0 key.tag.0 key.version.0) bytes) }
     ensures untouched { OnOk result (IsReply reply.new replies.Missing
         → (shelf.new ≡ shelf.old) × (disk.new ≡ disk.old)) }
     ensures disk { ReadsDisk disk.old disk.new (V.cloud_at shelf.old cloud.0) (V.cloud_at shelf.new cloud.0) }
@@ -69,17 +68,7 @@ fn recipe_on_disk<V: Shelf>(
         (KeepsCounts (V.cloud_at shelf.old cloud.0) (V.cloud_at shelf.new cloud.0) (V.faults shelf.old)
         (V.faults shelf.new)) }
 {
-    recipe(
-        memory,
-        disk.recipes_mut(),
-        shelf,
-        cloud,
-        user,
-        tag,
-        version,
-        buffer,
-        reply,
-    )
+    recipe(memory, disk.recipes_mut(), shelf, cloud, key, buffer, reply)
 }
 
 /// Serves a GetRecipe. Where the device fails the store is shut.
@@ -102,14 +91,17 @@ pub(crate) fn send_recipe<V: Shelf>(
         (RecipeBy (memory_of store.old.memory) (key_of user.0 tag.now.0 version.0))) }
 {
     let cloud = store.header.cloud;
+    let key = VersionKey {
+        user,
+        tag: *tag,
+        version,
+    };
     match recipe_on_disk(
         &store.memory,
         &mut store.disk,
         shelf,
         cloud,
-        user,
-        tag,
-        version,
+        key,
         buffer,
         reply,
     ) {

@@ -31,7 +31,7 @@ add_commit-requires-clause-short g c =
 
 pub returns-in-Ok-clause-does : goal.returns-in-Ok-clause-does
 returns-in-Ok-clause-does g c = λ list chain serves answered.
-    let old = c.args.store.now in let user = c.args.user in let tag = c.args.tag in let version = c.args.version in let recipe = spelling c.args.recipe.now in
+    let old = c.args.store.now in let user = c.args.key.user in let tag = c.args.key.tag in let version = c.args.key.version in let recipe = spelling c.args.recipe.now in
     let before = g.V.Shelf.cloud_at c.args.shelf.now old.header.cloud.0 in let after = g.V.Shelf.cloud_at c.add_commit.new.shelf old.header.cloud.0 in
     let fits : FitsRequest (requests.Commit user tag version recipe) = search rules in
     let is = is_commit old list chain before user tag version c.args.fp c.args.len c.args.recipe.now serves fits answered c.requires.recipe c.requires.fp c.requires.len c.requires.staged in
@@ -42,7 +42,7 @@ returns-in-Ok-clause-does g c = λ list chain serves answered.
 
 pub returns-in-Err-Full-clause-does : goal.returns-in-Err-Full-clause-does
 returns-in-Err-Full-clause-does g c = λ list chain serves answered.
-    let old = c.args.store.now in let user = c.args.user in let tag = c.args.tag in let version = c.args.version in let recipe = spelling c.args.recipe.now in
+    let old = c.args.store.now in let user = c.args.key.user in let tag = c.args.key.tag in let version = c.args.key.version in let recipe = spelling c.args.recipe.now in
     let before = g.V.Shelf.cloud_at c.args.shelf.now old.header.cloud.0 in let after = g.V.Shelf.cloud_at c.add_commit.new.shelf old.header.cloud.0 in
     let fits : FitsRequest (requests.Commit user tag version recipe) = search rules in
     let is = is_commit old list chain before user tag version c.args.fp c.args.len c.args.recipe.now serves fits answered c.requires.recipe c.requires.fp c.requires.len c.requires.staged in
@@ -70,7 +70,7 @@ returns-in-Err-Long-clause-full g c = λ room used need limit other is. absurd (
 
 pub returns-in-Err-Failed-clause-does : goal.returns-in-Err-Failed-clause-does
 returns-in-Err-Failed-clause-does g c = λ list chain serves answered.
-    let old = c.args.store.now in let user = c.args.user in let tag = c.args.tag in let version = c.args.version in let recipe = spelling c.args.recipe.now in
+    let old = c.args.store.now in let user = c.args.key.user in let tag = c.args.key.tag in let version = c.args.key.version in let recipe = spelling c.args.recipe.now in
     let before = g.V.Shelf.cloud_at c.args.shelf.now old.header.cloud.0 in let after = g.V.Shelf.cloud_at c.add_commit.new.shelf old.header.cloud.0 in
     let fits : FitsRequest (requests.Commit user tag version recipe) = search rules in
     let is = is_commit old list chain before user tag version c.args.fp c.args.len c.args.recipe.now serves fits answered c.requires.recipe c.requires.fp c.requires.len c.requires.staged in
@@ -83,22 +83,22 @@ returns-in-Err-Failed-clause-does g c = λ list chain serves answered.
 pub returns-in-Ok-clause-commits : goal.returns-in-Ok-clause-commits
 returns-in-Ok-clause-commits g c =
     let old = c.args.store.now in
-    new_commits old.header.rooms (memory_of old.memory) (memory_of c.add_commit.new.self.memory) c.args.user c.args.tag c.args.version (fps_in c.args.recipe.now.items) (spelling c.args.recipe.now)
+    new_commits old.header.rooms (memory_of old.memory) (memory_of c.add_commit.new.self.memory) c.args.key.user c.args.key.tag c.args.key.version (fps_in c.args.recipe.now.items) (spelling c.args.recipe.now)
     c.args.fp c.args.len c.requires.fp c.requires.len c.requires.new c.requires.owned c.write_committed.new.out c.in-Ok.ensures.taken c.in-Ok.ensures.full c.write_committed.ensures
 
 pub returns-in-Err-Full-clause-commits : goal.returns-in-Err-Full-clause-commits
 returns-in-Err-Full-clause-commits g c =
     let old = c.args.store.now in let new = c.add_commit.new.self in
     let un = subst (λ (why : Unadded). MatchFull (Err why) (Unit {0}) (λ f. (new ≡ unstaged old) × (c.add_commit.new.shelf ≡ c.args.shelf.now))) c.in-Err-Full.field-0-is c.in-Err-Full.ensures.unadded in
-    let room = full_commit old.header.rooms c.args.user (memory_of old.memory) c.args.len in
+    let room = full_commit old.header.rooms c.args.key.user (memory_of old.memory) c.args.len in
     let full : room ≡ Some (seen c.in-Err-Full.full) =
     subst (λ (why : Unadded). MatchFull (Err why) (room ≡ None) (λ f. room ≡ Some (seen f))) c.in-Err-Full.field-0-is c.in-Err-Full.ensures.full in
-    full_commits old.header.rooms (memory_of old.memory) (memory_of new.memory) c.args.user c.args.tag c.args.version (fps_in c.args.recipe.now.items) (spelling c.args.recipe.now)
+    full_commits old.header.rooms (memory_of old.memory) (memory_of new.memory) c.args.key.user c.args.key.tag c.args.key.version (fps_in c.args.recipe.now.items) (spelling c.args.recipe.now)
     c.args.fp c.args.len c.requires.fp c.requires.len c.requires.new c.requires.owned c.write_full.new.out (seen c.in-Err-Full.full) (ap (λ (s : OpenStore). memory_of s.memory) un.0) full c.write_full.ensures
 
 pub returns-in-Err-Long-clause-commits : goal.returns-in-Err-Long-clause-commits
 returns-in-Err-Long-clause-commits g c =
     let old = c.args.store.now in let new = c.add_commit.new.self in
     let u = subst (λ (why : Unadded). WhenLong (Err why) (Unmoved old new)) c.in-Err-Long.field-0-is c.in-Err-Long.ensures.unmoved in
-    long_commits old.header.rooms (memory_of old.memory) (memory_of new.memory) c.args.user c.args.tag c.args.version (fps_in c.args.recipe.now.items) (spelling c.args.recipe.now)
+    long_commits old.header.rooms (memory_of old.memory) (memory_of new.memory) c.args.key.user c.args.key.tag c.args.key.version (fps_in c.args.recipe.now.items) (spelling c.args.recipe.now)
     c.args.fp c.args.len c.requires.fp c.requires.len c.requires.new c.requires.owned c.refuse_long.new.reply _ _ _ (ap memory_of u.memory) c.refuse_long.ensures

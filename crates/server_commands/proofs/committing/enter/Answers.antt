@@ -16,7 +16,7 @@ stage-requires-clause-few g c = few_bytes c.args.store.now.header.shape c.args.r
 pub returns-clause-does : goal.returns-clause-does
 returns-clause-does g c =
     let old = c.args.store.now in let at = g.V.Shelf.cloud_at in let faults = g.V.Shelf.faults in let e = c.add_staged.ensures in
-    entered c.args.user c.args.tag c.args.version c.add_staged.result (c.add_staged.new.shelf ≡ c.args.shelf.now) old c.stage.new.store c.add_staged.new.store
+    entered c.args.key.user c.args.key.tag c.args.key.version c.add_staged.result (c.add_staged.new.shelf ≡ c.args.shelf.now) old c.stage.new.store c.add_staged.new.store
     (at c.args.shelf.now) (at c.add_staged.new.shelf) (faults c.args.shelf.now) (faults c.add_staged.new.shelf) c.args.recipe.now c.add_staged.new.reply
     (c.stage.ensures.staged ∙ ap (staging old) c.bytes-bytes.ensures)
     c.requires.ready c.requires.recipe c.requires.new c.requires.lacks c.stage.ensures.serves
@@ -26,5 +26,5 @@ pub returns-clause-enters : goal.returns-clause-enters
 returns-clause-enters g c =
     let old = c.args.store.now in
     let same = c.stage.ensures.staged in
-    staged_commits c.add_staged.result old c.stage.new.store (memory_of c.add_staged.new.store.memory) c.args.user c.args.tag c.args.version c.args.recipe.now c.add_staged.new.reply c.requires.recipe
+    staged_commits c.add_staged.result old c.stage.new.store (memory_of c.add_staged.new.store.memory) c.args.key.user c.args.key.tag c.args.key.version c.args.recipe.now c.add_staged.new.reply c.requires.recipe
     (ap (λ (s : OpenStore). s.header) same) (ap (λ (s : OpenStore). memory_of s.memory) same) c.add_staged.ensures.commits

@@ -20,7 +20,7 @@ pub returns-in-Ok-clause-value : goal.returns-in-Ok-clause-value
 returns-in-Ok-clause-value g c = λ told agreed shape list sound remembers stands.
     let cloud = g.V.Shelf.cloud_at c.args.shelf.now c.args.cloud.0 in
     let entry = c.in-Some.entry in
-    let r = entry_stands (reads cloud.now Recipes) shape c.args.cloud.0 list (memory_of c.args.memory.now) c.args.user c.args.tag.now c.args.version entry
+    let r = entry_stands (reads cloud.now Recipes) shape c.args.cloud.0 list (memory_of c.args.memory.now) c.args.key.user c.args.key.tag c.args.key.version entry
     (reads cloud.now Shares) sound remembers stands (sym c.entry.ensures.kept ∙ c.in-Some.is) in
     let b : Placed = record { place = entry.at; blob = r.file.recipe } in
     c.write_recipe.ensures.spelled
@@ -64,7 +64,7 @@ pub returns-in-Err-Rotten-clause-value : goal.returns-in-Err-Rotten-clause-value
 returns-in-Err-Rotten-clause-value g c = λ told agreed shape list sound remembers stands.
     let cloud = g.V.Shelf.cloud_at c.args.shelf.now c.args.cloud.0 in
     let entry = c.in-Some.entry in
-    let r = entry_stands (reads cloud.now Recipes) shape c.args.cloud.0 list (memory_of c.args.memory.now) c.args.user c.args.tag.now c.args.version entry
+    let r = entry_stands (reads cloud.now Recipes) shape c.args.cloud.0 list (memory_of c.args.memory.now) c.args.key.user c.args.key.tag c.args.key.version entry
     (reads cloud.now Shares) sound remembers stands (sym c.entry.ensures.kept ∙ c.in-Some.is) in
     let b : Placed = record { place = entry.at; blob = r.file.recipe } in
     absurd (rotten_at c.in-Err-Rotten.field-0 _ _ (λ (named found : Fp). ⊥) c.in-Err-Rotten.field-0-is
@@ -92,7 +92,7 @@ returns-in-Err-Rotten-clause-kind g c =
 pub returns-in-None-clause-value : goal.returns-in-None-clause-value
 returns-in-None-clause-value g c = λ told agreed shape list sound remembers stands.
     c.write_missing.ensures.spelled
-    ∙ ap (λ (o : Option FileEntry). reply_bytes (recipe_reply o)) (sym (none_there shape list (memory_of c.args.memory.now) c.args.user c.args.tag.now c.args.version remembers (sym c.entry.ensures.kept ∙ c.in-None.is)))
+    ∙ ap (λ (o : Option FileEntry). reply_bytes (recipe_reply o)) (sym (none_there shape list (memory_of c.args.memory.now) c.args.key.user c.args.key.tag c.args.key.version remembers (sym c.entry.ensures.kept ∙ c.in-None.is)))
 
 pub returns-in-None-clause-kind : goal.returns-in-None-clause-kind
 returns-in-None-clause-kind g c = record { reply = replies.Missing; is = c.write_missing.ensures; said = sym c.entry.ensures.kept ∙ c.in-None.is }
