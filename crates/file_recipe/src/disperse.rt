@@ -67,14 +67,20 @@ fn unshared_file(
     })
 }
 
-// What the clouds from `first` on have before the first secret, where the shares of the path lie one after another.
+// The shares of a path, of `width` bytes each, one after another.
+#[derive(Clone, Copy)]
+struct NameShares<'a> {
+    width: usize,
+    shares: &'a [u8],
+}
+
+// What the clouds from `first` on have before the first secret, by their shares of the path.
 fn each_unshared(
     alloc: Global,
     shape: Shape,
     path: &[u8],
     file: &[u8],
-    width: usize,
-    names: &[u8],
+    names: &NameShares<'_>,
     first: usize,
     clouds: usize,
     count: usize,
@@ -82,15 +88,16 @@ fn each_unshared(
     requires path { IsPath path.now }
     requires few { length file.now ≤ file_limit }
     requires within { first + clouds ≤ shape.n }
-    requires room { (first + clouds) * width ≤ length names.now }
-    requires names { (j : ℕ) → j < shape.n → row width j names.now ≡ share shape j path.now }
+    requires room { (first + clouds) * names.now.width ≤ length names.now.shares.now }
+    requires names { (j : ℕ) → j < shape.n → row names.now.width j names.now.shares.now ≡ share shape j path.now }
     ensures { IfOk result (λ files. files.items
         ≡ map (λ j. unshared shape j path.now file.now) (range_with_len first clouds)) }
 {
+    let NameShares { width, shares } = *names;
     let mut files = Vec::with_capacity(alloc, clouds)?;
     for place in 0..clouds {
         let cloud = first + place;
-        let name = &names[cloud * width..cloud * width + width];
+        let name = &shares[cloud * width..cloud * width + width];
         let unshared = unshared_file(alloc, shape, path, file, name, count)?;
         files.push(unshared)?;
     }
@@ -117,7 +124,11 @@ fn unshared_files(
     disperse(shape, path, &mut names)?;
     let width = share_len(shape, path.len() as u32) as usize;
     let names = names.as_slice();
-    each_unshared(alloc, shape, path, file, width, names, first, clouds, count)
+    let name_shares = NameShares {
+        width,
+        shares: names,
+    };
+    each_unshared(alloc, shape, path, file, &name_shares, first, clouds, count)
 }
 
 // Gives the clouds from `first` on their shares of a secret, of those of all clouds, which lie one after another.
