@@ -34,6 +34,14 @@ pub enum BackupErr {
     NoMemory,
 }
 
+// Which version of which file is carried.
+#[derive(Clone, Copy)]
+struct NamedVersion<'a> {
+    user: UserId,
+    path: &'a [u8],
+    version: Version,
+}
+
 // The job of a version of a file, whose bytes are dropped then.
 fn job_of(
     alloc: Global,
@@ -102,21 +110,19 @@ fn bring_all<P: Ports>(
 // Carries a file to the clouds that were greeted, with the lines.
 fn carry_greeted<P: Ports>(
     alloc: Global,
-    user: UserId,
-    path: &[u8],
-    version: Version,
+    named: &NamedVersion<'_>,
     greeted: &Greeted,
     file: Bytes,
     ports: &mut P,
     reply: &mut ReplyBuf,
     text: &mut Bytes,
 ) -> Result<bool, BackupErr>
-    requires path { IsPath path.now }
+    requires path { IsPath named.now.path.now }
     requires few { length file ≤ file_limit }
     requires empty { text.old ≡ [] }
     requires numbered { IsNumbered greeted.now }
-    ensures carries { (call : BackupCall) (dialled : List ℕ) → call.user ≡ user → call.path ≡ path.now
-        → call.version ≡ version → call.after ≡ P.tells ports.new
+    ensures carries { (call : BackupCall) (dialled : List ℕ) → call.user ≡ named.now.user
+        → call.path ≡ named.now.path.now → call.version ≡ named.now.version → call.after ≡ P.tells ports.new
         → AreGreetedOn (P.tells ports.old) dialled greeted.now.lines.items
         → BringsFile call file greeted.now.shape (P.tells ports.old) dialled result text.new }
     ensures others { (dialled : List ℕ) → AreGreetedOn (P.tells ports.old) dialled greeted.now.lines.items
@@ -126,7 +132,14 @@ fn carry_greeted<P: Ports>(
     ensures later { P.faults ports.old ≤ P.faults ports.new }
     ensures lost { IsCarryLost result → Rose (P.faults ports.old) (P.faults ports.new) }
 {
-    let mut job = match job_of(alloc, greeted.shape, user, path, version, file) {
+    let mut job = match job_of(
+        alloc,
+        greeted.shape,
+        named.user,
+        named.path,
+        named.version,
+        file,
+    ) {
         Ok(job) => job,
         Err(NoMemory) => return Err(BackupErr::NoMemory),
     };
@@ -189,7 +202,10 @@ pub fn carry<P: Ports>(
         Err(MeetErr::Lost) => return Err(BackupErr::Unheard),
         Err(MeetErr::NoMemory) => return Err(BackupErr::NoMemory),
     };
-    carry_greeted(
-        alloc, user, path, version, &greeted, file, ports, &mut reply, text,
-    )
+    let named = NamedVersion {
+        user,
+        path,
+        version,
+    };
+    carry_greeted(alloc, &named, &greeted, file, ports, &mut reply, text)
 }

@@ -24,7 +24,7 @@ returns-in-Ok-put_end-clause-carries g c = λ call dialled user path version aft
           (subst (λ (ls : List (CloudNo × ℕ)). LanesGo old (g.P.Ports.tells c.bring_all.new.ports) ls
           (lanes_begun shape (version_of call c.args.file)) (Ok tt) w.answers last)
           on.lines_are
-          (at_call call c.args.user c.args.path.now c.args.version c.args.file shape user path version
+          (at_call call c.args.named.now.user c.args.named.now.path.now c.args.named.now.version c.args.file shape user path version
           (λ views. LanesGo old (g.P.Ports.tells c.bring_all.new.ports) c.args.greeted.now.lines.items views
           (Ok tt) w.answers
           last)
