@@ -18,6 +18,14 @@ use cloud_server::{Ports, Shelf, Sink, UserRooms, WINDOW, law_of_headers};
 use ports_link::{CloudNo, NoMemory, Shape};
 use std::alloc::{AllocError, Global};
 
+// Which cloud of a store is served, and in which rooms.
+#[derive(Clone, Copy)]
+struct ServedCloud {
+    shape: Shape,
+    cloud: CloudNo,
+    rooms: UserRooms,
+}
+
 // Opens the cloud of a desk, and serves it. It answers the status.
 fn serve_at<K: Sink, V: Shelf, P: Ports>(
     alloc: Global,
@@ -62,21 +70,19 @@ fn serve_at<K: Sink, V: Shelf, P: Ports>(
 // Makes a desk for the cloud in these rooms, and serves the cloud. It answers the status.
 fn serve_in<K: Sink, V: Shelf, P: Ports>(
     alloc: Global,
-    shape: Shape,
-    cloud: CloudNo,
-    rooms: UserRooms,
+    served: ServedCloud,
     address: &str,
     count: u32,
     sink: &mut K,
     shelf: &mut V,
     ports: &mut P,
 ) -> u8
-    requires cloud { cloud.0 < shape.n }
-    requires rooms { AreRooms rooms }
+    requires cloud { served.cloud.0 < served.shape.n }
+    requires rooms { AreRooms served.rooms }
     requires count { 0 < count }
-    ensures served { IsUnmadeOrServed rooms result (record {
-      shape = shape;
-      cloud = cloud;
+    ensures served { IsUnmadeOrServed served.rooms result (record {
+      shape = served.shape;
+      cloud = served.cloud;
       address = address.now;
       count = count;
       out = output_of (K.written sink.old) (K.written sink.new) (K.faults sink.old) (K.faults sink.new);
@@ -89,14 +95,16 @@ fn serve_in<K: Sink, V: Shelf, P: Ports>(
       ports_before = P.faults ports.old;
       ports_after = P.faults ports.new;
     }) }
-    ensures call { IsCall (V.cloud_at shelf.old) (V.cloud_at shelf.new) cloud.0
+    ensures call { IsCall (V.cloud_at shelf.old) (V.cloud_at shelf.new) served.cloud.0
         (V.faults shelf.old) (V.faults shelf.new) }
 {
-    let mut desk = match Desk::make(alloc, shape, cloud, rooms) {
+    let mut desk = match Desk::make(alloc, served.shape, served.cloud, served.rooms) {
         Ok(desk) => desk,
         Err(NoMemory) => return 6,
     };
-    serve_at(alloc, &mut desk, cloud, address, count, sink, shelf, ports)
+    serve_at(
+        alloc, &mut desk, served.cloud, address, count, sink, shelf, ports,
+    )
 }
 
 /// Serves a cloud of a store of this shape to so many connections, one after another, and answers the status. `cloud`
@@ -181,9 +189,14 @@ pub fn serve<K: Sink, V: Shelf, P: Ports>(
         Err(AllocError) => return 6,
     };
     match rooms_of(shelf, cloud, &mut window) {
-        Ok(rooms) => serve_in(
-            alloc, shape, cloud, rooms, address, count, sink, shelf, ports,
-        ),
+        Ok(rooms) => {
+            let served = ServedCloud {
+                shape,
+                cloud,
+                rooms,
+            };
+            serve_in(alloc, served, address, count, sink, shelf, ports)
+        }
         Err(error) => refuse(alloc, cloud, error, sink),
     }
 }
