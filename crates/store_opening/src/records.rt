@@ -22,6 +22,17 @@ use crate::window::Window;
 use cloud_disk::{Area, CloudNo, Failed, Journal, OpenErr, Place, RecordErr, Shelf};
 use record_laws::{CloudMemory, Damage, Ground, Taking, recipe_of, take};
 
+// Whose records are taken, and by what each is judged.
+#[derive(Clone, Copy)]
+struct Judging<'a> {
+    // The cloud.
+    cloud: CloudNo,
+    // What is known of the store before its records.
+    ground: &'a Ground,
+    // Whether the next record is one of the checkpoint.
+    inside: bool,
+}
+
 // Takes the record with this body, which begins at a place of the journal, with these bytes where its recipe lies.
 fn take_bytes(
     memory: &mut CloudMemory,
@@ -101,43 +112,48 @@ fn take_read<V: Shelf>(
     journal: &mut Journal,
     memory: &mut CloudMemory,
     taking: &mut Taking,
-    ground: &Ground,
-    inside: bool,
+    judging: &Judging<'_>,
     shelf: &mut V,
-    cloud: CloudNo,
     place: Place,
     window: &mut Window,
     buffer: &mut [u8],
 ) -> Result<(), OpenErr>
-    requires rooms { HasRooms ground.now.rooms memory.old }
+    requires rooms { HasRooms judging.now.ground.now.rooms memory.old }
     requires body { IsJournalBody (state_of journal.old).current.body }
     requires place { 5 ≤ (state_of journal.old).current.body_at }
     requires end { (state_of journal.old).current.body_at + length (state_of journal.old).current.body < 2 ^ 64 }
-    requires shows { Shows (V.cloud_at shelf.old cloud.0) window.old buffer.old }
+    requires shows { Shows (V.cloud_at shelf.old judging.now.cloud.0) window.old buffer.old }
     requires room { place.len ≤ length buffer.old }
-    ensures judged { IsTrue (V.cloud_at shelf.old cloud.0).told → OnFault result (Unit {0})
-        (BodyAs ground.now inside
-        (take place.len (drop place.at ((V.cloud_at shelf.old cloud.0).now Area.Recipes).read))
+    ensures judged { IsTrue (V.cloud_at shelf.old judging.now.cloud.0).told → OnFault result (Unit {0})
+        (BodyAs judging.now.ground.now judging.now.inside
+        (take place.len (drop place.at ((V.cloud_at shelf.old judging.now.cloud.0).now Area.Recipes).read))
         (memory_of memory.old) taking.old (state_of journal.old).current.body_at (state_of journal.old).current.body
         (memory_of memory.new) taking.new result) }
-    ensures traced { IsTraced ground.now (memory_of memory.old) taking.old
-        → OnOk result (IsTraced ground.now (memory_of memory.new) taking.new) }
-    ensures rooms { HasRooms ground.now.rooms memory.new }
+    ensures traced { IsTraced judging.now.ground.now (memory_of memory.old) taking.old
+        → OnOk result (IsTraced judging.now.ground.now (memory_of memory.new) taking.new) }
+    ensures rooms { HasRooms judging.now.ground.now.rooms memory.new }
     ensures journal { state_of journal.new ≡ record
         (state_of journal.old) { stage = (if is_ok result then (state_of journal.old).stage else Stage.Shut) } }
     ensures kind { IsOfRecords result }
-    ensures shows { Shows (V.cloud_at shelf.new cloud.0) window.new buffer.new }
-    ensures stays { Stays (V.cloud_at shelf.old cloud.0) (V.cloud_at shelf.new cloud.0) }
-    ensures call { IsCall (V.cloud_at shelf.old) (V.cloud_at shelf.new) cloud.0 (V.faults shelf.old)
+    ensures shows { Shows (V.cloud_at shelf.new judging.now.cloud.0) window.new buffer.new }
+    ensures stays { Stays (V.cloud_at shelf.old judging.now.cloud.0) (V.cloud_at shelf.new judging.now.cloud.0) }
+    ensures call { IsCall (V.cloud_at shelf.old) (V.cloud_at shelf.new) judging.now.cloud.0 (V.faults shelf.old)
         (V.faults shelf.new) }
     ensures counts { OnFault result
-        (HasFailed (V.cloud_at shelf.old cloud.0) (V.cloud_at shelf.new cloud.0) (V.faults shelf.old)
-        (V.faults shelf.new))
-        (KeepsCounts (V.cloud_at shelf.old cloud.0) (V.cloud_at shelf.new cloud.0) (V.faults shelf.old)
-        (V.faults shelf.new)) }
+        (HasFailed (V.cloud_at shelf.old judging.now.cloud.0) (V.cloud_at shelf.new judging.now.cloud.0)
+        (V.faults shelf.old) (V.faults shelf.new))
+        (KeepsCounts (V.cloud_at shelf.old judging.now.cloud.0) (V.cloud_at shelf.new judging.now.cloud.0)
+        (V.faults shelf.old) (V.faults shelf.new)) }
 {
-    match window.look(shelf, cloud, &place, buffer) {
-        Ok(part) => take_body(journal, memory, taking, ground, inside, part.of(buffer)),
+    match window.look(shelf, judging.cloud, &place, buffer) {
+        Ok(part) => take_body(
+            journal,
+            memory,
+            taking,
+            judging.ground,
+            judging.inside,
+            part.of(buffer),
+        ),
         Err(Failed) => {
             journal.shut();
             Err(OpenErr::Fault)
@@ -151,97 +167,93 @@ fn take_record<V: Shelf>(
     journal: &mut Journal,
     memory: &mut CloudMemory,
     taking: &mut Taking,
-    ground: &Ground,
-    inside: bool,
+    judging: &Judging<'_>,
     shelf: &mut V,
-    cloud: CloudNo,
     window: &mut Window,
     buffer: &mut [u8],
 ) -> Result<(), OpenErr>
-    requires rooms { HasRooms ground.now.rooms memory.old }
+    requires rooms { HasRooms judging.now.ground.now.rooms memory.old }
     requires body { IsJournalBody (state_of journal.old).current.body }
     requires place { 5 ≤ (state_of journal.old).current.body_at }
     requires end { (state_of journal.old).current.body_at + length (state_of journal.old).current.body < 2 ^ 64 }
     requires buffer { recipe_limit ≤ length buffer.old }
-    requires shows { Shows (V.cloud_at shelf.old cloud.0) window.old buffer.old }
-    ensures judged { IsTrue (V.cloud_at shelf.old cloud.0).told → OnFault result (Unit {0})
-        (OneAs ground.now inside ((V.cloud_at shelf.old cloud.0).now Area.Recipes).read
+    requires shows { Shows (V.cloud_at shelf.old judging.now.cloud.0) window.old buffer.old }
+    ensures judged { IsTrue (V.cloud_at shelf.old judging.now.cloud.0).told → OnFault result (Unit {0})
+        (OneAs judging.now.ground.now judging.now.inside
+        ((V.cloud_at shelf.old judging.now.cloud.0).now Area.Recipes).read
         (memory_of memory.old) taking.old (state_of journal.old).current.body_at (state_of journal.old).current.body
         (memory_of memory.new) taking.new result) }
-    ensures traced { IsTraced ground.now (memory_of memory.old) taking.old
-        → OnOk result (IsTraced ground.now (memory_of memory.new) taking.new) }
-    ensures rooms { HasRooms ground.now.rooms memory.new }
+    ensures traced { IsTraced judging.now.ground.now (memory_of memory.old) taking.old
+        → OnOk result (IsTraced judging.now.ground.now (memory_of memory.new) taking.new) }
+    ensures rooms { HasRooms judging.now.ground.now.rooms memory.new }
     ensures journal { state_of journal.new ≡ record
         (state_of journal.old) { stage = (if is_ok result then (state_of journal.old).stage else Stage.Shut) } }
     ensures kind { IsOfRecords result }
     ensures buffer { length buffer.new ≡ length buffer.old }
-    ensures shows { Shows (V.cloud_at shelf.new cloud.0) window.new buffer.new }
-    ensures stays { Stays (V.cloud_at shelf.old cloud.0) (V.cloud_at shelf.new cloud.0) }
-    ensures call { IsCall (V.cloud_at shelf.old) (V.cloud_at shelf.new) cloud.0 (V.faults shelf.old)
+    ensures shows { Shows (V.cloud_at shelf.new judging.now.cloud.0) window.new buffer.new }
+    ensures stays { Stays (V.cloud_at shelf.old judging.now.cloud.0) (V.cloud_at shelf.new judging.now.cloud.0) }
+    ensures call { IsCall (V.cloud_at shelf.old) (V.cloud_at shelf.new) judging.now.cloud.0 (V.faults shelf.old)
         (V.faults shelf.new) }
     ensures counts { OnFault result
-        (HasFailed (V.cloud_at shelf.old cloud.0) (V.cloud_at shelf.new cloud.0) (V.faults shelf.old)
-        (V.faults shelf.new))
-        (KeepsCounts (V.cloud_at shelf.old cloud.0) (V.cloud_at shelf.new cloud.0) (V.faults shelf.old)
-        (V.faults shelf.new)) }
+        (HasFailed (V.cloud_at shelf.old judging.now.cloud.0) (V.cloud_at shelf.new judging.now.cloud.0)
+        (V.faults shelf.old) (V.faults shelf.new))
+        (KeepsCounts (V.cloud_at shelf.old judging.now.cloud.0) (V.cloud_at shelf.new judging.now.cloud.0)
+        (V.faults shelf.old) (V.faults shelf.new)) }
 {
-    match recipe_of(memory, ground, inside, journal.body()) {
+    match recipe_of(memory, judging.ground, judging.inside, journal.body()) {
         Some(place) => match take_read(
-            journal, memory, taking, ground, inside, shelf, cloud, place, window, buffer,
+            journal, memory, taking, judging, shelf, place, window, buffer,
         ) {
             Ok(()) => Ok(()),
             Err(error) => Err(error),
         },
-        None => take_body(journal, memory, taking, ground, inside, &[]),
+        None => take_body(journal, memory, taking, judging.ground, judging.inside, &[]),
     }
 }
 
-// Takes the next record into the memory: true. False where the gate is closed behind all records of the checkpoint. `inside` says
-// whether that record is one of them. After an Err the journal is shut.
+// Takes the next record into the memory: true. False where the gate is closed behind all records of the checkpoint. After
+// an Err the journal is shut.
 fn take_next<V: Shelf>(
     journal: &mut Journal,
     memory: &mut CloudMemory,
     taking: &mut Taking,
-    ground: &Ground,
-    inside: bool,
+    judging: &Judging<'_>,
     shelf: &mut V,
-    cloud: CloudNo,
     window: &mut Window,
     buffer: &mut [u8],
 ) -> Result<bool, OpenErr>
     requires reading { (state_of journal.old).stage ≡ Stage.Reading }
-    requires rooms { HasRooms ground.now.rooms memory.old }
+    requires rooms { HasRooms judging.now.ground.now.rooms memory.old }
     requires buffer { recipe_limit ≤ length buffer.old }
-    requires shows { Shows (V.cloud_at shelf.old cloud.0) window.old buffer.old }
-    ensures exact { IsTrue (V.cloud_at shelf.old cloud.0).told → (w : Where)
-        → IsJournalReading (state_of journal.old) ((V.cloud_at shelf.old cloud.0).now Area.Journal) w
-        → inside ≡ nat_lt (length w.bodies) (records_of w.start.checkpoint)
-        → NextAs ground.now ((V.cloud_at shelf.old cloud.0).now Area.Recipes).read
-        ((V.cloud_at shelf.old cloud.0).now Area.Journal) w (state_of journal.old) (memory_of memory.old) taking.old
+    requires shows { Shows (V.cloud_at shelf.old judging.now.cloud.0) window.old buffer.old }
+    ensures exact { IsTrue (V.cloud_at shelf.old judging.now.cloud.0).told → (w : Where)
+        → IsJournalReading (state_of journal.old) ((V.cloud_at shelf.old judging.now.cloud.0).now Area.Journal) w
+        → judging.now.inside ≡ nat_lt (length w.bodies) (records_of w.start.checkpoint)
+        → NextAs judging.now.ground.now ((V.cloud_at shelf.old judging.now.cloud.0).now Area.Recipes).read
+        ((V.cloud_at shelf.old judging.now.cloud.0).now Area.Journal) w
+        (state_of journal.old) (memory_of memory.old) taking.old
         (state_of journal.new) (memory_of memory.new) taking.new result }
-    ensures traced { IsTraced ground.now (memory_of memory.old) taking.old
-        → OnOk result (IsTraced ground.now (memory_of memory.new) taking.new) }
-    ensures rooms { HasRooms ground.now.rooms memory.new }
+    ensures traced { IsTraced judging.now.ground.now (memory_of memory.old) taking.old
+        → OnOk result (IsTraced judging.now.ground.now (memory_of memory.new) taking.new) }
+    ensures rooms { HasRooms judging.now.ground.now.rooms memory.new }
     ensures gate { OnTrue result ((state_of journal.old).current.gate + 6 ≤ (state_of journal.new).current.gate) }
     ensures stage { (state_of journal.new).stage ≡ stage_of result }
     ensures start { (state_of journal.new).start ≡ (state_of journal.old).start }
     ensures limit { (state_of journal.new).limit ≡ (state_of journal.old).limit }
     ensures kind { IsOfRecords result }
     ensures buffer { length buffer.new ≡ length buffer.old }
-    ensures shows { Shows (V.cloud_at shelf.new cloud.0) window.new buffer.new }
-    ensures stays { Stays (V.cloud_at shelf.old cloud.0) (V.cloud_at shelf.new cloud.0) }
-    ensures call { IsCall (V.cloud_at shelf.old) (V.cloud_at shelf.new) cloud.0 (V.faults shelf.old)
+    ensures shows { Shows (V.cloud_at shelf.new judging.now.cloud.0) window.new buffer.new }
+    ensures stays { Stays (V.cloud_at shelf.old judging.now.cloud.0) (V.cloud_at shelf.new judging.now.cloud.0) }
+    ensures call { IsCall (V.cloud_at shelf.old) (V.cloud_at shelf.new) judging.now.cloud.0 (V.faults shelf.old)
         (V.faults shelf.new) }
     ensures counts { OnFault result
-        (HasFailed (V.cloud_at shelf.old cloud.0) (V.cloud_at shelf.new cloud.0) (V.faults shelf.old)
-        (V.faults shelf.new))
-        (KeepsCounts (V.cloud_at shelf.old cloud.0) (V.cloud_at shelf.new cloud.0) (V.faults shelf.old)
-        (V.faults shelf.new)) }
+        (HasFailed (V.cloud_at shelf.old judging.now.cloud.0) (V.cloud_at shelf.new judging.now.cloud.0)
+        (V.faults shelf.old) (V.faults shelf.new))
+        (KeepsCounts (V.cloud_at shelf.old judging.now.cloud.0) (V.cloud_at shelf.new judging.now.cloud.0)
+        (V.faults shelf.old) (V.faults shelf.new)) }
 {
-    match journal.next(shelf, cloud) {
-        Ok(true) => match take_record(
-            journal, memory, taking, ground, inside, shelf, cloud, window, buffer,
-        ) {
+    match journal.next(shelf, judging.cloud) {
+        Ok(true) => match take_record(journal, memory, taking, judging, shelf, window, buffer) {
             Ok(()) => Ok(true),
             Err(error) => Err(error),
         },
@@ -292,10 +304,12 @@ pub(crate) fn take_all<V: Shelf>(
         journal,
         memory,
         taking,
-        ground,
-        records < of_checkpoint,
+        &Judging {
+            cloud,
+            ground,
+            inside: records < of_checkpoint,
+        },
         shelf,
-        cloud,
         &mut window,
         buffer,
     )? {
