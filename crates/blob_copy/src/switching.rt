@@ -26,7 +26,8 @@ ghost use Rattle.blob_copy.specs.Switched.{OnLong, IsMovedTo};
 use crate::room::is_roomy;
 use crate::{CopyErr, Copying};
 use fresh_checkpoints::{
-    CloudMemory, NextList, Shelf, commands_of_compact, law_of_moved_fits, lay_fresh, make_moved,
+    CheckpointSpace, CloudMemory, NextList, Shelf, commands_of_compact, law_of_moved_fits,
+    lay_fresh, make_moved,
 };
 use open_store::OpenStore;
 
@@ -88,6 +89,11 @@ fn settle<V: Shelf>(store: &mut OpenStore, shelf: &mut V, next: NextList) -> Res
         return Err(CopyErr::Long);
     }
     let cloud = store.header.cloud;
+    let space = CheckpointSpace {
+        chains: &mut store.chains,
+        marks: &mut store.marks,
+        buffer: &mut store.body,
+    };
     let laid = lay_fresh(
         &store.memory,
         next,
@@ -95,9 +101,7 @@ fn settle<V: Shelf>(store: &mut OpenStore, shelf: &mut V, next: NextList) -> Res
         shelf,
         cloud,
         &store.header,
-        &mut store.chains,
-        &mut store.marks,
-        &mut store.body,
+        space,
     );
     match laid {
         Ok(()) => {

@@ -13,8 +13,19 @@ use crate::CheckpointRecords;
 use cloud_disk::{Failed, Header, Journal, Shelf};
 use cloud_memory::{BodyBuf, CloudNo};
 
-/// Puts a checkpoint of so many records, which stands for so many commands and whose blobs lie in this region, in the place of
-/// a journal's chain: begins it in the half that isn't current, lays each record, and settles it.
+/// What a checkpoint says of itself.
+#[derive(Clone, Copy, Debug, PartialEq, Eq)]
+pub struct CheckpointHead {
+    /// How many commands it stands for.
+    pub commands: u64,
+    /// How many records it has.
+    pub count: u32,
+    /// The region where its blobs lie: 0 or 1.
+    pub region: u8,
+}
+
+/// Puts a checkpoint with this head and these records in the place of a journal's chain: begins it in the half that
+/// isn't current, lays each record, and settles it.
 ///
 /// Whenever a crash comes, the journal has its chain, or the checkpoint's; after Ok it has the checkpoint's, and records may be
 /// added behind it. Failed comes only where the cloud's count of faults rose, and then the journal is shut. It takes no memory.
@@ -23,24 +34,22 @@ pub fn lay_checkpoint<V: Shelf, R: CheckpointRecords>(
     shelf: &mut V,
     cloud: CloudNo,
     header: &Header,
-    commands: u64,
-    count: u32,
-    region: u8,
+    head: CheckpointHead,
     records: &mut R,
     buffer: &mut BodyBuf,
 ) -> Result<(), Failed>
     requires at_end { (state_of journal.old).stage ≡ AtEnd }
     requires header { IsHeader header.now }
     requires format { header.now.format ≡ 2 }
-    requires region { region ≤ 1 }
+    requires region { head.region ≤ 1 }
     requires ready { R.is_ready records.old }
-    requires count { length (R.to_come records.old) ≡ count }
+    requires count { length (R.to_come records.old) ≡ head.count }
     requires room { 63 + records_len (R.to_come records.old) ≤ (state_of journal.old).limit }
 
-    ensures any_moment { KeepsOrSettles (state_of journal.old) header.now commands count region (R.to_come records.old)
-        (V.cloud_at shelf.old cloud.0) (V.cloud_at shelf.new cloud.0) }
-    ensures settled { HasSettled (state_of journal.old) (state_of journal.new) header.now commands count region
-        (R.to_come records.old) (V.cloud_at shelf.old cloud.0) (V.cloud_at shelf.new cloud.0) result }
+    ensures any_moment { KeepsOrSettles (state_of journal.old) header.now head.commands head.count head.region
+        (R.to_come records.old) (V.cloud_at shelf.old cloud.0) (V.cloud_at shelf.new cloud.0) }
+    ensures settled { HasSettled (state_of journal.old) (state_of journal.new) header.now
+        head.commands head.count head.region (R.to_come records.old) (V.cloud_at shelf.old cloud.0) (V.cloud_at shelf.new cloud.0) result }
     ensures others { OthersStay (V.cloud_at shelf.old cloud.0) (V.cloud_at shelf.new cloud.0) result }
     ensures stage { (state_of journal.new).stage ≡ stage_after AtEnd result }
     ensures gate { OnOk result ((state_of journal.new).current.gate + 1 ≡ 63 + records_len (R.to_come records.old)) }
@@ -52,6 +61,11 @@ pub fn lay_checkpoint<V: Shelf, R: CheckpointRecords>(
     ensures uncounted { OnOk result (KeepsCounts (V.cloud_at shelf.old cloud.0) (V.cloud_at shelf.new cloud.0)
         (V.faults shelf.old) (V.faults shelf.new)) }
 {
+    let CheckpointHead {
+        commands,
+        count,
+        region,
+    } = head;
     journal.turn(shelf, cloud, header, commands, count, region)?;
     for _i in 0..count {
         records.write_next(buffer);

@@ -26,9 +26,9 @@ pub use cloud_memory::{
     ShareIndex, Spent,
 };
 pub use entire::checkpoint;
-pub use laying::lay_checkpoint;
+pub use laying::{CheckpointHead, lay_checkpoint};
 pub use marks::Marks;
 pub use position::Position;
 pub use record_list::CheckpointRecords;
 pub use records::MemoryRecords;
-pub use whole::{Unsettled, checkpoint_of_memory};
+pub use whole::{CheckpointSpace, Unsettled, checkpoint_of_memory};

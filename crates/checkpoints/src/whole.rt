@@ -20,7 +20,7 @@ ghost use Rattle.checkpoints.specs.Known.{IfFailed, UnlessFailed, IfLong, Unless
 ghost use Rattle.cloud_memory.specs.RecordBodies.Spelling.{Body, FitsBody, body_bytes};
 
 use crate::tally::count_surely;
-use crate::{Marks, MemoryRecords, OwnerChains, checkpoint};
+use crate::{CheckpointHead, Marks, MemoryRecords, OwnerChains, checkpoint};
 use cloud_disk::{CloudDisk, Header, Shelf, law_of_checkpoints, law_of_places};
 use cloud_memory::{BodyBuf, CloudMemory, CloudNo};
 
@@ -31,6 +31,16 @@ pub enum Unsettled {
     Long,
     /// A device failed. The journal is shut.
     Failed,
+}
+
+/// Room that a checkpoint of a memory takes while it is made. Nothing is said of what is left there.
+pub struct CheckpointSpace<'a> {
+    /// For the chains of the owners' slots.
+    pub chains: &'a mut OwnerChains,
+    /// For the marks of what was written.
+    pub marks: &'a mut Marks,
+    /// For one record's body.
+    pub buffer: &'a mut BodyBuf,
 }
 
 // How many records are still to come, where they fit so many bytes behind a start's 63. It writes each into the buffer.
@@ -96,9 +106,7 @@ pub fn checkpoint_of_memory<V: Shelf>(
     header: &Header,
     commands: u64,
     region: u8,
-    chains: &mut OwnerChains,
-    marks: &mut Marks,
-    buffer: &mut BodyBuf,
+    space: CheckpointSpace<'_>,
 ) -> Result<(), Unsettled>
     requires at_end { disk.old.journal.stage ≡ AtEnd }
     requires limit { disk.old.journal.limit ≡ half_limit header.now.rooms }
@@ -150,6 +158,11 @@ pub fn checkpoint_of_memory<V: Shelf>(
     ensures uncounted { UnlessFailed result (KeepsCounts (V.cloud_at shelf.old cloud.0) (V.cloud_at shelf.new cloud.0)
         (V.faults shelf.old) (V.faults shelf.new)) }
 {
+    let CheckpointSpace {
+        chains,
+        marks,
+        buffer,
+    } = space;
     let limit = disk.journal().limit();
     law_of_checkpoints();
     law_of_places();
@@ -163,19 +176,15 @@ pub fn checkpoint_of_memory<V: Shelf>(
         None => return Err(Unsettled::Long),
     };
     let mut records = MemoryRecords::of(memory, chains, marks);
-    let laid = checkpoint(
-        disk,
-        shelf,
-        cloud,
-        header,
+    let head = CheckpointHead {
         commands,
         count,
         region,
-        &mut records,
-        buffer,
-    );
+    };
+    let laid = checkpoint(disk, shelf, cloud, header, head, &mut records, buffer);
     match laid {
-        Ok(()) => Ok(()),
-        Err(_) => Err(Unsettled::Failed),
+        Ok(()) => {}
+        Err(_) => return Err(Unsettled::Failed),
     }
+    Ok(())
 }

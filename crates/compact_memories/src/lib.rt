@@ -10,8 +10,8 @@ mod rows;
 
 pub use alive::{Reclaimed, commands_of_compact, live_sum};
 pub use checkpoints::{
-    CloudMemory, FileIndex, Marks, MemoryRecords, OwnerChains, ShareIndex, Spent, Unsettled,
-    lay_checkpoint,
+    CheckpointHead, CheckpointSpace, CloudMemory, FileIndex, Marks, MemoryRecords, OwnerChains,
+    ShareIndex, Spent, Unsettled, lay_checkpoint,
 };
 pub use compact_lists::UserRooms;
 pub use making::{make_compact, make_moved};

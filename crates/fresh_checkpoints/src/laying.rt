@@ -24,7 +24,9 @@ ghost use Rattle.fresh_checkpoints.specs.Fresh.{IsNextMemory};
 ghost use Rattle.fresh_checkpoints.specs.Switching.{IsReadOne, StandsForOneOf, IsMigrating};
 
 use cloud_disk::{BodyBuf, CloudNo, Header, Journal, Shelf, law_of_checkpoints};
-use compact_memories::{CloudMemory, Marks, MemoryRecords, OwnerChains, Unsettled, lay_checkpoint};
+use compact_memories::{
+    CheckpointHead, CheckpointSpace, CloudMemory, MemoryRecords, Unsettled, lay_checkpoint,
+};
 
 /// The list that takes a chain's place.
 #[derive(Clone, Copy, Debug, PartialEq, Eq)]
@@ -71,9 +73,7 @@ pub fn lay_fresh<V: Shelf>(
     shelf: &mut V,
     cloud: CloudNo,
     header: &Header,
-    chains: &mut OwnerChains,
-    marks: &mut Marks,
-    buffer: &mut BodyBuf,
+    space: CheckpointSpace<'_>,
 ) -> Result<(), Unsettled>
     requires at_end { (state_of journal.old).stage ≡ AtEnd }
     requires limit { (state_of journal.old).limit ≡ half_limit header.now.rooms }
@@ -133,6 +133,11 @@ pub fn lay_fresh<V: Shelf>(
     ensures uncounted { UnlessFailed result (KeepsCounts (V.cloud_at shelf.old cloud.0) (V.cloud_at shelf.new cloud.0)
         (V.faults shelf.old) (V.faults shelf.new)) }
 {
+    let CheckpointSpace {
+        chains,
+        marks,
+        buffer,
+    } = space;
     let limit = journal.limit();
     law_of_checkpoints();
     let _ = memory.shares().place_at(0);
@@ -145,19 +150,15 @@ pub fn lay_fresh<V: Shelf>(
         None => return Err(Unsettled::Long),
     };
     let mut records = MemoryRecords::of(memory, chains, marks);
-    let laid = lay_checkpoint(
-        journal,
-        shelf,
-        cloud,
-        header,
-        next.commands,
+    let head = CheckpointHead {
+        commands: next.commands,
         count,
-        next.region,
-        &mut records,
-        buffer,
-    );
+        region: next.region,
+    };
+    let laid = lay_checkpoint(journal, shelf, cloud, header, head, &mut records, buffer);
     match laid {
-        Ok(()) => Ok(()),
-        Err(_) => Err(Unsettled::Failed),
+        Ok(()) => {}
+        Err(_) => return Err(Unsettled::Failed),
     }
+    Ok(())
 }

@@ -11,7 +11,7 @@ pub use cloud_disk::{
 };
 pub use compact_memories::laws::law_of_moved_fits;
 pub use compact_memories::{
-    CloudMemory, Marks, OwnerChains, Reclaimed, commands_of_compact, live_sum, make_compact,
-    make_moved,
+    CheckpointSpace, CloudMemory, Marks, OwnerChains, Reclaimed, commands_of_compact, live_sum,
+    make_compact, make_moved,
 };
 pub use laying::{NextList, lay_fresh};

@@ -13,7 +13,7 @@ ghost use Rattle.open_store.specs.Adding.{NoneStaged, IsTooLong, Unmoved, KeepsO
 ghost use Rattle.open_store.specs.Store.{IsOpen, IsSettled, Serves, Fits, chain_with_room, KeepsServing};
 
 use crate::OpenStore;
-use checkpoints::{Shelf, Unsettled, checkpoint_of_memory};
+use checkpoints::{CheckpointSpace, Shelf, Unsettled, checkpoint_of_memory};
 
 impl OpenStore {
     /// Makes room for a record whose body has so many bytes: where it doesn't fit the journal's current half, and only
@@ -70,6 +70,11 @@ impl OpenStore {
             return Ok(());
         }
         let cloud = self.header.cloud;
+        let space = CheckpointSpace {
+            chains: &mut self.chains,
+            marks: &mut self.marks,
+            buffer: &mut self.body,
+        };
         checkpoint_of_memory(
             &self.memory,
             &mut self.disk,
@@ -78,9 +83,7 @@ impl OpenStore {
             &self.header,
             self.commands,
             self.region,
-            &mut self.chains,
-            &mut self.marks,
-            &mut self.body,
+            space,
         )?;
         if self.disk.fits(len) {
             Ok(())

@@ -42,8 +42,8 @@ use crate::headers::header_two;
 use crate::kit::Kit;
 use crate::reading::read_old;
 use fresh_checkpoints::{
-    CloudMemory, CloudNo, NextList, NoMemory, Shape, Shelf, commands_of_compact, lay_fresh,
-    make_compact,
+    CheckpointSpace, CloudMemory, CloudNo, NextList, NoMemory, Shape, Shelf, commands_of_compact,
+    lay_fresh, make_compact,
 };
 use large_users::laws::{law_of_compacted_fits, law_of_compacted_room};
 use large_users::{TooLarge, first_too_large};
@@ -155,6 +155,11 @@ fn settle<V: Shelf>(
         commands,
         region: 0,
     };
+    let space = CheckpointSpace {
+        chains: &mut kit.chains,
+        marks: &mut kit.marks,
+        buffer: &mut kit.body,
+    };
     let laid = lay_fresh(
         &kit.memory,
         next,
@@ -162,9 +167,7 @@ fn settle<V: Shelf>(
         shelf,
         cloud,
         header,
-        &mut kit.chains,
-        &mut kit.marks,
-        &mut kit.body,
+        space,
     );
     match laid {
         Ok(()) => Ok(commands),

@@ -8,7 +8,7 @@ ghost use Rattle.cloud_memory.specs.Fitting.{FitsRecords};
 use cd_base::{CloudNo, NoMemory, Shape};
 use cd_edges::{Area, Shelf};
 use cd_fakes::MemShelf;
-use checkpoints::{CloudDisk, Marks, OwnerChains, checkpoint_of_memory};
+use checkpoints::{CheckpointSpace, CloudDisk, Marks, OwnerChains, checkpoint_of_memory};
 use cloud_memory::CloudMemory;
 use journal_halves::half_limit;
 use journal_start::{Header, UserRooms};
@@ -116,6 +116,11 @@ impl Ground {
         if self.disk.journal().limit() != half_limit(&header.rooms) {
             return false;
         }
+        let space = CheckpointSpace {
+            chains: &mut self.chains,
+            marks: &mut self.marks,
+            buffer: &mut self.body,
+        };
         let settled = checkpoint_of_memory(
             memory,
             &mut self.disk,
@@ -124,9 +129,7 @@ impl Ground {
             header,
             commands,
             0,
-            &mut self.chains,
-            &mut self.marks,
-            &mut self.body,
+            space,
         );
         settled.is_ok()
     }

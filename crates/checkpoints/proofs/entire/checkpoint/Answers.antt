@@ -14,7 +14,7 @@ returns-clause-any_moment g c list chain recipes summed =
     let number = c.args.cloud.0 in let disk = c.args.disk.now in let bodies = g.R.CheckpointRecords.to_come c.args.records.now in
     let c0 = g.V.Shelf.cloud_at c.args.shelf.now number in let c1 = g.V.Shelf.cloud_at c.lay_checkpoint.new.shelf number in
     let ended = subst (λ (j : journals.JournalState). journals.IsJournalEnded j (c0.now Journal) (where_of chain)) (sym c.journal_mut.ensures.value) summed.on.read.ended in
-    keeps_list c.args.header.now list chain c.args.commands c.args.count c.args.region bodies recipes disk c0 summed c1
+    keeps_list c.args.header.now list chain c.args.head.commands c.args.head.count c.args.head.region bodies recipes disk c0 summed c1
     (c.lay_checkpoint.ensures.any_moment summed.on.read.told (where_of chain) ended)
 
 pub returns-clause-only_journal : goal.returns-clause-only_journal
@@ -30,7 +30,7 @@ returns-clause-settled g c list chain recipes summed =
     let c0 = g.V.Shelf.cloud_at c.args.shelf.now number in let c1 = g.V.Shelf.cloud_at c.lay_checkpoint.new.shelf number in
     let ended = subst (λ (j : journals.JournalState). journals.IsJournalEnded j (c0.now Journal) (where_of chain)) (sym c.journal_mut.ensures.value) summed.on.read.ended in
     let new : Disk = record disk { journal = journals.state_of c.lay_checkpoint.new.journal } in
-    settled_on c.args.header.now list chain c.args.commands c.args.count c.args.region bodies recipes disk c0 summed c.lay_checkpoint.result new c1
+    settled_on c.args.header.now list chain c.args.head.commands c.args.head.count c.args.head.region bodies recipes disk c0 summed c.lay_checkpoint.result new c1
     (told_on c0 c1 c.lay_checkpoint.ensures.call.told summed.on.read.told)
     (c.lay_checkpoint.ensures.settled summed.on.read.told (where_of chain) ended) (c.lay_checkpoint.ensures.others summed.on.read.told)
     (c.lay_checkpoint.ensures.limit ∙ ap (λ (j : journals.JournalState). j.limit) c.journal_mut.ensures.value) refl refl
@@ -39,11 +39,11 @@ pub returns-clause-chain : goal.returns-clause-chain
 returns-clause-chain g c =
     let number = c.args.cloud.0 in let bodies = g.R.CheckpointRecords.to_come c.args.records.now in
     let c0 = g.V.Shelf.cloud_at c.args.shelf.now number in let c1 = g.V.Shelf.cloud_at c.lay_checkpoint.new.shelf number in
-    subst (λ (j : journals.JournalState). KeepsOrSettles j c.args.header.now c.args.commands c.args.count c.args.region bodies c0 c1) c.journal_mut.ensures.value c.lay_checkpoint.ensures.any_moment
+    subst (λ (j : journals.JournalState). KeepsOrSettles j c.args.header.now c.args.head.commands c.args.head.count c.args.head.region bodies c0 c1) c.journal_mut.ensures.value c.lay_checkpoint.ensures.any_moment
 
 pub returns-clause-taken : goal.returns-clause-taken
 returns-clause-taken g c =
     let number = c.args.cloud.0 in let bodies = g.R.CheckpointRecords.to_come c.args.records.now in
     let c0 = g.V.Shelf.cloud_at c.args.shelf.now number in let c1 = g.V.Shelf.cloud_at c.lay_checkpoint.new.shelf number in
-    subst (λ (j : journals.JournalState). HasSettled j (journals.state_of c.lay_checkpoint.new.journal) c.args.header.now c.args.commands c.args.count c.args.region bodies c0 c1 c.lay_checkpoint.result)
+    subst (λ (j : journals.JournalState). HasSettled j (journals.state_of c.lay_checkpoint.new.journal) c.args.header.now c.args.head.commands c.args.head.count c.args.head.region bodies c0 c1 c.lay_checkpoint.result)
     c.journal_mut.ensures.value c.lay_checkpoint.ensures.settled

@@ -22,7 +22,7 @@ loop-i-init g c = (
     room = omega (arith, c.in_ok-turn.ensures.state.1);
     others = c.in_ok-turn.ensures.others;
     images = c.turn.ensures.any_moment;
-    laid = λ told w is. record { so_far = next_of w c.args.header.now c.args.commands c.args.count c.args.region; laying = c.in_ok-turn.ensures.turned told w is; whole_is = refl };
+    laid = λ told w is. record { so_far = next_of w c.args.header.now c.args.head.commands c.args.head.count c.args.head.region; laying = c.in_ok-turn.ensures.turned told w is; whole_is = refl };
   },
 )
 
@@ -54,7 +54,7 @@ loop-i-preserved g c =
     let n = subst (IsNextInBuffer rest left) (sym c.as_slice.ensures.value) c.write_next.ensures.next in (
       c.write_next.ensures.ready,
       further (at c.args.shelf.now) (at c.loop-i.shelf) (at c.lay.new.shelf) c.args.cloud.0 (faults c.args.shelf.now) (faults c.loop-i.shelf) (faults c.lay.new.shelf)
-          (state_of c.args.journal.now) (state_of c.loop-i.journal) (state_of c.lay.new.self) c.args.header.now c.args.commands c.args.count c.args.region (to_come c.args.records.now) rest left c.as_slice.result.now c.loop-i._i
+          (state_of c.args.journal.now) (state_of c.loop-i.journal) (state_of c.lay.new.self) c.args.header.now c.args.head.commands c.args.head.count c.args.head.region (to_come c.args.records.now) rest left c.as_slice.result.now c.loop-i._i
           c.loop-i.invariant.1 n c.lay.ensures.call c.in_ok-lay.ensures.uncounted c.in_ok-lay.ensures.stage c.lay.ensures.limit c.in_ok-lay.ensures.state.0 c.in_ok-lay.ensures.state.1
           c.in_ok-lay.ensures.others c.lay.ensures.any_moment c.in_ok-lay.ensures.laid,
     )
@@ -65,7 +65,7 @@ pub returns-in_err-turn-clause-any_moment : goal.returns-in_err-turn-clause-any_
 returns-in_err-turn-clause-any_moment g c told w is =
     let number = c.args.cloud.0 in
     still_either (g.V.Shelf.cloud_at c.args.shelf.now number) (g.V.Shelf.cloud_at c.turn.new.shelf number) w
-    (checkpoint_behind w c.args.header.now c.args.commands c.args.count c.args.region (g.R.CheckpointRecords.to_come c.args.records.now)) (c.turn.ensures.any_moment told w is)
+    (checkpoint_behind w c.args.header.now c.args.head.commands c.args.head.count c.args.head.region (g.R.CheckpointRecords.to_come c.args.records.now)) (c.turn.ensures.any_moment told w is)
 
 pub returns-in_err-lay-clause-any_moment : goal.returns-in_err-lay-clause-any_moment
 returns-in_err-lay-clause-any_moment g c told w is =
@@ -73,9 +73,9 @@ returns-in_err-lay-clause-any_moment g c told w is =
     let rest = to_come c.loop-i.records in let left = to_come c.write_next.new.self in
     let n = subst (IsNextInBuffer rest left) (sym c.as_slice.ensures.value) c.write_next.ensures.next in
     still_either (at c.args.shelf.now number) (at c.lay.new.shelf number) w
-    (checkpoint_behind w c.args.header.now c.args.commands c.args.count c.args.region (to_come c.args.records.now))
+    (checkpoint_behind w c.args.header.now c.args.head.commands c.args.head.count c.args.head.region (to_come c.args.records.now))
     (laid_images (at c.args.shelf.now) (at c.loop-i.shelf) (at c.lay.new.shelf) number (faults c.args.shelf.now) (faults c.loop-i.shelf) (faults c.lay.new.shelf)
-    (state_of c.args.journal.now) (state_of c.loop-i.journal) (state_of c.lay.new.self) c.args.header.now c.args.commands c.args.count c.args.region (to_come c.args.records.now) rest left c.as_slice.result.now c.loop-i._i
+    (state_of c.args.journal.now) (state_of c.loop-i.journal) (state_of c.lay.new.self) c.args.header.now c.args.head.commands c.args.head.count c.args.head.region (to_come c.args.records.now) rest left c.as_slice.result.now c.loop-i._i
     c.loop-i.invariant.1 n c.lay.ensures.any_moment told w is)
 
 pub returns-in_err-lay-clause-limit : goal.returns-in_err-lay-clause-limit
@@ -98,24 +98,24 @@ settle-requires-clause-laying g c = c.loop-i.invariant.1.stage
 pub settle-requires-clause-full : goal.settle-requires-clause-full
 settle-requires-clause-full g c =
     let at = g.V.Shelf.cloud_at in let faults = g.V.Shelf.faults in let to_come = g.R.CheckpointRecords.to_come in
-    let ends : c.args.count ≤ c.loop-i._i = let no = c.loop-i-test.false in omega (arith, no) in
+    let ends : c.args.head.count ≤ c.loop-i._i = let no = c.loop-i-test.false in omega (arith, no) in
     all_laid (at c.args.shelf.now) (at c.loop-i.shelf) (at c.loop-i.shelf) c.args.cloud.0 (faults c.args.shelf.now) (faults c.loop-i.shelf) (faults c.loop-i.shelf)
-    (state_of c.args.journal.now) (state_of c.loop-i.journal) (state_of c.loop-i.journal) c.args.header.now c.args.commands c.args.count c.args.region (to_come c.args.records.now) (to_come c.loop-i.records) c.loop-i._i c.loop-i.invariant.1 ends
+    (state_of c.args.journal.now) (state_of c.loop-i.journal) (state_of c.loop-i.journal) c.args.header.now c.args.head.commands c.args.head.count c.args.head.region (to_come c.args.records.now) (to_come c.loop-i.records) c.loop-i._i c.loop-i.invariant.1 ends
 
 pub returns-clause-any_moment : goal.returns-clause-any_moment
 returns-clause-any_moment g c =
     let at = g.V.Shelf.cloud_at in let faults = g.V.Shelf.faults in let to_come = g.R.CheckpointRecords.to_come in
-    let ends : c.args.count ≤ c.loop-i._i = let no = c.loop-i-test.false in omega (arith, no) in
+    let ends : c.args.head.count ≤ c.loop-i._i = let no = c.loop-i-test.false in omega (arith, no) in
     settled_images (at c.args.shelf.now) (at c.loop-i.shelf) (at c.settle.new.shelf) c.args.cloud.0 (faults c.args.shelf.now) (faults c.loop-i.shelf) (faults c.settle.new.shelf)
-    (state_of c.args.journal.now) (state_of c.loop-i.journal) (state_of c.settle.new.self) c.args.header.now c.args.commands c.args.count c.args.region (to_come c.args.records.now) (to_come c.loop-i.records) c.loop-i._i c.loop-i.invariant.1 ends
+    (state_of c.args.journal.now) (state_of c.loop-i.journal) (state_of c.settle.new.self) c.args.header.now c.args.head.commands c.args.head.count c.args.head.region (to_come c.args.records.now) (to_come c.loop-i.records) c.loop-i._i c.loop-i.invariant.1 ends
     c.settle.ensures.any_moment
 
 pub returns-clause-settled : goal.returns-clause-settled
 returns-clause-settled g c =
     let at = g.V.Shelf.cloud_at in let faults = g.V.Shelf.faults in let to_come = g.R.CheckpointRecords.to_come in
-    let ends : c.args.count ≤ c.loop-i._i = let no = c.loop-i-test.false in omega (arith, no) in
+    let ends : c.args.head.count ≤ c.loop-i._i = let no = c.loop-i-test.false in omega (arith, no) in
     settled_on (at c.args.shelf.now) (at c.loop-i.shelf) (at c.settle.new.shelf) c.args.cloud.0 (faults c.args.shelf.now) (faults c.loop-i.shelf) (faults c.settle.new.shelf)
-    (state_of c.args.journal.now) (state_of c.loop-i.journal) (state_of c.settle.new.self) c.args.header.now c.args.commands c.args.count c.args.region (to_come c.args.records.now) (to_come c.loop-i.records) c.loop-i._i c.loop-i.invariant.1 ends
+    (state_of c.args.journal.now) (state_of c.loop-i.journal) (state_of c.settle.new.self) c.args.header.now c.args.head.commands c.args.head.count c.args.head.region (to_come c.args.records.now) (to_come c.loop-i.records) c.loop-i._i c.loop-i.invariant.1 ends
     c.settle.result c.settle.ensures.settled
 
 pub returns-clause-others : goal.returns-clause-others
@@ -127,10 +127,10 @@ returns-clause-others g c told =
 pub returns-clause-gate : goal.returns-clause-gate
 returns-clause-gate g c =
     let at = g.V.Shelf.cloud_at in let faults = g.V.Shelf.faults in let to_come = g.R.CheckpointRecords.to_come in
-    let ends : c.args.count ≤ c.loop-i._i = let no = c.loop-i-test.false in omega (arith, no) in
+    let ends : c.args.head.count ≤ c.loop-i._i = let no = c.loop-i-test.false in omega (arith, no) in
     gate_on c.settle.result ((state_of c.settle.new.self).current.gate + 1) (used_of (state_of c.loop-i.journal).laid) (63 + records_len (to_come c.args.records.now))
     (all_used (at c.args.shelf.now) (at c.loop-i.shelf) (at c.loop-i.shelf) c.args.cloud.0 (faults c.args.shelf.now) (faults c.loop-i.shelf) (faults c.loop-i.shelf)
-    (state_of c.args.journal.now) (state_of c.loop-i.journal) (state_of c.loop-i.journal) c.args.header.now c.args.commands c.args.count c.args.region (to_come c.args.records.now) (to_come c.loop-i.records) c.loop-i._i c.loop-i.invariant.1 ends)
+    (state_of c.args.journal.now) (state_of c.loop-i.journal) (state_of c.loop-i.journal) c.args.header.now c.args.head.commands c.args.head.count c.args.head.region (to_come c.args.records.now) (to_come c.loop-i.records) c.loop-i._i c.loop-i.invariant.1 ends)
     c.settle.ensures.gate
 
 pub returns-clause-limit : goal.returns-clause-limit

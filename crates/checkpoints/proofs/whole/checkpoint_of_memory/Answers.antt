@@ -29,8 +29,8 @@ returns-in-None-clause-roomy g c list chain body k fits =
     let is = roomy header list chain c.args.commands c.args.region memory disk c0 k listed c.requires.format c.law_of_checkpoints.ensures.room fit body fits in
     subst (λ (n : ℕ). 63 + records_len (records_of memory) + (length (body_bytes body) + 5) ≤ n) (sym c.requires.limit) is
 
-pub returns-in-Ok-clause-roomy : goal.returns-in-Ok-clause-roomy
-returns-in-Ok-clause-roomy g c list chain body k fits =
+pub returns-clause-roomy : goal.returns-clause-roomy
+returns-clause-roomy g c list chain body k fits =
     let header = c.args.header.now in let memory = c.args.memory.now in let disk = c.args.disk.now in
     let c0 = g.V.Shelf.cloud_at c.args.shelf.now c.args.cloud.0 in
     let listed = listed_of memory c.shares.result.now c.shares-2.result.now c.files.result.now c.shares.ensures c.shares-2.ensures c.files.ensures c.place_at.ensures.each c.owner_at.ensures.each c.entry_at.ensures.each in
@@ -71,8 +71,8 @@ returns-in-None-clause-only_journal g c list chain k =
     let limit = c.limit-limit.ensures ∙ ap (λ s. s.limit) c.journal.ensures ∙ c.requires.limit in
     absurd (omega (arith, is, beyond, same, limit))
 
-pub returns-in-Ok-clause-any_moment : goal.returns-in-Ok-clause-any_moment
-returns-in-Ok-clause-any_moment g c list chain k =
+pub returns-clause-any_moment : goal.returns-clause-any_moment
+returns-clause-any_moment g c list chain k =
     let header = c.args.header.now in let memory = c.args.memory.now in let disk = c.args.disk.now in
     let c0 = g.V.Shelf.cloud_at c.args.shelf.now c.args.cloud.0 in
     let listed = listed_of memory c.shares.result.now c.shares-2.result.now c.files.result.now c.shares.ensures c.shares-2.ensures c.files.ensures c.place_at.ensures.each c.owner_at.ensures.each c.entry_at.ensures.each in
@@ -85,8 +85,8 @@ returns-in-Ok-clause-any_moment g c list chain k =
     let known = summed_as header list chain c.args.commands c.args.region memory c.in-Some.count bodies counted c.of-records-2.ensures.records disk c0 summed in
     c.checkpoint-laid.ensures.any_moment list chain recipes known
 
-pub returns-in-Ok-clause-only_journal : goal.returns-in-Ok-clause-only_journal
-returns-in-Ok-clause-only_journal g c list chain k =
+pub returns-clause-only_journal : goal.returns-clause-only_journal
+returns-clause-only_journal g c list chain k =
     let header = c.args.header.now in let memory = c.args.memory.now in let disk = c.args.disk.now in
     let c0 = g.V.Shelf.cloud_at c.args.shelf.now c.args.cloud.0 in
     let listed = listed_of memory c.shares.result.now c.shares-2.result.now c.files.result.now c.shares.ensures c.shares-2.ensures c.files.ensures c.place_at.ensures.each c.owner_at.ensures.each c.entry_at.ensures.each in
@@ -99,8 +99,8 @@ returns-in-Ok-clause-only_journal g c list chain k =
     let known = summed_as header list chain c.args.commands c.args.region memory c.in-Some.count bodies counted c.of-records-2.ensures.records disk c0 summed in
     c.checkpoint-laid.ensures.only_journal list chain recipes known
 
-pub returns-in-Ok-clause-settled : goal.returns-in-Ok-clause-settled
-returns-in-Ok-clause-settled g c list chain k =
+pub returns-clause-settled : goal.returns-clause-settled
+returns-clause-settled g c list chain k =
     let header = c.args.header.now in let memory = c.args.memory.now in let disk = c.args.disk.now in
     let c0 = g.V.Shelf.cloud_at c.args.shelf.now c.args.cloud.0 in
     let listed = listed_of memory c.shares.result.now c.shares-2.result.now c.files.result.now c.shares.ensures c.shares-2.ensures c.files.ensures c.place_at.ensures.each c.owner_at.ensures.each c.entry_at.ensures.each in
@@ -150,8 +150,8 @@ returns-in-Err-clause-only_journal g c list chain k =
     let known = summed_as header list chain c.args.commands c.args.region memory c.in-Some.count bodies counted c.of-records-2.ensures.records disk c0 summed in
     c.checkpoint-laid.ensures.only_journal list chain recipes known
 
-pub returns-in-Ok-clause-chain : goal.returns-in-Ok-clause-chain
-returns-in-Ok-clause-chain g c =
+pub returns-clause-chain : goal.returns-clause-chain
+returns-clause-chain g c =
     let number = c.args.cloud.0 in let header = c.args.header.now in let memory = c.args.memory.now in
     let c0 = g.V.Shelf.cloud_at c.args.shelf.now number in let c1 = g.V.Shelf.cloud_at c.checkpoint-laid.new.shelf number in
     let counted = c.in-Some.ensures.count.0 ∙ ap (λ (r : List Body). length r) c.of-records.ensures.records in
@@ -171,8 +171,8 @@ returns-in-None-clause-chain g c told w ended =
     let c0 = g.V.Shelf.cloud_at c.args.shelf.now c.args.cloud.0 in
     ended_still c.args.disk.now.journal c0 w _ ended
 
-pub returns-in-Ok-clause-taken : goal.returns-in-Ok-clause-taken
-returns-in-Ok-clause-taken g c told w ended =
+pub returns-clause-taken : goal.returns-clause-taken
+returns-clause-taken g c told w ended =
     let number = c.args.cloud.0 in let header = c.args.header.now in let memory = c.args.memory.now in
     let c1 = g.V.Shelf.cloud_at c.checkpoint-laid.new.shelf number in
     let counted = c.in-Some.ensures.count.0 ∙ ap (λ (r : List Body). length r) c.of-records.ensures.records in
@@ -201,8 +201,8 @@ returns-in-None-clause-room g c has =
     let is = records_short c.args.header.now.rooms memory has c.requires.fit listed fit in
     subst (λ (n : ℕ). 63 + records_len (records_of memory) + longest_record ≤ n) (sym c.requires.limit) is
 
-pub returns-in-Ok-clause-room : goal.returns-in-Ok-clause-room
-returns-in-Ok-clause-room g c has =
+pub returns-clause-room : goal.returns-clause-room
+returns-clause-room g c has =
     let memory = c.args.memory.now in
     let listed = listed_of memory c.shares.result.now c.shares-2.result.now c.files.result.now c.shares.ensures c.shares-2.ensures c.files.ensures c.place_at.ensures.each c.owner_at.ensures.each c.entry_at.ensures.each in
     let fit : All FitsBody (records_of memory) = subst (All FitsBody) c.of-records.ensures.records c.count_within.ensures.fit in

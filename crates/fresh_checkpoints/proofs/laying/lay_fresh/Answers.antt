@@ -20,8 +20,8 @@ returns-in-None-clause-short g c other n =
     let is = short law two other commands region memory c0 n fit (no_chain two) in
     subst (λ (n : ℕ). 63 + records_len (records_of memory) ≤ n) (sym c.requires.limit) is
 
-pub returns-in-Ok-clause-short : goal.returns-in-Ok-clause-short
-returns-in-Ok-clause-short g c other n =
+pub returns-clause-short : goal.returns-clause-short
+returns-clause-short g c other n =
     let two = c.args.header.now in let memory = c.args.memory.now in let commands = c.args.next.commands in let region = c.args.next.region in
     let c0 = g.V.Shelf.cloud_at c.args.shelf.now c.args.cloud.0 in
     let fit : All FitsBody (records_of memory) = subst (All FitsBody) c.of-records.ensures.records c.fresh_count.ensures.fit in
@@ -62,8 +62,8 @@ returns-in-None-clause-migrating g c one list other chain read n =
     let limit = c.limit-limit.ensures ∙ c.requires.limit in
     absurd (omega (arith, is, beyond, same, limit))
 
-pub returns-in-Ok-clause-any_moment : goal.returns-in-Ok-clause-any_moment
-returns-in-Ok-clause-any_moment g c one list other chain read n =
+pub returns-clause-any_moment : goal.returns-clause-any_moment
+returns-clause-any_moment g c one list other chain read n =
     let two = c.args.header.now in let memory = c.args.memory.now in let commands = c.args.next.commands in let region = c.args.next.region in
     let c0 = g.V.Shelf.cloud_at c.args.shelf.now c.args.cloud.0 in
     let fit : All FitsBody (records_of memory) = subst (All FitsBody) c.of-records.ensures.records c.fresh_count.ensures.fit in
@@ -76,8 +76,8 @@ returns-in-Ok-clause-any_moment g c one list other chain read n =
     switching law two other commands region memory c0 n fit chain one list journal c1
     (kept_as two commands region c.in-Some.count bodies (records_of memory) number c.of-records-2.ensures.records journal c0 c1 c.lay_checkpoint-laid.ensures.any_moment) read
 
-pub returns-in-Ok-clause-migrating : goal.returns-in-Ok-clause-migrating
-returns-in-Ok-clause-migrating g c one list other chain read n =
+pub returns-clause-migrating : goal.returns-clause-migrating
+returns-clause-migrating g c one list other chain read n =
     let two = c.args.header.now in let memory = c.args.memory.now in let commands = c.args.next.commands in let region = c.args.next.region in
     let c0 = g.V.Shelf.cloud_at c.args.shelf.now c.args.cloud.0 in
     let fit : All FitsBody (records_of memory) = subst (All FitsBody) c.of-records.ensures.records c.fresh_count.ensures.fit in
@@ -118,8 +118,8 @@ returns-in-Err-clause-migrating g c one list other chain read n =
     migrating law two other commands region memory c0 n fit chain one list journal c1
     (kept_as two commands region c.in-Some.count bodies (records_of memory) number c.of-records-2.ensures.records journal c0 c1 c.lay_checkpoint-laid.ensures.any_moment) read
 
-pub returns-in-Ok-clause-settled : goal.returns-in-Ok-clause-settled
-returns-in-Ok-clause-settled g c one list other chain read n =
+pub returns-clause-settled : goal.returns-clause-settled
+returns-clause-settled g c one list other chain read n =
     let two = c.args.header.now in let memory = c.args.memory.now in let commands = c.args.next.commands in let region = c.args.next.region in
     let c0 = g.V.Shelf.cloud_at c.args.shelf.now c.args.cloud.0 in
     let fit : All FitsBody (records_of memory) = subst (All FitsBody) c.of-records.ensures.records c.fresh_count.ensures.fit in
@@ -136,8 +136,8 @@ returns-in-Ok-clause-settled g c one list other chain read n =
     (λ told w ended. ended_as two commands region c.in-Some.count bodies (records_of memory) number c.of-records-2.ensures.records after c1 w (c.in-Ok.ensures.settled told w ended))
     c.in-Ok.ensures.others read
 
-pub returns-in-Ok-clause-migrated : goal.returns-in-Ok-clause-migrated
-returns-in-Ok-clause-migrated g c one list other chain read n =
+pub returns-clause-migrated : goal.returns-clause-migrated
+returns-clause-migrated g c one list other chain read n =
     let two = c.args.header.now in let memory = c.args.memory.now in let commands = c.args.next.commands in let region = c.args.next.region in
     let c0 = g.V.Shelf.cloud_at c.args.shelf.now c.args.cloud.0 in
     let fit : All FitsBody (records_of memory) = subst (All FitsBody) c.of-records.ensures.records c.fresh_count.ensures.fit in
@@ -154,8 +154,8 @@ returns-in-Ok-clause-migrated g c one list other chain read n =
     (λ told w ended. ended_as two commands region c.in-Some.count bodies (records_of memory) number c.of-records-2.ensures.records after c1 w (c.in-Ok.ensures.settled told w ended))
     c.in-Ok.ensures.others read
 
-pub returns-in-Ok-clause-chain : goal.returns-in-Ok-clause-chain
-returns-in-Ok-clause-chain g c =
+pub returns-clause-chain : goal.returns-clause-chain
+returns-clause-chain g c =
     let two = c.args.header.now in let memory = c.args.memory.now in let commands = c.args.next.commands in let region = c.args.next.region in
     let c0 = g.V.Shelf.cloud_at c.args.shelf.now c.args.cloud.0 in
     let c1 = g.V.Shelf.cloud_at c.lay_checkpoint-laid.new.shelf c.args.cloud.0 in
@@ -180,8 +180,8 @@ pub returns-in-None-clause-chain : goal.returns-in-None-clause-chain
 returns-in-None-clause-chain g c told w ended =
     ended_still (journals.state_of c.args.journal.now) (g.V.Shelf.cloud_at c.args.shelf.now c.args.cloud.0) w _ ended
 
-pub returns-in-Ok-clause-taken : goal.returns-in-Ok-clause-taken
-returns-in-Ok-clause-taken g c told w ended =
+pub returns-clause-taken : goal.returns-clause-taken
+returns-clause-taken g c told w ended =
     let two = c.args.header.now in let memory = c.args.memory.now in let commands = c.args.next.commands in let region = c.args.next.region in
     let c0 = g.V.Shelf.cloud_at c.args.shelf.now c.args.cloud.0 in
     let c1 = g.V.Shelf.cloud_at c.lay_checkpoint-laid.new.shelf c.args.cloud.0 in
