@@ -6,7 +6,7 @@ use Rattle.cloud_disk.specs.CdEdges.area.Area.TheVariants.{Journal, Shares, Reci
 use Rattle.cloud_disk.specs.CdEdges.Disk.{Store, Image, Cloud, LeavesOnly, IsAtArea, reads}
 use Rattle.cloud_disk.specs.CdEdges.Shelf.{stable}
 use Rattle.cloud_disk.proofs.CdEdges.Moments.{weaker, started}
-use Rattle.cloud_disk.specs.CommitJournal.Records.{IsJournal}
+use Rattle.cloud_disk.specs.JournalHalves.Records.{IsJournal}
 use Rattle.cloud_memory.specs.ContainerLog.Laying.{Placed}
 use Rattle.cloud_memory.specs.ContainerLog.States as logs
 use Rattle.cloud_memory.specs.CdBase.place.Place.{Place}

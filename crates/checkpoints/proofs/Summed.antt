@@ -7,7 +7,7 @@ use Rattle.std.specs.List.{Contains}
 use Rattle.cloud_memory.specs.CdBase.ids.Fp.{Fp}
 use Rattle.cloud_disk.specs.CdEdges.area.Area.TheVariants.{Recipes}
 use Rattle.cloud_disk.specs.CdEdges.Disk.{Cloud, Image, reads}
-use Rattle.cloud_disk.specs.CommitJournal.Records.{sized, chain}
+use Rattle.cloud_disk.specs.JournalHalves.Records.{sized, chain}
 use Rattle.cloud_memory.specs.ContainerLog.Laying.{IsAt}
 use Rattle.cloud_memory.specs.FileIndex.Files.{Files}
 use Rattle.cloud_memory.specs.PoolMap.Slots.{IsListed}

@@ -7,7 +7,7 @@ use Rattle.std.proofs.lemmas.List.Elements.{All-nil}
 use Rattle.user_dedup.specs.CdBase.shape.Shape.{Shape}
 use Rattle.journal_halves.specs.CdEdges.area.Area.TheVariants.{Journal, Shares, Recipes}
 use Rattle.journal_halves.specs.CdEdges.Disk.{Image}
-use Rattle.journal_halves.specs.CommitJournal.Records.{sized}
+use Rattle.journal_halves.specs.Records.{sized}
 use Rattle.container_log.specs.Laying.{IsAt}
 use Rattle.journal_halves.specs.Beginnings.{IsUnbegun}
 use Rattle.journal_halves.specs.Beginnings.{new_of}

@@ -14,7 +14,7 @@ use Rattle.user_dedup.specs.CdBase.ids.Tag.{Tag}
 use Rattle.user_dedup.specs.CdBase.ids.UserId.{UserId}
 use Rattle.user_dedup.specs.CdBase.ids.Version.{Version}
 use Rattle.user_dedup.specs.CdBase.shape.Shape.{Shape}
-use Rattle.journal_halves.specs.CommitJournal.Records.{sized, chain}
+use Rattle.journal_halves.specs.Records.{sized, chain}
 use Rattle.container_log.specs.Laying.{Placed}
 use Rattle.journal_halves.specs.Halves.{half_limit}
 use Rattle.journal_halves.specs.Journals.{used_by, with_body}

@@ -14,7 +14,7 @@ use Rattle.user_dedup.specs.CdBase.rooms.Room.TheVariants as names
 use Rattle.user_dedup.specs.CdBase.shape.Shape.{Shape}
 use Rattle.journal_halves.specs.CdEdges.area.Area.TheVariants.{Journal, Shares, Recipes}
 use Rattle.journal_halves.specs.CdEdges.Disk.{Image}
-use Rattle.journal_halves.specs.CommitJournal.Records.{IsJournalBody, chain, is_begun}
+use Rattle.journal_halves.specs.Records.{IsJournalBody, chain, is_begun}
 use Rattle.container_log.specs.Laying.{IsAt}
 use Rattle.journal_halves.specs.Beginnings.{new_of}
 use Rattle.journal_halves.specs.Halves.{half_len, half_of, half_limit, is_half_begun}

@@ -9,8 +9,8 @@ use Rattle.half_journal.specs.CdEdges.area.Area.TheVariants.{Journal, Shares, Re
 use Rattle.half_journal.specs.CdEdges.Disk.{Store, Areas, Image, Cloud, LeavesOnly, IsAtArea, reads}
 use Rattle.half_journal.specs.CdEdges.Shelf.{stable}
 use Rattle.half_journal.proofs.CdEdges.Moments.{weaker, joined}
-use Rattle.half_journal.specs.CommitJournal.Records.{IsJournal}
-use Rattle.half_journal.proofs.CommitJournal.Chain.{length-chain-push}
+use Rattle.half_journal.specs.JournalHalves.Records.{IsJournal}
+use Rattle.half_journal.proofs.JournalHalves.Chain.{length-chain-push}
 use Rattle.cloud_areas.specs.ContainerLog.Laying.{Placed, placed, IsAt}
 use Rattle.cloud_areas.specs.ContainerLog.States as logs
 use Rattle.half_journal.specs.CdBase.place.Place.{Place}

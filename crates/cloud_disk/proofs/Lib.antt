@@ -11,6 +11,5 @@ pub mod RecordBodies
 pub mod JournalStart
 pub mod CloudAreas
 pub mod JournalHalves
-pub mod CommitJournal
 pub mod CdEdges
 pub mod UserDedup

@@ -1,7 +1,6 @@
 pub mod CdBase
 pub mod CdEdges
 pub mod CloudAreas
-pub mod CommitJournal
 pub mod ContainerLog
 pub mod Disk
 pub mod HalfJournal

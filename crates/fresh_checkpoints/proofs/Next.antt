@@ -5,7 +5,7 @@ use Rattle.std.specs.Int.{w32, to_be_bytes}
 use Rattle.cloud_disk.specs.CdEdges.area.Area.{Area}
 use Rattle.cloud_disk.specs.CdEdges.area.Area.TheVariants.{Journal}
 use Rattle.cloud_disk.specs.CdEdges.Disk.{Cloud, LeavesOnly, reads}
-use Rattle.cloud_disk.specs.CommitJournal.Records.{sized, chain}
+use Rattle.cloud_disk.specs.JournalHalves.Records.{sized, chain}
 use Rattle.cloud_disk.specs.JournalHalves.Halves.{half_limit}
 use Rattle.cloud_disk.specs.JournalHalves.Journals.{Where, used_by, with_body}
 use Rattle.cloud_disk.specs.JournalStart.start.Header.{Header}

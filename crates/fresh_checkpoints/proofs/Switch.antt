@@ -6,7 +6,7 @@ use Rattle.cloud_disk.specs.CdEdges.area.Area.TheVariants.{Journal, Shares, Reci
 use Rattle.cloud_disk.specs.CdEdges.Disk.{Store, Image, Cloud, LeavesOnly, IsAtArea, reads}
 use Rattle.cloud_disk.specs.CdEdges.Shelf.{stable}
 use Rattle.cloud_disk.proofs.CdEdges.Moments.{weaker}
-use Rattle.cloud_disk.specs.CommitJournal.Records.{IsJournal}
+use Rattle.cloud_disk.specs.JournalHalves.Records.{IsJournal}
 use Rattle.cloud_disk.specs.ContainerLog.Laying.{IsAt}
 use Rattle.cloud_disk.specs.JournalStart.start.Header.{Header}
 use Rattle.cloud_disk.specs.JournalHalves.Halves.{half_limit, half_of}

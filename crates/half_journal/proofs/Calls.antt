@@ -8,7 +8,7 @@ use Rattle.journal_halves.proofs.CdEdges.Moments.{started, stayed, weaker, joine
 use Rattle.journal_halves.proofs.CdEdges.Overwritten.{length-overwritten, overwritten_inside}
 use Rattle.journal_halves.proofs.CdEdges.Runs.{begin, writes}
 use Rattle.journal_halves.proofs.CdEdges.Torn.{only}
-use Rattle.journal_halves.specs.CommitJournal.Records.{IsJournalBody, sized}
+use Rattle.journal_halves.specs.Records.{IsJournalBody, sized}
 use Rattle.journal_halves.specs.JournalStart.start.Start.{Start}
 use Rattle.journal_halves.specs.JournalStart.Spelling.{start_bytes, records_of}
 use Rattle.journal_halves.specs.Halves.{half_len}

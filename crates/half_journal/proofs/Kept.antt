@@ -1,8 +1,8 @@
 -- A chain stays where its half has it and the places of the other half stay.
 use Rattle.std.proofs.Common.{◌≡◌, ◌⊎◌, inl, inr, ℕ, ◌+◌, ◌-◌, ◌*◌, ◌%◌, ◌≤◌, false, List, [], ◌∷◌, ◌++◌, length, take, sym, ◌∙◌, ap, subst, arith, append_assoc, length-append}
 use Rattle.std.proofs.Math.Seq.{take-append-add}
-use Rattle.journal_halves.specs.CommitJournal.Records.{sized, is_begun}
-use Rattle.journal_halves.specs.CommitJournal.Frames.{IsRecord}
+use Rattle.journal_halves.specs.Records.{sized, is_begun}
+use Rattle.journal_halves.specs.Frames.{IsRecord}
 use Rattle.journal_halves.specs.JournalStart.start.Start.{Start}
 use Rattle.journal_halves.specs.JournalStart.Spelling.{start_bytes, epoch_of}
 use Rattle.journal_halves.specs.Halves.{half_len, half_of, is_half_begun, HasStart, IsCurrent}

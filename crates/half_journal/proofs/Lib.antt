@@ -6,5 +6,4 @@ pub mod Steps
 pub mod Turns
 pub mod JournalHalves
 pub mod JournalStart
-pub mod CommitJournal
 pub mod CdEdges

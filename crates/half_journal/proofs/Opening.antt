@@ -7,9 +7,9 @@ use Rattle.journal_halves.specs.CdEdges.Disk.{Store, Areas, Cloud, Image, MayLea
 use Rattle.journal_halves.specs.CdEdges.Shelf.{Stays, wrote, stable, Changes}
 use Rattle.journal_halves.proofs.CdEdges.Moments.{joined, weaker, stayed, started, at_end}
 use Rattle.journal_halves.proofs.CdEdges.Torn.{only}
-use Rattle.journal_halves.specs.CommitJournal.Records.{IsJournalBody, sized, chain, IsJournal, is_begun}
-use Rattle.journal_halves.specs.CommitJournal.Frames.{IsRecord}
-use Rattle.journal_halves.proofs.CommitJournal.Begin.{journal_unbegun, unbegun_journal, small_unbegun, one_zero, zero_journal}
+use Rattle.journal_halves.specs.Records.{IsJournalBody, sized, chain, IsJournal, is_begun}
+use Rattle.journal_halves.specs.Frames.{IsRecord}
+use Rattle.journal_halves.proofs.Begin.{journal_unbegun, unbegun_journal, small_unbegun, one_zero, zero_journal}
 use Rattle.journal_halves.specs.JournalStart.start.Header.{Header}
 use Rattle.journal_halves.specs.JournalStart.start.Start.{Start}
 use Rattle.journal_halves.specs.JournalStart.Ranges.{IsHeader, IsStart}

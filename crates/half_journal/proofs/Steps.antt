@@ -5,8 +5,8 @@ use Rattle.std.proofs.lemmas.List.{drop_at}
 use Rattle.journal_halves.specs.CdEdges.area.Area.TheVariants.{Journal}
 use Rattle.journal_halves.specs.CdEdges.Disk.{Store, Cloud, LeavesOnly, IsAtArea}
 use Rattle.journal_halves.proofs.CdEdges.Moments.{weaker}
-use Rattle.journal_halves.specs.CommitJournal.Records.{chain, IsJournal}
-use Rattle.journal_halves.specs.CommitJournal.Frames.{IsClosed}
+use Rattle.journal_halves.specs.Records.{chain, IsJournal}
+use Rattle.journal_halves.specs.Frames.{IsClosed}
 use Rattle.journal_halves.specs.JournalStart.start.Header.{Header}
 use Rattle.journal_halves.specs.JournalStart.start.Start.{Start}
 use Rattle.journal_halves.specs.JournalStart.Ranges.{IsHeader, IsStart}

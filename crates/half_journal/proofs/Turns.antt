@@ -8,8 +8,8 @@ use Rattle.journal_halves.specs.CdEdges.Disk.{Store, MayLeave, overwritten}
 use Rattle.journal_halves.specs.CdEdges.Shelf.{wrote, stable}
 use Rattle.journal_halves.proofs.CdEdges.Overwritten.{length-overwritten, overwritten_inside}
 use Rattle.journal_halves.proofs.CdEdges.Since.{image_of_stable}
-use Rattle.journal_halves.specs.CommitJournal.Records.{IsJournalBody, sized, chain, AreBodies, is_begun}
-use Rattle.journal_halves.proofs.CommitJournal.Chain.{chain-push, bodies_more, overwritten_within}
+use Rattle.journal_halves.specs.Records.{IsJournalBody, sized, chain, AreBodies, is_begun}
+use Rattle.journal_halves.proofs.Chain.{chain-push, bodies_more, overwritten_within}
 use Rattle.journal_halves.specs.JournalStart.start.Checkpoint.{Checkpoint}
 use Rattle.journal_halves.specs.JournalStart.start.Start.{Start}
 use Rattle.journal_halves.specs.JournalStart.Spelling.{rooms_bytes, front_bytes, header_bytes, behind_header, start_bytes}

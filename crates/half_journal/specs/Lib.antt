@@ -1,6 +1,5 @@
 pub mod CdBase
 pub mod CdEdges
-pub mod CommitJournal
 pub mod JournalHalves
 pub mod JournalStart
 pub mod Leaving

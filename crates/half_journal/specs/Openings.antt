@@ -8,7 +8,7 @@ use Rattle.journal_halves.specs.JournalStart.start.Header.{Header}
 use Rattle.journal_halves.specs.JournalStart.start.Start.{Start}
 use Rattle.journal_halves.specs.Halves.{half_len, is_half_begun, IsCurrent}
 use Rattle.journal_halves.specs.Journals.{Where, HasChain}
-use Rattle.journal_halves.specs.CommitJournal.Records.{IsJournal}
+use Rattle.journal_halves.specs.Records.{IsJournal}
 use Rattle.journal_halves.specs.declared.found.Found.{Found}
 use Rattle.journal_halves.specs.Findings.{IsFoundDamage}
 use Rattle.half_journal.specs.declared.errors.OpenErr.{OpenErr}

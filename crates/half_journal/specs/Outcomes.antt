@@ -3,8 +3,8 @@ use Rattle.std.specs.Prelude.{◌≡◌, ◌≢◌, ◌⊎◌, ℕ, ◌+◌, ◌
 use Rattle.std.specs.Int.{w32, to_be_bytes}
 use Rattle.journal_halves.specs.CdEdges.area.Area.TheVariants.{Journal}
 use Rattle.journal_halves.specs.CdEdges.Disk.{Store, Cloud, LeavesOnly, IsAtArea}
-use Rattle.journal_halves.specs.CommitJournal.Records.{IsDamage}
-use Rattle.journal_halves.specs.CommitJournal.Frames.{IsClosed}
+use Rattle.journal_halves.specs.Records.{IsDamage}
+use Rattle.journal_halves.specs.Frames.{IsClosed}
 use Rattle.journal_halves.specs.JournalStart.start.Header.{Header}
 use Rattle.journal_halves.specs.JournalStart.start.Start.{Start}
 use Rattle.journal_halves.specs.JournalStart.Spelling.{records_of}

@@ -1,7 +1,7 @@
 //! Bytes that wait to be written at once.
 
 ghost use Rattle.std.specs.Prelude.{◌≡◌, ◌+◌, ◌≤◌, ◌++◌, [], length, IfOk};
-ghost use Rattle.journal_halves.specs.CommitJournal.Records.{sized};
+ghost use Rattle.journal_halves.specs.Records.{sized};
 
 use journal_halves::NoMemory;
 use std::alloc::Global;

@@ -3,7 +3,7 @@
 ghost use Rattle.std.specs.Prelude.{◌≡◌, ◌≢◌, ◌⊎◌, ℕ, ◌+◌, ◌-◌, ◌*◌, ◌<◌, ◌≤◌, List, [], ◌∷◌, ◌++◌, length, true, false, IsTrue, IfOk, OnOk, OnErr};
 ghost use Rattle.journal_halves.specs.CdEdges.area.Area.{Area};
 ghost use Rattle.journal_halves.specs.CdEdges.Shelf.{IsCall, HasFailed, KeepsCounts};
-ghost use Rattle.journal_halves.specs.CommitJournal.Records.{sized};
+ghost use Rattle.journal_halves.specs.Records.{sized};
 ghost use Rattle.journal_halves.specs.JournalStart.Ranges.{IsStart};
 ghost use Rattle.journal_halves.specs.JournalStart.Spelling.{start_bytes, records_of};
 ghost use Rattle.journal_halves.specs.Halves.{half_len};

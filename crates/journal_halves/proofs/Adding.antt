@@ -1,13 +1,13 @@
 -- What a crash leaves in each step of an append.
-use Rattle.std.proofs.Common.{◌≡◌, ◌≢◌, ◌⊎◌, inl, inr, ℕ, zero, suc, ◌+◌, ◌-◌, ◌*◌, ◌≤◌, List, [], ◌∷◌, ◌++◌, length, take, drop, refl, sym, ◌∙◌, ap, subst, arith, length-append, length-drop}
-use Rattle.commit_journal.specs.CdEdges.area.Area.{Area}
-use Rattle.commit_journal.specs.CdEdges.area.Area.TheVariants.{Journal}
-use Rattle.commit_journal.specs.CdEdges.Disk.{Store, MayLeave, IsImage, Cloud, LeavesOnly, IsAtArea, overwritten, reads}
-use Rattle.commit_journal.specs.CdEdges.Shelf.{wrote, stable}
-use Rattle.commit_journal.proofs.CdEdges.Moments.{joined, weaker, at_end}
-use Rattle.commit_journal.proofs.CdEdges.Torn.{Torn, torn, only}
-use Rattle.commit_journal.specs.Records.{IsJournalBody, framed, chain, AreBodies, IsJournal}
-use Rattle.commit_journal.proofs.Chain.{behind_gate, at_gate, wrote_behind, wrote_gate, long_enough, bodies_more, length-chain-push}
+use Rattle.std.proofs.Common.{◌≡◌, ◌≢◌, ◌⊎◌, inl, inr, ℕ, zero, suc, ◌+◌, ◌-◌, ◌*◌, ◌≤◌, List, [], ◌∷◌, ◌++◌, length, drop, refl, sym, ◌∙◌, ap, subst, arith, length-append, length-drop}
+use Rattle.cd_edges.specs.declared.area.Area.{Area}
+use Rattle.cd_edges.specs.declared.area.Area.TheVariants.{Journal}
+use Rattle.cd_edges.specs.Disk.{Store, MayLeave, IsImage, Cloud, LeavesOnly, IsAtArea, overwritten, reads}
+use Rattle.cd_edges.specs.Shelf.{wrote, stable}
+use Rattle.cd_edges.proofs.Moments.{joined, weaker, at_end}
+use Rattle.cd_edges.proofs.Torn.{Torn, torn, only}
+use Rattle.journal_halves.specs.Records.{IsJournalBody, framed, chain, AreBodies}
+use Rattle.journal_halves.proofs.Chain.{behind_gate, at_gate, wrote_behind, wrote_gate, long_enough, bodies_more, length-chain-push}
 use Rattle.journal_halves.specs.Halves.{half_len, half_of}
 use Rattle.journal_halves.specs.Findings.{part_of}
 use Rattle.journal_halves.specs.States.{HalfState, IsEnded, IsHalfKept, IsAdded}

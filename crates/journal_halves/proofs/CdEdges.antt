@@ -1,8 +1,8 @@
 -- What cd_edges has proved, for callers.
-pub use Rattle.commit_journal.proofs.CdEdges.Calls
-pub use Rattle.commit_journal.proofs.CdEdges.Moments
-pub use Rattle.commit_journal.proofs.CdEdges.Overwritten
-pub use Rattle.commit_journal.proofs.CdEdges.Runs
-pub use Rattle.commit_journal.proofs.CdEdges.Shrinks
-pub use Rattle.commit_journal.proofs.CdEdges.Since
-pub use Rattle.commit_journal.proofs.CdEdges.Torn
+pub use Rattle.cd_edges.proofs.Calls
+pub use Rattle.cd_edges.proofs.Moments
+pub use Rattle.cd_edges.proofs.Overwritten
+pub use Rattle.cd_edges.proofs.Runs
+pub use Rattle.cd_edges.proofs.Shrinks
+pub use Rattle.cd_edges.proofs.Since
+pub use Rattle.cd_edges.proofs.Torn

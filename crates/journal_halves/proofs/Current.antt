@@ -1,13 +1,12 @@
 -- A journal has one chain.
-use Rattle.std.proofs.Common.{◌≡◌, ◌≢◌, ◌⊎◌, inl, inr, ℕ, zero, suc, ◌+◌, ◌-◌, ◌%◌, ◌≤◌, true, false, List, [], ◌∷◌, ◌++◌, length, Option, Some, None, refl, sym, ◌∙◌, ap, subst, arith}
+use Rattle.std.proofs.Common.{◌≡◌, ◌⊎◌, inl, inr, ℕ, zero, suc, ◌+◌, ◌-◌, ◌%◌, ◌≤◌, true, List, ◌∷◌, Option, Some, None, sym, ◌∙◌, ap, subst, arith}
 use Rattle.std.proofs.lemmas.Bool.{false≢true}
-use Rattle.commit_journal.specs.Records.{IsJournal}
-use Rattle.commit_journal.specs.Frames.{IsRecord}
-use Rattle.commit_journal.proofs.Unique.{one_journal}
-use Rattle.commit_journal.proofs.Headed.{one_record, record_begun}
+use Rattle.journal_halves.specs.Records.{IsJournal}
+use Rattle.journal_halves.proofs.Unique.{one_journal}
+use Rattle.journal_halves.proofs.Headed.{one_record, record_begun}
 use Rattle.journal_start.specs.declared.start.Checkpoint.{Checkpoint}
 use Rattle.journal_start.specs.declared.start.Start.{Start}
-use Rattle.journal_start.specs.Ranges.{IsStart, IsBehind}
+use Rattle.journal_start.specs.Ranges.{IsBehind}
 use Rattle.journal_start.specs.Spelling.{start_bytes, epoch_of}
 use Rattle.journal_start.proofs.Whole.{one}
 use Rattle.journal_halves.specs.Halves.{half_of, is_half_begun, HasStart, IsCurrent}

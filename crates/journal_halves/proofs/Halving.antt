@@ -1,11 +1,11 @@
 -- What a write within one half leaves of that half and of the other.
-use Rattle.std.proofs.Common.{◌≡◌, ◌⊎◌, inl, inr, ℕ, ◌+◌, ◌-◌, ◌*◌, ◌≤◌, max, List, ◌++◌, length, take, drop, refl, sym, ◌∙◌, ap, subst, arith, append_assoc, length-append, length-take, length-drop}
+use Rattle.std.proofs.Common.{◌≡◌, ◌⊎◌, inl, inr, ℕ, ◌+◌, ◌-◌, ◌*◌, ◌≤◌, List, ◌++◌, length, take, drop, sym, ◌∙◌, ap, subst, arith, append_assoc, length-take, length-drop}
 use Rattle.std.proofs.Math.Seq.{take-add}
 use Rattle.std.proofs.lemmas.List.{drop_at, drop-drop, drop-take, take-take}
-use Rattle.commit_journal.specs.CdEdges.Disk.{overwritten}
-use Rattle.commit_journal.proofs.CdEdges.Torn.{Torn}
-use Rattle.commit_journal.proofs.Chain.{overwritten_within}
-use Rattle.journal_halves.specs.Halves.{half_len, half_of}
+use Rattle.cd_edges.specs.Disk.{overwritten}
+use Rattle.cd_edges.proofs.Torn.{Torn}
+use Rattle.journal_halves.proofs.Chain.{overwritten_within}
+use Rattle.journal_halves.specs.Halves.{half_len}
 use Rattle.journal_halves.specs.Findings.{part_of}
 
 -- what stays of an area stays of its places from one on

@@ -3,9 +3,9 @@ use Rattle.std.proofs.Common.{◌≡◌, ◌≢◌, ◌⊎◌, inl, inr, ℕ, ze
 use Rattle.std.proofs.lemmas.Bool.{cases_Bool, eqb-true}
 use Rattle.std.proofs.lemmas.List.{ext_get_or}
 use Rattle.std.proofs.lemmas.List.Elements.{All-head, All-tail}
-use Rattle.commit_journal.specs.CdEdges.Disk.{Store, MayLeave, IsOutside}
-use Rattle.commit_journal.specs.Records.{IsJournalBody, sized, chain, IsJournal, is_begun}
-use Rattle.commit_journal.specs.Frames.{IsRecord}
+use Rattle.cd_edges.specs.Disk.{Store, MayLeave, IsOutside}
+use Rattle.journal_halves.specs.Records.{IsJournalBody, sized, chain, IsJournal, is_begun}
+use Rattle.journal_halves.specs.Frames.{IsRecord}
 use Rattle.journal_start.specs.Spelling.{start_bytes}
 use Rattle.journal_halves.specs.Halves.{half_len, half_of, is_half_begun, HasStart}
 use Rattle.journal_halves.specs.Journals.{Where, all_bodies, HasChain, used_by, IsClosedAt, AreInHalf, IsApart}

@@ -2,12 +2,12 @@
 use Rattle.std.proofs.Common.{◌≡◌, ◌≢◌, ◌⊎◌, inl, inr, ℕ, zero, suc, ◌+◌, ◌-◌, ◌*◌, ◌%◌, ◌<◌, ◌≤◌, true, false, List, [], ◌∷◌, length, take, drop, Option, Some, None, Result, Ok, Err, refl, sym, ◌∙◌, ap, subst, arith, length-take, length-drop, eqb-true}
 use Rattle.std.proofs.lemmas.Bool.{false≢true}
 use Rattle.std.proofs.lemmas.List.{take-take, take_min}
-use Rattle.commit_journal.specs.CdEdges.Shelf.{ReadsFrom}
-use Rattle.commit_journal.specs.declared.errors.JournalErr.TheVariants as errors
-use Rattle.commit_journal.specs.Records.{is_begun}
-use Rattle.commit_journal.specs.Frames.{IsClosed, IsRecord, HasBadLength, IsCutOff}
-use Rattle.commit_journal.specs.Outcomes.{DamageIs}
-use Rattle.commit_journal.proofs.Taken.{record_on, bad_on, short_ahead, prefix_of, all_of, body_ahead, length_ahead}
+use Rattle.cd_edges.specs.Shelf.{ReadsFrom}
+use Rattle.journal_halves.specs.declared.errors.RecordErr.TheVariants as errors
+use Rattle.journal_halves.specs.Records.{is_begun}
+use Rattle.journal_halves.specs.Frames.{IsClosed, IsRecord, HasBadLength, IsCutOff}
+use Rattle.journal_halves.specs.Outcomes.{DamageIs}
+use Rattle.journal_halves.proofs.Taken.{record_on, bad_on, short_ahead, prefix_of, all_of, body_ahead, length_ahead}
 use Rattle.journal_start.specs.declared.fault.StartFault.{StartFault}
 use Rattle.journal_start.specs.declared.start.Checkpoint.{Checkpoint}
 use Rattle.journal_start.specs.declared.start.Start.{Start}
@@ -81,7 +81,7 @@ closed_unbegun ahead c begun = shut c.gate c.behind c.shut (ap is_begun (sym c.s
     shut gate [] other e = false≢true e
     shut gate (x ∷ xs) other e = other (eqb-true gate 1 e)
 
-module _ (half : ℕ) (ahead rest : List ℕ) (is : ahead ≡ take 65541 rest) (few : length rest ≤ 134217728) (begun : is_begun rest ≡ true) where
+module _ (half : ℕ) (ahead rest : List ℕ) (is : ahead ≡ take 65541 rest) (begun : is_begun rest ≡ true) where
   window : ahead ≡ take (length ahead) rest
   window = prefix_of ahead rest 65541 is
 
@@ -93,10 +93,10 @@ module _ (half : ℕ) (ahead rest : List ℕ) (is : ahead ≡ take 65541 rest) (
   never_closed c = closed_unbegun ahead c (begun_ahead ahead rest is ∙ begun)
 
   pub bad_length : HasBadLength ahead → (at byte : ℕ) → DamageIs ahead 0 (errors.Damaged at byte) → IsStartDamage half rest at byte
-  bad_length bad at byte damage = inl (bad_on ahead rest window 0 (omega (arith, few)) bad at byte damage)
+  bad_length bad at byte damage = inl (bad_on ahead rest window 0 bad at byte damage)
 
   pub cut_off : IsCutOff ahead → (at byte : ℕ) → DamageIs ahead 0 (errors.Damaged at byte) → IsStartDamage half rest at byte
-  cut_off cut at byte damage = inl (short_ahead ahead rest 0 (all_of ahead rest is cut.few) (omega (arith, few)) (some_rest rest begun) cut at byte damage)
+  cut_off cut at byte damage = inl (short_ahead ahead rest 0 (all_of ahead rest is cut.few) (some_rest rest begun) cut at byte damage)
 
   pub is_right : (body read : List ℕ) (start : Start) → IsRecord ahead body → read ≡ body → IsSpelled half read start → IsStart half start × IsRecord rest (start_bytes start)
   is_right body read start r same spelled =

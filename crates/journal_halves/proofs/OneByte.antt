@@ -1,9 +1,9 @@
 -- What stays of a journal while the first byte of its other half is written.
 use Rattle.std.proofs.Common.{◌≡◌, ◌⊎◌, inl, inr, ℕ, ◌+◌, ◌-◌, ◌*◌, ◌<◌, ◌≤◌, max, List, [], ◌∷◌, ◌++◌, length, take, drop, get_or, sym, ◌∙◌, ap, subst, arith, append_assoc, length-append, length-drop}
-use Rattle.commit_journal.specs.CdEdges.Disk.{Store, MayLeave, IsOutside, greatest_end}
-use Rattle.commit_journal.specs.CdEdges.Shelf.{wrote, stable}
-use Rattle.commit_journal.specs.Records.{chain, AreBodies, IsJournal}
-use Rattle.commit_journal.specs.Frames.{IsRecord}
+use Rattle.cd_edges.specs.Disk.{Store, MayLeave, IsOutside, greatest_end}
+use Rattle.cd_edges.specs.Shelf.{wrote, stable}
+use Rattle.journal_halves.specs.Records.{chain, AreBodies, IsJournal}
+use Rattle.journal_halves.specs.Frames.{IsRecord}
 use Rattle.journal_start.specs.Spelling.{start_bytes}
 use Rattle.journal_halves.specs.Halves.{half_len, half_of, HasStart}
 use Rattle.journal_halves.specs.Journals.{Where, all_bodies, HasChain, used_by}

@@ -1,14 +1,12 @@
 -- One record further.
-use Rattle.std.proofs.Common.{◌≡◌, ◌⊎◌, inl, inr, ℕ, ◌+◌, ◌-◌, ◌*◌, ◌^◌, ◌<◌, ◌≤◌, min, Bool, true, false, List, [], ◌∷◌, ◌++◌, length, take, drop, Result, Ok, Err, refl, sym, ◌∙◌, ap, subst, arith, append_assoc, length-append, length-take, length-drop}
+use Rattle.std.proofs.Common.{◌≡◌, ℕ, ◌+◌, ◌-◌, ◌*◌, ◌<◌, ◌≤◌, min, Bool, true, false, List, [], ◌∷◌, ◌++◌, length, take, drop, Result, Ok, Err, refl, sym, ◌∙◌, ap, subst, arith, append_assoc, length-append, length-take, length-drop}
 use Rattle.std.proofs.lemmas.List.{take-append-drop, drop_at, drop-drop, drop-take, take-take, take-append-le, take_min}
-use Rattle.commit_journal.specs.CdEdges.Disk.{Store}
-use Rattle.commit_journal.specs.CdEdges.Shelf.{ReadsFrom}
-use Rattle.commit_journal.specs.declared.errors.JournalErr.TheVariants as errors
-use Rattle.commit_journal.specs.Records.{sized, chain, IsDamage}
-use Rattle.commit_journal.specs.Frames.{IsClosed, IsRecord, HasBadLength, IsCutOff}
-use Rattle.commit_journal.specs.Outcomes.{DamageIs as IsOldDamage}
-use Rattle.commit_journal.proofs.Chain.{chain-push, length-chain-push, bodies_more}
-use Rattle.commit_journal.proofs.Taken.{bad_on, short_ahead}
+use Rattle.cd_edges.specs.Disk.{Store}
+use Rattle.cd_edges.specs.Shelf.{ReadsFrom}
+use Rattle.journal_halves.specs.Records.{sized, chain, IsDamage}
+use Rattle.journal_halves.specs.Frames.{IsClosed, IsRecord, HasBadLength, IsCutOff}
+use Rattle.journal_halves.proofs.Chain.{chain-push, length-chain-push, bodies_more}
+use Rattle.journal_halves.proofs.Taken.{bad_on, short_ahead}
 use Rattle.journal_halves.specs.Halves.{half_len, half_of}
 use Rattle.journal_halves.specs.Findings.{part_of}
 use Rattle.journal_halves.proofs.Looks.{part_short}
@@ -89,17 +87,13 @@ step_from old mid new (Err e) half gate same = tt
 
 -- ---- damage
 
-as_before : (ahead : List ℕ) (gate at byte : ℕ) → gate + 1 < 2 ^ 64 → DamageIs ahead gate (Damaged at byte) → IsOldDamage ahead gate (errors.Damaged at byte)
-as_before ahead gate at byte small (inl d) = inl d
-as_before ahead gate at byte small (inr d) = inr (d.0, omega (arith, d.1, small), d.2)
-
-module _ (old new : HalfState) (rest : List ℕ) (fits : gate_at old + length rest + 1 < 2 ^ 64) where
+module _ (old new : HalfState) (rest : List ℕ) where
   pub bad_taken : IsWindow old rest → HasBadLength old.ahead → (e : RecordErr) → DamageIs old.ahead (gate_at old) e → TakenIs old new rest (Err e)
-  bad_taken window bad (Damaged at byte) damage = bad_on old.ahead rest window (gate_at old) (omega (arith, fits)) bad at byte (as_before old.ahead (gate_at old) at byte (omega (arith, fits)) damage)
+  bad_taken window bad (Damaged at byte) damage = bad_on old.ahead rest window (gate_at old) bad at byte damage
   bad_taken window bad Failed damage = damage
 
   pub short_taken : old.ahead ≡ rest → 0 < length rest → IsCutOff old.ahead → (e : RecordErr) → DamageIs old.ahead (gate_at old) e → TakenIs old new rest (Err e)
-  short_taken same some cut (Damaged at byte) damage = short_ahead old.ahead rest (gate_at old) same (omega (arith, fits)) some cut at byte (as_before old.ahead (gate_at old) at byte (omega (arith, fits)) damage)
+  short_taken same some cut (Damaged at byte) damage = short_ahead old.ahead rest (gate_at old) same some cut at byte damage
   short_taken same some cut Failed damage = damage
 
 -- ---- what a read puts into the window, up to the half's end

@@ -1,10 +1,10 @@
 -- What a crash leaves while the first gate of a laid checkpoint is opened: the old chain or the new one.
 use Rattle.std.proofs.Common.{◌≡◌, inl, inr, ℕ, ◌+◌, ◌-◌, ◌*◌, ◌<◌, true, false, List, [], ◌∷◌, ◌++◌, length, take, drop, get_or, refl, sym, ◌∙◌, ap, subst, arith, append_assoc, length-drop, get_or-drop}
 use Rattle.std.proofs.lemmas.Bool.{cases_Bool}
-use Rattle.commit_journal.specs.CdEdges.Disk.{Store, MayLeave}
-use Rattle.commit_journal.specs.CdEdges.Shelf.{wrote}
-use Rattle.commit_journal.specs.Records.{chain}
-use Rattle.commit_journal.specs.Frames.{IsRecord}
+use Rattle.cd_edges.specs.Disk.{Store, MayLeave}
+use Rattle.cd_edges.specs.Shelf.{wrote}
+use Rattle.journal_halves.specs.Records.{chain}
+use Rattle.journal_halves.specs.Frames.{IsRecord}
 use Rattle.journal_start.specs.Spelling.{start_bytes}
 use Rattle.journal_halves.specs.Halves.{half_len, half_of, is_half_begun, HasStart}
 use Rattle.journal_halves.specs.Journals.{Where, all_bodies, HasChain, IsLaidWhole, IsEither}

@@ -2,9 +2,9 @@
 use Rattle.std.proofs.Common.{◌≡◌, inl, inr, ℕ, ◌+◌, ◌-◌, ◌*◌, ◌<◌, ◌≤◌, true, false, List, [], ◌∷◌, length, get_or, sym, ◌∙◌, ap, subst, arith, length-drop, get_or-drop}
 use Rattle.std.proofs.lemmas.Bool.{cases_Bool, cases_lt}
 use Rattle.std.proofs.lemmas.List.{ext_get_or}
-use Rattle.commit_journal.specs.CdEdges.Disk.{Store, MayLeave}
-use Rattle.commit_journal.specs.CdEdges.Shelf.{wrote}
-use Rattle.commit_journal.specs.Records.{is_begun}
+use Rattle.cd_edges.specs.Disk.{Store, MayLeave}
+use Rattle.cd_edges.specs.Shelf.{wrote}
+use Rattle.journal_halves.specs.Records.{is_begun}
 use Rattle.journal_halves.specs.Halves.{half_len, half_of, is_half_begun}
 use Rattle.journal_halves.specs.Journals.{Where, HasChain, Stands, IsOpenAt}
 use Rattle.journal_halves.proofs.Laying.{first_is}

@@ -1,7 +1,6 @@
 -- A journal that isn't begun, and one that has just been.
 use Rattle.std.specs.Prelude.{◌≡◌, ℕ, false, List, [], None}
 use Rattle.journal_start.specs.declared.start.Header.{Header}
-use Rattle.journal_start.specs.declared.start.Start.{Start}
 use Rattle.journal_halves.specs.Halves.{is_half_begun}
 use Rattle.journal_halves.specs.Journals.{Where}
 

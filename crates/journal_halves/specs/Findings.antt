@@ -1,7 +1,7 @@
 -- What the halves of a journal are found to begin with.
 use Rattle.std.specs.Prelude.{◌≡◌, ◌⊎◌, ℕ, ◌+◌, ◌*◌, true, false, List, take, length, ◌==◌, if◌then◌else◌, Option, Some, None, Result, Ok, Err}
-use Rattle.commit_journal.specs.Records.{IsDamage}
-use Rattle.commit_journal.specs.Frames.{IsRecord}
+use Rattle.journal_halves.specs.Records.{IsDamage}
+use Rattle.journal_halves.specs.Frames.{IsRecord}
 use Rattle.journal_start.specs.declared.fault.StartFault.{StartFault}
 use Rattle.journal_start.specs.declared.fault.StartFault.TheVariants.{Short, Wrong}
 use Rattle.journal_start.specs.declared.start.Start.{Start}

@@ -1,7 +1,7 @@
 -- A journal of two halves: which of them are begun, and which is the current one.
 use Rattle.std.specs.Prelude.{◌≡◌, ◌⊎◌, ℕ, ◌+◌, ◌*◌, ◌-◌, ◌%◌, Bool, false, List, drop}
-use Rattle.commit_journal.specs.Records.{is_begun}
-use Rattle.commit_journal.specs.Frames.{IsRecord}
+use Rattle.journal_halves.specs.Records.{is_begun}
+use Rattle.journal_halves.specs.Frames.{IsRecord}
 use Rattle.journal_start.specs.declared.rooms.UserRooms.{UserRooms}
 use Rattle.journal_start.specs.declared.start.Start.{Start}
 use Rattle.journal_start.specs.Ranges.{IsStart}

@@ -1,8 +1,8 @@
 -- The chain of a journal's current half, and a checkpoint that is laid in the other.
 use Rattle.std.specs.Prelude.{◌≡◌, ◌≢◌, ◌⊎◌, ℕ, ◌+◌, ◌-◌, ◌*◌, ◌%◌, ◌<◌, ◌≤◌, List, [], ◌∷◌, ◌++◌, length, drop, take, slice_index, All}
-use Rattle.commit_journal.specs.CdEdges.Disk.{Store}
-use Rattle.commit_journal.specs.CdEdges.Shelf.{stable}
-use Rattle.commit_journal.specs.Records.{chain, AreBodies, IsJournal}
+use Rattle.cd_edges.specs.Disk.{Store}
+use Rattle.cd_edges.specs.Shelf.{stable}
+use Rattle.journal_halves.specs.Records.{chain, AreBodies, IsJournal}
 use Rattle.journal_start.specs.declared.start.Start.{Start}
 use Rattle.journal_start.specs.Ranges.{IsStart}
 use Rattle.journal_start.specs.Spelling.{start_bytes, epoch_of}

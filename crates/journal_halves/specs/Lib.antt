@@ -2,10 +2,11 @@ pub mod Beginnings
 pub mod CdBase
 pub mod CdEdges
 pub mod Choices
-pub mod CommitJournal
 pub mod Findings
+pub mod Frames
 pub mod Halves
 pub mod JournalStart
 pub mod Journals
 pub mod Outcomes
+pub mod Records
 pub mod States

@@ -1,10 +1,10 @@
 -- What the calls on the records of a half answer, and what they leave.
-use Rattle.std.specs.Prelude.{◌≡◌, ◌≢◌, ◌⊎◌, ℕ, ◌+◌, ◌-◌, ◌*◌, ◌<◌, ◌≤◌, Bool, true, false, IsTrue, List, [], ◌∷◌, ◌++◌, length, take, drop, slice_index, Result, Ok, Err, OnOk}
-use Rattle.commit_journal.specs.CdEdges.area.Area.{Area}
-use Rattle.commit_journal.specs.CdEdges.area.Area.TheVariants.{Journal}
-use Rattle.commit_journal.specs.CdEdges.Disk.{Store, Cloud, LeavesOnly, IsAtArea, moment}
-use Rattle.commit_journal.specs.Records.{IsJournalBody, IsDamage}
-use Rattle.commit_journal.specs.Frames.{IsClosed, IsRecord}
+use Rattle.std.specs.Prelude.{◌≡◌, ◌≢◌, ◌⊎◌, ℕ, ◌+◌, ◌-◌, ◌*◌, ◌≤◌, Bool, true, false, IsTrue, List, [], ◌∷◌, ◌++◌, length, take, drop, slice_index, Result, Ok, Err}
+use Rattle.cd_edges.specs.declared.area.Area.{Area}
+use Rattle.cd_edges.specs.declared.area.Area.TheVariants.{Journal}
+use Rattle.cd_edges.specs.Disk.{Store, Cloud, LeavesOnly, IsAtArea}
+use Rattle.journal_halves.specs.Records.{IsJournalBody, IsDamage}
+use Rattle.journal_halves.specs.Frames.{IsClosed, IsRecord}
 use Rattle.journal_halves.specs.Halves.{half_len}
 use Rattle.journal_halves.specs.Findings.{part_of}
 use Rattle.journal_halves.specs.declared.errors.RecordErr.{RecordErr}

@@ -1,8 +1,8 @@
 -- What is read of the records of a half.
 use Rattle.std.specs.Prelude.{◌≡◌, ◌⊎◌, ℕ, ◌+◌, ◌-◌, ◌<◌, ◌≤◌, List, [], ◌∷◌, ◌++◌, length, take, drop}
-use Rattle.commit_journal.specs.CdEdges.Disk.{Store}
-use Rattle.commit_journal.specs.CdEdges.Shelf.{stable}
-use Rattle.commit_journal.specs.Records.{chain, AreBodies, IsJournal}
+use Rattle.cd_edges.specs.Disk.{Store}
+use Rattle.cd_edges.specs.Shelf.{stable}
+use Rattle.journal_halves.specs.Records.{chain, AreBodies, IsJournal}
 use Rattle.journal_halves.specs.Halves.{half_len, half_of}
 use Rattle.journal_halves.specs.Findings.{part_of}
 use Rattle.journal_halves.specs.declared.records.HalfRecords.{HalfRecords}

@@ -2,9 +2,9 @@
 
 ghost use Rattle.std.specs.Prelude.{◌≡◌, ℕ, ◌≤◌, List, length, take, IsTrue, Option, Ok, IfOk, IfSome};
 ghost use Rattle.journal_start.specs.Ranges.{IsStart};
-ghost use Rattle.commit_journal.specs.CdEdges.area.Area.{Area};
-ghost use Rattle.commit_journal.specs.CdEdges.Shelf.{IsCall, HasFailed, KeepsCounts, Stays};
-ghost use Rattle.commit_journal.specs.Records.{is_begun};
+ghost use Rattle.cd_edges.specs.declared.area.Area.{Area};
+ghost use Rattle.cd_edges.specs.Shelf.{IsCall, HasFailed, KeepsCounts, Stays};
+ghost use Rattle.journal_halves.specs.Records.{is_begun};
 ghost use Rattle.journal_halves.specs.Halves.{half_of};
 ghost use Rattle.journal_start.specs.declared.start.Start.{Start};
 ghost use Rattle.journal_halves.specs.Findings.{LookIs, FindIs, OnFault};
@@ -14,11 +14,8 @@ ghost use Rattle.journal_halves.specs.Choices.{AnswerIs, IsChosen};
 use crate::choice::{Choice, choose};
 use crate::record::{HalfDamage, read_start};
 use crate::{FindErr, Found, HALF_LEN};
-use commit_journal::{Area, CloudNo, Failed, Shelf};
+use cd_edges::{Area, CloudNo, Failed, Shelf};
 use journal_start::Start;
-
-/// How many bytes are read of a half at once: the longest record and its next gate.
-pub const WINDOW: usize = commit_journal::WINDOW;
 
 // Whether the bytes begin a half.
 fn begins(bytes: &[u8]) -> bool

@@ -1,10 +1,16 @@
 //! The laws of a journal in two halves, for the proofs of callers. The calls do nothing.
 
 ghost use Rattle.std.specs.Prelude.{◌≡◌, ℕ, ◌*◌, ◌-◌, List, [], ◌∷◌};
-ghost use Rattle.commit_journal.specs.CdEdges.Disk.{Store, MayLeave};
-ghost use Rattle.commit_journal.specs.CdEdges.Shelf.{wrote};
+ghost use Rattle.cd_edges.specs.Disk.{Store, MayLeave};
+ghost use Rattle.cd_edges.specs.Shelf.{wrote};
+ghost use Rattle.journal_halves.specs.Records.{IsJournal};
 ghost use Rattle.journal_halves.specs.Halves.{half_len};
 ghost use Rattle.journal_halves.specs.Journals.{Where, HasChain, IsEither, Stands, IsOpenAt, IsApart, IsLaidWhole};
+
+/// Bytes are the journal of one list of bodies at most.
+pub fn law_of_journals()
+    ensures { (one two : List (List ℕ)) (bytes : List ℕ) → IsJournal one bytes → IsJournal two bytes → one ≡ two }
+{}
 
 /// Bytes are the journal of one chain at most: one half is the current one, with one start and one list of bodies.
 pub fn law_of_chains()

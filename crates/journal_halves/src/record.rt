@@ -1,16 +1,16 @@
 //! The start of one half, by what was read of it.
 
 ghost use Rattle.std.specs.Prelude.{◌≡◌, ℕ, ◌+◌, ◌≤◌, List, length, take, drop, true, MatchResult, IfOk, IfErr};
-ghost use Rattle.commit_journal.specs.Outcomes.{DamageIs};
-ghost use Rattle.commit_journal.specs.declared.errors.JournalErr.TheVariants.{Damaged};
+ghost use Rattle.journal_halves.specs.Outcomes.{DamageIs};
+ghost use Rattle.journal_halves.specs.declared.errors.RecordErr.TheVariants.{Damaged};
 ghost use Rattle.journal_start.specs.Reading.{IsPlaced};
-ghost use Rattle.commit_journal.specs.Records.{is_begun};
-ghost use Rattle.commit_journal.specs.Frames.{IsRecord};
+ghost use Rattle.journal_halves.specs.Records.{is_begun};
+ghost use Rattle.journal_halves.specs.Frames.{IsRecord};
 ghost use Rattle.journal_start.specs.Ranges.{IsStart};
 ghost use Rattle.journal_start.specs.Spelling.{start_bytes};
 ghost use Rattle.journal_halves.specs.Findings.{IsStartDamage, IsFaultAt};
 
-use commit_journal::{Frame, frame_of};
+use crate::{Frame, frame_of};
 use journal_start::{Start, StartFault};
 
 /// A place in a half that is wrong, and its byte.

@@ -1,18 +1,16 @@
 //! Records of one half, read one after another and added at the end.
 
 ghost use Rattle.std.specs.Prelude.{◌≡◌, ◌≢◌, ◌⊎◌, ℕ, ◌+◌, ◌-◌, ◌*◌, ◌<◌, ◌≤◌, List, [], ◌∷◌, ◌++◌, length, take, drop, vec_len, true, IsTrue, Ok, IfOk, OnOk, OnErr};
-ghost use Rattle.commit_journal.specs.CdEdges.area.Area.{Area};
-ghost use Rattle.commit_journal.specs.CdEdges.Disk.{moment};
-ghost use Rattle.commit_journal.specs.CdEdges.Shelf.{IsCall, HasFailed, KeepsCounts, Stays};
-ghost use Rattle.commit_journal.specs.Records.{framed};
+ghost use Rattle.cd_edges.specs.declared.area.Area.{Area};
+ghost use Rattle.cd_edges.specs.Disk.{moment};
+ghost use Rattle.cd_edges.specs.Shelf.{IsCall, HasFailed, KeepsCounts, Stays};
+ghost use Rattle.journal_halves.specs.Records.{framed};
 ghost use Rattle.journal_start.specs.Ranges.{IsStart};
 ghost use Rattle.journal_halves.specs.Halves.{half_len};
 ghost use Rattle.journal_halves.specs.Findings.{FindIs, OnFault};
 
-use crate::{FindErr, Found, HALF_LEN, RecordErr, find};
-use commit_journal::{
-    Area, CloudNo, Failed, Frame, NoMemory, Shelf, WINDOW, frame_of, write_synced,
-};
+use crate::{FindErr, Found, Frame, HALF_LEN, RecordErr, WINDOW, find, frame_of};
+use cd_edges::{Area, CloudNo, Failed, NoMemory, Shelf, write_synced};
 use std::alloc::Global;
 
 /// The records of one half of a cloud's journal, read up to a gate.
@@ -51,7 +49,7 @@ fn put_framed(buffer: &mut [u8], body: &[u8])
 }
 
 impl HalfRecords {
-    ghost use Rattle.commit_journal.specs.Frames.{IsFrame, IsRecord};
+    ghost use Rattle.journal_halves.specs.Frames.{IsFrame, IsRecord};
     ghost use Rattle.journal_halves.specs.States.{state_of, begun_at};
     ghost use Rattle.journal_halves.specs.Outcomes.{IsWindow, IsRecordFurther, gate_at, rest_of, TakenIs, DamageIs, StepIs, IsHandled, OnFailed, OthersStay, KeepsOrAdds, HasAdded, ReadsNext};
 

@@ -6,10 +6,10 @@ use Rattle.std.proofs.lemmas.List.{drop_at}
 use Rattle.std.proofs.lemmas.List.Elements.{All-head, All-tail}
 use Rattle.fresh_checkpoints.specs.CdEdges.area.Area.TheVariants.{Journal, Shares, Recipes}
 use Rattle.fresh_checkpoints.specs.CdEdges.Disk.{Image}
-use Rattle.store_opening.specs.CommitJournal.Records.{sized, chain, IsJournal}
-use Rattle.store_opening.specs.CommitJournal.Frames.{IsClosed, IsRecord}
-use Rattle.store_opening.proofs.CommitJournal.Headed.{one_record}
-use Rattle.store_opening.proofs.CommitJournal.Unique.{undamaged, whole_record}
+use Rattle.store_opening.specs.JournalHalves.Records.{sized, chain, IsJournal}
+use Rattle.store_opening.specs.JournalHalves.Frames.{IsClosed, IsRecord}
+use Rattle.store_opening.proofs.JournalHalves.Headed.{one_record}
+use Rattle.store_opening.proofs.JournalHalves.Unique.{undamaged, whole_record}
 use Rattle.store_opening.specs.JournalStart.start.Checkpoint.{Checkpoint}
 use Rattle.store_opening.specs.JournalStart.start.Header.{Header}
 use Rattle.store_opening.specs.JournalStart.start.Start.{Start}

@@ -6,7 +6,7 @@ use Rattle.fresh_checkpoints.specs.CdEdges.area.Area.{Area}
 use Rattle.fresh_checkpoints.specs.CdEdges.area.Area.TheVariants.{Journal, Shares, Recipes}
 use Rattle.fresh_checkpoints.specs.CdEdges.Disk.{Store, Areas, Cloud, Image, reads}
 use Rattle.fresh_checkpoints.specs.CdEdges.Shelf.{stable, Stays}
-use Rattle.store_opening.specs.CommitJournal.Records.{chain}
+use Rattle.store_opening.specs.JournalHalves.Records.{chain}
 use Rattle.store_opening.specs.JournalStart.start.Checkpoint.{Checkpoint}
 use Rattle.store_opening.specs.JournalStart.start.Header.{Header}
 use Rattle.store_opening.specs.JournalStart.start.Start.{Start}

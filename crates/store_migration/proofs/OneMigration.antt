@@ -9,9 +9,9 @@ use Rattle.fresh_checkpoints.specs.CdBase.place.Place.{Place}
 use Rattle.fresh_checkpoints.specs.CdBase.shape.Shape.{Shape}
 use Rattle.fresh_checkpoints.specs.CdEdges.area.Area.TheVariants.{Journal, Recipes}
 use Rattle.fresh_checkpoints.specs.CdEdges.Disk.{Image}
-use Rattle.store_opening.specs.CommitJournal.Frames.{IsRecord}
-use Rattle.store_opening.proofs.CommitJournal.Headed.{one_record}
-use Rattle.store_opening.proofs.CommitJournal.Unique.{undamaged}
+use Rattle.store_opening.specs.JournalHalves.Frames.{IsRecord}
+use Rattle.store_opening.proofs.JournalHalves.Headed.{one_record}
+use Rattle.store_opening.proofs.JournalHalves.Unique.{undamaged}
 use Rattle.store_opening.specs.FileIndex.key.Entry.{Entry}
 use Rattle.store_opening.specs.RecordBodies.Reading.{body_at}
 use Rattle.store_opening.specs.RecordBodies.Spelling.{Body}

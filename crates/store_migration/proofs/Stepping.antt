@@ -2,7 +2,7 @@
 use Rattle.std.proofs.Common.{◌≡◌, inl, inr, ℕ, ◌+◌, ◌*◌, Bool, true, false, List, length, drop, nat_lt, Result, Ok, Err, refl, sym, ◌∙◌, ap, subst, arith}
 use Rattle.std.proofs.lemmas.List.{drop-drop}
 use Rattle.fresh_checkpoints.specs.CdEdges.Disk.{Store}
-use Rattle.store_opening.specs.CommitJournal.Frames.{IsRecord}
+use Rattle.store_opening.specs.JournalHalves.Frames.{IsRecord}
 use Rattle.store_opening.specs.JournalStart.start.Start.{Start}
 use Rattle.store_opening.specs.JournalStart.Spelling.{records_of}
 use Rattle.fresh_checkpoints.specs.JournalHalves.Halves.{half_len}

@@ -8,7 +8,7 @@ use Rattle.fresh_checkpoints.specs.CdEdges.Disk.{Store, Image, Cloud, MayLeave, 
 use Rattle.fresh_checkpoints.specs.CdEdges.Shelf.{stable}
 use Rattle.fresh_checkpoints.proofs.CdEdges.Moments.{at_end}
 use Rattle.fresh_checkpoints.proofs.CdEdges.Since.{image_of_stable}
-use Rattle.store_opening.specs.CommitJournal.Records.{IsJournal}
+use Rattle.store_opening.specs.JournalHalves.Records.{IsJournal}
 use Rattle.store_opening.specs.JournalStart.start.Header.{Header}
 use Rattle.store_opening.specs.JournalStart.start.Start.{Start}
 use Rattle.store_opening.specs.JournalStart.Spelling.{recipes_end_of}

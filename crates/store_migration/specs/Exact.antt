@@ -6,8 +6,8 @@ use Rattle.fresh_checkpoints.specs.CdBase.ids.UserId.{UserId}
 use Rattle.fresh_checkpoints.specs.CdBase.shape.Shape.{Shape}
 use Rattle.fresh_checkpoints.specs.CdEdges.area.Area.TheVariants.{Journal, Recipes}
 use Rattle.fresh_checkpoints.specs.CdEdges.Disk.{Image}
-use Rattle.store_opening.specs.CommitJournal.Records.{IsDamage}
-use Rattle.store_opening.specs.CommitJournal.Frames.{IsClosed, IsRecord}
+use Rattle.store_opening.specs.JournalHalves.Records.{IsDamage}
+use Rattle.store_opening.specs.JournalHalves.Frames.{IsClosed, IsRecord}
 use Rattle.store_opening.specs.JournalStart.rooms.UserRooms.{UserRooms}
 use Rattle.store_opening.specs.JournalStart.start.Header.{Header}
 use Rattle.store_opening.specs.JournalStart.start.Start.{Start}

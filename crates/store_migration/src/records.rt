@@ -4,7 +4,7 @@ ghost use Rattle.std.specs.Prelude.{◌≡◌, ◌≤◌, ◌<◌, ◌+◌, ◌^
 ghost use Rattle.fresh_checkpoints.specs.CdBase.Limits.{recipe_limit};
 ghost use Rattle.fresh_checkpoints.specs.CdEdges.area.Area.{Area};
 ghost use Rattle.fresh_checkpoints.specs.CdEdges.Shelf.{IsCall, HasFailed, KeepsCounts, Stays};
-ghost use Rattle.store_opening.specs.CommitJournal.Records.{IsJournalBody};
+ghost use Rattle.store_opening.specs.JournalHalves.Records.{IsJournalBody};
 ghost use Rattle.fresh_checkpoints.specs.JournalHalves.Journals.{Where};
 ghost use Rattle.store_opening.specs.JournalStart.Spelling.{records_of};
 ghost use Rattle.store_opening.specs.HalfJournal.journal.Stage.TheVariants as Stage;

@@ -7,7 +7,7 @@ use Rattle.cloud_disk.specs.JournalStart.start.Header.{Header}
 use Rattle.cloud_disk.specs.JournalStart.start.Start.{Start}
 use Rattle.cloud_disk.specs.JournalHalves.Halves.{half_of, half_limit}
 use Rattle.cloud_disk.specs.JournalHalves.Journals.{Where, all_bodies, HasChain}
-use Rattle.cloud_disk.specs.CommitJournal.Records.{IsJournal}
+use Rattle.cloud_disk.specs.JournalHalves.Records.{IsJournal}
 use Rattle.cloud_disk.specs.HalfJournal.errors.OpenErr.{OpenErr}
 use Rattle.cloud_disk.specs.HalfJournal.errors.OpenErr.TheVariants.{Fault, NotBegun, Damaged, OtherStore}
 use Rattle.cloud_disk.specs.HalfJournal.Openings.{OnFault}

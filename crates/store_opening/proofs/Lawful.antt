@@ -7,10 +7,10 @@ use Rattle.std.proofs.lemmas.List.{drop_at}
 use Rattle.std.proofs.lemmas.List.Elements.{All-head, All-tail}
 use Rattle.cloud_disk.specs.CdEdges.area.Area.TheVariants.{Journal, Recipes}
 use Rattle.cloud_disk.specs.CdEdges.Disk.{Image}
-use Rattle.cloud_disk.specs.CommitJournal.Records.{sized, chain, IsJournal}
-use Rattle.cloud_disk.specs.CommitJournal.Frames.{IsClosed, IsRecord}
-use Rattle.cloud_disk.proofs.CommitJournal.Headed.{one_record}
-use Rattle.cloud_disk.proofs.CommitJournal.Unique.{undamaged, whole_record}
+use Rattle.cloud_disk.specs.JournalHalves.Records.{sized, chain, IsJournal}
+use Rattle.cloud_disk.specs.JournalHalves.Frames.{IsClosed, IsRecord}
+use Rattle.cloud_disk.proofs.JournalHalves.Headed.{one_record}
+use Rattle.cloud_disk.proofs.JournalHalves.Unique.{undamaged, whole_record}
 use Rattle.cloud_disk.specs.JournalStart.start.Header.{Header}
 use Rattle.cloud_disk.specs.JournalStart.start.Start.{Start}
 use Rattle.cloud_disk.specs.JournalStart.Spelling.{start_bytes, records_of, commands_of}

@@ -20,4 +20,4 @@ pub mod Stepping
 pub mod Synced
 pub mod Traced
 pub mod UserDedup
-pub mod CommitJournal
+pub mod JournalHalves

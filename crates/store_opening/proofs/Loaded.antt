@@ -2,7 +2,7 @@
 use Rattle.std.proofs.Common.{◌≡◌, ℕ, ◌+◌, ◌*◌, ◌≤◌, List, [], ◌∷◌, length, drop, Result, ◌∙◌, ap, subst, arith, length-append}
 use Rattle.cloud_disk.specs.CdEdges.area.Area.TheVariants.{Journal, Shares, Recipes}
 use Rattle.cloud_disk.specs.CdEdges.Disk.{Store, Areas, Cloud, reads}
-use Rattle.cloud_disk.specs.CommitJournal.Records.{chain}
+use Rattle.cloud_disk.specs.JournalHalves.Records.{chain}
 use Rattle.cloud_disk.specs.JournalStart.start.Header.{Header}
 use Rattle.cloud_disk.specs.JournalStart.start.Start.{Start}
 use Rattle.cloud_disk.specs.JournalStart.Spelling.{start_bytes, region_of}

@@ -2,9 +2,9 @@
 use Rattle.std.proofs.Common.{◌≡◌, ℕ, ◌+◌, ◌*◌, Bool, true, false, List, length, take, drop, nat_lt, Option, Some, Result, Ok, Err, OnOk, refl, sym, ◌∙◌, ap, subst, arith}
 use Rattle.cloud_disk.specs.CdEdges.area.Area.TheVariants.{Journal, Recipes}
 use Rattle.cloud_disk.specs.CdEdges.Disk.{Image}
-use Rattle.cloud_disk.specs.CommitJournal.Frames.{IsRecord}
-use Rattle.cloud_disk.proofs.CommitJournal.Headed.{one_record}
-use Rattle.cloud_disk.proofs.CommitJournal.Unique.{undamaged}
+use Rattle.cloud_disk.specs.JournalHalves.Frames.{IsRecord}
+use Rattle.cloud_disk.proofs.JournalHalves.Headed.{one_record}
+use Rattle.cloud_disk.proofs.JournalHalves.Unique.{undamaged}
 use Rattle.record_laws.specs.FileIndex.key.Entry.{Entry}
 use Rattle.cloud_disk.specs.RecordBodies.Reading.{body_at}
 use Rattle.cloud_disk.specs.RecordBodies.Spelling.{Body}

@@ -1,9 +1,9 @@
 -- The starts of a journal are damaged at one place at most.
 use Rattle.std.proofs.Common.{◌≡◌, inl, inr, ℕ, zero, suc, ◌+◌, ◌-◌, ◌%◌, ◌≤◌, true, false, List, ◌∷◌, length, Result, Ok, Err, sym, ◌∙◌, ap, subst, arith}
 use Rattle.std.proofs.lemmas.Bool.{false≢true}
-use Rattle.cloud_disk.specs.CommitJournal.Records.{IsDamage, LastGate, BadLength}
-use Rattle.cloud_disk.proofs.CommitJournal.Headed.{one_record}
-use Rattle.cloud_disk.proofs.CommitJournal.Unique.{undamaged}
+use Rattle.cloud_disk.specs.JournalHalves.Records.{IsDamage, LastGate, BadLength}
+use Rattle.cloud_disk.proofs.JournalHalves.Headed.{one_record}
+use Rattle.cloud_disk.proofs.JournalHalves.Unique.{undamaged}
 use Rattle.cloud_disk.specs.JournalStart.fault.StartFault.{StartFault}
 use Rattle.cloud_disk.specs.JournalStart.fault.StartFault.TheVariants.{Short, Wrong}
 use Rattle.cloud_disk.specs.JournalStart.start.Start.{Start}

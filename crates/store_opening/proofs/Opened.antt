@@ -7,8 +7,8 @@ use Rattle.cloud_disk.specs.CdEdges.area.Area.TheVariants.{Journal, Shares, Reci
 use Rattle.cloud_disk.specs.CdEdges.Disk.{Store, Areas, Image, Cloud, IsImage, LeavesOnly, reads}
 use Rattle.cloud_disk.specs.CdEdges.Shelf.{stable, Stays}
 use Rattle.cloud_disk.proofs.CdEdges.Moments.{joined, stayed, weaker, at_end}
-use Rattle.cloud_disk.specs.CommitJournal.Records.{sized, chain, IsDamage, LastGate, BadLength}
-use Rattle.cloud_disk.specs.CommitJournal.Frames.{IsClosed, IsRecord}
+use Rattle.cloud_disk.specs.JournalHalves.Records.{sized, chain, IsDamage, LastGate, BadLength}
+use Rattle.cloud_disk.specs.JournalHalves.Frames.{IsClosed, IsRecord}
 use Rattle.cloud_disk.specs.JournalStart.start.Header.{Header}
 use Rattle.cloud_disk.specs.JournalStart.start.Start.{Start}
 use Rattle.cloud_disk.specs.JournalStart.Spelling.{start_bytes, records_of, commands_of, region_of}

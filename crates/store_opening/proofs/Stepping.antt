@@ -3,9 +3,9 @@ use Rattle.std.proofs.Common.{◌≡◌, inl, inr, ℕ, ◌+◌, ◌-◌, ◌*�
 use Rattle.std.proofs.Math.Seq.{take-append-add}
 use Rattle.std.proofs.lemmas.List.{append_cancel_left, drop-drop, drop_at}
 use Rattle.cloud_disk.specs.CdEdges.Disk.{Store}
-use Rattle.cloud_disk.specs.CommitJournal.Records.{sized, chain, AreBodies}
-use Rattle.cloud_disk.specs.CommitJournal.Frames.{IsClosed, IsRecord}
-use Rattle.cloud_disk.proofs.CommitJournal.Chain.{chain-push}
+use Rattle.cloud_disk.specs.JournalHalves.Records.{sized, chain, AreBodies}
+use Rattle.cloud_disk.specs.JournalHalves.Frames.{IsClosed, IsRecord}
+use Rattle.cloud_disk.proofs.JournalHalves.Chain.{chain-push}
 use Rattle.cloud_disk.specs.JournalStart.start.Start.{Start}
 use Rattle.cloud_disk.specs.JournalStart.Spelling.{records_of}
 use Rattle.cloud_disk.specs.JournalHalves.Halves.{half_len, half_of}

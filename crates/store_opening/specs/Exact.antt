@@ -4,8 +4,8 @@ use Rattle.std.specs.Int.{w32, to_be_bytes}
 use Rattle.std.specs.List.{sum_by}
 use Rattle.cloud_disk.specs.CdEdges.area.Area.TheVariants.{Journal, Shares, Recipes}
 use Rattle.cloud_disk.specs.CdEdges.Disk.{Image}
-use Rattle.cloud_disk.specs.CommitJournal.Records.{IsDamage}
-use Rattle.cloud_disk.specs.CommitJournal.Frames.{IsClosed, IsRecord}
+use Rattle.cloud_disk.specs.JournalHalves.Records.{IsDamage}
+use Rattle.cloud_disk.specs.JournalHalves.Frames.{IsClosed, IsRecord}
 use Rattle.cloud_disk.specs.CdBase.place.Place.{Place}
 use Rattle.record_laws.specs.SpentTable.Spent.{Spent}
 use Rattle.cloud_disk.specs.JournalStart.start.Header.{Header}

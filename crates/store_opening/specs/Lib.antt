@@ -1,6 +1,5 @@
 pub mod CloudAreas
 pub mod CloudMemory
-pub mod CommitJournal
 pub mod ContainerLog
 pub mod Exact
 pub mod FileIndex

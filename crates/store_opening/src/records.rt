@@ -5,7 +5,7 @@ ghost use Rattle.std.specs.Prelude.{IsTrue, MatchResult, OnOk, Ok, Err};
 ghost use Rattle.cloud_disk.specs.CdBase.Limits.{recipe_limit};
 ghost use Rattle.cloud_disk.specs.CdEdges.area.Area.{Area};
 ghost use Rattle.cloud_disk.specs.CdEdges.Shelf.{IsCall, HasFailed, KeepsCounts, Stays};
-ghost use Rattle.cloud_disk.specs.CommitJournal.Records.{IsJournalBody};
+ghost use Rattle.cloud_disk.specs.JournalHalves.Records.{IsJournalBody};
 ghost use Rattle.cloud_disk.specs.HalfJournal.journal.Stage.{Stage};
 ghost use Rattle.cloud_disk.specs.HalfJournal.Openings.{OnFault};
 ghost use Rattle.cloud_disk.specs.HalfJournal.Outcomes.{stage_after};

@@ -15,9 +15,9 @@ use Rattle.grammar.specs.CdBase.ids.Fp.{Fp}
 use Rattle.grammar.specs.CdBase.shape.Shape.{Shape}
 use Rattle.half_journal.specs.CdEdges.area.Area.TheVariants.{Journal}
 use Rattle.half_journal.specs.CdEdges.Disk.{Image}
-use Rattle.half_journal.specs.CommitJournal.Records.{IsDamage, LastGate, BadLength, AreBodies, IsJournal, chain, sized}
-use Rattle.half_journal.proofs.CommitJournal.Headed.{one_record}
-use Rattle.half_journal.proofs.CommitJournal.Unique.{undamaged, whole_record}
+use Rattle.half_journal.specs.JournalHalves.Records.{IsDamage, LastGate, BadLength, AreBodies, IsJournal, chain, sized}
+use Rattle.half_journal.proofs.JournalHalves.Headed.{one_record}
+use Rattle.half_journal.proofs.JournalHalves.Unique.{undamaged, whole_record}
 use Rattle.half_journal.specs.JournalStart.fault.StartFault.{StartFault}
 use Rattle.half_journal.specs.JournalStart.start.Start.{Start}
 use Rattle.half_journal.specs.JournalStart.Reading.{Fields, start_at, fields_of}

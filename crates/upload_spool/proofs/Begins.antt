@@ -10,9 +10,9 @@ use Rattle.half_journal.specs.CdEdges.Disk.{Store, Areas, Cloud, Image, MayLeave
 use Rattle.half_journal.specs.CdEdges.Shelf.{Stays, wrote, stable}
 use Rattle.half_journal.proofs.CdEdges.Moments.{joined, weaker, stayed, started, at_end}
 use Rattle.half_journal.proofs.CdEdges.Torn.{only}
-use Rattle.half_journal.specs.CommitJournal.Records.{IsJournal, IsDamage, LastGate, BadLength, chain}
-use Rattle.half_journal.proofs.CommitJournal.Chain.{overwritten_within}
-use Rattle.half_journal.proofs.CommitJournal.Unique.{first_of}
+use Rattle.half_journal.specs.JournalHalves.Records.{IsJournal, IsDamage, LastGate, BadLength, chain}
+use Rattle.half_journal.proofs.JournalHalves.Chain.{overwritten_within}
+use Rattle.half_journal.proofs.JournalHalves.Unique.{first_of}
 use Rattle.half_journal.specs.JournalStart.start.Header.{Header}
 use Rattle.half_journal.specs.JournalStart.start.Start.{Start}
 use Rattle.half_journal.specs.JournalStart.Spelling.{start_bytes}

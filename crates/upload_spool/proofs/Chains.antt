@@ -7,7 +7,7 @@ use Rattle.grammar.specs.CdBase.ids.CloudNo.{CloudNo}
 use Rattle.grammar.specs.CdBase.shape.Shape.{Shape}
 use Rattle.half_journal.specs.CdEdges.area.Area.TheVariants.{Journal, Shares}
 use Rattle.half_journal.specs.CdEdges.Disk.{Image}
-use Rattle.half_journal.specs.CommitJournal.Records.{chain, sized}
+use Rattle.half_journal.specs.JournalHalves.Records.{chain, sized}
 use Rattle.half_journal.specs.JournalStart.Spelling.{start_bytes}
 use Rattle.half_journal.specs.JournalHalves.Halves.{is_half_begun}
 use Rattle.half_journal.specs.JournalHalves.Journals.{Where, HasChain, IsEither, used_by, with_body}

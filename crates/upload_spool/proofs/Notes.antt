@@ -11,7 +11,7 @@ use Rattle.half_journal.specs.CdEdges.Disk.{Store, Areas, Cloud, Image, MayLeave
 use Rattle.half_journal.specs.CdEdges.Shelf.{stable}
 use Rattle.half_journal.proofs.CdEdges.Moments.{weaker, started, at_end}
 use Rattle.half_journal.proofs.CdEdges.Torn.{only}
-use Rattle.half_journal.specs.CommitJournal.Records.{IsJournal, is_begun}
+use Rattle.half_journal.specs.JournalHalves.Records.{IsJournal, is_begun}
 use Rattle.half_journal.specs.JournalHalves.Findings.{part_of}
 use Rattle.half_journal.specs.JournalHalves.Halves.{half_of, is_half_begun}
 use Rattle.half_journal.specs.JournalHalves.Journals.{HasChain, IsEither, all_bodies, with_body, used_by}

@@ -10,9 +10,9 @@ use Rattle.half_journal.specs.CdEdges.area.Area.TheVariants.{Journal, Shares}
 use Rattle.half_journal.specs.CdEdges.Disk.{Store, Areas, Cloud, Image, IsImage, LeavesOnly}
 use Rattle.half_journal.specs.CdEdges.Shelf.{Stays}
 use Rattle.half_journal.proofs.CdEdges.Moments.{told_on, weaker}
-use Rattle.half_journal.specs.CommitJournal.Records.{IsDamage, IsJournal, chain, sized}
-use Rattle.half_journal.specs.CommitJournal.Frames.{IsClosed}
-use Rattle.half_journal.proofs.CommitJournal.Chain.{chain-push, length-chain-push}
+use Rattle.half_journal.specs.JournalHalves.Records.{IsDamage, IsJournal, chain, sized}
+use Rattle.half_journal.specs.JournalHalves.Frames.{IsClosed}
+use Rattle.half_journal.proofs.JournalHalves.Chain.{chain-push, length-chain-push}
 use Rattle.half_journal.specs.JournalStart.start.Header.{Header}
 use Rattle.half_journal.specs.JournalStart.Spelling.{records_of}
 use Rattle.half_journal.specs.JournalHalves.Halves.{half_len, half_of}

@@ -7,8 +7,8 @@ use Rattle.grammar.specs.CdBase.ids.CloudNo.{CloudNo}
 use Rattle.grammar.specs.CdBase.shape.Shape.{Shape}
 use Rattle.half_journal.specs.CdEdges.area.Area.TheVariants.{Journal, Shares}
 use Rattle.half_journal.specs.CdEdges.Disk.{Image}
-use Rattle.half_journal.specs.CommitJournal.Records.{IsDamage, chain}
-use Rattle.half_journal.specs.CommitJournal.Frames.{IsClosed}
+use Rattle.half_journal.specs.JournalHalves.Records.{IsDamage, chain}
+use Rattle.half_journal.specs.JournalHalves.Frames.{IsClosed}
 use Rattle.half_journal.specs.JournalStart.Spelling.{records_of}
 use Rattle.half_journal.specs.JournalHalves.Beginnings.{IsUnbegun}
 use Rattle.half_journal.specs.JournalHalves.Halves.{half_len, IsCurrent}

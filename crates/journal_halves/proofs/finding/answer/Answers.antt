@@ -1,5 +1,5 @@
 use Rattle.std.proofs.Common.{ap, ℕ, ◌+◌, subst}
-use Rattle.commit_journal.specs.CdEdges.area.Area.TheVariants.{Journal}
+use Rattle.cd_edges.specs.declared.area.Area.TheVariants.{Journal}
 use Rattle.journal_halves.specs.Halves.{half_len}
 use Rattle.journal_halves.specs.declared.choice.Choice.{Choice}
 use Rattle.journal_halves.specs.Choices.{IsChosen}

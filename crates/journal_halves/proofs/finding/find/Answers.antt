@@ -1,7 +1,7 @@
 use Rattle.std.proofs.Common.{◌≡◌, Ok, Err, sym, ◌∙◌, subst}
-use Rattle.commit_journal.specs.CdEdges.area.Area.TheVariants.{Journal}
-use Rattle.commit_journal.specs.CdEdges.Disk.{Areas}
-use Rattle.commit_journal.proofs.CdEdges.Moments.{told_on}
+use Rattle.cd_edges.specs.declared.area.Area.TheVariants.{Journal}
+use Rattle.cd_edges.specs.Disk.{Areas}
+use Rattle.cd_edges.proofs.Moments.{told_on}
 use Rattle.journal_halves.specs.Findings.{LookIs, FindIs}
 use Rattle.journal_halves.proofs.Looks.{first_damaged, second_damaged}
 use Rattle.journal_halves.proofs.finding.find.Goals as goal

@@ -1,5 +1,5 @@
 use Rattle.std.proofs.Common.{◌≡◌, true, false, refl, rules}
-use Rattle.commit_journal.specs.Records.{is_begun}
+use Rattle.journal_halves.specs.Records.{is_begun}
 use Rattle.journal_halves.specs.Findings.{part_of}
 use Rattle.journal_halves.proofs.Looks.{half_unbegun, half_begun, part_begun, part_short, ahead_part, has_start}
 use Rattle.journal_halves.proofs.finding.judge.Goals as goal

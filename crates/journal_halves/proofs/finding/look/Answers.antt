@@ -1,5 +1,5 @@
 use Rattle.std.proofs.Common.{◌≡◌, ◌*◌, length, ◌∙◌, rules}
-use Rattle.commit_journal.specs.CdEdges.area.Area.TheVariants.{Journal}
+use Rattle.cd_edges.specs.declared.area.Area.TheVariants.{Journal}
 use Rattle.journal_halves.specs.Halves.{half_len}
 use Rattle.journal_halves.proofs.Looks.{read_ahead, counted}
 use Rattle.journal_halves.proofs.finding.look.Goals as goal

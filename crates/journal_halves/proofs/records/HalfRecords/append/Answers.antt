@@ -1,9 +1,9 @@
-use Rattle.std.proofs.Common.{◌≡◌, ◌+◌, ◌*◌, ◌⊎◌, inl, inr, ℕ, zero, suc, ◌≤◌, List, [], ◌∷◌, length, take, refl, sym, ◌∙◌, ap, subst, arith, length-append}
-use Rattle.commit_journal.specs.CdEdges.area.Area.TheVariants.{Journal}
-use Rattle.commit_journal.specs.CdEdges.Disk.{LeavesOnly, IsAtArea, MayLeave, overwritten}
-use Rattle.commit_journal.specs.CdEdges.Shelf.{wrote, stable}
-use Rattle.commit_journal.proofs.CdEdges.Moments.{told_on}
-use Rattle.commit_journal.specs.Records.{IsJournalBody, framed}
+use Rattle.std.proofs.Common.{◌≡◌, ◌+◌, ◌*◌, ℕ, List, [], ◌∷◌, length, take, ◌∙◌, ap, subst, arith, length-append}
+use Rattle.cd_edges.specs.declared.area.Area.TheVariants.{Journal}
+use Rattle.cd_edges.specs.Disk.{LeavesOnly, IsAtArea, MayLeave, overwritten}
+use Rattle.cd_edges.specs.Shelf.{wrote, stable}
+use Rattle.cd_edges.proofs.Moments.{told_on}
+use Rattle.journal_halves.specs.Records.{IsJournalBody, framed}
 use Rattle.journal_halves.specs.Halves.{half_len}
 use Rattle.journal_halves.specs.States.{HalfState, state_of}
 use Rattle.journal_halves.proofs.Adding.{either, read_left, after_first, staged, after_second, added}

@@ -1,6 +1,5 @@
-use Rattle.std.proofs.Common.{◌∙◌, ap, rules, ℕ, ◌+◌, ◌*◌, arith}
-use Rattle.commit_journal.specs.CdEdges.area.Area.TheVariants.{Journal}
-use Rattle.journal_halves.specs.Halves.{half_len}
+use Rattle.std.proofs.Common.{rules}
+use Rattle.cd_edges.specs.declared.area.Area.TheVariants.{Journal}
 use Rattle.journal_halves.proofs.Reading.{loaded}
 use Rattle.journal_halves.proofs.records.HalfRecords.load.Goals as goal
 

@@ -1,7 +1,7 @@
 use Rattle.std.proofs.Common.{◌≡◌, ◌∙◌, ℕ, List, take, sym, ap, subst}
-use Rattle.commit_journal.specs.declared.frame.Frame.{Frame}
-use Rattle.commit_journal.specs.Frames.{IsFrame}
-use Rattle.commit_journal.proofs.Taken.{prefix_of, all_of}
+use Rattle.journal_halves.specs.declared.frame.Frame.{Frame}
+use Rattle.journal_halves.specs.Frames.{IsFrame}
+use Rattle.journal_halves.proofs.Taken.{prefix_of, all_of}
 use Rattle.journal_halves.specs.States.{state_of}
 use Rattle.journal_halves.proofs.records.HalfRecords.look.Goals as goal
 

@@ -1,5 +1,4 @@
-use Rattle.std.proofs.Common.{◌≡◌, ◌∙◌}
-use Rattle.commit_journal.specs.CdEdges.area.Area.TheVariants.{Journal}
+use Rattle.cd_edges.specs.declared.area.Area.TheVariants.{Journal}
 use Rattle.journal_halves.specs.States.{state_of}
 use Rattle.journal_halves.proofs.Reading.{rest_at, rest_short, next_is, step_from}
 use Rattle.journal_halves.proofs.records.HalfRecords.next.Goals as goal

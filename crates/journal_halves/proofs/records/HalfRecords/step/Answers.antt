@@ -1,7 +1,7 @@
 use Rattle.std.proofs.Common.{◌≡◌, ◌≤◌, ◌+◌, ◌-◌, ℕ, List, length, take, drop, refl, sym, ◌∙◌, ap, subst, arith}
-use Rattle.commit_journal.specs.Records.{IsJournalBody}
-use Rattle.commit_journal.specs.Frames.{IsRecord}
-use Rattle.commit_journal.proofs.Taken.{record_on, body_ahead, length_ahead, part_of, window_on, length_window}
+use Rattle.journal_halves.specs.Records.{IsJournalBody}
+use Rattle.journal_halves.specs.Frames.{IsRecord}
+use Rattle.journal_halves.proofs.Taken.{record_on, body_ahead, length_ahead, part_of, window_on, length_window}
 use Rattle.journal_halves.proofs.records.HalfRecords.step.Goals as goal
 
 pub invariant_of-self : goal.invariant_of-self

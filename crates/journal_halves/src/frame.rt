@@ -1,7 +1,7 @@
 //! What stands at a gate.
 
 ghost use Rattle.std.specs.Prelude.{ℕ, List, length};
-ghost use Rattle.commit_journal.specs.Frames.{IsFrame};
+ghost use Rattle.journal_halves.specs.Frames.{IsFrame};
 
 /// What the bytes from a gate on begin with.
 #[derive(Clone, Copy, Debug, PartialEq, Eq)]

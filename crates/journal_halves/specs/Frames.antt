@@ -1,8 +1,8 @@
 -- What the bytes from a gate on begin with.
 use Rattle.std.specs.Prelude.{◌≡◌, ◌≢◌, ℕ, ◌<◌, List, ◌∷◌, ◌++◌, length}
-use Rattle.commit_journal.specs.declared.frame.Frame.{Frame}
-use Rattle.commit_journal.specs.declared.frame.Frame.TheVariants.{Closed, Record, BadLength, Short}
-use Rattle.commit_journal.specs.Records.{IsJournalBody, sized, NoRecord}
+use Rattle.journal_halves.specs.declared.frame.Frame.{Frame}
+use Rattle.journal_halves.specs.declared.frame.Frame.TheVariants.{Closed, Record, BadLength, Short}
+use Rattle.journal_halves.specs.Records.{IsJournalBody, sized, NoRecord}
 
 -- a gate that is closed
 pub record IsClosed (ahead : List ℕ) : Type 0 where

@@ -1,11 +1,11 @@
 -- What was read ahead, and the area's bytes from the gate on.
-use Rattle.std.proofs.Common.{◌≡◌, inl, inr, ℕ, ◌+◌, ◌-◌, ◌^◌, ◌<◌, ◌≤◌, min, List, [], ◌∷◌, ◌++◌, length, take, drop, get_or, refl, sym, ◌∙◌, ap, subst, arith, append_assoc, length-append, length-take, length-drop}
+use Rattle.std.proofs.Common.{◌≡◌, inl, inr, ℕ, ◌+◌, ◌-◌, ◌<◌, ◌≤◌, min, List, [], ◌∷◌, ◌++◌, length, take, drop, get_or, refl, sym, ◌∙◌, ap, subst, arith, append_assoc, length-append, length-take, length-drop}
 use Rattle.std.proofs.lemmas.List.{take-append-drop, take_at, drop-drop, drop-take, take-take, take_min}
 use Rattle.std.proofs.Math.Seq.{take-length}
-use Rattle.commit_journal.specs.declared.errors.JournalErr.TheVariants.{Damaged}
-use Rattle.commit_journal.specs.Records.{sized, NoRecord, IsDamage, LastGate, BadLength}
-use Rattle.commit_journal.specs.Frames.{IsClosed, IsRecord, HasBadLength, IsCutOff}
-use Rattle.commit_journal.specs.Outcomes.{DamageIs}
+use Rattle.journal_halves.specs.declared.errors.RecordErr.TheVariants.{Damaged}
+use Rattle.journal_halves.specs.Records.{sized, NoRecord, IsDamage, LastGate, BadLength}
+use Rattle.journal_halves.specs.Frames.{IsClosed, IsRecord, HasBadLength, IsCutOff}
+use Rattle.journal_halves.specs.Outcomes.{DamageIs}
 
 module _ (ahead rest : List ℕ) (window : ahead ≡ take (length ahead) rest) where
   pub more_is : rest ≡ ahead ++ drop (length ahead) rest
@@ -27,22 +27,22 @@ module _ (ahead rest : List ℕ) (window : ahead ≡ take (length ahead) rest) w
     spelled = more_is ∙ ap (λ (l : List ℕ). l ++ drop (length ahead) rest) r.spelled ∙ append_assoc (1 ∷ sized body) (r.gate ∷ r.behind) (drop (length ahead) rest);
   }
 
-  pub bad_on : (gate : ℕ) → gate + length rest < 2 ^ 64 → HasBadLength ahead → (at byte : ℕ) → DamageIs ahead gate (Damaged at byte) → IsDamage rest gate at byte
-  bad_on gate fits bad at byte (inl last) = absurd (omega (arith, ap length bad.spelled, last.0))
-  bad_on gate fits bad at byte (inr wrong) =
+  pub bad_on : (gate : ℕ) → HasBadLength ahead → (at byte : ℕ) → DamageIs ahead gate (Damaged at byte) → IsDamage rest gate at byte
+  bad_on gate bad at byte (inl last) = absurd (omega (arith, ap length bad.spelled, last.0))
+  bad_on gate bad at byte (inr wrong) =
       let more = drop (length ahead) rest in
       let same : byte ≡ bad.byte = wrong.2 ∙ ap (λ (l : List ℕ). get_or l 1 0) bad.spelled in
       let whole : rest ≡ 1 ∷ bad.byte ∷ (bad.tail ++ more) = more_is ∙ ap (λ (l : List ℕ). l ++ more) bad.spelled in
-      BadLength (bad.tail ++ more) (whole ∙ ap (λ (b : ℕ). 1 ∷ b ∷ (bad.tail ++ more)) (sym same)) (subst NoRecord (sym more_is) (bad.none more)) (omega (arith, wrong.1, fits, ap length whole))
+      BadLength (bad.tail ++ more) (whole ∙ ap (λ (b : ℕ). 1 ∷ b ∷ (bad.tail ++ more)) (sym same)) (subst NoRecord (sym more_is) (bad.none more)) wrong.1
 
-module _ (rest : List ℕ) (gate : ℕ) (fits : gate + length rest < 2 ^ 64) (some : 0 < length rest) where
+module _ (rest : List ℕ) (gate : ℕ) (some : 0 < length rest) where
   cut_at : (tail : List ℕ) → rest ≡ 1 ∷ tail → NoRecord rest → (at byte : ℕ) → DamageIs rest gate (Damaged at byte) → IsDamage rest gate at byte
   cut_at [] is none at byte (inl last) = LastGate is last.1 last.2
   cut_at [] is none at byte (inr wrong) = absurd (omega (arith, ap length is, wrong.0))
   cut_at (b ∷ tail) is none at byte (inl last) = absurd (omega (arith, ap length is, last.0))
   cut_at (b ∷ tail) is none at byte (inr wrong) =
       let same : byte ≡ b = wrong.2 ∙ ap (λ (l : List ℕ). get_or l 1 0) is in
-      BadLength tail (is ∙ ap (λ (x : ℕ). 1 ∷ x ∷ tail) (sym same)) none (omega (arith, wrong.1, fits, ap length is))
+      BadLength tail (is ∙ ap (λ (x : ℕ). 1 ∷ x ∷ tail) (sym same)) none wrong.1
 
   pub short_on : IsCutOff rest → (at byte : ℕ) → DamageIs rest gate (Damaged at byte) → IsDamage rest gate at byte
   short_on cut = let opened = cut.opened some in cut_at opened.0 opened.1 cut.none
@@ -75,9 +75,9 @@ pub length_window : (buffer : List ℕ) (from filled : ℕ) → filled ≤ lengt
 length_window buffer from filled within = omega (arith, length-take (filled - from) (drop from buffer), length-drop from buffer)
 
 -- the damage where all that there is was read
-pub short_ahead : (ahead rest : List ℕ) (gate : ℕ) → ahead ≡ rest → gate + length rest < 2 ^ 64 → 0 < length rest → IsCutOff ahead → (at byte : ℕ) → DamageIs ahead gate (Damaged at byte) → IsDamage rest gate at byte
-short_ahead ahead rest gate same fits some cut at byte damage =
-    short_on rest gate fits some (subst IsCutOff same cut) at byte (subst (λ (l : List ℕ). DamageIs l gate (Damaged at byte)) same damage)
+pub short_ahead : (ahead rest : List ℕ) (gate : ℕ) → ahead ≡ rest → 0 < length rest → IsCutOff ahead → (at byte : ℕ) → DamageIs ahead gate (Damaged at byte) → IsDamage rest gate at byte
+short_ahead ahead rest gate same some cut at byte damage =
+    short_on rest gate some (subst IsCutOff same cut) at byte (subst (λ (l : List ℕ). DamageIs l gate (Damaged at byte)) same damage)
 
 -- as much as was asked for
 pub prefix_of : (ahead rest : List ℕ) (most : ℕ) → ahead ≡ take most rest → ahead ≡ take (length ahead) rest

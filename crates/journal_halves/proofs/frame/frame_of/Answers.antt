@@ -1,6 +1,6 @@
 use Rattle.std.proofs.Common.{◌≡◌, ◌≤◌, ◌<◌, ◌+◌, ◌-◌, slice_index, length, rules, arith, length-take, length-drop, drop}
-use Rattle.commit_journal.proofs.FrameRecord.{record_at}
-use Rattle.commit_journal.proofs.frame.frame_of.Goals as goal
+use Rattle.journal_halves.proofs.FrameRecord.{record_at}
+use Rattle.journal_halves.proofs.frame.frame_of.Goals as goal
 
 pub returns-else-rest-len : goal.returns-else-rest-len
 returns-else-rest-len c =

@@ -2,7 +2,7 @@
 use Rattle.std.proofs.Common.{◌≡◌, ◌≢◌, ℕ, ◌<◌, ◌≤◌, false, List, [], ◌∷◌, length, refl, ◌∙◌, ap, arith, nat_eq}
 use Rattle.std.proofs.lemmas.Bool.Decides.{nat_tests}
 use Rattle.cd_edges.specs.Disk.{overwritten}
-use Rattle.commit_journal.specs.Records.{IsJournal, is_begun}
+use Rattle.journal_halves.specs.Records.{IsJournal, is_begun}
 
 not_one : (gate : ℕ) → nat_eq gate 1 ≡ false → gate ≢ 1
 not_one gate test one = grind (arith, nat_tests)

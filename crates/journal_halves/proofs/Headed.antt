@@ -1,8 +1,8 @@
 -- One record stands at a gate.
 use Rattle.std.proofs.Common.{◌≡◌, ℕ, true, List, ◌∷◌, ◌++◌, sym, ◌∙◌, ap}
-use Rattle.commit_journal.specs.Records.{sized, IsJournal, is_begun}
-use Rattle.commit_journal.specs.Frames.{IsRecord}
-use Rattle.commit_journal.proofs.Unique.{same_body, tail_of, whole_record}
+use Rattle.journal_halves.specs.Records.{sized, IsJournal, is_begun}
+use Rattle.journal_halves.specs.Frames.{IsRecord}
+use Rattle.journal_halves.proofs.Unique.{same_body, tail_of, whole_record}
 
 pub one_record : (bytes a b : List ℕ) → IsRecord bytes a → IsRecord bytes b → a ≡ b
 one_record bytes a b r s = same_body a b (r.gate ∷ r.behind) (s.gate ∷ s.behind) r.is_body.few s.is_body.few (tail_of 1 1 (sized a ++ r.gate ∷ r.behind) (sized b ++ s.gate ∷ s.behind) (sym r.spelled ∙ s.spelled))

@@ -3,8 +3,8 @@ use Rattle.std.proofs.Common.{◌≡◌, ◌≢◌, ℕ, ◌≤◌, List, [], �
 use Rattle.std.proofs.lemmas.List.{take_at, drop_at}
 use Rattle.std.proofs.lemmas.Nat.{from_be_bytes-to_be_bytes_4}
 use Rattle.std.specs.Int.{w32, from_be_bytes}
-use Rattle.commit_journal.specs.Records.{IsJournalBody, sized, chain, AreBodies, IsJournal, IsDamage, LastGate, BadLength}
-use Rattle.commit_journal.specs.Frames.{IsRecord}
+use Rattle.journal_halves.specs.Records.{IsJournalBody, sized, chain, AreBodies, IsJournal, IsDamage, LastGate, BadLength}
+use Rattle.journal_halves.specs.Frames.{IsRecord}
 
 same_length : (a b one two : List ℕ) → length a ≤ 65535 → length b ≤ 65535 → sized a ++ one ≡ sized b ++ two → length a ≡ length b
 same_length a b one two la lb e =

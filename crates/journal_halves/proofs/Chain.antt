@@ -5,7 +5,7 @@ use Rattle.std.proofs.lemmas.Bool.{cases_eq}
 use Rattle.std.proofs.lemmas.List.{take_at, drop_at, drop_more, append-nil}
 use Rattle.cd_edges.specs.Disk.{overwritten}
 use Rattle.cd_edges.proofs.Torn.{Torn}
-use Rattle.commit_journal.specs.Records.{IsJournalBody, sized, framed, chain, AreBodies, IsJournal}
+use Rattle.journal_halves.specs.Records.{IsJournalBody, sized, framed, chain, AreBodies, IsJournal}
 
 pub chain-push : (bodies : List (List ℕ)) (body rest : List ℕ) → chain (bodies ++ body ∷ []) ++ rest ≡ chain bodies ++ 1 ∷ (sized body ++ rest)
 chain-push [] body rest = ap (λ (l : List ℕ). 1 ∷ l) (ap (λ (l : List ℕ). l ++ rest) (append-nil (sized body)))

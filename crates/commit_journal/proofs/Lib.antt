@@ -1,7 +1,0 @@
-pub mod Begin
-pub mod Chain
-pub mod FrameRecord
-pub mod Headed
-pub mod Taken
-pub mod Unique
-pub mod CdEdges

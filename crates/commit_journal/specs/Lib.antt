@@ -1,5 +1,0 @@
-pub mod CdBase
-pub mod CdEdges
-pub mod Frames
-pub mod Outcomes
-pub mod Records
