@@ -13,7 +13,7 @@ use Rattle.cloud_disk.specs.JournalHalves.Journals.{Where, HasChain, IsEither, w
 use Rattle.cloud_disk.specs.HalfJournal.Turning.{used_of}
 use Rattle.cloud_disk.specs.HalfJournal.journal.Stage.TheVariants.{Laying}
 use Rattle.cloud_disk.specs.HalfJournal.States.{JournalState, IsJournalEnded, IsLaying}
-use Rattle.cloud_memory.specs.RecordBodies.Spelling.{Body, Put, Commit, Delete, Kept, Spent, body_bytes}
+use Rattle.cloud_memory.specs.RecordBody.Spelling.{Body, Put, Commit, Delete, Kept, Spent, body_bytes}
 use Rattle.checkpoints.specs.Laying.{records_len, IsNextInBuffer, with_bodies, checkpoint_behind}
 
 -- ---- images

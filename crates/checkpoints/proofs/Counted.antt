@@ -2,7 +2,7 @@
 use Rattle.std.proofs.Common.{◌≡◌, ℕ, ◌+◌, ◌<◌, ◌≤◌, ◌*◌, min, List, [], length, refl, sym, ap, subst, arith}
 use Rattle.std.specs.Prelude.{All}
 use Rattle.std.proofs.lemmas.List.Elements.{All-cons, All-nil}
-use Rattle.cloud_memory.specs.RecordBodies.Spelling.{Body, FitsBody}
+use Rattle.cloud_memory.specs.RecordBody.Spelling.{Body, FitsBody}
 use Rattle.checkpoints.specs.Laying.{records_len, IsNextInBuffer}
 use Rattle.checkpoints.proofs.Along.{next_len, next_count}
 

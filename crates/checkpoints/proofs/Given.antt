@@ -7,10 +7,10 @@ use Rattle.std.proofs.lemmas.List.Elements.{All-nil, All-cons, All-append, All-c
 use Rattle.cloud_memory.specs.CdBase.ids.Fp.{Fp}
 use Rattle.cloud_memory.specs.FileIndex.key.Entry.{Entry}
 use Rattle.cloud_memory.specs.FileIndex.key.FileKey.{FileKey}
-use Rattle.cloud_memory.specs.RecordBodies.body.KeptItem.{KeptItem}
-use Rattle.cloud_memory.specs.RecordBodies.body.SpentBody.{SpentBody}
-use Rattle.cloud_memory.specs.RecordBodies.Spelling as bodies
-use Rattle.cloud_memory.specs.RecordBodies.Spelling.{Body}
+use Rattle.cloud_memory.specs.RecordBody.body.KeptItem.{KeptItem}
+use Rattle.cloud_memory.specs.RecordBody.body.SpentBody.{SpentBody}
+use Rattle.cloud_memory.specs.RecordBody.Spelling as bodies
+use Rattle.cloud_memory.specs.RecordBody.Spelling.{Body}
 use Rattle.cloud_memory.specs.RecordBody.body.CommitBody.{CommitBody}
 use Rattle.cloud_memory.specs.RecordBody.body.PutItem.{PutItem}
 use Rattle.cloud_memory.specs.CdBase.place.Place.{Place}

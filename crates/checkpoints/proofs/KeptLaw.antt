@@ -6,7 +6,7 @@ use Rattle.std.specs.List.{Contains}
 use Rattle.std.proofs.lemmas.Bool.{eqb-true}
 use Rattle.cloud_memory.specs.CdBase.ids.Fp.{Fp}
 use Rattle.cloud_memory.specs.CdBase.shape.Shape.{Shape}
-use Rattle.cloud_memory.specs.RecordBodies.body.KeptItem.{KeptItem}
+use Rattle.cloud_memory.specs.RecordBody.body.KeptItem.{KeptItem}
 use Rattle.cloud_memory.specs.CdBase.place.Place.{Place}
 use Rattle.cloud_memory.specs.ShareIndex.Order.{owner_cmp}
 use Rattle.cloud_memory.specs.ShareIndex.Shares.{owners_of}

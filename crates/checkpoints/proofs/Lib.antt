@@ -31,7 +31,6 @@ pub mod FileIndexLaws
 pub mod ShareIndexLaws
 pub mod ContainerLog
 pub mod UserDedup
-pub mod RecordBodies
 pub mod JournalStart
 pub mod RecordBody
 pub mod CdEdges

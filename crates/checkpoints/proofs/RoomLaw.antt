@@ -15,12 +15,12 @@ use Rattle.cloud_disk.specs.JournalHalves.Halves.{half_limit}
 use Rattle.cloud_disk.specs.JournalStart.rooms.UserRooms.{UserRooms}
 use Rattle.cloud_memory.specs.RecordBody.body.PutItem.{PutItem}
 use Rattle.cloud_memory.specs.RecordBody.body.CommitBody.{CommitBody}
-use Rattle.cloud_memory.proofs.RecordBody.Spelled.{has_place, length-put, length-commit}
-use Rattle.cloud_memory.specs.RecordBodies.body.KeptItem.{KeptItem}
-use Rattle.cloud_memory.specs.RecordBodies.body.SpentBody.{SpentBody}
-use Rattle.cloud_memory.specs.RecordBodies.Spelling as bodies
-use Rattle.cloud_memory.specs.RecordBodies.Spelling.{Body, FitsBody}
-use Rattle.cloud_memory.proofs.RecordBodies.Spelled.{length-kept, longest}
+use Rattle.cloud_memory.proofs.RecordBody.FirstSpelled.{has_place, length-put, length-commit}
+use Rattle.cloud_memory.specs.RecordBody.body.KeptItem.{KeptItem}
+use Rattle.cloud_memory.specs.RecordBody.body.SpentBody.{SpentBody}
+use Rattle.cloud_memory.specs.RecordBody.Spelling as bodies
+use Rattle.cloud_memory.specs.RecordBody.Spelling.{Body, FitsBody}
+use Rattle.cloud_memory.proofs.RecordBody.Spelled.{length-kept, longest}
 use Rattle.cloud_memory.specs.ShareIndex.key.Owner.{Owner}
 use Rattle.cloud_memory.specs.ShareIndex.Order.{owner_cmp, owner_of}
 use Rattle.cloud_memory.specs.ShareIndex.Placed.{AreAllPlaced}

@@ -6,8 +6,8 @@ use Rattle.std.proofs.Common.{length-set}
 use Rattle.std.proofs.lemmas.List.Elements.{All-append, All-cons, All-nil}
 use Rattle.cloud_memory.specs.CdBase.ids.Fp.{Fp}
 use Rattle.cloud_memory.specs.RecordBody.body.PutItem.{PutItem}
-use Rattle.cloud_memory.specs.RecordBody.Spelling.{FitsItem}
-use Rattle.cloud_memory.specs.RecordBodies.Spelling.{Put, body_bytes}
+use Rattle.cloud_memory.specs.RecordBody.FirstSpelling.{FitsItem}
+use Rattle.cloud_memory.specs.RecordBody.Spelling.{Put, body_bytes}
 use Rattle.cloud_memory.specs.ShareIndex.Shares.{Shares}
 use Rattle.cloud_disk.specs.CloudAreas.Checkpoints.{put_body}
 use Rattle.checkpoints.specs.Laying.{IsNextInBuffer}

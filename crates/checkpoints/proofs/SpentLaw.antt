@@ -5,7 +5,7 @@ use Rattle.std.specs.List.{Contains}
 use Rattle.std.proofs.lemmas.Bool.{eqb-true, cases_lt, cases_Bool}
 use Rattle.std.proofs.lemmas.List.{get_or_past}
 use Rattle.cloud_memory.specs.CdBase.ids.UserId.{UserId}
-use Rattle.cloud_memory.specs.RecordBodies.body.SpentBody.{SpentBody}
+use Rattle.cloud_memory.specs.RecordBody.body.SpentBody.{SpentBody}
 use Rattle.cloud_memory.specs.SpentTable.Spent.{Spent as Row}
 use Rattle.cloud_memory.specs.SpentTable.Spending as rows
 use Rattle.cloud_memory.proofs.UserDedup.Owned.{contains_here, contains_later, contains_nothing, contains_cases}

@@ -17,8 +17,8 @@ use Rattle.cloud_disk.specs.JournalHalves.Journals.{used_by, with_body}
 use Rattle.cloud_disk.specs.JournalStart.start.Header.{Header}
 use Rattle.cloud_disk.specs.JournalStart.Spelling.{start_bytes}
 use Rattle.cloud_disk.proofs.JournalStart.Lengths as lengths
-use Rattle.cloud_memory.specs.RecordBodies.Spelling as bodies
-use Rattle.cloud_memory.specs.RecordBodies.Spelling.{Body, FitsBody, body_bytes}
+use Rattle.cloud_memory.specs.RecordBody.Spelling as bodies
+use Rattle.cloud_memory.specs.RecordBody.Spelling.{Body, FitsBody, body_bytes}
 use Rattle.cloud_memory.specs.RecordBody.body.CommitBody.{CommitBody}
 use Rattle.cloud_memory.specs.CdBase.place.Place.{Place}
 use Rattle.cloud_memory.specs.UserDedup.Cloud.{fingerprint}

@@ -16,12 +16,12 @@ use Rattle.cloud_memory.specs.PoolMap.MapSums.{sum_by-remove}
 use Rattle.cloud_memory.specs.PoolMap.Slots.{slot_of, IsListed}
 use Rattle.cloud_memory.specs.RecordBody.body.PutItem.{PutItem}
 use Rattle.cloud_memory.specs.RecordBody.body.CommitBody.{CommitBody}
-use Rattle.cloud_memory.specs.RecordBody.Spelling.{FitsItem, FitsPlaced, FitsCommit}
-use Rattle.cloud_memory.proofs.RecordBody.Spelled.{has_place}
-use Rattle.cloud_memory.specs.RecordBodies.body.KeptItem.{KeptItem}
-use Rattle.cloud_memory.specs.RecordBodies.body.SpentBody.{SpentBody}
-use Rattle.cloud_memory.specs.RecordBodies.Spelling as bodies
-use Rattle.cloud_memory.specs.RecordBodies.Spelling.{Body, FitsBody, FitsKept, FitsSpent}
+use Rattle.cloud_memory.specs.RecordBody.FirstSpelling.{FitsItem, FitsPlaced, FitsCommit}
+use Rattle.cloud_memory.proofs.RecordBody.FirstSpelled.{has_place}
+use Rattle.cloud_memory.specs.RecordBody.body.KeptItem.{KeptItem}
+use Rattle.cloud_memory.specs.RecordBody.body.SpentBody.{SpentBody}
+use Rattle.cloud_memory.specs.RecordBody.Spelling as bodies
+use Rattle.cloud_memory.specs.RecordBody.Spelling.{Body, FitsBody, FitsKept, FitsSpent}
 use Rattle.cloud_memory.specs.ShareIndex.Shares.{Shares, owners_of, ownerless_in}
 use Rattle.cloud_memory.proofs.ShareIndexLaws.Placing.{fp_total}
 use Rattle.cloud_memory.specs.UserDedup.Owning.{is_among}

@@ -3,8 +3,8 @@ use Rattle.std.proofs.Common.{◌≡◌, ℕ, ◌+◌, ◌<◌, ◌≤◌, List,
 use Rattle.std.specs.Prelude.{All}
 use Rattle.std.proofs.lemmas.List.{take_more_set, length-take-le}
 use Rattle.std.proofs.lemmas.List.Elements.{All-append, All-cons, All-nil}
-use Rattle.cloud_memory.specs.RecordBodies.body.KeptItem.{KeptItem}
-use Rattle.cloud_memory.specs.RecordBodies.Spelling.{Kept, FitsKept, body_bytes}
+use Rattle.cloud_memory.specs.RecordBody.body.KeptItem.{KeptItem}
+use Rattle.cloud_memory.specs.RecordBody.Spelling.{Kept, FitsKept, body_bytes}
 use Rattle.cloud_memory.specs.ShareIndex.Shares.{Shares}
 use Rattle.checkpoints.specs.Laying.{IsNextInBuffer}
 use Rattle.checkpoints.specs.Picking.{IsPicked, batched, batches, with_batch}

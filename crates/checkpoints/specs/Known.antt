@@ -19,7 +19,7 @@ use Rattle.cloud_disk.specs.Disk.{Disk, IsOn}
 use Rattle.cloud_memory.specs.declared.cloud.CloudMemory.{CloudMemory}
 use Rattle.cloud_memory.specs.Memory.{Remembers, IsPlacedBy, Stand}
 use Rattle.cloud_memory.specs.Rooms.{memory_of}
-use Rattle.cloud_memory.specs.RecordBodies.Spelling.{Body}
+use Rattle.cloud_memory.specs.RecordBody.Spelling.{Body}
 use Rattle.checkpoints.specs.Laying.{records_len}
 use Rattle.checkpoints.specs.Settling.{checkpoint_of}
 use Rattle.checkpoints.specs.declared.whole.Unsettled.{Unsettled}

@@ -15,7 +15,6 @@ pub mod MessageFields
 pub mod Picking
 pub mod PoolMap
 pub mod Ready
-pub mod RecordBodies
 pub mod RecordBody
 pub mod Records
 pub mod Settling

@@ -1,10 +1,10 @@
 -- What a step of a checkpoint's records leaves.
 use Rattle.std.specs.Prelude.{◌≡◌, ◌≤◌, ℕ, Bool, List, [], ◌∷◌, length, drop, All, Option, MatchBool, MatchOption}
 use Rattle.cloud_memory.specs.RecordBody.body.PutItem.{PutItem}
-use Rattle.cloud_memory.specs.RecordBody.Spelling.{FitsItem}
-use Rattle.cloud_memory.specs.RecordBodies.Spelling.{Body, FitsKept}
-use Rattle.cloud_memory.specs.RecordBodies.body.KeptItem.{KeptItem}
-use Rattle.cloud_memory.specs.RecordBodies.body.SpentBody.{SpentBody}
+use Rattle.cloud_memory.specs.RecordBody.FirstSpelling.{FitsItem}
+use Rattle.cloud_memory.specs.RecordBody.Spelling.{Body, FitsKept}
+use Rattle.cloud_memory.specs.RecordBody.body.KeptItem.{KeptItem}
+use Rattle.cloud_memory.specs.RecordBody.body.SpentBody.{SpentBody}
 use Rattle.cloud_memory.specs.ShareIndex.Shares.{Shares}
 use Rattle.cloud_memory.specs.SpentTable.Spent.{Spent as Row}
 use Rattle.checkpoints.specs.Laying.{IsNextInBuffer}

@@ -3,8 +3,8 @@ use Rattle.std.specs.Prelude.{◌≡◌, ◌≤◌, ◌+◌, ℕ, List, length, 
 use Rattle.std.specs.FinMap.{FinMap, get}
 use Rattle.cloud_memory.specs.CdBase.place.Place.{Place}
 use Rattle.cloud_memory.specs.CdBase.Order.{fp_cmp}
-use Rattle.cloud_memory.specs.RecordBody.Spelling.{FitsPlace}
-use Rattle.cloud_memory.specs.RecordBodies.Spelling.{Body}
+use Rattle.cloud_memory.specs.RecordBody.FirstSpelling.{FitsPlace}
+use Rattle.cloud_memory.specs.RecordBody.Spelling.{Body}
 use Rattle.checkpoints.specs.Laying.{records_len}
 
 -- Each place fits a record.

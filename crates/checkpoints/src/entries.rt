@@ -2,8 +2,8 @@
 
 ghost use Rattle.std.specs.Prelude.{◌≡◌, ◌≤◌, [], length, map, MatchOption, IfSome};
 ghost use Rattle.cloud_memory.specs.PoolMap.Slots.{slot_of};
-ghost use Rattle.cloud_memory.specs.RecordBody.Spelling.{FitsCommit};
-ghost use Rattle.cloud_memory.specs.RecordBodies.Spelling.{Commit, Spent, FitsSpent};
+ghost use Rattle.cloud_memory.specs.RecordBody.FirstSpelling.{FitsCommit};
+ghost use Rattle.cloud_memory.specs.RecordBody.Spelling.{Commit, Spent, FitsSpent};
 ghost use Rattle.cloud_memory.specs.SpentTable.Spending.{spent_by};
 ghost use Rattle.checkpoints.specs.Laying.{IsNextInBuffer};
 ghost use Rattle.checkpoints.specs.Picking.{IsNextPicked};

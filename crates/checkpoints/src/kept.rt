@@ -2,7 +2,7 @@
 
 ghost use Rattle.std.specs.Prelude.{◌≡◌, ◌+◌, ◌++◌, ◌≤◌, [], length, map, take, MatchOption, IfSome};
 ghost use Rattle.cloud_memory.specs.PoolMap.Slots.{slot_of};
-ghost use Rattle.cloud_memory.specs.RecordBodies.Spelling.{Kept, FitsKept, body_bytes, kept_bytes};
+ghost use Rattle.cloud_memory.specs.RecordBody.Spelling.{Kept, FitsKept, body_bytes, kept_bytes};
 ghost use Rattle.checkpoints.specs.Laying.{IsNextInBuffer};
 ghost use Rattle.checkpoints.specs.Picking.{IsNextPicked, batches};
 ghost use Rattle.checkpoints.specs.Records.{kept_at, kept_from};

@@ -4,7 +4,7 @@ ghost use Rattle.std.specs.Prelude.{◌≤◌, ◌+◌, List, All};
 ghost use Rattle.cloud_memory.specs.CdBase.shape.Shape.{Shape};
 ghost use Rattle.cloud_disk.specs.JournalHalves.Halves.{half_limit};
 ghost use Rattle.cloud_disk.specs.JournalStart.rooms.UserRooms.{UserRooms};
-ghost use Rattle.cloud_memory.specs.RecordBodies.Spelling.{Body, FitsBody};
+ghost use Rattle.cloud_memory.specs.RecordBody.Spelling.{Body, FitsBody};
 ghost use Rattle.cloud_memory.specs.UserDedup.command.Command.{Command};
 ghost use Rattle.cloud_disk.specs.CloudAreas.Checkpoints.{IsCheckpointOfList};
 ghost use Rattle.cloud_memory.specs.declared.cloud.CloudMemory.{CloudMemory};

@@ -1,7 +1,7 @@
 //! Where the records of a checkpoint come from.
 
 ghost use Rattle.std.specs.Prelude.{ℕ, ◌<◌, List, length};
-ghost use Rattle.cloud_memory.specs.RecordBodies.Spelling.{Body};
+ghost use Rattle.cloud_memory.specs.RecordBody.Spelling.{Body};
 ghost use Rattle.checkpoints.specs.Laying.{IsNextInBuffer};
 
 use cloud_memory::BodyBuf;

@@ -17,7 +17,7 @@ ghost use Rattle.cloud_memory.specs.Fitting.{FitsRecords};
 ghost use Rattle.checkpoints.specs.Ready.{IsReadyToWrite};
 ghost use Rattle.checkpoints.specs.Known.{IsKnown, HasCheckpoint, CountsWithin, stage_behind};
 ghost use Rattle.checkpoints.specs.Known.{IfFailed, UnlessFailed, IfLong, UnlessLong};
-ghost use Rattle.cloud_memory.specs.RecordBodies.Spelling.{Body, FitsBody, body_bytes};
+ghost use Rattle.cloud_memory.specs.RecordBody.Spelling.{Body, FitsBody, body_bytes};
 
 use crate::tally::count_surely;
 use crate::{CheckpointHead, Marks, MemoryRecords, OwnerChains, checkpoint};

@@ -15,7 +15,7 @@ use Rattle.journal_halves.specs.Halves.{half_limit}
 use Rattle.journal_halves.specs.Journals.{HasChain, used_by}
 use Rattle.journal_halves.specs.JournalStart.start.Header.{Header}
 use Rattle.journal_halves.specs.JournalStart.Spelling.{front_bytes, rooms_bytes, header_bytes, start_bytes}
-use Rattle.record_bodies.specs.Spelling.{FitsBody}
+use Rattle.record_body.specs.Spelling.{FitsBody}
 use Rattle.user_dedup.specs.declared.command.Command.{Command}
 use Rattle.user_dedup.specs.Cloud.{user_view}
 use Rattle.user_dedup.specs.Dedup.{IsSound, Begun}

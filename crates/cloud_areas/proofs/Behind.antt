@@ -9,8 +9,8 @@ use Rattle.journal_halves.specs.CdEdges.Disk.{Image}
 use Rattle.container_log.specs.Laying.{Placed}
 use Rattle.journal_halves.specs.JournalStart.start.Header.{Header}
 use Rattle.journal_halves.specs.JournalStart.Spelling.{commands_of, records_of}
-use Rattle.record_bodies.specs.RecordBody.body.CommitBody.{CommitBody}
-use Rattle.record_bodies.specs.Spelling.{Body}
+use Rattle.record_body.specs.declared.body.CommitBody.{CommitBody}
+use Rattle.record_body.specs.Spelling.{Body}
 use Rattle.user_dedup.specs.CdBase.place.Place.{Place}
 use Rattle.user_dedup.specs.declared.command.Command.{Command}
 use Rattle.user_dedup.specs.declared.command.Command.TheVariants as commands

@@ -7,7 +7,7 @@ use Rattle.std.proofs.lemmas.List.Sums.{sum_by-cons}
 use Rattle.container_log.specs.Laying.{lengths, placed, Placed}
 use Rattle.container_log.specs.Places.{container_len, end_after, end_of_laid, LiesInOne}
 use Rattle.container_log.proofs.Least.{place_cases, place_behind, least_place}
-use Rattle.record_bodies.specs.Spelling.{Body}
+use Rattle.record_body.specs.Spelling.{Body}
 use Rattle.user_dedup.specs.CdBase.place.Place.{Place}
 use Rattle.user_dedup.proofs.Owned.{contains_nothing, contains_cases}
 use Rattle.user_dedup.specs.declared.command.Command.{Command}

@@ -18,6 +18,5 @@ mod Settled
 mod Spends
 pub mod Summing
 pub mod UserDedup
-pub mod RecordBodies
 pub mod RecordBody
 pub mod ContainerLog

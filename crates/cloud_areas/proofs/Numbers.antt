@@ -12,7 +12,7 @@ use Rattle.journal_halves.specs.Journals.{Where, HasChain}
 use Rattle.journal_halves.proofs.Current.{one_chain, begun_half}
 use Rattle.journal_halves.specs.JournalStart.start.Header.{Header}
 use Rattle.journal_halves.specs.JournalStart.Spelling.{commands_of, records_of}
-use Rattle.record_bodies.specs.Spelling.{Body, body_bytes}
+use Rattle.record_body.specs.Spelling.{Body, body_bytes}
 use Rattle.user_dedup.specs.declared.command.Command.{Command}
 use Rattle.user_dedup.specs.Cloud.{counted}
 use Rattle.cloud_areas.specs.Chains.{AreRecordsOfList, Summed, Then}

@@ -13,12 +13,12 @@ use Rattle.journal_halves.specs.CdEdges.Disk.{Image}
 use Rattle.container_log.specs.Laying.{Placed}
 use Rattle.journal_halves.specs.JournalStart.start.Header.{Header}
 use Rattle.journal_halves.specs.JournalStart.Spelling.{commands_of, records_of}
-use Rattle.record_bodies.specs.RecordBody.body.PutItem.{PutItem}
-use Rattle.record_bodies.specs.RecordBody.body.CommitBody.{CommitBody}
-use Rattle.record_bodies.specs.declared.body.KeptItem.{KeptItem}
-use Rattle.record_bodies.specs.declared.body.SpentBody.{SpentBody}
-use Rattle.record_bodies.specs.Spelling as bodies
-use Rattle.record_bodies.specs.Spelling.{Body}
+use Rattle.record_body.specs.declared.body.PutItem.{PutItem}
+use Rattle.record_body.specs.declared.body.CommitBody.{CommitBody}
+use Rattle.record_body.specs.declared.body.KeptItem.{KeptItem}
+use Rattle.record_body.specs.declared.body.SpentBody.{SpentBody}
+use Rattle.record_body.specs.Spelling as bodies
+use Rattle.record_body.specs.Spelling.{Body}
 use Rattle.user_dedup.specs.CdBase.place.Place.{Place}
 use Rattle.user_dedup.specs.Cloud.{fingerprint}
 use Rattle.user_dedup.specs.Owning.{is_among}

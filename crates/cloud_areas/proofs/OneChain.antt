@@ -9,8 +9,8 @@ use Rattle.journal_halves.specs.Halves.{half_limit}
 use Rattle.journal_halves.specs.Journals.{Where}
 use Rattle.journal_halves.specs.JournalStart.start.Header.{Header}
 use Rattle.journal_halves.specs.JournalStart.Spelling.{commands_of, records_of}
-use Rattle.record_bodies.specs.Spelling.{Body, body_bytes, FitsBody}
-use Rattle.record_bodies.proofs.BodyLaws as laws
+use Rattle.record_body.specs.Spelling.{Body, body_bytes, FitsBody}
+use Rattle.record_body.proofs.BodyLaws as laws
 use Rattle.user_dedup.specs.CdBase.place.Place.{Place}
 use Rattle.user_dedup.specs.declared.command.Command.{Command}
 use Rattle.cloud_areas.specs.Placing.{recipes_in}

@@ -11,7 +11,7 @@ use Rattle.container_log.specs.Laying.{Placed, IsAt}
 use Rattle.journal_halves.specs.Journals.{HasChain, with_body, used_by}
 use Rattle.journal_halves.specs.JournalStart.start.Header.{Header}
 use Rattle.journal_halves.specs.JournalStart.Spelling.{commands_of, records_of}
-use Rattle.record_bodies.specs.Spelling.{Body, body_bytes, FitsBody}
+use Rattle.record_body.specs.Spelling.{Body, body_bytes, FitsBody}
 use Rattle.user_dedup.specs.CdBase.place.Place.{Place}
 use Rattle.user_dedup.specs.declared.command.Command.{Command}
 use Rattle.user_dedup.specs.Cloud.{held_bytes}

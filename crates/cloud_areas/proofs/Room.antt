@@ -24,14 +24,14 @@ use Rattle.journal_halves.specs.JournalStart.start.Header.{Header}
 use Rattle.journal_halves.specs.JournalStart.start.Start.{Start}
 use Rattle.journal_halves.specs.JournalStart.Ranges.{AreRooms}
 use Rattle.journal_halves.specs.JournalStart.Spelling.{header_bytes, behind_header, start_bytes}
-use Rattle.record_bodies.specs.RecordBody.body.PutItem.{PutItem}
-use Rattle.record_bodies.specs.RecordBody.body.CommitBody.{CommitBody}
-use Rattle.record_bodies.proofs.RecordBody.Spelled.{length-put, length-commit}
-use Rattle.record_bodies.specs.declared.body.KeptItem.{KeptItem}
-use Rattle.record_bodies.specs.declared.body.SpentBody.{SpentBody}
-use Rattle.record_bodies.specs.Spelling as bodies
-use Rattle.record_bodies.specs.Spelling.{Body, body_bytes, FitsBody}
-use Rattle.record_bodies.proofs.Spelled.{length-kept, longest}
+use Rattle.record_body.specs.declared.body.PutItem.{PutItem}
+use Rattle.record_body.specs.declared.body.CommitBody.{CommitBody}
+use Rattle.record_body.proofs.FirstSpelled.{length-put, length-commit}
+use Rattle.record_body.specs.declared.body.KeptItem.{KeptItem}
+use Rattle.record_body.specs.declared.body.SpentBody.{SpentBody}
+use Rattle.record_body.specs.Spelling as bodies
+use Rattle.record_body.specs.Spelling.{Body, body_bytes, FitsBody}
+use Rattle.record_body.proofs.Spelled.{length-kept, longest}
 use Rattle.user_dedup.specs.CdBase.place.Place.{Place}
 use Rattle.user_dedup.specs.declared.file_list.FileEntry.{FileEntry}
 use Rattle.user_dedup.specs.declared.view.View.{View}

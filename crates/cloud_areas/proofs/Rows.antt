@@ -26,11 +26,11 @@ use Rattle.journal_halves.specs.JournalStart.Ranges.{AreRooms, usual_rooms, IsHe
 use Rattle.journal_halves.specs.JournalStart.Spelling.{start_bytes}
 use Rattle.user_dedup.specs.MessageFields.Shares.{IsShare}
 use Rattle.user_dedup.specs.Messages.request.Request.TheVariants as requests
-use Rattle.record_bodies.specs.RecordBody.body.PutItem.{PutItem}
-use Rattle.record_bodies.specs.RecordBody.Spelling.{FitsPlace, FitsItem}
-use Rattle.record_bodies.proofs.RecordBody.Spelled.{length-put}
-use Rattle.record_bodies.specs.Spelling as bodies
-use Rattle.record_bodies.specs.Spelling.{Body, body_bytes, FitsBody}
+use Rattle.record_body.specs.declared.body.PutItem.{PutItem}
+use Rattle.record_body.specs.FirstSpelling.{FitsPlace, FitsItem}
+use Rattle.record_body.proofs.FirstSpelled.{length-put}
+use Rattle.record_body.specs.Spelling as bodies
+use Rattle.record_body.specs.Spelling.{Body, body_bytes, FitsBody}
 use Rattle.user_dedup.specs.CdBase.place.Place.{Place}
 use Rattle.user_dedup.specs.Cloud.{fingerprint}
 use Rattle.user_dedup.specs.Owning.{is_among}

@@ -6,8 +6,8 @@ use Rattle.std.proofs.lemmas.List.{map-append}
 use Rattle.std.proofs.lemmas.List.Sums.{sum_by-cons, sum_by-append}
 use Rattle.user_dedup.specs.CdBase.ids.Fp.{Fp}
 use Rattle.container_log.specs.Laying.{Placed}
-use Rattle.record_bodies.specs.RecordBody.body.PutItem.{PutItem}
-use Rattle.record_bodies.specs.Spelling.{Body}
+use Rattle.record_body.specs.declared.body.PutItem.{PutItem}
+use Rattle.record_body.specs.Spelling.{Body}
 use Rattle.user_dedup.specs.CdBase.place.Place.{Place}
 use Rattle.user_dedup.specs.Cloud.{fingerprint, has_fingerprint}
 use Rattle.user_dedup.specs.Owning.{is_among}

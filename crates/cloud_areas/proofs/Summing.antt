@@ -10,11 +10,11 @@ use Rattle.journal_halves.specs.CdEdges.Disk.{Image}
 use Rattle.container_log.specs.Laying.{Placed, IsAt}
 use Rattle.journal_halves.specs.Halves.{half_limit}
 use Rattle.journal_halves.specs.JournalStart.start.Header.{Header}
-use Rattle.record_bodies.specs.RecordBody.body.CommitBody.{CommitBody}
-use Rattle.record_bodies.specs.declared.body.KeptItem.{KeptItem}
-use Rattle.record_bodies.specs.declared.body.SpentBody.{SpentBody}
-use Rattle.record_bodies.specs.Spelling as bodies
-use Rattle.record_bodies.specs.Spelling.{Body}
+use Rattle.record_body.specs.declared.body.CommitBody.{CommitBody}
+use Rattle.record_body.specs.declared.body.KeptItem.{KeptItem}
+use Rattle.record_body.specs.declared.body.SpentBody.{SpentBody}
+use Rattle.record_body.specs.Spelling as bodies
+use Rattle.record_body.specs.Spelling.{Body}
 use Rattle.user_dedup.specs.CdBase.place.Place.{Place}
 use Rattle.user_dedup.proofs.Owned.{contains_here, contains_nothing, contains_cases}
 use Rattle.user_dedup.specs.declared.command.Command.{Command}

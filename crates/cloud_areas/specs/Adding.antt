@@ -5,7 +5,7 @@ use Rattle.journal_halves.specs.CdEdges.area.Area.TheVariants.{Shares, Recipes}
 use Rattle.journal_halves.specs.CdEdges.Disk.{Image}
 use Rattle.journal_halves.specs.JournalStart.start.Header.{Header}
 use Rattle.container_log.specs.Laying.{Placed, IsAt}
-use Rattle.record_bodies.specs.Spelling.{Body, FitsBody}
+use Rattle.record_body.specs.Spelling.{Body, FitsBody}
 use Rattle.user_dedup.specs.declared.command.Command.{Command}
 use Rattle.user_dedup.specs.Dedup.{IsSound}
 use Rattle.user_dedup.specs.Spending.{spent_by_all}

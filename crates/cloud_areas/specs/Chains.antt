@@ -7,8 +7,8 @@ use Rattle.user_dedup.specs.CdBase.ids.Version.{Version}
 use Rattle.user_dedup.specs.CdBase.shape.Shape.{Shape}
 use Rattle.container_log.specs.Laying.{Placed}
 use Rattle.container_log.specs.Places.{LiesInOne}
-use Rattle.record_bodies.specs.RecordBody.body.CommitBody.{CommitBody}
-use Rattle.record_bodies.specs.RecordBody.body.PutItem.{PutItem}
+use Rattle.record_body.specs.declared.body.CommitBody.{CommitBody}
+use Rattle.record_body.specs.declared.body.PutItem.{PutItem}
 use Rattle.user_dedup.specs.CdBase.place.Place.{Place}
 use Rattle.user_dedup.specs.Cloud.{fingerprint}
 use Rattle.user_dedup.specs.Owning.{is_among}
@@ -16,8 +16,8 @@ use Rattle.user_dedup.specs.declared.command.Command.{Command}
 use Rattle.user_dedup.specs.declared.command.Command.TheVariants as commands
 use Rattle.user_dedup.specs.Cloud.{strings_in, held_bytes, counted}
 use Rattle.user_dedup.specs.Spending.{spent_by_all}
-use Rattle.record_bodies.specs.Spelling as bodies
-use Rattle.record_bodies.specs.Spelling.{Body}
+use Rattle.record_body.specs.Spelling as bodies
+use Rattle.record_body.specs.Spelling.{Body}
 use Rattle.cloud_areas.specs.Placing.{places_given, shares_in, recipes_in, region_start, end_of, greatest_end, AreBehind, places_of, shares_end, recipes_end}
 use Rattle.cloud_areas.specs.Checkpoints.{IsCheckpointOfList}
 

@@ -7,20 +7,20 @@ use Rattle.user_dedup.specs.CdBase.ids.UserId.{UserId}
 use Rattle.user_dedup.specs.CdBase.ids.Version.{Version}
 use Rattle.user_dedup.specs.CdBase.shape.Shape.{Shape}
 use Rattle.container_log.specs.Laying.{Placed}
-use Rattle.record_bodies.specs.RecordBody.body.PutItem.{PutItem}
-use Rattle.record_bodies.specs.RecordBody.body.CommitBody.{CommitBody}
+use Rattle.record_body.specs.declared.body.PutItem.{PutItem}
+use Rattle.record_body.specs.declared.body.CommitBody.{CommitBody}
 use Rattle.user_dedup.specs.declared.file_list.FileEntry.{FileEntry}
 use Rattle.user_dedup.specs.Cloud.{fingerprint}
 use Rattle.user_dedup.specs.Owning.{is_among}
 use Rattle.user_dedup.specs.Pages.{entry_at}
-use Rattle.record_bodies.specs.declared.body.KeptItem.{KeptItem}
-use Rattle.record_bodies.specs.declared.body.SpentBody.{SpentBody}
+use Rattle.record_body.specs.declared.body.KeptItem.{KeptItem}
+use Rattle.record_body.specs.declared.body.SpentBody.{SpentBody}
 use Rattle.user_dedup.specs.declared.command.Command.{Command}
 use Rattle.user_dedup.specs.Cloud.{user_view, strings_in}
 use Rattle.user_dedup.specs.Spending.{SpentByUser, spent_of, nothing}
 use Rattle.user_dedup.specs.MessageFields.Fingerprints.{batch_limit}
-use Rattle.record_bodies.specs.Spelling as bodies
-use Rattle.record_bodies.specs.Spelling.{Body}
+use Rattle.record_body.specs.Spelling as bodies
+use Rattle.record_body.specs.Spelling.{Body}
 
 -- ---- lists that name each of some things once
 

@@ -18,8 +18,8 @@ use Rattle.journal_halves.specs.JournalStart.rooms.UserRooms.{UserRooms}
 use Rattle.journal_halves.specs.JournalStart.start.Header.{Header}
 use Rattle.journal_halves.specs.JournalStart.Spelling.{commands_of, records_of, recipes_end_of}
 use Rattle.user_dedup.specs.CdBase.place.Place.{Place}
-use Rattle.record_bodies.specs.Spelling.{Body, Commit}
-use Rattle.record_bodies.specs.RecordBody.body.CommitBody.{CommitBody}
+use Rattle.record_body.specs.Spelling.{Body, Commit}
+use Rattle.record_body.specs.declared.body.CommitBody.{CommitBody}
 use Rattle.user_dedup.specs.Cloud.{has_fingerprint, counted}
 use Rattle.user_dedup.specs.Dedup.{FullRoom}
 use Rattle.user_dedup.specs.Owning.{new_strings}

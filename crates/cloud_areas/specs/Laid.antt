@@ -2,7 +2,7 @@
 use Rattle.std.specs.Prelude.{◌≡◌, ℕ, ◌+◌, ◌*◌, ◌≤◌, List, [], ◌∷◌, length, All}
 use Rattle.container_log.specs.Laying.{Placed}
 use Rattle.container_log.specs.Places.{container_len, place_of}
-use Rattle.record_bodies.specs.Spelling.{Body}
+use Rattle.record_body.specs.Spelling.{Body}
 use Rattle.user_dedup.specs.CdBase.place.Place.{Place}
 use Rattle.user_dedup.specs.declared.command.Command.{Command}
 use Rattle.user_dedup.specs.Spending.{spent_by_all}

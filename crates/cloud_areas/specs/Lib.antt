@@ -8,7 +8,6 @@ pub mod Laid
 pub mod MessageFields
 pub mod Peers
 pub mod Placing
-pub mod RecordBodies
 pub mod RecordBody
 pub mod Standing
 pub mod Summaries

@@ -3,9 +3,9 @@ use Rattle.std.specs.Prelude.{ℕ, ◌+◌, ◌*◌, ◌≤◌, max, List, [], �
 use Rattle.std.specs.List.{flat_map, sum_by, Contains}
 use Rattle.user_dedup.specs.CdBase.ids.Fp.{Fp}
 use Rattle.user_dedup.specs.CdBase.place.Place.{Place}
-use Rattle.record_bodies.specs.RecordBody.body.PutItem.{PutItem}
-use Rattle.record_bodies.specs.declared.body.KeptItem.{KeptItem}
-use Rattle.record_bodies.specs.Spelling.{Body, Put, Commit, Delete, Kept, Spent}
+use Rattle.record_body.specs.declared.body.PutItem.{PutItem}
+use Rattle.record_body.specs.declared.body.KeptItem.{KeptItem}
+use Rattle.record_body.specs.Spelling.{Body, Put, Commit, Delete, Kept, Spent}
 
 -- ---- what a record places
 

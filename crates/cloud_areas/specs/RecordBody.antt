@@ -1,5 +1,10 @@
 -- What record_body says, for callers.
-pub use Rattle.record_bodies.specs.RecordBody.InPlace
-pub use Rattle.record_bodies.specs.RecordBody.Reading
-pub use Rattle.record_bodies.specs.RecordBody.Spelling
-pub use Rattle.record_bodies.specs.RecordBody.body
+pub use Rattle.record_body.specs.FirstInPlace
+pub use Rattle.record_body.specs.FirstReading
+pub use Rattle.record_body.specs.FirstSpelling
+pub use Rattle.record_body.specs.InPlace
+pub use Rattle.record_body.specs.Reading
+pub use Rattle.record_body.specs.Seen
+pub use Rattle.record_body.specs.Spelling
+pub use Rattle.record_body.specs.declared.body
+pub use Rattle.record_body.specs.declared.view

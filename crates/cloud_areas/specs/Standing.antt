@@ -15,7 +15,7 @@ use Rattle.journal_halves.specs.Halves.{half_limit}
 use Rattle.journal_halves.specs.Journals.{Where, HasChain, used_by}
 use Rattle.journal_halves.specs.Beginnings.{IsUnbegun}
 use Rattle.container_log.specs.Laying.{Placed, IsAt}
-use Rattle.record_bodies.specs.Spelling.{Body, Commit, body_bytes, FitsBody}
+use Rattle.record_body.specs.Spelling.{Body, Commit, body_bytes, FitsBody}
 use Rattle.user_dedup.specs.CdBase.place.Place.{Place}
 use Rattle.user_dedup.specs.declared.file_list.FileEntry.{FileEntry}
 use Rattle.user_dedup.specs.declared.command.Command.{Command}

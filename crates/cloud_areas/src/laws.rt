@@ -19,7 +19,7 @@ ghost use Rattle.journal_halves.specs.JournalStart.rooms.UserRooms.{UserRooms};
 ghost use Rattle.journal_halves.specs.JournalStart.start.Header.{Header};
 ghost use Rattle.journal_halves.specs.JournalStart.start.Start.{Start};
 ghost use Rattle.journal_halves.specs.JournalStart.Ranges.{AreRooms};
-ghost use Rattle.record_bodies.specs.Spelling.{Body, body_bytes, FitsBody};
+ghost use Rattle.record_body.specs.Spelling.{Body, body_bytes, FitsBody};
 ghost use Rattle.user_dedup.specs.CdBase.place.Place.{Place};
 ghost use Rattle.user_dedup.specs.declared.file_list.FileEntry.{FileEntry};
 ghost use Rattle.user_dedup.specs.Cloud.{fingerprint};

@@ -7,7 +7,7 @@ pub mod peers;
 
 pub use container_log::{CONTAINER, Log, LogFull};
 pub use journal_halves::UserRooms;
-pub use record_bodies::{
+pub use record_body::{
     BodyBuf, BodyErr, BodyView, CommitBody, DeleteBody, FoundItem, FoundKept, KeptItem, KeptItems,
     PutItem, PutItems, SpentBody,
 };

@@ -18,7 +18,7 @@ use Rattle.half_journal.specs.JournalStart.start.Header.{Header}
 use Rattle.half_journal.specs.JournalHalves.Halves.{half_limit, half_of}
 use Rattle.half_journal.specs.JournalHalves.Journals.{Where, all_bodies, with_body, used_by, HasChain, IsEither}
 use Rattle.half_journal.specs.States as journals
-use Rattle.cloud_areas.specs.RecordBodies.Spelling.{Body, body_bytes, FitsBody}
+use Rattle.cloud_areas.specs.RecordBody.Spelling.{Body, body_bytes, FitsBody}
 use Rattle.cloud_areas.specs.UserDedup.command.Command.{Command}
 use Rattle.cloud_areas.specs.Placing.{region_start, greatest_end, shares_placed, shares_in, recipes_in, places_of}
 use Rattle.cloud_areas.specs.Chains.{laid_shares, AreLong}

@@ -9,10 +9,10 @@ use Rattle.half_journal.specs.CdBase.shape.Shape.{Shape}
 use Rattle.cloud_areas.specs.ContainerLog.Laying.{Placed}
 use Rattle.half_journal.specs.CdBase.place.Place.{Place}
 use Rattle.cloud_areas.specs.RecordBody.body.CommitBody.{CommitBody}
-use Rattle.cloud_areas.specs.RecordBodies.body.KeptItem.{KeptItem}
-use Rattle.cloud_areas.specs.RecordBodies.body.SpentBody.{SpentBody}
-use Rattle.cloud_areas.specs.RecordBodies.Spelling as bodies
-use Rattle.cloud_areas.specs.RecordBodies.Spelling.{Body}
+use Rattle.cloud_areas.specs.RecordBody.body.KeptItem.{KeptItem}
+use Rattle.cloud_areas.specs.RecordBody.body.SpentBody.{SpentBody}
+use Rattle.cloud_areas.specs.RecordBody.Spelling as bodies
+use Rattle.cloud_areas.specs.RecordBody.Spelling.{Body}
 use Rattle.cloud_areas.specs.UserDedup.command.Command.{Command}
 use Rattle.cloud_areas.specs.UserDedup.command.Command.TheVariants as commands
 use Rattle.cloud_areas.specs.UserDedup.Cloud.{held_bytes}

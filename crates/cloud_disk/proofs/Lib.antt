@@ -7,7 +7,7 @@ pub mod Adding
 mod Fronts
 pub mod Grown
 pub mod HalfJournal
-pub mod RecordBodies
+pub mod RecordBody
 pub mod JournalStart
 pub mod CloudAreas
 pub mod JournalHalves

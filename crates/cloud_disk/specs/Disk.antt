@@ -12,7 +12,7 @@ use Rattle.half_journal.specs.JournalStart.start.Header.{Header}
 use Rattle.half_journal.specs.JournalHalves.Halves.{half_limit}
 use Rattle.half_journal.specs.JournalHalves.Journals.{Where, with_body, IsEither}
 use Rattle.half_journal.specs.States as journals
-use Rattle.cloud_areas.specs.RecordBodies.Spelling.{Body, IsBody}
+use Rattle.cloud_areas.specs.RecordBody.Spelling.{Body, IsBody}
 use Rattle.cloud_areas.specs.UserDedup.command.Command.{Command}
 use Rattle.cloud_areas.specs.UserDedup.Dedup.{IsSound}
 use Rattle.cloud_areas.specs.Placing.{region_start, greatest_end, shares_placed, shares_in, recipes_in, places_of}

@@ -8,6 +8,5 @@ pub mod Held
 pub mod JournalHalves
 pub mod JournalStart
 pub mod Lending
-pub mod RecordBodies
 pub mod RecordBody
 pub mod UserDedup

@@ -16,7 +16,7 @@ ghost use Rattle.half_journal.specs.JournalHalves.Halves.{half_limit};
 ghost use Rattle.half_journal.specs.declared.journal.Stage.TheVariants.{Shut, AtEnd};
 ghost use Rattle.half_journal.specs.States.{state_of};
 ghost use Rattle.half_journal.specs.Outcomes.{stage_after};
-ghost use Rattle.cloud_areas.specs.RecordBodies.Spelling.{Body};
+ghost use Rattle.cloud_areas.specs.RecordBody.Spelling.{Body};
 ghost use Rattle.cloud_areas.specs.UserDedup.command.Command.{Command};
 ghost use Rattle.cloud_areas.specs.Placing.{shares_in};
 ghost use Rattle.cloud_areas.specs.Chains.{laid_shares};

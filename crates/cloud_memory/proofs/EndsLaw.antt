@@ -13,8 +13,8 @@ use Rattle.spent_table.specs.CdBase.shape.Shape.{Shape}
 use Rattle.cloud_areas.specs.ContainerLog.Places.{container_len, place_of}
 use Rattle.file_index.specs.Files.{key_of}
 use Rattle.cloud_areas.specs.RecordBody.body.PutItem.{PutItem}
-use Rattle.cloud_areas.specs.RecordBodies.Spelling as bodies
-use Rattle.cloud_areas.specs.RecordBodies.Spelling.{Body}
+use Rattle.cloud_areas.specs.RecordBody.Spelling as bodies
+use Rattle.cloud_areas.specs.RecordBody.Spelling.{Body}
 use Rattle.spent_table.specs.CdBase.place.Place.{Place}
 use Rattle.cloud_areas.specs.UserDedup.command.Command.{Command}
 use Rattle.cloud_areas.specs.UserDedup.command.Command.TheVariants as commands

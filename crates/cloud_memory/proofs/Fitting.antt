@@ -17,8 +17,8 @@ use Rattle.file_index.proofs.Order.{key_total}
 use Rattle.cloud_areas.specs.MessageFields.Shares.{share_limit}
 use Rattle.cloud_areas.specs.RecordBody.body.CommitBody.{CommitBody}
 use Rattle.cloud_areas.specs.RecordBody.body.PutItem.{PutItem}
-use Rattle.cloud_areas.specs.RecordBodies.body.KeptItem.{KeptItem}
-use Rattle.cloud_areas.specs.RecordBodies.Spelling.{FitsKept}
+use Rattle.cloud_areas.specs.RecordBody.body.KeptItem.{KeptItem}
+use Rattle.cloud_areas.specs.RecordBody.Spelling.{FitsKept}
 use Rattle.spent_table.specs.declared.Spent.{Spent}
 use Rattle.spent_table.specs.CdBase.place.Place.{Place}
 use Rattle.spent_table.specs.CdBase.Order.{fp_cmp}

@@ -26,7 +26,6 @@ mod Unowned
 mod Walking
 pub mod UserDedup
 pub mod FileIndexLaws
-pub mod RecordBodies
 pub mod ShareIndexLaws
 pub mod RecordBody
 pub mod ContainerLog

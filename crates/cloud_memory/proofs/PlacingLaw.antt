@@ -16,9 +16,9 @@ use Rattle.file_index.specs.declared.key.Entry.{Entry}
 use Rattle.file_index.specs.Files.{key_of}
 use Rattle.cloud_areas.specs.RecordBody.body.CommitBody.{CommitBody}
 use Rattle.cloud_areas.specs.RecordBody.body.PutItem.{PutItem}
-use Rattle.cloud_areas.specs.RecordBodies.body.DeleteBody.{DeleteBody}
-use Rattle.cloud_areas.specs.RecordBodies.Spelling as bodies
-use Rattle.cloud_areas.specs.RecordBodies.Spelling.{Body}
+use Rattle.cloud_areas.specs.RecordBody.body.DeleteBody.{DeleteBody}
+use Rattle.cloud_areas.specs.RecordBody.Spelling as bodies
+use Rattle.cloud_areas.specs.RecordBody.Spelling.{Body}
 use Rattle.spent_table.specs.CdBase.place.Place.{Place}
 use Rattle.spent_table.specs.CdBase.Order.{fp_cmp}
 use Rattle.cloud_areas.proofs.UserDedup.Owned.{fp_same, contains_here, contains_nothing, contains_cases}

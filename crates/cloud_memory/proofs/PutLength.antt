@@ -6,9 +6,9 @@ use Rattle.std.specs.FinMap.{FinMap, get}
 use Rattle.std.proofs.lemmas.List.Concat.{flat_map-cons}
 use Rattle.std.proofs.lemmas.List.Sums.{sum_by-cons}
 use Rattle.spent_table.specs.CdBase.ids.UserId.{UserId}
-use Rattle.cloud_areas.specs.RecordBody.Spelling.{placed_bytes, item_bytes}
-use Rattle.cloud_areas.specs.RecordBodies.Spelling as bodies
-use Rattle.cloud_areas.specs.RecordBodies.Spelling.{body_bytes}
+use Rattle.cloud_areas.specs.RecordBody.FirstSpelling.{placed_bytes, item_bytes}
+use Rattle.cloud_areas.specs.RecordBody.Spelling as bodies
+use Rattle.cloud_areas.specs.RecordBody.Spelling.{body_bytes}
 use Rattle.spent_table.specs.CdBase.place.Place.{Place}
 use Rattle.spent_table.specs.CdBase.Order.{fp_cmp}
 use Rattle.cloud_memory.specs.declared.rooms.New.{New}

@@ -1,2 +1,4 @@
 -- What record_body has proved, for callers.
+pub use Rattle.cloud_areas.proofs.RecordBody.BodyLaws
+pub use Rattle.cloud_areas.proofs.RecordBody.FirstSpelled
 pub use Rattle.cloud_areas.proofs.RecordBody.Spelled

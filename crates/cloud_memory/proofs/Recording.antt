@@ -10,8 +10,8 @@ use Rattle.spent_table.specs.CdBase.ids.Version.{Version}
 use Rattle.spent_table.specs.CdBase.shape.Shape.{Shape}
 use Rattle.cloud_areas.specs.ContainerLog.Laying.{lengths}
 use Rattle.cloud_areas.specs.ContainerLog.Places.{container_len, place_of}
-use Rattle.cloud_areas.specs.RecordBodies.Spelling as bodies
-use Rattle.cloud_areas.specs.RecordBodies.Spelling.{Body}
+use Rattle.cloud_areas.specs.RecordBody.Spelling as bodies
+use Rattle.cloud_areas.specs.RecordBody.Spelling.{Body}
 use Rattle.spent_table.specs.CdBase.place.Place.{Place}
 use Rattle.cloud_areas.specs.UserDedup.Cloud.{fingerprint}
 use Rattle.cloud_areas.specs.UserDedup.Owning.{is_among}

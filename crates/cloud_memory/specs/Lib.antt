@@ -13,7 +13,6 @@ pub mod Moving
 pub mod News
 pub mod PoolMap
 pub mod Recipe
-pub mod RecordBodies
 pub mod RecordBody
 pub mod Records
 pub mod Rooms

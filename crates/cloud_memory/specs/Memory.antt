@@ -26,7 +26,7 @@ use Rattle.cloud_areas.specs.UserDedup.Pages.{key_of as file_key}
 use Rattle.cloud_areas.specs.UserDedup.command.Command.{Command}
 use Rattle.cloud_areas.specs.UserDedup.Cloud.{user_view, named_in, strings_in, held_bytes}
 use Rattle.cloud_areas.specs.UserDedup.Spending.{SpentByUser, spent_of, spent_by_all}
-use Rattle.cloud_areas.specs.RecordBodies.Spelling.{Body, Commit}
+use Rattle.cloud_areas.specs.RecordBody.Spelling.{Body, Commit}
 use Rattle.cloud_areas.specs.Placing.{shares_in, recipes_in, region_start, places_of, greatest_end}
 use Rattle.cloud_areas.specs.Chains.{least_shares, least_recipes}
 

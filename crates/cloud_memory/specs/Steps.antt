@@ -9,7 +9,7 @@ use Rattle.file_index.specs.declared.key.FileKey.{FileKey}
 use Rattle.file_index.specs.Files.{key_of}
 use Rattle.cloud_areas.specs.RecordBody.body.CommitBody.{CommitBody}
 use Rattle.cloud_areas.specs.RecordBody.body.PutItem.{PutItem}
-use Rattle.cloud_areas.specs.RecordBodies.body.KeptItem.{KeptItem}
+use Rattle.cloud_areas.specs.RecordBody.body.KeptItem.{KeptItem}
 use Rattle.spent_table.specs.CdBase.place.Place.{Place}
 use Rattle.share_index.specs.Order.{owner_cmp, owner_of}
 use Rattle.spent_table.specs.CdBase.Order.{fp_cmp}

@@ -7,9 +7,9 @@ use Rattle.journal_halves.specs.CdBase.place.Place.{Place}
 use Rattle.journal_halves.specs.CdBase.shape.Shape.{Shape}
 use Rattle.compact_memories.specs.FileIndex.Files.{key_of}
 use Rattle.first_records.specs.RecordBody.body.PutItem.{PutItem}
-use Rattle.first_records.specs.RecordBodies.body.KeptItem.{KeptItem}
-use Rattle.first_records.specs.RecordBodies.Spelling as bodies
-use Rattle.first_records.specs.RecordBodies.Spelling.{Body}
+use Rattle.first_records.specs.RecordBody.body.KeptItem.{KeptItem}
+use Rattle.first_records.specs.RecordBody.Spelling as bodies
+use Rattle.first_records.specs.RecordBody.Spelling.{Body}
 use Rattle.compact_memories.specs.UserDedup.command.Command.{Command}
 use Rattle.compact_memories.specs.CloudAreas.Placing.{recipes_placed, end_of, greatest_end, recipes_end}
 use Rattle.compact_memories.specs.CloudMemory.Memory.{Memory}

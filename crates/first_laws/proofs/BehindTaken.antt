@@ -15,9 +15,9 @@ use Rattle.compact_memories.specs.FileIndex.Files.{key_of}
 use Rattle.journal_halves.specs.JournalStart.rooms.UserRooms.{UserRooms}
 use Rattle.first_records.specs.RecordBody.body.CommitBody.{CommitBody}
 use Rattle.first_records.specs.RecordBody.body.PutItem.{PutItem}
-use Rattle.first_records.specs.RecordBodies.body.DeleteBody.{DeleteBody}
-use Rattle.first_records.specs.RecordBodies.Spelling as bodies
-use Rattle.first_records.specs.RecordBodies.Spelling.{Body}
+use Rattle.first_records.specs.RecordBody.body.DeleteBody.{DeleteBody}
+use Rattle.first_records.specs.RecordBody.Spelling as bodies
+use Rattle.first_records.specs.RecordBody.Spelling.{Body}
 use Rattle.compact_memories.specs.ShareIndex.Order.{owner_of}
 use Rattle.compact_memories.specs.UserDedup.command.Command.{Command}
 use Rattle.compact_memories.specs.UserDedup.command.Command.TheVariants as commands

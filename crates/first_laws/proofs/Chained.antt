@@ -12,7 +12,7 @@ use Rattle.journal_halves.specs.CdEdges.Disk.{Image}
 use Rattle.record_laws.specs.ContainerLog.Laying.{Placed, IsAt}
 use Rattle.journal_halves.specs.JournalStart.start.Header.{Header}
 use Rattle.journal_halves.specs.JournalStart.Spelling.{commands_of, records_of, recipes_end_of}
-use Rattle.first_records.specs.RecordBodies.Spelling.{Body}
+use Rattle.first_records.specs.RecordBody.Spelling.{Body}
 use Rattle.compact_memories.specs.UserDedup.command.Command.{Command}
 use Rattle.compact_memories.specs.UserDedup.Cloud.{held_bytes}
 use Rattle.compact_memories.specs.UserDedup.Dedup.{IsSound}

@@ -20,10 +20,10 @@ use Rattle.compact_memories.specs.FileIndex.Files as files
 use Rattle.journal_halves.specs.JournalStart.rooms.UserRooms.{UserRooms}
 use Rattle.first_records.specs.RecordBody.body.CommitBody.{CommitBody}
 use Rattle.first_records.specs.RecordBody.body.PutItem.{PutItem}
-use Rattle.first_records.specs.RecordBodies.body.KeptItem.{KeptItem}
-use Rattle.first_records.specs.RecordBodies.body.SpentBody.{SpentBody}
-use Rattle.first_records.specs.RecordBodies.Spelling as bodies
-use Rattle.first_records.specs.RecordBodies.Spelling.{Body}
+use Rattle.first_records.specs.RecordBody.body.KeptItem.{KeptItem}
+use Rattle.first_records.specs.RecordBody.body.SpentBody.{SpentBody}
+use Rattle.first_records.specs.RecordBody.Spelling as bodies
+use Rattle.first_records.specs.RecordBody.Spelling.{Body}
 use Rattle.compact_memories.specs.ShareIndex.Order.{owner_cmp, owner_of}
 use Rattle.compact_memories.specs.UserDedup.command.Command.{Command}
 use Rattle.compact_memories.specs.UserDedup.file_list.FileEntry.{FileEntry}

@@ -12,9 +12,9 @@ use Rattle.compact_memories.specs.FileIndex.Files.{key_of}
 use Rattle.compact_memories.proofs.FileIndexLaws.Order.{key_total}
 use Rattle.first_records.specs.RecordBody.body.CommitBody.{CommitBody}
 use Rattle.first_records.specs.RecordBody.body.PutItem.{PutItem}
-use Rattle.first_records.specs.RecordBodies.body.KeptItem.{KeptItem}
-use Rattle.first_records.specs.RecordBodies.Spelling as bodies
-use Rattle.first_records.specs.RecordBodies.Spelling.{Body}
+use Rattle.first_records.specs.RecordBody.body.KeptItem.{KeptItem}
+use Rattle.first_records.specs.RecordBody.Spelling as bodies
+use Rattle.first_records.specs.RecordBody.Spelling.{Body}
 use Rattle.compact_memories.specs.CloudMemory.Memory.{Memory}
 use Rattle.compact_memories.specs.CloudMemory.Steps.{with_items, with_kepts, with_entry}
 use Rattle.record_laws.specs.RecordChecks.ground.Ground.{Ground}

@@ -5,7 +5,7 @@ use Rattle.std.proofs.lemmas.List.{length-replicate}
 use Rattle.journal_halves.specs.CdBase.ids.UserId.{UserId}
 use Rattle.journal_halves.specs.CdBase.shape.Shape.{Shape}
 use Rattle.record_laws.specs.ContainerLog.Laying.{Placed, IsAt}
-use Rattle.first_records.specs.RecordBodies.Spelling.{Body}
+use Rattle.first_records.specs.RecordBody.Spelling.{Body}
 use Rattle.record_laws.specs.SpentTable.Spent.{Spent as Row}
 use Rattle.record_laws.specs.SpentTable.Spending.{nothing as no_row}
 use Rattle.compact_memories.specs.UserDedup.command.Command.{Command}

@@ -16,8 +16,8 @@ use Rattle.compact_memories.specs.FileIndex.key.FileKey.{FileKey}
 use Rattle.journal_halves.specs.JournalStart.start.Header.{Header}
 use Rattle.journal_halves.specs.JournalStart.Spelling.{commands_of, records_of, recipes_end_of}
 use Rattle.first_records.specs.RecordBody.body.CommitBody.{CommitBody}
-use Rattle.first_records.specs.RecordBodies.Spelling as bodies
-use Rattle.first_records.specs.RecordBodies.Spelling.{Body}
+use Rattle.first_records.specs.RecordBody.Spelling as bodies
+use Rattle.first_records.specs.RecordBody.Spelling.{Body}
 use Rattle.compact_memories.specs.UserDedup.command.Command.{Command}
 use Rattle.compact_memories.specs.UserDedup.command.Command.TheVariants as commands
 use Rattle.compact_memories.specs.UserDedup.Cloud.{fingerprint, recipes_of}

@@ -4,10 +4,10 @@ use Rattle.std.specs.Prelude.{IsFalse}
 use Rattle.journal_halves.specs.CdBase.ids.UserId.{UserId}
 use Rattle.first_records.specs.RecordBody.body.CommitBody.{CommitBody}
 use Rattle.first_records.specs.RecordBody.body.PutItem.{PutItem}
-use Rattle.first_records.specs.RecordBodies.body.DeleteBody.{DeleteBody}
-use Rattle.first_records.specs.RecordBodies.body.KeptItem.{KeptItem}
-use Rattle.first_records.specs.RecordBodies.Spelling as bodies
-use Rattle.first_records.specs.RecordBodies.Spelling.{Body, body_bytes}
+use Rattle.first_records.specs.RecordBody.body.DeleteBody.{DeleteBody}
+use Rattle.first_records.specs.RecordBody.body.KeptItem.{KeptItem}
+use Rattle.first_records.specs.RecordBody.Spelling as bodies
+use Rattle.first_records.specs.RecordBody.Spelling.{Body, body_bytes}
 use Rattle.compact_memories.specs.CloudMemory.Memory.{Memory}
 use Rattle.record_laws.specs.RecordChecks.ground.Ground.{Ground}
 use Rattle.record_laws.specs.Leaving.{recipe_for}

@@ -5,9 +5,9 @@ use Rattle.std.proofs.lemmas.Bool.{and_parts, eqb-true}
 use Rattle.journal_halves.specs.CdBase.ids.UserId.{UserId}
 use Rattle.journal_halves.specs.CdBase.shape.Shape.{Shape}
 use Rattle.record_laws.specs.ContainerLog.Laying.{Placed}
-use Rattle.first_records.specs.RecordBodies.body.SpentBody.{SpentBody}
-use Rattle.first_records.specs.RecordBodies.Spelling as bodies
-use Rattle.first_records.specs.RecordBodies.Spelling.{Body}
+use Rattle.first_records.specs.RecordBody.body.SpentBody.{SpentBody}
+use Rattle.first_records.specs.RecordBody.Spelling as bodies
+use Rattle.first_records.specs.RecordBody.Spelling.{Body}
 use Rattle.compact_memories.specs.UserDedup.command.Command.{Command}
 use Rattle.compact_memories.specs.UserDedup.Compact.{users_in, user_at}
 use Rattle.compact_memories.specs.UserDedup.Spending.{SpentByUser, nothing, spent_of}

@@ -13,8 +13,8 @@ use Rattle.journal_halves.specs.Journals.{Where, HasChain}
 use Rattle.journal_halves.proofs.Current.{one_chain, begun_half}
 use Rattle.journal_halves.specs.JournalStart.start.Header.{Header}
 use Rattle.journal_halves.specs.JournalStart.Spelling.{commands_of, records_of}
-use Rattle.first_records.specs.RecordBodies.Spelling.{Body, body_bytes, FitsBody}
-use Rattle.first_records.proofs.RecordBodies.BodyLaws as laws
+use Rattle.first_records.specs.RecordBody.Spelling.{Body, body_bytes, FitsBody}
+use Rattle.first_records.proofs.RecordBody.BodyLaws as laws
 use Rattle.compact_memories.specs.UserDedup.command.Command.{Command}
 use Rattle.compact_memories.specs.UserDedup.Dedup.{IsSound}
 use Rattle.compact_memories.specs.CloudAreas.FormatOne.{Lays, StandsForOne}

@@ -11,9 +11,9 @@ use Rattle.journal_halves.specs.CdBase.ids.UserId.{UserId}
 use Rattle.journal_halves.specs.CdBase.place.Place.{Place}
 use Rattle.journal_halves.specs.CdBase.shape.Shape.{Shape}
 use Rattle.record_laws.specs.ContainerLog.Laying.{Placed, IsAt}
-use Rattle.first_records.specs.RecordBodies.body.SpentBody.{SpentBody}
-use Rattle.first_records.specs.RecordBodies.Spelling as bodies
-use Rattle.first_records.specs.RecordBodies.Spelling.{Body}
+use Rattle.first_records.specs.RecordBody.body.SpentBody.{SpentBody}
+use Rattle.first_records.specs.RecordBody.Spelling as bodies
+use Rattle.first_records.specs.RecordBody.Spelling.{Body}
 use Rattle.compact_memories.specs.UserDedup.command.Command.{Command}
 use Rattle.compact_memories.specs.UserDedup.Compact.{users_in}
 use Rattle.compact_memories.specs.UserDedup.Dedup.{IsSound}

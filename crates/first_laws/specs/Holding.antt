@@ -4,7 +4,7 @@ use Rattle.journal_halves.specs.CdEdges.area.Area.TheVariants.{Recipes}
 use Rattle.journal_halves.specs.CdEdges.Disk.{Image}
 use Rattle.journal_halves.specs.JournalStart.start.Header.{Header}
 use Rattle.journal_halves.specs.JournalStart.Spelling.{recipes_end_of}
-use Rattle.first_records.specs.RecordBodies.Spelling.{Body}
+use Rattle.first_records.specs.RecordBody.Spelling.{Body}
 use Rattle.compact_memories.specs.UserDedup.command.Command.{Command}
 use Rattle.compact_memories.specs.UserDedup.Dedup.{IsSound}
 use Rattle.compact_memories.specs.CloudAreas.FormatOne.{IsWithinGreatest}

@@ -4,7 +4,7 @@ use Rattle.journal_halves.specs.CdBase.place.Place.{Place}
 use Rattle.journal_halves.specs.CdEdges.area.Area.TheVariants.{Shares, Recipes}
 use Rattle.journal_halves.specs.CdEdges.Disk.{Image}
 use Rattle.journal_halves.specs.JournalStart.start.Header.{Header}
-use Rattle.first_records.specs.RecordBodies.Spelling.{Body, body_bytes}
+use Rattle.first_records.specs.RecordBody.Spelling.{Body, body_bytes}
 use Rattle.compact_memories.specs.UserDedup.command.Command.{Command}
 use Rattle.compact_memories.specs.CloudAreas.FormatOne.{Lays}
 use Rattle.compact_memories.specs.CloudAreas.Standing.{Chain}

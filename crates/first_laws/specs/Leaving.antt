@@ -1,7 +1,7 @@
 -- What the records of a chain of format 1 leave in a server's memory, each read into it behind those before it.
 use Rattle.std.specs.Prelude.{◌≡◌, ℕ, max, true, List, length}
 use Rattle.journal_halves.specs.CdBase.shape.Shape.{Shape}
-use Rattle.first_records.specs.RecordBodies.Spelling.{Body}
+use Rattle.first_records.specs.RecordBody.Spelling.{Body}
 use Rattle.record_laws.specs.SpentTable.Spent.{Spent as Row}
 use Rattle.compact_memories.specs.UserDedup.command.Command.{Command}
 use Rattle.compact_memories.specs.CloudAreas.Placing.{recipes_end}

@@ -8,7 +8,7 @@ ghost use Rattle.journal_halves.specs.CdEdges.Disk.{Image};
 ghost use Rattle.record_laws.specs.ContainerLog.Laying.{Placed, IsAt};
 ghost use Rattle.journal_halves.specs.JournalStart.start.Header.{Header};
 ghost use Rattle.journal_halves.specs.JournalStart.Spelling.{recipes_end_of};
-ghost use Rattle.first_records.specs.RecordBodies.Spelling.{Body};
+ghost use Rattle.first_records.specs.RecordBody.Spelling.{Body};
 ghost use Rattle.compact_memories.specs.UserDedup.command.Command.{Command};
 ghost use Rattle.compact_memories.specs.UserDedup.Dedup.{IsSound};
 ghost use Rattle.compact_memories.specs.CloudAreas.Chains.{IsRecord, AreLong};

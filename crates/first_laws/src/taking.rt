@@ -5,7 +5,7 @@ ghost use Rattle.journal_halves.specs.CdBase.place.Place.{Place};
 ghost use Rattle.journal_halves.specs.CdEdges.area.Area.TheVariants.{Recipes};
 ghost use Rattle.journal_halves.specs.CdEdges.Disk.{Image};
 ghost use Rattle.journal_halves.specs.JournalStart.start.Header.{Header};
-ghost use Rattle.first_records.specs.RecordBodies.Spelling.{Body, FitsBody};
+ghost use Rattle.first_records.specs.RecordBody.Spelling.{Body, FitsBody};
 ghost use Rattle.compact_memories.specs.UserDedup.command.Command.{Command};
 ghost use Rattle.compact_memories.specs.CloudAreas.Standing.{Chain};
 ghost use Rattle.first_laws.specs.Lawful.{IsNextOne, WantsOne, PassesOne};

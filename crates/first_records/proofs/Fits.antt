@@ -6,10 +6,10 @@ use Rattle.message_fields.specs.CdBase.ids.UserId.{UserId}
 use Rattle.message_fields.specs.CdBase.place.Place.{Place}
 use Rattle.record_checks.specs.FileIndex.Files.{key_of}
 use Rattle.message_fields.specs.Shares.{share_limit}
-use Rattle.record_checks.specs.RecordBodies.body.KeptItem.{KeptItem}
-use Rattle.record_checks.specs.RecordBodies.Spelling.{Body, FitsBody}
+use Rattle.record_checks.specs.RecordBody.body.KeptItem.{KeptItem}
+use Rattle.record_checks.specs.RecordBody.Spelling.{Body, FitsBody}
 use Rattle.record_checks.specs.RecordBody.body.PutItem.{PutItem}
-use Rattle.record_checks.specs.RecordBody.Spelling.{FitsPlaced, FitsItem}
+use Rattle.record_checks.specs.RecordBody.FirstSpelling.{FitsPlaced, FitsItem}
 use Rattle.record_checks.specs.UserDedup.Requests.{fps_of}
 use Rattle.record_checks.specs.CloudMemory.Fitting.{FitsPart, FitsRecords, AreItemsPlaced}
 use Rattle.record_checks.specs.CloudMemory.Memory.{Memory}

@@ -2,7 +2,7 @@
 use Rattle.std.proofs.Common.{◌≡◌, ℕ, Bool, List, Some, None, Ok, Err, sym, ◌∙◌, subst}
 use Rattle.std.specs.Prelude.{Result, MatchResult}
 use Rattle.message_fields.specs.CdBase.rooms.Room.{Room}
-use Rattle.record_checks.specs.RecordBodies.Spelling.{Body, Commit}
+use Rattle.record_checks.specs.RecordBody.Spelling.{Body, Commit}
 use Rattle.record_checks.specs.RecordBody.body.CommitBody.{CommitBody}
 use Rattle.record_checks.specs.CloudMemory.Memory.{Memory}
 use Rattle.record_checks.specs.declared.ground.Ground.{Ground}

@@ -2,4 +2,4 @@ pub mod Fits
 pub mod Judged
 pub mod OneAnswer
 pub mod Rooms
-pub mod RecordBodies
+pub mod RecordBody

@@ -5,12 +5,12 @@ use Rattle.std.specs.FinMap.{get}
 use Rattle.message_fields.specs.CdBase.ids.UserId.{UserId}
 use Rattle.message_fields.specs.CdBase.rooms.Room.{Room}
 use Rattle.record_checks.specs.FileIndex.key.Entry.{Entry}
-use Rattle.record_checks.specs.RecordBodies.body.KeptItem.{KeptItem}
-use Rattle.record_checks.specs.RecordBodies.Reading.{body_at}
-use Rattle.record_checks.specs.RecordBodies.Spelling.{Body}
+use Rattle.record_checks.specs.RecordBody.body.KeptItem.{KeptItem}
+use Rattle.record_checks.specs.RecordBody.Reading.{body_at}
+use Rattle.record_checks.specs.RecordBody.Spelling.{Body}
 use Rattle.record_checks.specs.RecordBody.body.BodyErr.{BodyErr}
 use Rattle.record_checks.specs.RecordBody.body.PutItem.{PutItem}
-use Rattle.record_checks.specs.RecordBody.Spelling.{item_bytes}
+use Rattle.record_checks.specs.RecordBody.FirstSpelling.{item_bytes}
 use Rattle.record_checks.specs.CloudMemory.Memory.{Memory}
 use Rattle.record_checks.specs.CloudMemory.Steps.{with_item, with_kept}
 use Rattle.record_checks.specs.declared.ground.Ground.{Ground}

@@ -14,8 +14,8 @@ use Rattle.record_checks.specs.FileIndex.key.FileKey.{FileKey}
 use Rattle.record_checks.specs.FileIndex.Files.{used_by as files_used}
 use Rattle.record_checks.specs.PoolMap.accounts.Accounts.{Accounts}
 use Rattle.record_checks.specs.PoolMap.Accounts.{limit_for, use_for}
-use Rattle.record_checks.specs.RecordBodies.body.KeptItem.{KeptItem}
-use Rattle.record_checks.specs.RecordBodies.Spelling.{Put, Commit, Kept}
+use Rattle.record_checks.specs.RecordBody.body.KeptItem.{KeptItem}
+use Rattle.record_checks.specs.RecordBody.Spelling.{Put, Commit, Kept}
 use Rattle.record_checks.specs.RecordBody.body.CommitBody.{CommitBody}
 use Rattle.record_checks.specs.RecordBody.body.PutItem.{PutItem}
 use Rattle.record_checks.specs.ShareIndex.key.Owner.{Owner}

@@ -3,11 +3,11 @@ use Rattle.std.specs.Prelude.{◌≡◌, ◌⊎◌, ℕ, ◌-◌, Bool, IsFalse,
 use Rattle.message_fields.specs.CdBase.ids.UserId.{UserId}
 use Rattle.message_fields.specs.CdBase.rooms.Room.{Room}
 use Rattle.record_checks.specs.FileIndex.key.Entry.{Entry}
-use Rattle.record_checks.specs.RecordBodies.body.DeleteBody.{DeleteBody}
-use Rattle.record_checks.specs.RecordBodies.body.KeptItem.{KeptItem}
-use Rattle.record_checks.specs.RecordBodies.Reading.{body_at}
-use Rattle.record_checks.specs.RecordBodies.Spelling as bodies
-use Rattle.record_checks.specs.RecordBodies.Spelling.{Body}
+use Rattle.record_checks.specs.RecordBody.body.DeleteBody.{DeleteBody}
+use Rattle.record_checks.specs.RecordBody.body.KeptItem.{KeptItem}
+use Rattle.record_checks.specs.RecordBody.Reading.{body_at}
+use Rattle.record_checks.specs.RecordBody.Spelling as bodies
+use Rattle.record_checks.specs.RecordBody.Spelling.{Body}
 use Rattle.record_checks.specs.RecordBody.body.BodyErr.{BodyErr}
 use Rattle.record_checks.specs.RecordBody.body.CommitBody.{CommitBody}
 use Rattle.record_checks.specs.RecordBody.body.PutItem.{PutItem}

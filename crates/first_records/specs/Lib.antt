@@ -1,5 +1,4 @@
 pub mod Judging
 pub mod Limits
-pub mod RecordBodies
 pub mod RecordBody
 pub mod Steps

@@ -5,8 +5,8 @@ use Rattle.std.specs.FinMap.{len}
 use Rattle.message_fields.specs.CdBase.Limits.{greatest_rooms}
 use Rattle.message_fields.specs.CdBase.rooms.Room.{Room}
 use Rattle.message_fields.specs.CdBase.rooms.Room.TheVariants.{Shares, Recipes, Journal, Fps, Owners, Files}
-use Rattle.record_checks.specs.RecordBodies.Spelling as bodies
-use Rattle.record_checks.specs.RecordBodies.Spelling.{Body}
+use Rattle.record_checks.specs.RecordBody.Spelling as bodies
+use Rattle.record_checks.specs.RecordBody.Spelling.{Body}
 use Rattle.record_checks.specs.CloudMemory.Greatest.{HasGreatest}
 use Rattle.record_checks.specs.CloudMemory.Memory.{Memory}
 use Rattle.record_checks.specs.CloudMemory.cloud.CloudMemory.{CloudMemory}

@@ -2,8 +2,8 @@
 use Rattle.std.specs.Prelude.{ℕ, ◌+◌, ◌<◌, ◌≤◌, Bool, List, length, count_by, Result, Ok, Err}
 use Rattle.std.specs.FinMap.{len}
 use Rattle.message_fields.specs.CdBase.rooms.Room.TheVariants.{Fps, Owners}
-use Rattle.record_checks.specs.RecordBodies.body.KeptItem.{KeptItem}
-use Rattle.record_checks.specs.RecordBodies.Spelling.{Body}
+use Rattle.record_checks.specs.RecordBody.body.KeptItem.{KeptItem}
+use Rattle.record_checks.specs.RecordBody.Spelling.{Body}
 use Rattle.record_checks.specs.RecordBody.body.PutItem.{PutItem}
 use Rattle.record_checks.specs.CloudMemory.Memory.{Memory}
 use Rattle.record_checks.specs.CloudMemory.cloud.CloudMemory.{CloudMemory}

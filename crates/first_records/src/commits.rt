@@ -1,7 +1,7 @@
 //! The records of a Commit and of a Delete.
 
 ghost use Rattle.std.specs.Prelude.{◌≡◌, ◌<◌, ◌+◌, ◌^◌, List, length, None, IfErr, OnOk};
-ghost use Rattle.record_checks.specs.RecordBodies.Spelling.{Commit, Delete};
+ghost use Rattle.record_checks.specs.RecordBody.Spelling.{Commit, Delete};
 ghost use Rattle.record_checks.specs.UserDedup.Owning.{fps_in};
 ghost use Rattle.record_checks.specs.CloudMemory.Rooms.{memory_of};
 ghost use Rattle.record_checks.specs.CloudMemory.Sharing.{AreOwned};

@@ -1,7 +1,7 @@
 //! What is answered of a record that isn't taken.
 
 ghost use Rattle.std.specs.Prelude.{◌≡◌, ◌+◌, ◌<◌, ◌≤◌, ◌^◌, length};
-ghost use Rattle.record_checks.specs.RecordBody.Reading.{IsPlaced};
+ghost use Rattle.record_checks.specs.RecordBody.FirstReading.{IsPlaced};
 ghost use Rattle.record_checks.specs.Checks.{damaged_at, body_fault};
 ghost use Rattle.first_records.specs.Judging.{err_of};
 ghost use Rattle.first_records.specs.Steps.{IsWithin};

@@ -1,7 +1,7 @@
 //! The record of a Kept.
 
 ghost use Rattle.std.specs.Prelude.{◌≡◌, ◌<◌, ◌≤◌, ℕ, List, length, IfErr, OnOk, MatchResult};
-ghost use Rattle.record_checks.specs.RecordBodies.Spelling.{Kept};
+ghost use Rattle.record_checks.specs.RecordBody.Spelling.{Kept};
 ghost use Rattle.record_checks.specs.CloudMemory.Rooms.{memory_of};
 ghost use Rattle.record_checks.specs.CloudMemory.Steps.{with_kepts};
 ghost use Rattle.record_checks.specs.Checks.{AreRightKepts, KeptsFault};

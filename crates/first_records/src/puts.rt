@@ -2,7 +2,7 @@
 
 ghost use Rattle.std.specs.Prelude.{◌≡◌, ◌<◌, ◌≤◌, ℕ, List, length, count_by, IfErr, OnOk, MatchResult};
 ghost use Rattle.message_fields.specs.CdBase.ids.UserId.{UserId as Number};
-ghost use Rattle.record_checks.specs.RecordBodies.Spelling.{Put};
+ghost use Rattle.record_checks.specs.RecordBody.Spelling.{Put};
 ghost use Rattle.record_checks.specs.CloudMemory.Rooms.{memory_of};
 ghost use Rattle.record_checks.specs.CloudMemory.Steps.{with_items};
 ghost use Rattle.record_checks.specs.Checks.{AreRight, ItemsFault};

@@ -1,8 +1,8 @@
 //! One record of a journal of format 1, taken into a server's memory.
 
 ghost use Rattle.std.specs.Prelude.{◌≡◌, ◌↔◌, ◌+◌, ◌<◌, ◌≤◌, ◌^◌, length, Ok, Err, OnOk, IfErr, MatchResult, IsTrue};
-ghost use Rattle.record_checks.specs.RecordBodies.Spelling.{IsBody};
-ghost use Rattle.record_checks.specs.RecordBodies.Seen.{seen, StartsIn};
+ghost use Rattle.record_checks.specs.RecordBody.Spelling.{IsBody};
+ghost use Rattle.record_checks.specs.RecordBody.Seen.{seen, StartsIn};
 ghost use Rattle.record_checks.specs.CloudMemory.Fitting.{FitsRecords};
 ghost use Rattle.record_checks.specs.CloudMemory.Rooms.{memory_of};
 ghost use Rattle.first_records.specs.Judging.{IsForeign, JudgesFirst};

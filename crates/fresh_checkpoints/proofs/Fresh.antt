@@ -13,8 +13,8 @@ use Rattle.cloud_disk.specs.CdEdges.Disk.{Image}
 use Rattle.cloud_disk.specs.ContainerLog.Laying.{IsAt}
 use Rattle.compact_memories.specs.FileIndex.key.FileKey.{FileKey}
 use Rattle.cloud_disk.specs.JournalStart.start.Header.{Header}
-use Rattle.cloud_disk.specs.RecordBodies.Spelling as bodies
-use Rattle.cloud_disk.specs.RecordBodies.Spelling.{Body}
+use Rattle.cloud_disk.specs.RecordBody.Spelling as bodies
+use Rattle.cloud_disk.specs.RecordBody.Spelling.{Body}
 use Rattle.cloud_disk.specs.RecordBody.body.CommitBody.{CommitBody}
 use Rattle.cloud_disk.specs.CdBase.place.Place.{Place}
 use Rattle.cloud_disk.proofs.UserDedup.Owned.{contains_nothing, contains_cases}

@@ -12,8 +12,8 @@ use Rattle.cloud_disk.specs.JournalStart.start.Header.{Header}
 use Rattle.cloud_disk.specs.JournalStart.Spelling.{start_bytes}
 use Rattle.cloud_disk.proofs.JournalStart.Lengths as lengths
 use Rattle.cloud_disk.specs.HalfJournal.States as journals
-use Rattle.cloud_disk.specs.RecordBodies.Spelling as bodies
-use Rattle.cloud_disk.specs.RecordBodies.Spelling.{Body, FitsBody, body_bytes}
+use Rattle.cloud_disk.specs.RecordBody.Spelling as bodies
+use Rattle.cloud_disk.specs.RecordBody.Spelling.{Body, FitsBody, body_bytes}
 use Rattle.cloud_disk.specs.UserDedup.command.Command.{Command}
 use Rattle.cloud_disk.specs.UserDedup.Spending.{IsWithin}
 use Rattle.cloud_disk.specs.CloudAreas.Checkpoints.{IsCheckpointOfList}

@@ -19,7 +19,7 @@ ghost use Rattle.compact_memories.specs.Checkpoints.Known.{checkpoint_in, Counts
 ghost use Rattle.compact_memories.specs.Checkpoints.Known.{IfFailed, UnlessFailed, IfLong, UnlessLong};
 ghost use Rattle.compact_memories.specs.CloudMemory.Rooms.{memory_of, HasRooms};
 ghost use Rattle.compact_memories.specs.CloudMemory.Fitting.{FitsRecords};
-ghost use Rattle.cloud_disk.specs.RecordBodies.Spelling.{FitsBody};
+ghost use Rattle.cloud_disk.specs.RecordBody.Spelling.{FitsBody};
 ghost use Rattle.fresh_checkpoints.specs.Fresh.{IsNextMemory};
 ghost use Rattle.fresh_checkpoints.specs.Switching.{IsReadOne, StandsForOneOf, IsMigrating};
 

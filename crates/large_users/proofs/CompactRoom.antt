@@ -4,17 +4,17 @@ use Rattle.std.specs.List.{Contains}
 use Rattle.std.proofs.lemmas.Bool.{cases_lt}
 use Rattle.std.proofs.lemmas.List.{get_or_past}
 use native.Mathlib.Nat.{mul-add, mul_left_comm, mul_comm}
-use Rattle.record_bodies.specs.CdBase.ids.Fp.{Fp}
-use Rattle.record_bodies.specs.CdBase.ids.UserId.{UserId}
-use Rattle.record_bodies.specs.CdBase.place.Place.{Place}
+use Rattle.record_body.specs.CdBase.ids.Fp.{Fp}
+use Rattle.record_body.specs.CdBase.ids.UserId.{UserId}
+use Rattle.record_body.specs.CdBase.place.Place.{Place}
 use Rattle.compact_memories.specs.FileIndex.key.Entry.{Entry}
 use Rattle.compact_memories.specs.FileIndex.key.FileKey.{FileKey}
 use Rattle.migration_model.specs.JournalHalves.Halves.{half_limit}
 use Rattle.compact_memories.specs.JournalStart.rooms.UserRooms.{UserRooms}
 use Rattle.compact_memories.specs.PoolMap.Accounts.{keys_of}
-use Rattle.record_bodies.specs.declared.body.KeptItem.{KeptItem}
-use Rattle.record_bodies.specs.Spelling as bodies
-use Rattle.record_bodies.specs.Spelling.{Body}
+use Rattle.record_body.specs.declared.body.KeptItem.{KeptItem}
+use Rattle.record_body.specs.Spelling as bodies
+use Rattle.record_body.specs.Spelling.{Body}
 use Rattle.compact_memories.specs.ShareIndex.key.Owner.{Owner}
 use Rattle.compact_memories.specs.ShareIndex.Shares.{owners_of}
 use Rattle.compact_memories.specs.SpentTable.Spent.{Spent as Row}

@@ -8,9 +8,9 @@ use Rattle.std.proofs.lemmas.List.{map-append}
 use Rattle.std.proofs.lemmas.List.Concat.{flat_map-cons}
 use Rattle.std.proofs.lemmas.List.Elements.{Contains-append_left, Contains-append_right}
 use native.Mathlib.Nat.{mul-add}
-use Rattle.record_bodies.specs.CdBase.ids.Fp.{Fp}
-use Rattle.record_bodies.specs.CdBase.place.Place.{Place}
-use Rattle.record_bodies.specs.CdBase.Order.{fp_cmp}
+use Rattle.record_body.specs.CdBase.ids.Fp.{Fp}
+use Rattle.record_body.specs.CdBase.place.Place.{Place}
+use Rattle.record_body.specs.CdBase.Order.{fp_cmp}
 use Rattle.std.specs.FinMap.{FinMap}
 use Rattle.compact_memories.specs.FileIndex.key.Entry.{Entry}
 use Rattle.compact_memories.specs.FileIndex.key.FileKey.{FileKey}
@@ -18,17 +18,17 @@ use Rattle.compact_memories.specs.ShareIndex.key.Owner.{Owner}
 use Rattle.compact_memories.specs.ShareIndex.Shares.{Shares}
 use Rattle.compact_memories.specs.SpentTable.Spent.{Spent as Row}
 use Rattle.compact_memories.specs.SpentTable.Spending as rows
-use Rattle.record_bodies.specs.RecordBody.body.PutItem.{PutItem}
-use Rattle.record_bodies.specs.RecordBody.body.CommitBody.{CommitBody}
-use Rattle.record_bodies.specs.RecordBody.Spelling.{placed_bytes, item_bytes}
-use Rattle.record_bodies.specs.declared.body.SpentBody.{SpentBody}
-use Rattle.record_bodies.specs.Spelling as bodies
-use Rattle.record_bodies.specs.Spelling.{Body}
+use Rattle.record_body.specs.declared.body.PutItem.{PutItem}
+use Rattle.record_body.specs.declared.body.CommitBody.{CommitBody}
+use Rattle.record_body.specs.FirstSpelling.{placed_bytes, item_bytes}
+use Rattle.record_body.specs.declared.body.SpentBody.{SpentBody}
+use Rattle.record_body.specs.Spelling as bodies
+use Rattle.record_body.specs.Spelling.{Body}
 use Rattle.compact_memories.proofs.UserDedup.Owned.{contains_here, contains_later}
 use Rattle.compact_memories.specs.CloudAreas.Checkpoints.{put_body}
 use Rattle.compact_memories.specs.Checkpoints.Laying.{record_len, records_len}
 use Rattle.compact_memories.specs.Checkpoints.Picking.{onto, picked, batched, batches}
-use Rattle.record_bodies.specs.MessageFields.Fingerprints.{batch_limit}
+use Rattle.record_body.specs.MessageFields.Fingerprints.{batch_limit}
 use Rattle.compact_memories.specs.Checkpoints.Records.{owned_in, listed, items_of, items_from, put_of, puts_from, commit_at, spent_at, spents_of}
 use Rattle.compact_memories.proofs.Checkpoints.Apartness.{in_map}
 use Rattle.compact_memories.proofs.Checkpoints.FullBatches.{flat_batched}

@@ -7,10 +7,10 @@ use Rattle.std.proofs.lemmas.Bool.{cases_lt}
 use Rattle.std.proofs.lemmas.Bool.Decides.{Decides-ltb}
 use Rattle.std.proofs.lemmas.List.{get_or_past}
 use Rattle.std.proofs.lemmas.List.Sums.{sum_by-cons}
-use Rattle.record_bodies.specs.CdBase.ids.UserId.{UserId}
-use Rattle.record_bodies.specs.CdBase.rooms.Room.{Room}
-use Rattle.record_bodies.specs.CdBase.rooms.Room.TheVariants as names
-use Rattle.record_bodies.specs.CdBase.shape.Shape.{Shape}
+use Rattle.record_body.specs.CdBase.ids.UserId.{UserId}
+use Rattle.record_body.specs.CdBase.rooms.Room.{Room}
+use Rattle.record_body.specs.CdBase.rooms.Room.TheVariants as names
+use Rattle.record_body.specs.CdBase.shape.Shape.{Shape}
 use Rattle.compact_memories.specs.FileIndex.key.Entry.{Entry}
 use Rattle.compact_memories.specs.FileIndex.key.FileKey.{FileKey}
 use Rattle.compact_memories.specs.JournalStart.rooms.UserRooms.{UserRooms}

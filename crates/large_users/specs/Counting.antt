@@ -7,7 +7,7 @@ use Rattle.compact_memories.specs.FileIndex.key.FileKey.{FileKey}
 use Rattle.compact_memories.specs.FileIndex.Order.{key_cmp}
 use Rattle.compact_memories.specs.PoolMap.Slots.{slot_of}
 use Rattle.compact_memories.specs.Passes.{entries_of, recipes_len}
-use Rattle.record_bodies.specs.CdBase.ids.UserId.{UserId}
+use Rattle.record_body.specs.CdBase.ids.UserId.{UserId}
 use Rattle.compact_memories.specs.JournalStart.rooms.UserRooms.{UserRooms}
 use Rattle.compact_memories.specs.CloudMemory.Memory.{Memory}
 use Rattle.large_users.specs.declared.large.Entries.{Entries}

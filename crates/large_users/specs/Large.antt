@@ -1,7 +1,7 @@
 -- Which user keeps too much, by the memory.
 use Rattle.std.specs.Prelude.{◌≡◌, ◌<◌, ℕ, length, List, Option, Some, None}
-use Rattle.record_bodies.specs.CdBase.ids.UserId.{UserId}
-use Rattle.record_bodies.specs.CdBase.shape.Shape.{Shape}
+use Rattle.record_body.specs.CdBase.ids.UserId.{UserId}
+use Rattle.record_body.specs.CdBase.shape.Shape.{Shape}
 use Rattle.compact_memories.specs.FileIndex.key.Entry.{Entry}
 use Rattle.compact_memories.specs.FileIndex.key.FileKey.{FileKey}
 use Rattle.compact_memories.specs.JournalStart.rooms.UserRooms.{UserRooms}

@@ -2,8 +2,8 @@
 
 ghost use Rattle.std.specs.Prelude.{◌≡◌, ◌⊎◌, ◌<◌, ◌≤◌, ◌+◌, ℕ, List, length, nat_lt, option_map, None, Some, IfSome, if◌then◌else◌};
 ghost use Rattle.std.specs.Option.{option_or};
-ghost use Rattle.record_bodies.specs.CdBase.ids.UserId.{UserId as Number};
-ghost use Rattle.record_bodies.specs.CdBase.shape.Shape.{Shape};
+ghost use Rattle.record_body.specs.CdBase.ids.UserId.{UserId as Number};
+ghost use Rattle.record_body.specs.CdBase.shape.Shape.{Shape};
 ghost use Rattle.compact_memories.specs.FileIndex.key.FileKey.{FileKey};
 ghost use Rattle.compact_memories.specs.PoolMap.Accounts.{keys_of};
 ghost use Rattle.compact_memories.specs.PoolMap.Slots.{IsListed};
@@ -21,7 +21,7 @@ ghost use Rattle.large_users.specs.Large.{full_of, passed_in, IsFirstPassed, IsF
 ghost use Rattle.large_users.specs.Large.{IsOwnerSized, IsEntrySized, OfEach, AreSized};
 
 use compact_memories::{CloudMemory, FileIndex, ShareIndex, Spent, UserRooms};
-use record_bodies::{Room, UserId};
+use record_body::{Room, UserId};
 
 /// A user that keeps more than it may, and its first room, of which it uses so much.
 #[derive(Clone, Copy, Debug, PartialEq, Eq)]

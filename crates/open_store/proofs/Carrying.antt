@@ -15,7 +15,7 @@ use Rattle.checkpoints.specs.FileIndex.key.Entry.{Entry}
 use Rattle.checkpoints.specs.FileIndex.Files.{key_of}
 use Rattle.checkpoints.specs.JournalStart.start.Header.{Header}
 use Rattle.checkpoints.specs.RecordBody.body.CommitBody.{CommitBody}
-use Rattle.checkpoints.specs.RecordBodies.Spelling.{Body, Commit}
+use Rattle.checkpoints.specs.RecordBody.Spelling.{Body, Commit}
 use Rattle.recipe.specs.CdBase.place.Place.{Place}
 use Rattle.checkpoints.specs.UserDedup.file_list.FileEntry.{FileEntry}
 use Rattle.checkpoints.specs.UserDedup.Pages.{entry_at}

@@ -8,8 +8,8 @@ use Rattle.recipe.specs.CdBase.ids.UserId.{UserId}
 use Rattle.recipe.specs.CdBase.ids.Version.{Version}
 use Rattle.recipe.specs.CdBase.shape.Shape.{Shape}
 use Rattle.checkpoints.specs.ContainerLog.Places.{container_len, place_of}
-use Rattle.checkpoints.specs.RecordBodies.Spelling as bodies
-use Rattle.checkpoints.specs.RecordBodies.Spelling.{FitsBody}
+use Rattle.checkpoints.specs.RecordBody.Spelling as bodies
+use Rattle.checkpoints.specs.RecordBody.Spelling.{FitsBody}
 use Rattle.sha2.proofs.Facts256.{length-sha256}
 use Rattle.checkpoints.specs.UserDedup.Cloud.{fingerprint}
 use Rattle.checkpoints.specs.UserDedup.Pages.{entry_at}

@@ -14,7 +14,7 @@ use Rattle.checkpoints.specs.ContainerLog.Places.{place_of, end_after}
 use Rattle.checkpoints.specs.ContainerLog.States.{HasStaged}
 use Rattle.checkpoints.specs.CdEdges.Disk.{Cloud}
 use Rattle.checkpoints.specs.RecordBody.body.PutItem.{PutItem}
-use Rattle.checkpoints.specs.RecordBodies.Spelling as bodies
+use Rattle.checkpoints.specs.RecordBody.Spelling as bodies
 use Rattle.checkpoints.specs.UserDedup.Cloud.{fingerprint, has_fingerprint, strings_in}
 use Rattle.checkpoints.specs.UserDedup.command.Command.{Command}
 use Rattle.checkpoints.specs.UserDedup.command.Command.TheVariants as asked

@@ -9,7 +9,7 @@ use Rattle.checkpoints.specs.CdEdges.Disk.{Cloud}
 use Rattle.checkpoints.specs.ContainerLog.Places.{place_of}
 use Rattle.checkpoints.specs.ContainerLog.States as logs
 use Rattle.checkpoints.specs.JournalStart.start.Header.{Header}
-use Rattle.checkpoints.specs.RecordBodies.Spelling as bodies
+use Rattle.checkpoints.specs.RecordBody.Spelling as bodies
 use Rattle.checkpoints.specs.UserDedup.file_list.FileEntry.{FileEntry}
 use Rattle.checkpoints.specs.UserDedup.Pages.{entry_at}
 use Rattle.checkpoints.specs.UserDedup.Requests.{fps_of}

@@ -19,7 +19,7 @@ use Rattle.checkpoints.specs.FileIndex.Files.{key_of}
 use Rattle.checkpoints.specs.FileIndex.Order.{key_cmp}
 use Rattle.checkpoints.specs.JournalStart.start.Header.{Header}
 use Rattle.checkpoints.specs.JournalStart.Ranges.{AreRooms}
-use Rattle.checkpoints.specs.RecordBodies.Spelling.{Body, FitsBody, IsBody}
+use Rattle.checkpoints.specs.RecordBody.Spelling.{Body, FitsBody, IsBody}
 use Rattle.recipe.specs.CdBase.place.Place.{Place}
 use Rattle.checkpoints.specs.UserDedup.command.Command.{Command}
 use Rattle.checkpoints.specs.UserDedup.Dedup.{IsSound}

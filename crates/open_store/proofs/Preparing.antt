@@ -4,7 +4,7 @@ use Rattle.checkpoints.specs.CdEdges.Disk.{Cloud}
 use Rattle.checkpoints.specs.ContainerLog.Laying.{Placed}
 use Rattle.checkpoints.specs.JournalStart.start.Header.{Header}
 use Rattle.checkpoints.specs.JournalStart.Ranges.{AreRooms}
-use Rattle.checkpoints.specs.RecordBodies.Spelling.{Body, IsBody}
+use Rattle.checkpoints.specs.RecordBody.Spelling.{Body, IsBody}
 use Rattle.checkpoints.specs.UserDedup.command.Command.{Command}
 use Rattle.checkpoints.specs.UserDedup.Dedup.{IsSound}
 use Rattle.checkpoints.specs.CloudAreas.Chains.{IsRecord, BothHaveRoom}

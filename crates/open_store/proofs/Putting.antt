@@ -7,9 +7,9 @@ use Rattle.std.proofs.lemmas.List.Sums.{count_by-le-length}
 use Rattle.recipe.specs.CdBase.ids.UserId.{UserId}
 use Rattle.checkpoints.specs.ContainerLog.Places.{container_len, place_of}
 use Rattle.checkpoints.specs.RecordBody.body.PutItem.{PutItem}
-use Rattle.checkpoints.specs.RecordBody.Spelling.{FitsItem, FitsPlaced}
-use Rattle.checkpoints.proofs.RecordBody.Spelled.{has_place, length-put}
-use Rattle.checkpoints.specs.RecordBodies.Spelling.{Put, FitsBody, body_bytes}
+use Rattle.checkpoints.specs.RecordBody.FirstSpelling.{FitsItem, FitsPlaced}
+use Rattle.checkpoints.proofs.RecordBody.FirstSpelled.{has_place, length-put}
+use Rattle.checkpoints.specs.RecordBody.Spelling.{Put, FitsBody, body_bytes}
 use Rattle.recipe.specs.CdBase.place.Place.{Place}
 use Rattle.checkpoints.specs.CloudAreas.Laid.{AreSmall, IsLaidBehind}
 use Rattle.checkpoints.specs.CloudAreas.Placing.{places_given, places_of}

@@ -17,9 +17,9 @@ use Rattle.checkpoints.specs.FileIndex.Order.{key_cmp}
 use Rattle.checkpoints.specs.JournalStart.start.Header.{Header}
 use Rattle.checkpoints.specs.RecordBody.body.CommitBody.{CommitBody}
 use Rattle.checkpoints.specs.RecordBody.body.PutItem.{PutItem}
-use Rattle.checkpoints.specs.RecordBodies.body.DeleteBody.{DeleteBody}
-use Rattle.checkpoints.specs.RecordBodies.Spelling as bodies
-use Rattle.checkpoints.specs.RecordBodies.Spelling.{Body, FitsBody}
+use Rattle.checkpoints.specs.RecordBody.body.DeleteBody.{DeleteBody}
+use Rattle.checkpoints.specs.RecordBody.Spelling as bodies
+use Rattle.checkpoints.specs.RecordBody.Spelling.{Body, FitsBody}
 use Rattle.recipe.specs.CdBase.place.Place.{Place}
 use Rattle.checkpoints.specs.UserDedup.Cloud.{fingerprint}
 use Rattle.checkpoints.specs.UserDedup.command.Command.{Command}

@@ -20,8 +20,8 @@ use Rattle.checkpoints.specs.HalfJournal.journal.Stage.{Stage}
 use Rattle.checkpoints.specs.HalfJournal.journal.Stage.TheVariants.{AtEnd, Shut}
 use Rattle.messages.specs.MessageFields.Shares.{share_limit}
 use Rattle.checkpoints.specs.RecordBody.body.CommitBody.{CommitBody}
-use Rattle.checkpoints.specs.RecordBodies.Spelling as bodies
-use Rattle.checkpoints.specs.RecordBodies.Spelling.{Body, body_bytes}
+use Rattle.checkpoints.specs.RecordBody.Spelling as bodies
+use Rattle.checkpoints.specs.RecordBody.Spelling.{Body, body_bytes}
 use Rattle.checkpoints.specs.UserDedup.file_list.FileEntry.{FileEntry}
 use Rattle.checkpoints.specs.UserDedup.Cloud.{fingerprint}
 use Rattle.checkpoints.specs.UserDedup.Pages.{entry_at}

@@ -16,7 +16,7 @@ ghost use Rattle.checkpoints.specs.CloudMemory.News.{AreNewTo, seen};
 ghost use Rattle.checkpoints.specs.CloudMemory.Rooms.{memory_of, full_news};
 ghost use Rattle.checkpoints.specs.HalfJournal.journal.Stage.TheVariants.{AtEnd};
 ghost use Rattle.checkpoints.specs.HalfJournal.Outcomes.{stage_after as journal_after};
-ghost use Rattle.checkpoints.specs.RecordBodies.Spelling.{body_bytes};
+ghost use Rattle.checkpoints.specs.RecordBody.Spelling.{body_bytes};
 ghost use Rattle.checkpoints.specs.CloudAreas.Adding.{with_record};
 ghost use Rattle.checkpoints.specs.CloudMemory.Steps.{parts_of, with_put};
 ghost use Rattle.open_store.specs.Store.{IsOpen, IsSettled, Serves, Fits};

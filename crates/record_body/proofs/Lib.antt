@@ -1,7 +1,12 @@
-pub mod ItemLaws
 pub mod BodyLaws
-pub mod Walks
-pub mod Spelled
 pub mod Cuts
+pub mod FirstBodyLaws
+pub mod FirstCuts
+pub mod FirstItemLaws
+pub mod FirstSpelled
+pub mod FirstWalks
+pub mod ItemLaws
+pub mod Spelled
+pub mod Walks
 pub mod MessageFields
 pub mod Grammar

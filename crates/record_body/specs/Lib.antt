@@ -1,4 +1,8 @@
 pub mod CdBase
+pub mod FirstInPlace
+pub mod FirstReading
+pub mod FirstSeen
+pub mod FirstSpelling
 pub mod Grammar
 pub mod InPlace
 pub mod MessageFields

@@ -1,72 +1,82 @@
--- The one spelling of each body, and its ranges.
-use Rattle.std.specs.Prelude.{◌≡◌, ℕ, ◌<◌, ◌≤◌, ◌^◌, List, [], ◌∷◌, ◌++◌, length, All, Option, Some, None}
+-- What a record says, its one spelling, and its ranges.
+use Rattle.std.specs.Prelude.{◌≡◌, ℕ, ◌<◌, ◌^◌, List, ◌∷◌, ◌++◌, length, All}
 use Rattle.std.specs.List.{flat_map}
 use Rattle.std.specs.Int.{w16, w32, w64, to_be_bytes}
 use Rattle.message_fields.specs.CdBase.ids.UserId.{UserId}
-use Rattle.message_fields.specs.CdBase.place.Place.{Place}
 use Rattle.message_fields.specs.Fingerprints.{IsBatch}
-use Rattle.message_fields.specs.Shares.{share_limit}
 use Rattle.record_body.specs.declared.body.PutItem.{PutItem}
 use Rattle.record_body.specs.declared.body.CommitBody.{CommitBody}
+use Rattle.record_body.specs.FirstSpelling.{place_bytes, FitsPlace}
+use Rattle.record_body.specs.FirstSpelling as first
+use Rattle.record_body.specs.declared.body.DeleteBody.{DeleteBody}
+use Rattle.record_body.specs.declared.body.KeptItem.{KeptItem}
+use Rattle.record_body.specs.declared.body.SpentBody.{SpentBody}
 
--- What a record says: that a user's shares are stored, or that a version of a user's file is entered.
-pub data FirstBody : Type 0 where
-  Put : (user : UserId) (items : List PutItem) → FirstBody
-  Commit : (commit : CommitBody) → FirstBody
+-- What a record says: that a user's shares are stored, that a version of a user's file is entered, or that it is taken out; and in
+-- a checkpoint alone where shares lie that no user owns, and what a user has spent.
+pub data Body : Type 0 where
+  Put : (user : UserId) (items : List PutItem) → Body
+  Commit : (commit : CommitBody) → Body
+  Delete : (delete : DeleteBody) → Body
+  Kept : (items : List KeptItem) → Body
+  Spent : (spent : SpentBody) → Body
+
+-- a Put or a Commit
+abbrev pub lifted : first.FirstBody → Body
+lifted (first.Put user items) = Put user items
+lifted (first.Commit commit) = Commit commit
 
 -- ---- spelling
 
-abbrev pub place_bytes : Place → List ℕ
-place_bytes place = to_be_bytes w64 place.at ++ to_be_bytes w32 place.len
+abbrev pub delete_fields : DeleteBody → List ℕ
+delete_fields d = to_be_bytes w32 d.user.0 ++ (d.tag.0 ++ to_be_bytes w64 d.version.0)
 
--- the flag, and the place behind flag 1
-abbrev pub placed_bytes : Option Place → List ℕ
-placed_bytes None = 0 ∷ []
-placed_bytes (Some place) = 1 ∷ place_bytes place
+abbrev pub kept_bytes : KeptItem → List ℕ
+kept_bytes item = item.fp.0 ++ place_bytes item.place
 
-abbrev pub item_bytes : PutItem → List ℕ
-item_bytes item = item.fp.0 ++ placed_bytes item.place
+abbrev pub kept_fields : List KeptItem → List ℕ
+kept_fields items = to_be_bytes w16 (length items) ++ flat_map kept_bytes items
 
--- what stands before the items
-abbrev pub put_front : UserId → ℕ → List ℕ
-put_front user count = 1 ∷ (to_be_bytes w32 user.0 ++ to_be_bytes w16 count)
+-- what stands before the items of a Kept
+abbrev pub kept_front : ℕ → List ℕ
+kept_front count = 4 ∷ to_be_bytes w16 count
 
-abbrev pub commit_fields : CommitBody → List ℕ
-commit_fields c = to_be_bytes w32 c.user.0 ++ (c.tag.0 ++ (to_be_bytes w64 c.version.0 ++ (to_be_bytes w64 c.at ++ (to_be_bytes w32 c.len ++ c.fp.0))))
+abbrev pub spent_fields : SpentBody → List ℕ
+spent_fields s = to_be_bytes w32 s.user.0 ++ (to_be_bytes w32 s.owners ++ (to_be_bytes w64 s.shares ++ to_be_bytes w64 s.recipes))
 
--- the kind, and then the fields
-abbrev pub body_bytes : FirstBody → List ℕ
-body_bytes (Put user items) = 1 ∷ (to_be_bytes w32 user.0 ++ (to_be_bytes w16 (length items) ++ flat_map item_bytes items))
-body_bytes (Commit commit) = 2 ∷ commit_fields commit
+-- the kind, and then the fields; a Put and a Commit as they are spelled there
+abbrev pub body_bytes : Body → List ℕ
+body_bytes (Put user items) = first.body_bytes (first.Put user items)
+body_bytes (Commit commit) = first.body_bytes (first.Commit commit)
+body_bytes (Delete delete) = 3 ∷ delete_fields delete
+body_bytes (Kept items) = 4 ∷ kept_fields items
+body_bytes (Spent spent) = 5 ∷ spent_fields spent
 
 -- ---- ranges
 
--- a place of a share
-abbrev pub FitsPlace : Place → Type 0
-FitsPlace place = (place.at < 2 ^ 64) × ((1 ≤ place.len) × (place.len ≤ share_limit))
+pub record FitsDelete (d : DeleteBody) : Type 0 where
+  pub user : d.user.0 < 2 ^ 32
+  pub tag : length d.tag.0 ≡ 32
+  pub version : d.version.0 < 2 ^ 64
 
-abbrev pub FitsPlaced : Option Place → Type 0
-FitsPlaced None = Unit {0}
-FitsPlaced (Some place) = FitsPlace place
+abbrev pub FitsKept : KeptItem → Type 0
+FitsKept item = (length item.fp.0 ≡ 32) × FitsPlace item.place
 
-abbrev pub FitsItem : PutItem → Type 0
-FitsItem item = (length item.fp.0 ≡ 32) × FitsPlaced item.place
+pub record FitsSpent (s : SpentBody) : Type 0 where
+  pub user : s.user.0 < 2 ^ 32
+  pub owners : s.owners < 2 ^ 32
+  pub shares : s.shares < 2 ^ 64
+  pub recipes : s.recipes < 2 ^ 64
 
-pub record FitsCommit (c : CommitBody) : Type 0 where
-  pub user : c.user.0 < 2 ^ 32
-  pub tag : length c.tag.0 ≡ 32
-  pub version : c.version.0 < 2 ^ 64
-  pub from : c.at < 2 ^ 64
-  pub some : 1 ≤ c.len
-  pub few : c.len < 2 ^ 32
-  pub fp : length c.fp.0 ≡ 32
-
--- each field is in its range, and a Put has 1 to 256 items
-abbrev pub FitsBody : FirstBody → Type 0
-FitsBody (Put user items) = (user.0 < 2 ^ 32) × (IsBatch items × All FitsItem items)
-FitsBody (Commit commit) = FitsCommit commit
+-- each field is in its range, and a Put and a Kept have 1 to 256 items
+abbrev pub FitsBody : Body → Type 0
+FitsBody (Put user items) = first.FitsBody (first.Put user items)
+FitsBody (Commit commit) = first.FitsBody (first.Commit commit)
+FitsBody (Delete delete) = FitsDelete delete
+FitsBody (Kept items) = IsBatch items × All FitsKept items
+FitsBody (Spent spent) = FitsSpent spent
 
 -- The bytes are this body: its one spelling, and each field is in its range.
-pub record IsFirstBody (bytes : List ℕ) (b : FirstBody) : Type 0 where
+pub record IsBody (bytes : List ℕ) (b : Body) : Type 0 where
   pub fits : FitsBody b
   pub spelled : bytes ≡ body_bytes b

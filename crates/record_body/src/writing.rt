@@ -1,20 +1,21 @@
 //! Writing a body.
 
 ghost use Rattle.std.specs.Prelude.{◌≡◌, ◌+◌, ◌≤◌, ◌++◌, [], length, IfOk};
-ghost use Rattle.record_body.specs.Spelling.{Commit, put_front, placed_bytes, item_bytes, body_bytes};
+ghost use Rattle.record_body.specs.FirstSpelling.{put_front, placed_bytes, item_bytes, place_bytes};
+ghost use Rattle.record_body.specs.Spelling.{Commit, Delete, Spent, kept_front, kept_bytes, body_bytes};
 
-use crate::{CommitBody, PutItem};
+use crate::{CommitBody, DeleteBody, KeptItem, PutItem, SpentBody};
 use message_fields::{NoMemory, Place, UserId};
 use std::alloc::Global;
 use std::marker::Model;
 
 /// The body of a record that is being made, of up to 65,535 bytes. Contracts see the list of its bytes.
 #[derive(Debug, Drop)]
-pub struct RecordBuf {
+pub struct BodyBuf {
     bytes: Vec<u8>,
 }
 
-impl Model for RecordBuf {
+impl Model for BodyBuf {
     ghost use Rattle.std.specs.Prelude.{ℕ, ◌≤◌, List, length, vec_capacity};
 
     ghost Value = { List ℕ };
@@ -24,13 +25,13 @@ impl Model for RecordBuf {
     ghost invariant = { λ b. (length b.bytes.items ≤ 65535) × (65535 ≤ vec_capacity b.bytes) };
 }
 
-impl RecordBuf {
+impl BodyBuf {
     /// No bytes, with memory for 65,535 of them. The only error is want of memory.
-    pub fn make(alloc: Global) -> Result<RecordBuf, NoMemory>
+    pub fn make(alloc: Global) -> Result<BodyBuf, NoMemory>
         ensures { IfOk result (λ buf. buf ≡ []) }
     {
         let bytes = Vec::with_capacity(alloc, 65_535)?;
-        Ok(RecordBuf { bytes })
+        Ok(BodyBuf { bytes })
     }
 
     /// The bytes.
@@ -64,15 +65,13 @@ impl RecordBuf {
         let _ = self.bytes.extend_from_slice(bytes);
     }
 
-    /// Begins a Put of so many items in place of what stood here. Its items follow by `put_item`, and with as many as were
-    /// named the bytes are the Put's body (`laws::written_laws`).
-    pub fn start_put(&mut self, user: UserId, count: u16)
-        ensures { self.new ≡ put_front user count }
+    // Appends a place: 12 bytes.
+    fn put_place(&mut self, place: &Place)
+        requires { length self.old + 12 ≤ 65535 }
+        ensures { self.new ≡ self.old ++ place_bytes place.now }
     {
-        self.clear();
-        self.put(&[1]);
-        self.put(&user.0.to_be_bytes());
-        self.put(&count.to_be_bytes());
+        self.put(&place.at.to_be_bytes());
+        self.put(&place.len.to_be_bytes());
     }
 
     // Appends a flag, and the place behind flag 1.
@@ -84,10 +83,20 @@ impl RecordBuf {
             None => self.put(&[0]),
             Some(place) => {
                 self.put(&[1]);
-                self.put(&place.at.to_be_bytes());
-                self.put(&place.len.to_be_bytes());
+                self.put_place(place);
             }
         }
+    }
+
+    /// Begins a Put of so many items in place of what stood here. Its items follow by `put_item`, and with as many as were
+    /// named the bytes are the Put's body (`first_laws::written_laws`).
+    pub fn start_put(&mut self, user: UserId, count: u16)
+        ensures { self.new ≡ put_front user count }
+    {
+        self.clear();
+        self.put(&[1]);
+        self.put(&user.0.to_be_bytes());
+        self.put(&count.to_be_bytes());
     }
 
     /// Appends an item of a Put. An item takes 33 bytes, or 45 with a place.
@@ -111,5 +120,47 @@ impl RecordBuf {
         self.put(&commit.at.to_be_bytes());
         self.put(&commit.len.to_be_bytes());
         self.put(&commit.fp.0);
+    }
+
+    /// Writes a Delete in place of what stood here: 45 bytes.
+    pub fn write_delete(&mut self, delete: &DeleteBody)
+        ensures { self.new ≡ body_bytes (Delete delete.now) }
+    {
+        self.clear();
+        self.put(&[3]);
+        self.put(&delete.user.0.to_be_bytes());
+        self.put(&delete.tag.0);
+        self.put(&delete.version.0.to_be_bytes());
+    }
+
+    /// Begins a Kept of so many items in place of what stood here. Its items follow by `put_kept`, and with as many as were
+    /// named the bytes are the Kept's body (`laws::written_laws`).
+    pub fn start_kept(&mut self, count: u16)
+        ensures { self.new ≡ kept_front count }
+    {
+        self.clear();
+        self.put(&[4]);
+        self.put(&count.to_be_bytes());
+    }
+
+    /// Appends an item of a Kept: 44 bytes.
+    pub fn put_kept(&mut self, item: &KeptItem)
+        requires { length self.old + 44 ≤ 65535 }
+        ensures { self.new ≡ self.old ++ kept_bytes item.now }
+    {
+        self.put(&item.fp.0);
+        self.put_place(&item.place);
+    }
+
+    /// Writes a Spent in place of what stood here: 25 bytes.
+    pub fn write_spent(&mut self, spent: &SpentBody)
+        ensures { self.new ≡ body_bytes (Spent spent.now) }
+    {
+        self.clear();
+        self.put(&[5]);
+        self.put(&spent.user.0.to_be_bytes());
+        self.put(&spent.owners.to_be_bytes());
+        self.put(&spent.shares.to_be_bytes());
+        self.put(&spent.recipes.to_be_bytes());
     }
 }

@@ -10,8 +10,8 @@ use Rattle.cloud_memory.specs.PoolMap.accounts.Accounts.{Accounts}
 use Rattle.cloud_memory.specs.PoolMap.Accounts.{use_for, limit_for, keys_of}
 use Rattle.cloud_memory.specs.JournalStart.rooms.UserRooms.{UserRooms}
 use Rattle.cloud_memory.specs.UserDedup.Spending.{files_limit}
-use Rattle.cloud_memory.specs.RecordBodies.body.KeptItem.{KeptItem}
-use Rattle.cloud_memory.specs.RecordBodies.Spelling.{Put, Commit, Kept}
+use Rattle.cloud_memory.specs.RecordBody.body.KeptItem.{KeptItem}
+use Rattle.cloud_memory.specs.RecordBody.Spelling.{Put, Commit, Kept}
 use Rattle.cloud_memory.specs.RecordBody.body.CommitBody.{CommitBody}
 use Rattle.cloud_memory.specs.RecordBody.body.PutItem.{PutItem}
 use Rattle.cloud_memory.specs.SpentTable.Spent.{Spent}

@@ -2,9 +2,9 @@
 use Rattle.std.proofs.Common.{◌≡◌, ℕ, ◌+◌, ◌<◌, ◌^◌, Bool, List, [], ◌∷◌, length, Option, Some, refl, sym, ap, ◌∙◌, subst, arith}
 use Rattle.std.specs.Prelude.{max}
 use Rattle.std.specs.FinMap.{len}
-use Rattle.cloud_memory.specs.RecordBodies.body.FoundKept.{FoundKept}
-use Rattle.cloud_memory.specs.RecordBodies.body.KeptItem.{KeptItem}
-use Rattle.cloud_memory.specs.RecordBodies.InPlace.{Walk, StepsOver}
+use Rattle.cloud_memory.specs.RecordBody.body.FoundKept.{FoundKept}
+use Rattle.cloud_memory.specs.RecordBody.body.KeptItem.{KeptItem}
+use Rattle.cloud_memory.specs.RecordBody.InPlace.{Walk, StepsOver}
 use Rattle.cloud_memory.specs.CloudAreas.Placing.{end_of}
 use Rattle.cloud_memory.specs.declared.cloud.CloudMemory.{CloudMemory}
 use Rattle.cloud_memory.specs.Memory.{Memory}

@@ -11,7 +11,6 @@ pub mod Walking
 pub mod CloudMemoryLaws
 pub mod UserDedup
 pub mod FileIndex
-pub mod RecordBodies
 pub mod ShareIndex
 pub mod RecordBody
 pub mod Recipe

@@ -4,12 +4,12 @@ use Rattle.std.specs.Prelude.{IsSome, Result, is_some}
 use Rattle.std.specs.FinMap.{get}
 use Rattle.cloud_memory.specs.CdBase.ids.UserId.{UserId}
 use Rattle.cloud_memory.specs.FileIndex.key.Entry.{Entry}
-use Rattle.cloud_memory.specs.RecordBodies.body.KeptItem.{KeptItem}
-use Rattle.cloud_memory.specs.RecordBodies.Reading.{body_at}
-use Rattle.cloud_memory.specs.RecordBodies.Spelling.{Body}
+use Rattle.cloud_memory.specs.RecordBody.body.KeptItem.{KeptItem}
+use Rattle.cloud_memory.specs.RecordBody.Reading.{body_at}
+use Rattle.cloud_memory.specs.RecordBody.Spelling.{Body}
 use Rattle.cloud_memory.specs.RecordBody.body.BodyErr.{BodyErr}
 use Rattle.cloud_memory.specs.RecordBody.body.PutItem.{PutItem}
-use Rattle.cloud_memory.specs.RecordBody.Spelling.{item_bytes}
+use Rattle.cloud_memory.specs.RecordBody.FirstSpelling.{item_bytes}
 use Rattle.cloud_memory.specs.Memory.{Memory}
 use Rattle.cloud_memory.specs.Steps.{with_item, with_kept}
 use Rattle.record_checks.specs.declared.damage.Damage.{Damage}

@@ -6,7 +6,7 @@ use Rattle.std.specs.FinMap.{FinMap, get, insert}
 use Rattle.std.proofs.lemmas.Grind.{fold-append}
 use Rattle.cloud_memory.specs.CdBase.ids.Fp.{Fp}
 use Rattle.cloud_memory.specs.CdBase.ids.UserId.{UserId}
-use Rattle.cloud_memory.specs.RecordBodies.body.KeptItem.{KeptItem}
+use Rattle.cloud_memory.specs.RecordBody.body.KeptItem.{KeptItem}
 use Rattle.cloud_memory.specs.RecordBody.body.PutItem.{PutItem}
 use Rattle.cloud_memory.specs.CdBase.place.Place.{Place}
 use Rattle.cloud_memory.specs.ShareIndex.Order.{owner_cmp, owner_of}

@@ -4,7 +4,7 @@ use Rattle.std.specs.Prelude.{max, IfSome}
 use Rattle.cloud_memory.specs.CdBase.ids.UserId.{UserId}
 use Rattle.cloud_memory.specs.RecordBody.body.FoundItem.{FoundItem}
 use Rattle.cloud_memory.specs.RecordBody.body.PutItem.{PutItem}
-use Rattle.cloud_memory.specs.RecordBody.InPlace.{FirstWalk, IsFirstStepOver}
+use Rattle.cloud_memory.specs.RecordBody.FirstInPlace.{FirstWalk, IsFirstStepOver}
 use Rattle.cloud_memory.specs.CdBase.place.Place.{Place}
 use Rattle.cloud_memory.specs.CloudAreas.Placing.{end_of}
 use Rattle.cloud_memory.specs.Memory.{Memory}

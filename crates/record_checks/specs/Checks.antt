@@ -12,16 +12,16 @@ use Rattle.cloud_memory.specs.FileIndex.Files.{key_of}
 use Rattle.cloud_memory.specs.PoolMap.Accounts.{keys_of}
 use Rattle.cloud_memory.specs.Recipe.recipe.Recipe.{Recipe}
 use Rattle.cloud_memory.specs.Recipe.Spelling.{IsRecipe}
-use Rattle.cloud_memory.specs.RecordBodies.Reading.{body_at}
-use Rattle.cloud_memory.specs.RecordBodies.Spelling.{Body, Commit, Delete}
-use Rattle.cloud_memory.specs.RecordBodies.body.DeleteBody.{DeleteBody}
-use Rattle.cloud_memory.specs.RecordBodies.body.KeptItem.{KeptItem}
-use Rattle.cloud_memory.specs.RecordBodies.body.SpentBody.{SpentBody}
+use Rattle.cloud_memory.specs.RecordBody.Reading.{body_at}
+use Rattle.cloud_memory.specs.RecordBody.Spelling.{Body, Commit, Delete}
+use Rattle.cloud_memory.specs.RecordBody.body.DeleteBody.{DeleteBody}
+use Rattle.cloud_memory.specs.RecordBody.body.KeptItem.{KeptItem}
+use Rattle.cloud_memory.specs.RecordBody.body.SpentBody.{SpentBody}
 use Rattle.cloud_memory.specs.RecordBody.body.BodyErr.{BodyErr}
 use Rattle.cloud_memory.specs.RecordBody.body.BodyErr.TheVariants as errors
 use Rattle.cloud_memory.specs.RecordBody.body.CommitBody.{CommitBody}
 use Rattle.cloud_memory.specs.RecordBody.body.PutItem.{PutItem}
-use Rattle.cloud_memory.specs.RecordBody.Spelling.{item_bytes}
+use Rattle.cloud_memory.specs.RecordBody.FirstSpelling.{item_bytes}
 use Rattle.cloud_memory.specs.CdBase.place.Place.{Place}
 use Rattle.cloud_memory.specs.ShareIndex.Order.{owner_of}
 use Rattle.cloud_memory.specs.SpentTable.Spending.{spent_by}

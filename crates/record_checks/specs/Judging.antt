@@ -3,12 +3,12 @@ use Rattle.std.specs.Prelude.{◌≡◌, ℕ, Bool, IsFalse, List, Some, None, I
 use Rattle.cloud_memory.specs.CdBase.ids.UserId.{UserId}
 use Rattle.cloud_memory.specs.FileIndex.key.Entry.{Entry}
 use Rattle.cloud_memory.specs.FileIndex.Files.{key_of}
-use Rattle.cloud_memory.specs.RecordBodies.body.DeleteBody.{DeleteBody}
-use Rattle.cloud_memory.specs.RecordBodies.body.KeptItem.{KeptItem}
-use Rattle.cloud_memory.specs.RecordBodies.body.SpentBody.{SpentBody}
-use Rattle.cloud_memory.specs.RecordBodies.Reading.{body_at}
-use Rattle.cloud_memory.specs.RecordBodies.Spelling as bodies
-use Rattle.cloud_memory.specs.RecordBodies.Spelling.{Body}
+use Rattle.cloud_memory.specs.RecordBody.body.DeleteBody.{DeleteBody}
+use Rattle.cloud_memory.specs.RecordBody.body.KeptItem.{KeptItem}
+use Rattle.cloud_memory.specs.RecordBody.body.SpentBody.{SpentBody}
+use Rattle.cloud_memory.specs.RecordBody.Reading.{body_at}
+use Rattle.cloud_memory.specs.RecordBody.Spelling as bodies
+use Rattle.cloud_memory.specs.RecordBody.Spelling.{Body}
 use Rattle.cloud_memory.specs.RecordBody.body.BodyErr.{BodyErr}
 use Rattle.cloud_memory.specs.RecordBody.body.CommitBody.{CommitBody}
 use Rattle.cloud_memory.specs.RecordBody.body.PutItem.{PutItem}

@@ -8,7 +8,6 @@ pub mod Judging
 pub mod Noting
 pub mod PoolMap
 pub mod Recipe
-pub mod RecordBodies
 pub mod RecordBody
 pub mod ShareIndex
 pub mod SpentTable

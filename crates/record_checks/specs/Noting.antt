@@ -1,10 +1,10 @@
 -- What is kept of the records beside the memory: who has a Spent, and where the place of the farthest blob stands in the journal.
 use Rattle.std.specs.Prelude.{◌≡◌, ◌≤◌, ℕ, ◌+◌, max, Ok, true, false, List, [], ◌∷◌, length, slice_set, replicate, Option, Some, None, nat_lt, if◌then◌else◌}
-use Rattle.cloud_memory.specs.RecordBodies.body.KeptItem.{KeptItem}
-use Rattle.cloud_memory.specs.RecordBodies.Reading.{body_at}
-use Rattle.cloud_memory.specs.RecordBodies.Spelling.{Body, Put, Commit, Delete, Kept, Spent}
+use Rattle.cloud_memory.specs.RecordBody.body.KeptItem.{KeptItem}
+use Rattle.cloud_memory.specs.RecordBody.Reading.{body_at}
+use Rattle.cloud_memory.specs.RecordBody.Spelling.{Body, Put, Commit, Delete, Kept, Spent}
 use Rattle.cloud_memory.specs.RecordBody.body.PutItem.{PutItem}
-use Rattle.cloud_memory.specs.RecordBody.Spelling.{item_bytes}
+use Rattle.cloud_memory.specs.RecordBody.FirstSpelling.{item_bytes}
 use Rattle.cloud_memory.specs.CdBase.place.Place.{Place}
 use Rattle.cloud_memory.specs.CloudAreas.Placing.{end_of}
 use Rattle.cloud_memory.specs.Memory.{Memory}

@@ -6,8 +6,8 @@ use Rattle.cloud_memory.specs.CdBase.ids.Fp.{Fp}
 use Rattle.cloud_memory.specs.CdBase.ids.UserId.{UserId}
 use Rattle.cloud_memory.specs.PoolMap.Accounts.{keys_of}
 use Rattle.cloud_memory.specs.JournalStart.rooms.UserRooms.{UserRooms}
-use Rattle.cloud_memory.specs.RecordBodies.body.KeptItem.{KeptItem}
-use Rattle.cloud_memory.specs.RecordBodies.Spelling.{Body}
+use Rattle.cloud_memory.specs.RecordBody.body.KeptItem.{KeptItem}
+use Rattle.cloud_memory.specs.RecordBody.Spelling.{Body}
 use Rattle.cloud_memory.specs.RecordBody.body.CommitBody.{CommitBody}
 use Rattle.cloud_memory.specs.RecordBody.body.PutItem.{PutItem}
 use Rattle.cloud_memory.specs.SpentTable.Spending.{spent_by, of_shares}

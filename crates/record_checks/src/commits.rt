@@ -3,7 +3,7 @@
 ghost use Rattle.std.specs.Prelude.{◌≡◌, ◌↔◌, ℕ, ◌+◌, ◌<◌, ◌≤◌, ◌^◌, Bool, List, length, slice_get, Some, None};
 ghost use Rattle.std.specs.Prelude.{IsTrue, IfNone, IfErr, OnOk, MatchOption};
 ghost use Rattle.cloud_memory.specs.CdBase.ids.Fp.{Fp as Digest};
-ghost use Rattle.cloud_memory.specs.RecordBodies.Spelling.{Commit, Delete};
+ghost use Rattle.cloud_memory.specs.RecordBody.Spelling.{Commit, Delete};
 ghost use Rattle.cloud_memory.specs.SpentTable.Spending.{of_recipe};
 ghost use Rattle.cloud_memory.specs.UserDedup.Owning.{fps_in};
 ghost use Rattle.cloud_memory.specs.UserDedup.Requests.{fps_of};

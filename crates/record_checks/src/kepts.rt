@@ -4,7 +4,7 @@ ghost use Rattle.std.specs.Prelude.{◌≡◌, ◌↔◌, ◌+◌, ◌*◌, ◌<
 ghost use Rattle.std.specs.Prelude.{IsSome, IfNone, IfErr, OnOk, MatchOption, MatchResult};
 ghost use Rattle.std.specs.FinMap.{get};
 ghost use Rattle.cloud_memory.specs.CloudAreas.Placing.{end_of};
-ghost use Rattle.cloud_memory.specs.RecordBodies.Spelling.{Kept};
+ghost use Rattle.cloud_memory.specs.RecordBody.Spelling.{Kept};
 ghost use Rattle.cloud_memory.specs.Memory.{Memory};
 ghost use Rattle.cloud_memory.specs.Rooms.{memory_of, HasRooms};
 ghost use Rattle.cloud_memory.specs.Steps.{with_kepts};

@@ -2,7 +2,7 @@
 
 ghost use Rattle.std.specs.Prelude.{◌≡◌, ◌+◌, ◌-◌, ◌<◌, ◌≤◌, ◌^◌, length, nat_lt, IfSome};
 ghost use Rattle.cloud_memory.specs.CloudAreas.Placing.{end_of};
-ghost use Rattle.cloud_memory.specs.RecordBody.Reading.{IsPlaced};
+ghost use Rattle.cloud_memory.specs.RecordBody.FirstReading.{IsPlaced};
 ghost use Rattle.record_checks.specs.Checks.{damaged_at, body_fault};
 ghost use Rattle.record_checks.specs.Noting.{farther_field};
 

@@ -3,7 +3,7 @@
 ghost use Rattle.std.specs.Prelude.{◌≡◌, ℕ, ◌+◌, ◌*◌, ◌<◌, ◌≤◌, ◌↔◌, ◌^◌, Bool, List, length, count_by, IsTrue, IfErr, OnOk};
 ghost use Rattle.std.specs.List.{sum_by};
 ghost use Rattle.std.specs.FinMap.{get};
-ghost use Rattle.cloud_memory.specs.RecordBodies.Spelling.{Put};
+ghost use Rattle.cloud_memory.specs.RecordBody.Spelling.{Put};
 ghost use Rattle.cloud_memory.specs.RecordBody.body.PutItem.{PutItem as Item};
 ghost use Rattle.cloud_memory.specs.Rooms.{memory_of, HasRooms};
 ghost use Rattle.cloud_memory.specs.Steps.{placed_len, spends};

@@ -2,7 +2,7 @@
 
 ghost use Rattle.std.specs.Prelude.{◌≡◌, ℕ, ◌+◌, ◌<◌, ◌^◌, Bool, List, length, slice_set, slice_index_or, true};
 ghost use Rattle.std.specs.Prelude.{IsTrue, ◌↔◌, IfErr, OnOk};
-ghost use Rattle.cloud_memory.specs.RecordBodies.Spelling.{Spent as SpentRecord};
+ghost use Rattle.cloud_memory.specs.RecordBody.Spelling.{Spent as SpentRecord};
 ghost use Rattle.cloud_memory.specs.Rooms.{memory_of, HasRooms};
 ghost use Rattle.record_checks.specs.Checks.{MayHaveSpent};
 ghost use Rattle.record_checks.specs.Noting.{nothing_noted, EndsGrow};

@@ -17,9 +17,9 @@ use Rattle.record_checks.specs.FileIndex.Files.{key_of}
 use Rattle.record_checks.specs.JournalStart.rooms.UserRooms.{UserRooms}
 use Rattle.record_checks.specs.JournalStart.Ranges.{AreRooms}
 use Rattle.record_checks.specs.RecordBody.body.PutItem.{PutItem}
-use Rattle.record_checks.specs.RecordBodies.body.DeleteBody.{DeleteBody}
-use Rattle.record_checks.specs.RecordBodies.Spelling as bodies
-use Rattle.record_checks.specs.RecordBodies.Spelling.{Body}
+use Rattle.record_checks.specs.RecordBody.body.DeleteBody.{DeleteBody}
+use Rattle.record_checks.specs.RecordBody.Spelling as bodies
+use Rattle.record_checks.specs.RecordBody.Spelling.{Body}
 use Rattle.cd_edges.specs.CdBase.place.Place.{Place}
 use Rattle.record_checks.specs.ShareIndex.Order.{owner_of}
 use Rattle.record_checks.specs.SpentTable.Spent.{Spent as Row}

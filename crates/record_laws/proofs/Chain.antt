@@ -13,7 +13,7 @@ use Rattle.record_checks.specs.ContainerLog.Laying.{Placed, IsAt}
 use Rattle.record_checks.specs.JournalStart.rooms.UserRooms.{UserRooms}
 use Rattle.record_checks.specs.JournalStart.Ranges.{AreRooms}
 use Rattle.record_checks.specs.JournalStart.start.Header.{Header}
-use Rattle.record_checks.specs.RecordBodies.Spelling.{Body}
+use Rattle.record_checks.specs.RecordBody.Spelling.{Body}
 use Rattle.cd_edges.specs.CdBase.place.Place.{Place}
 use Rattle.record_checks.specs.UserDedup.command.Command.{Command}
 use Rattle.record_checks.specs.UserDedup.Dedup.{IsSound}

@@ -17,9 +17,9 @@ use Rattle.record_checks.specs.FileIndex.key.Entry.{Entry}
 use Rattle.record_checks.specs.FileIndex.Files as files
 use Rattle.record_checks.specs.FileIndex.Order.{key_cmp}
 use Rattle.record_checks.specs.RecordBody.body.CommitBody.{CommitBody}
-use Rattle.record_checks.specs.RecordBodies.body.SpentBody.{SpentBody}
-use Rattle.record_checks.specs.RecordBodies.Spelling as bodies
-use Rattle.record_checks.specs.RecordBodies.Spelling.{Body}
+use Rattle.record_checks.specs.RecordBody.body.SpentBody.{SpentBody}
+use Rattle.record_checks.specs.RecordBody.Spelling as bodies
+use Rattle.record_checks.specs.RecordBody.Spelling.{Body}
 use Rattle.record_checks.specs.ShareIndex.Order.{owner_cmp, owner_of}
 use Rattle.record_checks.specs.SpentTable.Spending.{nothing as no_row, spent_by}
 use Rattle.record_checks.specs.UserDedup.file_list.FileEntry.{FileEntry}

@@ -5,7 +5,7 @@ use Rattle.std.proofs.lemmas.List.Elements.{All-contains, Contains-append_left}
 use Rattle.cd_edges.specs.CdBase.shape.Shape.{Shape}
 use Rattle.record_checks.specs.ContainerLog.Laying.{Placed, IsAt}
 use Rattle.record_checks.specs.JournalStart.rooms.UserRooms.{UserRooms}
-use Rattle.record_checks.specs.RecordBodies.Spelling.{Body}
+use Rattle.record_checks.specs.RecordBody.Spelling.{Body}
 use Rattle.record_checks.specs.UserDedup.command.Command.{Command}
 use Rattle.record_checks.specs.UserDedup.Dedup.{IsSound}
 use Rattle.record_checks.specs.UserDedup.Spending.{IsWithin}

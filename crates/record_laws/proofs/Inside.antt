@@ -23,10 +23,10 @@ use Rattle.record_checks.specs.JournalStart.rooms.UserRooms.{UserRooms}
 use Rattle.record_checks.specs.JournalStart.Ranges.{AreRooms}
 use Rattle.record_checks.specs.RecordBody.body.CommitBody.{CommitBody}
 use Rattle.record_checks.specs.RecordBody.body.PutItem.{PutItem}
-use Rattle.record_checks.specs.RecordBodies.body.KeptItem.{KeptItem}
-use Rattle.record_checks.specs.RecordBodies.body.SpentBody.{SpentBody}
-use Rattle.record_checks.specs.RecordBodies.Spelling as bodies
-use Rattle.record_checks.specs.RecordBodies.Spelling.{Body}
+use Rattle.record_checks.specs.RecordBody.body.KeptItem.{KeptItem}
+use Rattle.record_checks.specs.RecordBody.body.SpentBody.{SpentBody}
+use Rattle.record_checks.specs.RecordBody.Spelling as bodies
+use Rattle.record_checks.specs.RecordBody.Spelling.{Body}
 use Rattle.cd_edges.specs.CdBase.place.Place.{Place}
 use Rattle.record_checks.specs.ShareIndex.Order.{owner_cmp, owner_of}
 use Rattle.cd_edges.specs.CdBase.Order.{fp_cmp}

@@ -10,7 +10,7 @@ use Rattle.cd_edges.specs.CdBase.ids.Fp.{Fp}
 use Rattle.cd_edges.specs.CdBase.ids.UserId.{UserId}
 use Rattle.cd_edges.specs.CdBase.shape.Shape.{Shape}
 use Rattle.record_checks.specs.RecordBody.body.PutItem.{PutItem}
-use Rattle.record_checks.specs.RecordBodies.body.KeptItem.{KeptItem}
+use Rattle.record_checks.specs.RecordBody.body.KeptItem.{KeptItem}
 use Rattle.cd_edges.specs.CdBase.place.Place.{Place}
 use Rattle.record_checks.specs.ShareIndex.Order.{owner_of}
 use Rattle.record_checks.specs.UserDedup.Owning.{is_among}

@@ -18,9 +18,9 @@ use Rattle.record_checks.specs.ContainerLog.Laying.{Placed, IsAt, lengths}
 use Rattle.record_checks.specs.FileIndex.key.Entry.{Entry}
 use Rattle.record_checks.specs.FileIndex.Files as files
 use Rattle.record_checks.specs.RecordBody.body.PutItem.{PutItem}
-use Rattle.record_checks.specs.RecordBodies.body.DeleteBody.{DeleteBody}
-use Rattle.record_checks.specs.RecordBodies.Spelling as bodies
-use Rattle.record_checks.specs.RecordBodies.Spelling.{Body}
+use Rattle.record_checks.specs.RecordBody.body.DeleteBody.{DeleteBody}
+use Rattle.record_checks.specs.RecordBody.Spelling as bodies
+use Rattle.record_checks.specs.RecordBody.Spelling.{Body}
 use Rattle.cd_edges.specs.CdBase.place.Place.{Place}
 use Rattle.record_checks.specs.ShareIndex.Order.{owner_cmp, owner_of}
 use Rattle.cd_edges.specs.CdBase.Order.{fp_cmp}

@@ -14,9 +14,9 @@ use Rattle.cd_edges.specs.CdBase.shape.Shape.{Shape}
 use Rattle.record_checks.specs.FileIndex.key.Entry.{Entry}
 use Rattle.record_checks.specs.FileIndex.Files.{key_of}
 use Rattle.record_checks.specs.RecordBody.body.PutItem.{PutItem}
-use Rattle.record_checks.specs.RecordBodies.body.KeptItem.{KeptItem}
-use Rattle.record_checks.specs.RecordBodies.Spelling as bodies
-use Rattle.record_checks.specs.RecordBodies.Spelling.{Body}
+use Rattle.record_checks.specs.RecordBody.body.KeptItem.{KeptItem}
+use Rattle.record_checks.specs.RecordBody.Spelling as bodies
+use Rattle.record_checks.specs.RecordBody.Spelling.{Body}
 use Rattle.cd_edges.specs.CdBase.place.Place.{Place}
 use Rattle.cd_edges.specs.CdBase.Order.{fp_cmp}
 use Rattle.record_checks.proofs.UserDedup.Owned.{fp_same, contains_here, contains_nothing, contains_cases}

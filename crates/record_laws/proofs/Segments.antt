@@ -17,10 +17,10 @@ use Rattle.record_checks.specs.FileIndex.key.Entry.{Entry}
 use Rattle.record_checks.specs.FileIndex.Files as files
 use Rattle.record_checks.specs.RecordBody.body.CommitBody.{CommitBody}
 use Rattle.record_checks.specs.RecordBody.body.PutItem.{PutItem}
-use Rattle.record_checks.specs.RecordBodies.body.KeptItem.{KeptItem}
-use Rattle.record_checks.specs.RecordBodies.body.SpentBody.{SpentBody}
-use Rattle.record_checks.specs.RecordBodies.Spelling as bodies
-use Rattle.record_checks.specs.RecordBodies.Spelling.{Body}
+use Rattle.record_checks.specs.RecordBody.body.KeptItem.{KeptItem}
+use Rattle.record_checks.specs.RecordBody.body.SpentBody.{SpentBody}
+use Rattle.record_checks.specs.RecordBody.Spelling as bodies
+use Rattle.record_checks.specs.RecordBody.Spelling.{Body}
 use Rattle.record_checks.specs.ShareIndex.Order.{owner_of}
 use Rattle.record_checks.specs.SpentTable.Spending.{spent_by}
 use Rattle.record_checks.specs.UserDedup.file_list.FileEntry.{FileEntry}

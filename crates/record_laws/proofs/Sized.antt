@@ -12,7 +12,7 @@ use Rattle.messages.specs.MessageFields.Shares.{IsShare}
 use Rattle.record_checks.specs.Recipe.recipe.Recipe.{Recipe}
 use Rattle.record_checks.specs.Recipe.Spelling.{IsRecipe}
 use Rattle.record_checks.proofs.Recipe.Written.{longest}
-use Rattle.record_checks.specs.RecordBodies.Spelling.{Body}
+use Rattle.record_checks.specs.RecordBody.Spelling.{Body}
 use Rattle.cd_edges.specs.CdBase.place.Place.{Place}
 use Rattle.record_checks.specs.UserDedup.file_list.FileEntry.{FileEntry}
 use Rattle.record_checks.specs.UserDedup.Cloud.{fingerprint}

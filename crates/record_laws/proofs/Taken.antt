@@ -13,9 +13,9 @@ use Rattle.record_checks.specs.ContainerLog.Laying.{Placed, IsAt}
 use Rattle.record_checks.specs.JournalStart.start.Header.{Header}
 use Rattle.record_checks.specs.JournalStart.Spelling.{commands_of, records_of}
 use Rattle.record_checks.specs.RecordBody.body.BodyErr.{BodyErr}
-use Rattle.record_checks.specs.RecordBodies.Spelling as bodies
-use Rattle.record_checks.specs.RecordBodies.Spelling.{Body, body_bytes, FitsBody}
-use Rattle.record_checks.proofs.RecordBodies.BodyLaws.{again}
+use Rattle.record_checks.specs.RecordBody.Spelling as bodies
+use Rattle.record_checks.specs.RecordBody.Spelling.{Body, body_bytes, FitsBody}
+use Rattle.record_checks.proofs.RecordBody.BodyLaws.{again}
 use Rattle.cd_edges.specs.CdBase.place.Place.{Place}
 use Rattle.record_checks.proofs.UserDedup.Owned.{contains_here}
 use Rattle.record_checks.specs.UserDedup.command.Command.{Command}

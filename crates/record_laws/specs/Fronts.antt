@@ -3,8 +3,8 @@ use Rattle.std.specs.Prelude.{◌≡◌, ℕ, Bool, true, false, List, [], ◌�
 use Rattle.cd_edges.specs.declared.area.Area.TheVariants.{Shares, Recipes}
 use Rattle.cd_edges.specs.Disk.{Image}
 use Rattle.record_checks.specs.JournalStart.start.Header.{Header}
-use Rattle.record_checks.specs.RecordBodies.Spelling as bodies
-use Rattle.record_checks.specs.RecordBodies.Spelling.{Body, body_bytes}
+use Rattle.record_checks.specs.RecordBody.Spelling as bodies
+use Rattle.record_checks.specs.RecordBody.Spelling.{Body, body_bytes}
 use Rattle.record_checks.specs.UserDedup.command.Command.{Command}
 use Rattle.record_checks.specs.CloudAreas.Standing.{Chain, region_in, Holds}
 use Rattle.cd_edges.specs.CdBase.place.Place.{Place}

@@ -14,9 +14,9 @@ use Rattle.record_checks.specs.FileIndex.Files.{key_of}
 use Rattle.record_checks.specs.JournalStart.start.Header.{Header}
 use Rattle.record_checks.specs.JournalStart.Ranges.{AreRooms}
 use Rattle.record_checks.specs.JournalStart.Spelling.{records_of}
-use Rattle.record_checks.specs.RecordBodies.body.SpentBody.{SpentBody}
-use Rattle.record_checks.specs.RecordBodies.Spelling as bodies
-use Rattle.record_checks.specs.RecordBodies.Spelling.{Body}
+use Rattle.record_checks.specs.RecordBody.body.SpentBody.{SpentBody}
+use Rattle.record_checks.specs.RecordBody.Spelling as bodies
+use Rattle.record_checks.specs.RecordBody.Spelling.{Body}
 use Rattle.record_checks.specs.SpentTable.Spent.{Spent}
 use Rattle.record_checks.specs.UserDedup.file_list.FileEntry.{FileEntry}
 use Rattle.record_checks.specs.UserDedup.Pages.{entry_at}

@@ -5,7 +5,7 @@ ghost use Rattle.cd_edges.specs.declared.area.Area.TheVariants.{Shares, Recipes}
 ghost use Rattle.cd_edges.specs.Disk.{Image};
 ghost use Rattle.record_checks.specs.ContainerLog.Laying.{Placed, IsAt};
 ghost use Rattle.record_checks.specs.JournalStart.start.Header.{Header};
-ghost use Rattle.record_checks.specs.RecordBodies.Spelling.{Body};
+ghost use Rattle.record_checks.specs.RecordBody.Spelling.{Body};
 ghost use Rattle.record_checks.specs.UserDedup.command.Command.{Command};
 ghost use Rattle.record_checks.specs.CloudAreas.Chains.{IsRecord, AreLong, BothHaveRoom};
 ghost use Rattle.record_checks.specs.CloudAreas.Checkpoints.{IsCheckpointOfList};

@@ -4,7 +4,7 @@ ghost use Rattle.std.specs.Prelude.{◌≡◌, ◌≤◌, ℕ, List, [], ◌∷�
 ghost use Rattle.cd_edges.specs.declared.area.Area.TheVariants.{Recipes};
 ghost use Rattle.cd_edges.specs.Disk.{Image};
 ghost use Rattle.record_checks.specs.JournalStart.start.Header.{Header};
-ghost use Rattle.record_checks.specs.RecordBodies.Spelling.{Body, body_bytes, FitsBody};
+ghost use Rattle.record_checks.specs.RecordBody.Spelling.{Body, body_bytes, FitsBody};
 ghost use Rattle.cd_edges.specs.CdBase.place.Place.{Place};
 ghost use Rattle.record_checks.specs.UserDedup.command.Command.{Command};
 ghost use Rattle.record_checks.specs.CloudAreas.Standing.{Chain, region_in, Holds};

@@ -17,7 +17,7 @@ use Rattle.store_opening.specs.JournalStart.Ranges.{IsBehind}
 use Rattle.store_opening.specs.JournalStart.Spelling.{start_bytes, records_of, commands_of, region_of, recipes_end_of}
 use Rattle.fresh_checkpoints.specs.JournalHalves.Halves.{half_len, half_of}
 use Rattle.fresh_checkpoints.specs.JournalHalves.Findings.{part_of}
-use Rattle.store_opening.specs.RecordBodies.Spelling.{Body, body_bytes, FitsBody}
+use Rattle.store_opening.specs.RecordBody.Spelling.{Body, body_bytes, FitsBody}
 use Rattle.store_opening.specs.UserDedup.command.Command.{Command}
 use Rattle.fresh_checkpoints.specs.CloudAreas.FormatOne.{Lays}
 use Rattle.fresh_checkpoints.specs.CloudAreas.Standing.{Chain, IsChain}

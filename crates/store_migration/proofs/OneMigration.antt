@@ -13,8 +13,8 @@ use Rattle.store_opening.specs.JournalHalves.Frames.{IsRecord}
 use Rattle.store_opening.proofs.JournalHalves.Headed.{one_record}
 use Rattle.store_opening.proofs.JournalHalves.Unique.{undamaged}
 use Rattle.store_opening.specs.FileIndex.key.Entry.{Entry}
-use Rattle.store_opening.specs.RecordBodies.Reading.{body_at}
-use Rattle.store_opening.specs.RecordBodies.Spelling.{Body}
+use Rattle.store_opening.specs.RecordBody.Reading.{body_at}
+use Rattle.store_opening.specs.RecordBody.Spelling.{Body}
 use Rattle.store_opening.specs.RecordBody.body.BodyErr.{BodyErr}
 use Rattle.store_opening.specs.JournalStart.rooms.UserRooms.{UserRooms}
 use Rattle.store_opening.specs.JournalStart.start.Header.{Header}

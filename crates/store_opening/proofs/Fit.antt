@@ -5,7 +5,7 @@ use Rattle.std.proofs.lemmas.List.Elements.{All-nil, All-cons, All-head, All-tai
 use Rattle.cloud_disk.specs.CdBase.ids.UserId.{UserId}
 use Rattle.record_laws.specs.MessageFields.Shares.{share_limit}
 use Rattle.cloud_disk.specs.RecordBody.body.PutItem.{PutItem}
-use Rattle.cloud_disk.specs.RecordBody.Spelling.{FitsPlaced, FitsItem}
+use Rattle.cloud_disk.specs.RecordBody.FirstSpelling.{FitsPlaced, FitsItem}
 use Rattle.cloud_disk.specs.CdBase.place.Place.{Place}
 use Rattle.record_laws.specs.SpentTable.Spent.{Spent}
 use Rattle.record_laws.specs.RecordChecks.CloudMemory.Fitting.{FitsPart, FitsRecords, AreItemsPlaced}

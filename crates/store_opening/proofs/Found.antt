@@ -13,7 +13,7 @@ use Rattle.cloud_disk.specs.HalfJournal.errors.OpenErr.TheVariants.{Fault, NotBe
 use Rattle.cloud_disk.specs.HalfJournal.Openings.{OnFault}
 use Rattle.cloud_disk.specs.JournalHalves.Beginnings.{IsUnbegun}
 use Rattle.cloud_disk.specs.HalfJournal.States.{JournalState, IsJournalEnded}
-use Rattle.cloud_disk.specs.RecordBodies.Spelling.{body_bytes}
+use Rattle.cloud_disk.specs.RecordBody.Spelling.{body_bytes}
 use Rattle.cloud_disk.specs.UserDedup.command.Command.{Command}
 use Rattle.cloud_disk.specs.UserDedup.Cloud.{counted}
 use Rattle.cloud_disk.specs.CloudAreas.Standing.{where_of, region_in, number_at, HasList, StandsFor}

@@ -17,7 +17,7 @@ use Rattle.cloud_disk.specs.JournalStart.Spelling.{start_bytes, records_of, comm
 use Rattle.cloud_disk.specs.JournalHalves.Halves.{half_len, half_of, half_limit}
 use Rattle.cloud_disk.specs.JournalHalves.Findings.{part_of}
 use Rattle.cloud_disk.specs.HalfJournal.errors.OpenErr.{OpenErr}
-use Rattle.cloud_disk.specs.RecordBodies.Spelling.{Body, body_bytes, FitsBody}
+use Rattle.cloud_disk.specs.RecordBody.Spelling.{Body, body_bytes, FitsBody}
 use Rattle.cloud_disk.specs.UserDedup.command.Command.{Command}
 use Rattle.cloud_disk.specs.CloudAreas.Standing.{Chain, region_in, IsChain, Holds}
 use Rattle.cloud_disk.proofs.CloudAreas.Room.{half_is_enough}

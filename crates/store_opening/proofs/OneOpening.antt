@@ -6,8 +6,8 @@ use Rattle.cloud_disk.specs.JournalHalves.Frames.{IsRecord}
 use Rattle.cloud_disk.proofs.JournalHalves.Headed.{one_record}
 use Rattle.cloud_disk.proofs.JournalHalves.Unique.{undamaged}
 use Rattle.record_laws.specs.FileIndex.key.Entry.{Entry}
-use Rattle.cloud_disk.specs.RecordBodies.Reading.{body_at}
-use Rattle.cloud_disk.specs.RecordBodies.Spelling.{Body}
+use Rattle.cloud_disk.specs.RecordBody.Reading.{body_at}
+use Rattle.cloud_disk.specs.RecordBody.Spelling.{Body}
 use Rattle.cloud_disk.specs.RecordBody.body.BodyErr.{BodyErr}
 use Rattle.cloud_disk.specs.CdBase.place.Place.{Place}
 use Rattle.cloud_disk.specs.JournalStart.start.Header.{Header}

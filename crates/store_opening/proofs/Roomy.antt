@@ -4,7 +4,7 @@ use Rattle.std.specs.Prelude.{slice_set, slice_index_or, replicate, OnOk}
 use Rattle.std.proofs.lemmas.Bool.{false≢true}
 use Rattle.cloud_disk.specs.CdBase.ids.UserId.{UserId}
 use Rattle.cloud_disk.specs.JournalStart.rooms.UserRooms.{UserRooms}
-use Rattle.cloud_disk.specs.RecordBodies.body.KeptItem.{KeptItem}
+use Rattle.cloud_disk.specs.RecordBody.body.KeptItem.{KeptItem}
 use Rattle.cloud_disk.specs.RecordBody.body.PutItem.{PutItem}
 use Rattle.record_laws.specs.SpentTable.Spent.{Spent}
 use Rattle.record_laws.specs.SpentTable.Spending.{nothing, spent_by, both}

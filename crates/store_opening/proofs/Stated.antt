@@ -4,7 +4,7 @@ use Rattle.cloud_disk.specs.CdEdges.area.Area.TheVariants.{Journal, Recipes}
 use Rattle.cloud_disk.specs.CdEdges.Disk.{Image}
 use Rattle.cloud_disk.specs.JournalStart.start.Header.{Header}
 use Rattle.cloud_disk.specs.JournalHalves.Journals.{Where, HasChain}
-use Rattle.cloud_disk.specs.RecordBodies.Spelling.{Body, body_bytes, FitsBody}
+use Rattle.cloud_disk.specs.RecordBody.Spelling.{Body, body_bytes, FitsBody}
 use Rattle.cloud_disk.specs.CdBase.place.Place.{Place}
 use Rattle.cloud_disk.specs.UserDedup.command.Command.{Command}
 use Rattle.cloud_disk.specs.UserDedup.Cloud.{counted}

@@ -3,12 +3,12 @@ use Rattle.std.specs.Prelude.{All}
 use Rattle.std.proofs.Common.{◌≡◌, inr, ℕ, ◌+◌, Bool, true, false, List, [], ◌∷◌, length, max, Option, Some, None, Result, Ok, Err, refl, sym, ◌∙◌, ap, subst, arith, if◌then◌else◌, nat_lt}
 use Rattle.cloud_disk.specs.CdBase.ids.Fp.{Fp}
 use Rattle.cloud_disk.specs.CdBase.ids.UserId.{UserId}
-use Rattle.cloud_disk.specs.RecordBodies.body.KeptItem.{KeptItem}
-use Rattle.cloud_disk.specs.RecordBodies.Reading.{body_at}
-use Rattle.cloud_disk.specs.RecordBodies.Spelling.{Body, FitsBody}
+use Rattle.cloud_disk.specs.RecordBody.body.KeptItem.{KeptItem}
+use Rattle.cloud_disk.specs.RecordBody.Reading.{body_at}
+use Rattle.cloud_disk.specs.RecordBody.Spelling.{Body, FitsBody}
 use Rattle.cloud_disk.specs.RecordBody.body.CommitBody.{CommitBody}
 use Rattle.cloud_disk.specs.RecordBody.body.PutItem.{PutItem}
-use Rattle.cloud_disk.specs.RecordBody.Spelling.{FitsItem, item_bytes}
+use Rattle.cloud_disk.specs.RecordBody.FirstSpelling.{FitsItem, item_bytes}
 use Rattle.cloud_disk.specs.CdBase.place.Place.{Place}
 use Rattle.record_laws.specs.SpentTable.Spent.{Spent}
 use Rattle.cloud_disk.specs.UserDedup.Requests.{fps_of}

@@ -6,7 +6,6 @@ pub mod FileIndex
 pub mod HalfJournal
 pub mod JournalHalves
 pub mod JournalStart
-pub mod RecordBodies
 pub mod RecordBody
 pub mod RecordChecks
 pub mod RecordLaws

@@ -17,7 +17,7 @@ use cloud_memory::laws::law_of_fitting;
 use cloud_memory::{CloudMemory, New};
 use journal_start::{Header, UserRooms};
 use recipe::RecipeView;
-use record_bodies::{BodyBuf, CommitBody, DeleteBody, PutItem};
+use record_body::{BodyBuf, CommitBody, DeleteBody, PutItem};
 
 /// A Put of a share, which has 11 bytes; a Commit of a recipe that names one, and a Delete of it.
 #[derive(Clone, Copy)]

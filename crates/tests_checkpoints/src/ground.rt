@@ -12,7 +12,7 @@ use checkpoints::{CheckpointSpace, CloudDisk, Marks, OwnerChains, checkpoint_of_
 use cloud_memory::CloudMemory;
 use journal_halves::half_limit;
 use journal_start::{Header, UserRooms};
-use record_bodies::BodyBuf;
+use record_body::BodyBuf;
 use std::alloc::Global;
 use store_opening::reopen;
 

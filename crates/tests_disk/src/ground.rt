@@ -9,7 +9,7 @@ use cd_fakes::MemShelf;
 use cloud_disk::CloudDisk;
 use half_journal::{Journal, Stage};
 use journal_start::{Header, UserRooms};
-use record_bodies::{BodyBuf, CommitBody, DeleteBody, PutItem};
+use record_body::{BodyBuf, CommitBody, DeleteBody, PutItem};
 use std::alloc::Global;
 
 pub(crate) const ZERO: CloudNo = CloudNo(0);

@@ -1,7 +1,9 @@
-//! Tests of record_body.
+//! Tests of record_body, of the bodies of today's format.
 
 use cd_base::{Fp, NoMemory, Place, Tag, UserId, Version};
-use record_body::{BodyErr, CommitBody, FirstBodyView, FoundItem, PutItem, RecordBuf};
+use record_body::{
+    BodyBuf, BodyErr, BodyView, DeleteBody, FoundKept, KeptItem, PutItem, SpentBody,
+};
 use std::alloc::Global;
 use std::test::Fail;
 
@@ -11,56 +13,77 @@ const STORES: [u8; 52] = [
     9, 9, 9, 9, 9, 9, 9, 1, 0, 0, 0, 0, 0, 0, 0, 0, 0, 0, 0, 11,
 ];
 
-// User 7 enters version 2 of a file whose recipe has 61 bytes at place 256.
-const ENTERS: [u8; 89] = [
-    2, 0, 0, 0, 7, 5, 5, 5, 5, 5, 5, 5, 5, 5, 5, 5, 5, 5, 5, 5, 5, 5, 5, 5, 5, 5, 5, 5, 5, 5, 5, 5,
-    5, 5, 5, 5, 5, 0, 0, 0, 0, 0, 0, 0, 2, 0, 0, 0, 0, 0, 0, 1, 0, 0, 0, 0, 61, 6, 6, 6, 6, 6, 6,
-    6, 6, 6, 6, 6, 6, 6, 6, 6, 6, 6, 6, 6, 6, 6, 6, 6, 6, 6, 6, 6, 6, 6, 6, 6, 6,
+// User 7 takes version 2 of a file out.
+const TAKES_OUT: [u8; 45] = [
+    3, 0, 0, 0, 7, 5, 5, 5, 5, 5, 5, 5, 5, 5, 5, 5, 5, 5, 5, 5, 5, 5, 5, 5, 5, 5, 5, 5, 5, 5, 5, 5,
+    5, 5, 5, 5, 5, 0, 0, 0, 0, 0, 0, 0, 2,
 ];
 
-fn stored() -> PutItem {
-    PutItem {
-        fp: Fp([9; 32]),
-        place: Some(Place { at: 0, len: 11 }),
-    }
-}
+// Nobody owns one share of 300 bytes, which lies at place 4,194,304.
+const KEEPS: [u8; 47] = [
+    4, 0, 1, 8, 8, 8, 8, 8, 8, 8, 8, 8, 8, 8, 8, 8, 8, 8, 8, 8, 8, 8, 8, 8, 8, 8, 8, 8, 8, 8, 8, 8,
+    8, 8, 8, 0, 0, 0, 0, 0, 64, 0, 0, 0, 0, 1, 44,
+];
 
-fn entered() -> CommitBody {
-    CommitBody {
+// User 7 has spent 3 shares with 8,229 bytes together, and 122 bytes of recipes.
+const SPENDS: [u8; 25] = [
+    5, 0, 0, 0, 7, 0, 0, 0, 3, 0, 0, 0, 0, 0, 0, 32, 37, 0, 0, 0, 0, 0, 0, 0, 122,
+];
+
+fn taken_out() -> DeleteBody {
+    DeleteBody {
         user: UserId(7),
         tag: Tag([5; 32]),
         version: Version(2),
-        at: 256,
-        len: 61,
-        fp: Fp([6; 32]),
     }
 }
 
-// The user and the first item of a Put.
-fn first_item(body: &[u8]) -> Option<(UserId, FoundItem)> {
-    match FirstBodyView::check(body) {
-        Ok(FirstBodyView::Put { user, items }) => {
+fn kept() -> KeptItem {
+    KeptItem {
+        fp: Fp([8; 32]),
+        place: Place {
+            at: 4_194_304,
+            len: 300,
+        },
+    }
+}
+
+fn spent() -> SpentBody {
+    SpentBody {
+        user: UserId(7),
+        owners: 3,
+        shares: 8_229,
+        recipes: 122,
+    }
+}
+
+fn delete_in(body: &[u8]) -> Option<DeleteBody> {
+    match BodyView::check(body) {
+        Ok(BodyView::Delete(delete)) => Some(delete),
+        _ => None,
+    }
+}
+
+// The first item of a Kept.
+fn first_kept(body: &[u8]) -> Option<FoundKept> {
+    match BodyView::check(body) {
+        Ok(BodyView::Kept(items)) => {
             let mut items = items;
-            match items.next() {
-                Some(found) => Some((user, found)),
-                None => None,
-            }
+            items.next()
         }
-        Ok(FirstBodyView::Commit(_)) => None,
-        Err(_) => None,
+        _ => None,
     }
 }
 
-fn commit_in(body: &[u8]) -> Option<CommitBody> {
-    match FirstBodyView::check(body) {
-        Ok(FirstBodyView::Commit(commit)) => Some(commit),
-        Ok(FirstBodyView::Put { .. }) => None,
-        Err(_) => None,
+fn spent_in(body: &[u8]) -> Option<SpentBody> {
+    match BodyView::check(body) {
+        Ok(BodyView::Spent(spent)) => Some(spent),
+        _ => None,
     }
 }
 
 fn fault_in(body: &[u8]) -> Option<BodyErr> {
-    match FirstBodyView::check(body) {
+    match BodyView::check(body) {
         Ok(_view) => None,
         Err(fault) => Some(fault),
     }
@@ -81,67 +104,81 @@ fn with_byte(
 }
 
 #[test]
-fn a_stored_share(rt: HostRuntime) -> Result<(), Fail> {
-    let mut buf = RecordBuf::make(rt.alloc())?;
-    buf.start_put(UserId(7), 1);
-    buf.put_item(&stored());
-    assert_eq!(rt; buf.as_slice(), STORES.as_slice());
-    let found = FoundItem {
-        item: stored(),
-        fp_at: 7,
-        flag_at: 39,
-        place_at: 40,
-    };
-    assert_eq!(rt; first_item(&STORES), Some((UserId(7), found)));
+fn a_version_taken_out(rt: HostRuntime) -> Result<(), Fail> {
+    let mut buf = BodyBuf::make(rt.alloc())?;
+    buf.write_delete(&taken_out());
+    assert_eq!(rt; buf.as_slice(), TAKES_OUT.as_slice());
+    assert_eq!(rt; delete_in(&TAKES_OUT), Some(taken_out()));
     Ok(())
 }
 
 #[test]
-fn an_entered_version(rt: HostRuntime) -> Result<(), Fail> {
-    let mut buf = RecordBuf::make(rt.alloc())?;
-    buf.write_commit(&entered());
-    assert_eq!(rt; buf.as_slice(), ENTERS.as_slice());
-    assert_eq!(rt; commit_in(&ENTERS), Some(entered()));
+fn a_kept_share(rt: HostRuntime) -> Result<(), Fail> {
+    let mut buf = BodyBuf::make(rt.alloc())?;
+    buf.start_kept(1);
+    buf.put_kept(&kept());
+    assert_eq!(rt; buf.as_slice(), KEEPS.as_slice());
+    let found = FoundKept {
+        item: kept(),
+        fp_at: 3,
+        place_at: 35,
+    };
+    assert_eq!(rt; first_kept(&KEEPS), Some(found));
     Ok(())
 }
 
+#[test]
+fn what_a_user_spent(rt: HostRuntime) -> Result<(), Fail> {
+    let mut buf = BodyBuf::make(rt.alloc())?;
+    buf.write_spent(&spent());
+    assert_eq!(rt; buf.as_slice(), SPENDS.as_slice());
+    assert_eq!(rt; spent_in(&SPENDS), Some(spent()));
+    Ok(())
+}
+
+#[test]
+fn a_stored_share(rt: HostRuntime) -> Result<(), Fail> {
+    let mut buf = BodyBuf::make(rt.alloc())?;
+    buf.start_put(UserId(7), 1);
+    buf.put_item(&PutItem {
+        fp: Fp([9; 32]),
+        place: Some(Place { at: 0, len: 11 }),
+    });
+    assert_eq!(rt; buf.as_slice(), STORES.as_slice());
+    assert_eq!(rt; fault_in(&STORES), None);
+    Ok(())
+}
+
+// Of a Delete and a Spent the kind alone has a range.
 #[test]
 fn each_wrong_field(rt: HostRuntime) -> Result<(), Fail> {
     let a = rt.alloc();
-    // the kind, the count (0, 257 and 2), the flag, and the length (267 is fine, 8,459 and 0 are not)
+    // no kind
+    for kind in [0, 6, 255] {
+        assert_eq!(rt;
+            with_byte(&SPENDS, 0, kind, a)?,
+            Some(BodyErr::Field { at: 0 })
+        );
+    }
+    // another kind, of which there is too much or too little
+    assert_eq!(rt; with_byte(&SPENDS, 0, 3, a)?, Some(BodyErr::Short));
     assert_eq!(rt;
-        with_byte(&STORES, 0, 3, a)?,
-        Some(BodyErr::Field { at: 0 })
+        with_byte(&TAKES_OUT, 0, 5, a)?,
+        Some(BodyErr::Extra { at: 25 })
+    );
+    // 0 items, 257, and one more than are there
+    assert_eq!(rt; with_byte(&KEEPS, 2, 0, a)?, Some(BodyErr::Field { at: 1 }));
+    assert_eq!(rt; with_byte(&KEEPS, 1, 1, a)?, Some(BodyErr::Field { at: 1 }));
+    assert_eq!(rt; with_byte(&KEEPS, 2, 2, a)?, Some(BodyErr::Short));
+    // a share of 44 bytes, of 8,236, and with the next byte of 16,777,516
+    assert_eq!(rt; with_byte(&KEEPS, 45, 0, a)?, None);
+    assert_eq!(rt;
+        with_byte(&KEEPS, 45, 32, a)?,
+        Some(BodyErr::Field { at: 43 })
     );
     assert_eq!(rt;
-        with_byte(&STORES, 6, 0, a)?,
-        Some(BodyErr::Field { at: 5 })
-    );
-    assert_eq!(rt;
-        with_byte(&STORES, 5, 1, a)?,
-        Some(BodyErr::Field { at: 5 })
-    );
-    assert_eq!(rt; with_byte(&STORES, 6, 2, a)?, Some(BodyErr::Short));
-    assert_eq!(rt;
-        with_byte(&STORES, 39, 2, a)?,
-        Some(BodyErr::Field { at: 39 })
-    );
-    assert_eq!(rt;
-        with_byte(&STORES, 39, 0, a)?,
-        Some(BodyErr::Extra { at: 40 })
-    );
-    assert_eq!(rt; with_byte(&STORES, 50, 1, a)?, None);
-    assert_eq!(rt;
-        with_byte(&STORES, 50, 33, a)?,
-        Some(BodyErr::Field { at: 48 })
-    );
-    assert_eq!(rt;
-        with_byte(&STORES, 51, 0, a)?,
-        Some(BodyErr::Field { at: 48 })
-    );
-    assert_eq!(rt;
-        with_byte(&ENTERS, 56, 0, a)?,
-        Some(BodyErr::Field { at: 53 })
+        with_byte(&KEEPS, 43, 1, a)?,
+        Some(BodyErr::Field { at: 43 })
     );
     Ok(())
 }

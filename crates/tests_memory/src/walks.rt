@@ -8,7 +8,7 @@ use crate::turns::{commit_by_lists, put_by_lists, share};
 use cd_base::{Bytes, Fp, NoMemory, Place, Shape, Tag, UserId, Version, sha256};
 use journal_start::UserRooms;
 use recipe::RecipeView;
-use record_bodies::{BodyBuf, CommitBody, DeleteBody, KeptItem, PutItem};
+use record_body::{BodyBuf, CommitBody, DeleteBody, KeptItem, PutItem};
 use record_checks::{Ground, Taking, recipe_of, take};
 use std::alloc::Global;
 use std::test::Fail;

@@ -11,7 +11,7 @@ use cd_fakes::MemShelf;
 use half_journal::OpenErr;
 use journal_start::{Header, UserRooms};
 use open_store::{CloudDisk, CloudMemory, reopen};
-use record_bodies::{BodyBuf, CommitBody, DeleteBody, PutItem};
+use record_body::{BodyBuf, CommitBody, DeleteBody, PutItem};
 use std::alloc::Global;
 
 pub(crate) const ZERO: CloudNo = CloudNo(0);

@@ -1,7 +1,7 @@
 use Rattle.std.proofs.Common.{◌≡◌, ◌+◌, ◌++◌, ◌≤◌, ◌*◌, length, drop}
 use Rattle.std.specs.List.{flat_map}
-use Rattle.cloud_memory.specs.RecordBodies.Spelling.{kept_bytes}
-use Rattle.cloud_memory.specs.RecordBodies.Spelling.{Kept, body_bytes}
+use Rattle.cloud_memory.specs.RecordBody.Spelling.{kept_bytes}
+use Rattle.cloud_memory.specs.RecordBody.Spelling.{Kept, body_bytes}
 use Rattle.checkpoints.proofs.kept.write_items.Given as goal
 
 abbrev pub invariant-loop-item : goal.invariant-loop-item

@@ -1,7 +1,7 @@
 use Rattle.std.proofs.Common.{◌≡◌, List, ℕ, take, ap, ◌∙◌, arith}
 use Rattle.std.proofs.lemmas.List.{length-take-le}
-use Rattle.cloud_memory.specs.RecordBodies.body.KeptItem.{KeptItem}
-use Rattle.cloud_memory.specs.RecordBodies.Spelling.{Kept, body_bytes}
+use Rattle.cloud_memory.specs.RecordBody.body.KeptItem.{KeptItem}
+use Rattle.cloud_memory.specs.RecordBody.Spelling.{Kept, body_bytes}
 use Rattle.checkpoints.proofs.Unowned.{kept_ends, kept_next}
 use Rattle.checkpoints.proofs.kept.write_kept.Goals as goal
 

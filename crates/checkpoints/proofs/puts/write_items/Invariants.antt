@@ -1,7 +1,7 @@
 use Rattle.std.proofs.Common.{◌≡◌, ◌+◌, ◌++◌, ◌≤◌, ◌*◌, length, drop}
 use Rattle.std.specs.List.{flat_map}
-use Rattle.cloud_memory.specs.RecordBody.Spelling.{item_bytes}
-use Rattle.cloud_memory.specs.RecordBodies.Spelling.{Put, body_bytes}
+use Rattle.cloud_memory.specs.RecordBody.FirstSpelling.{item_bytes}
+use Rattle.cloud_memory.specs.RecordBody.Spelling.{Put, body_bytes}
 use Rattle.checkpoints.proofs.puts.write_items.Given as goal
 
 abbrev pub invariant-loop-item : goal.invariant-loop-item

@@ -1,7 +1,7 @@
 use Rattle.std.proofs.Common.{◌≡◌, List, ℕ, take, ap, ◌∙◌, arith}
 use Rattle.std.proofs.lemmas.List.{length-take-le}
 use Rattle.cloud_memory.specs.RecordBody.body.PutItem.{PutItem}
-use Rattle.cloud_memory.specs.RecordBodies.Spelling.{Put, body_bytes}
+use Rattle.cloud_memory.specs.RecordBody.Spelling.{Put, body_bytes}
 use Rattle.checkpoints.proofs.Shares.{next_user, put_next}
 use Rattle.checkpoints.proofs.puts.write_put.Goals as goal
 

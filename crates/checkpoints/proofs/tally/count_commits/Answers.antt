@@ -1,6 +1,6 @@
 use Rattle.std.proofs.Common.{◌≡◌, length, drop, sym, ◌∙◌, arith}
 use Rattle.std.proofs.Common.{length-drop}
-use Rattle.cloud_memory.specs.RecordBody.Spelling.{FitsCommit}
+use Rattle.cloud_memory.specs.RecordBody.FirstSpelling.{FitsCommit}
 use Rattle.checkpoints.specs.Records.{commit_at, commits_from}
 use Rattle.checkpoints.proofs.RoomLaw.{picked_few}
 use Rattle.checkpoints.proofs.Tallied.{tally_number, tally_fit, tally_full, one_tally}

@@ -1,4 +1,4 @@
-use Rattle.cloud_memory.specs.RecordBody.Spelling.{FitsCommit}
+use Rattle.cloud_memory.specs.RecordBody.FirstSpelling.{FitsCommit}
 use Rattle.checkpoints.specs.Records.{commits_from}
 use Rattle.checkpoints.proofs.Tallied.{Tally}
 use Rattle.checkpoints.proofs.tally.count_commits.Given as goal

@@ -2,7 +2,7 @@ use Rattle.std.proofs.Common.{◌≡◌, length, drop, sym, ◌∙◌, arith}
 use Rattle.std.proofs.Common.{length-drop, ap, subst}
 use Rattle.std.specs.Prelude.{All}
 use Rattle.std.proofs.lemmas.List.Elements.{All-nil}
-use Rattle.cloud_memory.specs.RecordBodies.Spelling.{FitsKept}
+use Rattle.cloud_memory.specs.RecordBody.Spelling.{FitsKept}
 use Rattle.checkpoints.specs.Records.{kept_at, kept_from}
 use Rattle.checkpoints.proofs.RoomLaw.{picked_few}
 use Rattle.checkpoints.proofs.Tallied.{none_ownerless}

@@ -1,4 +1,4 @@
-use Rattle.cloud_memory.specs.RecordBodies.Spelling.{FitsKept}
+use Rattle.cloud_memory.specs.RecordBody.Spelling.{FitsKept}
 use Rattle.checkpoints.specs.Records.{kept_from}
 use Rattle.checkpoints.proofs.Tallied.{Tally}
 use Rattle.checkpoints.proofs.tally.count_kept.Given as goal

@@ -1,6 +1,6 @@
 use Rattle.std.proofs.Common.{◌≡◌, length, drop, sym, ◌∙◌, arith}
 use Rattle.std.proofs.Common.{length-drop}
-use Rattle.cloud_memory.specs.RecordBodies.Spelling.{FitsSpent}
+use Rattle.cloud_memory.specs.RecordBody.Spelling.{FitsSpent}
 use Rattle.checkpoints.specs.Records.{spents_from}
 use Rattle.checkpoints.proofs.RoomLaw.{spents_few}
 use Rattle.checkpoints.proofs.Tallied.{tally_number, tally_fit, tally_full}

@@ -1,4 +1,4 @@
-use Rattle.cloud_memory.specs.RecordBodies.Spelling.{FitsSpent}
+use Rattle.cloud_memory.specs.RecordBody.Spelling.{FitsSpent}
 use Rattle.checkpoints.specs.Records.{spents_from}
 use Rattle.checkpoints.proofs.Tallied.{Tally}
 use Rattle.checkpoints.proofs.tally.count_spents.Given as goal

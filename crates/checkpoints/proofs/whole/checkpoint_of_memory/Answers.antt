@@ -1,6 +1,6 @@
 use Rattle.std.proofs.Common.{ℕ, ◌+◌, ◌≤◌, List, length, sym, ap, ◌∙◌, subst, arith}
 use Rattle.std.specs.Prelude.{All}
-use Rattle.cloud_memory.specs.RecordBodies.Spelling.{Body, FitsBody, body_bytes}
+use Rattle.cloud_memory.specs.RecordBody.Spelling.{Body, FitsBody, body_bytes}
 use Rattle.cloud_disk.specs.CdEdges.area.Area.TheVariants.{Journal}
 use Rattle.cloud_disk.specs.HalfJournal.States as journals
 use Rattle.checkpoints.specs.Laying.{records_len, longest_record, checkpoint_behind, KeepsOrSettles}

@@ -1,7 +1,7 @@
 use Rattle.std.proofs.Common.{List, refl, sym, ap, ◌∙◌, subst}
 use Rattle.message_fields.specs.CdBase.ids.Fp.{Fp}
 use Rattle.message_fields.specs.CdBase.rooms.Room.TheVariants.{Recipes}
-use Rattle.record_checks.specs.RecordBodies.Spelling.{Commit}
+use Rattle.record_checks.specs.RecordBody.Spelling.{Commit}
 use Rattle.record_checks.specs.UserDedup.Requests.{fps_of}
 use Rattle.record_checks.specs.CloudMemory.Rooms.{memory_of}
 use Rattle.record_checks.specs.CloudMemory.Sharing.{AreOwned}

@@ -1,7 +1,7 @@
 use Rattle.std.proofs.Common.{List, refl, sym, ap, ◌∙◌, subst}
 use Rattle.message_fields.specs.CdBase.ids.Fp.{Fp}
 use Rattle.record_checks.specs.FileIndex.Files.{key_of}
-use Rattle.record_checks.specs.RecordBodies.Spelling.{Delete}
+use Rattle.record_checks.specs.RecordBody.Spelling.{Delete}
 use Rattle.record_checks.specs.CloudMemory.Rooms.{memory_of}
 use Rattle.record_checks.specs.CloudMemory.Steps.{without_entry}
 use Rattle.first_records.specs.Judging.{Leaves, NoEntry, NotNamed, DeleteLeaves, Fails, Fits}

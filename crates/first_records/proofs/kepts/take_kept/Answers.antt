@@ -1,6 +1,6 @@
 use Rattle.std.proofs.Common.{ℕ, refl, sym, ◌∙◌, subst}
 use Rattle.message_fields.specs.CdBase.rooms.Room.TheVariants.{Shares}
-use Rattle.record_checks.specs.RecordBodies.Spelling.{Kept}
+use Rattle.record_checks.specs.RecordBody.Spelling.{Kept}
 use Rattle.record_checks.specs.CloudMemory.Rooms.{memory_of}
 use Rattle.record_checks.specs.CloudMemory.Steps.{with_kepts}
 use Rattle.record_checks.specs.Checks.{KeptsFault}

@@ -1,6 +1,6 @@
 use Rattle.std.proofs.Common.{ℕ, refl, sym, ◌∙◌, subst}
 use Rattle.message_fields.specs.CdBase.rooms.Room.TheVariants.{Shares}
-use Rattle.record_checks.specs.RecordBodies.Spelling.{Put}
+use Rattle.record_checks.specs.RecordBody.Spelling.{Put}
 use Rattle.record_checks.specs.CloudMemory.Rooms.{memory_of}
 use Rattle.record_checks.specs.CloudMemory.Steps.{with_items}
 use Rattle.record_checks.specs.Checks.{ItemsFault}

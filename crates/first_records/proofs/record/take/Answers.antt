@@ -1,5 +1,5 @@
 use Rattle.std.proofs.Common.{Ok}
-use Rattle.record_checks.specs.RecordBodies.Seen.{seen}
+use Rattle.record_checks.specs.RecordBody.Seen.{seen}
 use Rattle.record_checks.specs.CloudMemory.Rooms.{memory_of}
 use Rattle.record_checks.proofs.Faults.{not_so}
 use Rattle.first_records.specs.Judging.{Foreign, Unread, Refused, Taken}

@@ -1,10 +1,10 @@
 use Rattle.std.proofs.Common.{◌≡◌, ℕ, ◌≤◌, List, length, Ok, Err, inl, refl, sym, ap, ◌∙◌, subst, arith}
 use Rattle.std.specs.Prelude.{Result, IfErr}
-use Rattle.record_checks.specs.RecordBodies.view.BodyView.{BodyView}
-use Rattle.record_checks.specs.RecordBodies.Seen.{seen, StartsIn}
-use Rattle.record_checks.specs.RecordBodies.Spelling.{Commit, Delete, body_bytes, IsBody}
-use Rattle.record_checks.proofs.RecordBodies.Spelled.{length-delete}
-use Rattle.record_checks.proofs.RecordBody.Spelled.{length-commit}
+use Rattle.record_checks.specs.RecordBody.view.BodyView.{BodyView}
+use Rattle.record_checks.specs.RecordBody.Seen.{seen, StartsIn}
+use Rattle.record_checks.specs.RecordBody.Spelling.{Commit, Delete, body_bytes, IsBody}
+use Rattle.record_checks.proofs.RecordBody.Spelled.{length-delete}
+use Rattle.record_checks.proofs.RecordBody.FirstSpelled.{length-commit}
 use Rattle.first_records.specs.declared.errors.Fault.{Fault}
 use Rattle.first_records.specs.declared.errors.Fault.TheVariants.{Field, Passes}
 use Rattle.first_records.specs.Judging.{IsForeign}

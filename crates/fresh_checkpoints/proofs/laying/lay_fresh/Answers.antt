@@ -1,6 +1,6 @@
 use Rattle.std.proofs.Common.{ℕ, ◌+◌, ◌≤◌, List, length, sym, ap, ◌∙◌, subst, arith}
 use Rattle.std.specs.Prelude.{All}
-use Rattle.cloud_disk.specs.RecordBodies.Spelling.{Body, FitsBody}
+use Rattle.cloud_disk.specs.RecordBody.Spelling.{Body, FitsBody}
 use Rattle.cloud_disk.proofs.CdEdges.Moments.{told_on}
 use Rattle.cloud_disk.specs.HalfJournal.States as journals
 use Rattle.compact_memories.specs.Checkpoints.Laying.{records_len}

@@ -1,5 +1,5 @@
 use Rattle.std.proofs.Common.{◌<◌, ◌≡◌, Option, None, Some, sym, subst, arith}
-use Rattle.record_bodies.specs.CdBase.ids.UserId.{UserId}
+use Rattle.record_body.specs.CdBase.ids.UserId.{UserId}
 use Rattle.large_users.specs.declared.large.TooLarge.{TooLarge}
 use Rattle.large_users.proofs.Passed.{first_here, below_more}
 use Rattle.large_users.proofs.large.first_user.Goals as goal

@@ -1,7 +1,7 @@
 use Rattle.std.proofs.Common.{ℕ, cond, ap, ◌∙◌}
 use Rattle.std.specs.Prelude.{nat_lt, option_map}
 use Rattle.std.specs.Option.{option_or}
-use Rattle.record_bodies.specs.CdBase.rooms.Room.TheVariants as names
+use Rattle.record_body.specs.CdBase.rooms.Room.TheVariants as names
 use Rattle.compact_memories.specs.UserDedup.Spending.{refusal}
 use Rattle.compact_memories.specs.CloudMemory.Memory.{as_spent}
 use Rattle.large_users.specs.Large.{full_of}

@@ -2,8 +2,8 @@ use Rattle.std.proofs.Common.{◌≤◌, [], ◌∷◌, ◌++◌, refl, sym, ap,
 use Rattle.checkpoints.specs.ContainerLog.Laying.{Placed}
 use Rattle.checkpoints.specs.ContainerLog.Places.{container_len, place_of}
 use Rattle.checkpoints.specs.RecordBody.body.CommitBody.{CommitBody}
-use Rattle.checkpoints.specs.RecordBodies.Spelling as bodies
-use Rattle.checkpoints.specs.RecordBodies.Spelling.{body_bytes}
+use Rattle.checkpoints.specs.RecordBody.Spelling as bodies
+use Rattle.checkpoints.specs.RecordBody.Spelling.{body_bytes}
 use Rattle.checkpoints.specs.UserDedup.Owning.{fps_in}
 use Rattle.checkpoints.specs.UserDedup.command.Command.TheVariants as asked
 use Rattle.checkpoints.specs.CloudAreas.Adding.{with_record}

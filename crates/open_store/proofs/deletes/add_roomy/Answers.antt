@@ -1,6 +1,6 @@
 use Rattle.std.proofs.Common.{[], ◌∷◌, ◌++◌, sym, ap, ◌∙◌, subst}
 use Rattle.checkpoints.specs.FileIndex.Files.{key_of}
-use Rattle.checkpoints.specs.RecordBodies.Spelling as bodies
+use Rattle.checkpoints.specs.RecordBody.Spelling as bodies
 use Rattle.checkpoints.specs.UserDedup.Requests.{fps_of}
 use Rattle.checkpoints.specs.UserDedup.command.Command.TheVariants as asked
 use Rattle.checkpoints.specs.CloudAreas.Adding.{with_record}

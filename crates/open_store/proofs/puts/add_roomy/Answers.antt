@@ -1,7 +1,7 @@
 use Rattle.std.proofs.Common.{List, [], ◌∷◌, ◌++◌, sym, ap, ◌∙◌, subst}
 use Rattle.checkpoints.specs.RecordBody.body.PutItem.{PutItem}
-use Rattle.checkpoints.specs.RecordBodies.Spelling as bodies
-use Rattle.checkpoints.specs.RecordBodies.Spelling.{body_bytes}
+use Rattle.checkpoints.specs.RecordBody.Spelling as bodies
+use Rattle.checkpoints.specs.RecordBody.Spelling.{body_bytes}
 use Rattle.checkpoints.specs.UserDedup.command.Command.TheVariants as asked
 use Rattle.checkpoints.specs.CloudAreas.Adding.{with_record}
 use Rattle.checkpoints.specs.CloudAreas.Chains.{IsRecord}

@@ -1,7 +1,7 @@
 use Rattle.std.proofs.Common.{◌≡◌, ◌+◌, ◌++◌, ◌≤◌, ◌*◌, length, drop}
 use Rattle.std.specs.List.{flat_map}
-use Rattle.checkpoints.specs.RecordBody.Spelling.{item_bytes}
-use Rattle.checkpoints.specs.RecordBodies.Spelling.{Put, body_bytes}
+use Rattle.checkpoints.specs.RecordBody.FirstSpelling.{item_bytes}
+use Rattle.checkpoints.specs.RecordBody.Spelling.{Put, body_bytes}
 use Rattle.open_store.proofs.writing.write_put.Given as goal
 
 abbrev pub invariant-loop-item : goal.invariant-loop-item

@@ -4,7 +4,7 @@ use Rattle.cloud_memory.specs.Memory.{Memory}
 use Rattle.cloud_memory.specs.Rooms.{memory_of}
 use Rattle.cloud_memory.specs.Steps.{without_entry}
 use Rattle.cloud_memory.specs.FileIndex.Files.{key_of}
-use Rattle.cloud_memory.specs.RecordBodies.Spelling.{Delete}
+use Rattle.cloud_memory.specs.RecordBody.Spelling.{Delete}
 use Rattle.record_checks.specs.Judging.{JudgesBody, NoEntry, NotNamed, Deleted}
 use Rattle.record_checks.proofs.commits.take_delete.Goals as goal
 

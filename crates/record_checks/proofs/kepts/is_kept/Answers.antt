@@ -1,6 +1,6 @@
 use Rattle.std.proofs.Common.{◌≡◌, ◌∙◌, sym, false}
 use Rattle.std.specs.Prelude.{bytes_eq}
-use Rattle.cloud_memory.specs.RecordBodies.body.KeptItem.{KeptItem}
+use Rattle.cloud_memory.specs.RecordBody.body.KeptItem.{KeptItem}
 use Rattle.record_checks.proofs.Naming.{later}
 use Rattle.record_checks.proofs.kepts.is_kept.Goals as goal
 

@@ -1,7 +1,7 @@
 use Rattle.std.proofs.Common.{◌≡◌, ◌-◌, take}
 use Rattle.std.specs.Prelude.{bytes_eq}
 use Rattle.std.specs.List.{list_any}
-use Rattle.cloud_memory.specs.RecordBodies.body.KeptItem.{KeptItem}
+use Rattle.cloud_memory.specs.RecordBody.body.KeptItem.{KeptItem}
 use Rattle.record_checks.specs.Steps.{keeps_fp}
 use Rattle.record_checks.proofs.kepts.is_kept.Given as goal
 

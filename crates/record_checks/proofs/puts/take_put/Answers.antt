@@ -1,6 +1,6 @@
 use Rattle.std.proofs.Common.{ℕ, subst, ap, ◌∙◌}
 use Rattle.cloud_memory.specs.Rooms.{memory_of}
-use Rattle.cloud_memory.specs.RecordBody.InPlace.{FirstWalk}
+use Rattle.cloud_memory.specs.RecordBody.FirstInPlace.{FirstWalk}
 use Rattle.cloud_memory.specs.Steps.{with_items}
 use Rattle.record_checks.specs.Checks.{AreRight, ItemsFault}
 use Rattle.record_checks.specs.Judging.{PutFault}

@@ -1,8 +1,8 @@
 use Rattle.std.proofs.Common.{◌≤◌, sym, subst}
 use Rattle.std.specs.Prelude.{MatchOption}
 use Rattle.cloud_memory.specs.CdBase.Limits.{recipe_limit}
-use Rattle.cloud_memory.specs.RecordBodies.view.BodyView.{BodyView}
-use Rattle.cloud_memory.specs.RecordBodies.Seen.{seen}
+use Rattle.cloud_memory.specs.RecordBody.view.BodyView.{BodyView}
+use Rattle.cloud_memory.specs.RecordBody.Seen.{seen}
 use Rattle.cloud_memory.specs.CdBase.place.Place.{Place}
 use Rattle.cloud_memory.specs.Rooms.{memory_of}
 use Rattle.record_checks.specs.Checks.{Asks}

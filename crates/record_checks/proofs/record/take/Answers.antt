@@ -1,4 +1,4 @@
-use Rattle.cloud_memory.specs.RecordBodies.Seen.{seen}
+use Rattle.cloud_memory.specs.RecordBody.Seen.{seen}
 use Rattle.record_checks.specs.Judging.{Outside, Unread, Damaged, Taken}
 use Rattle.record_checks.proofs.Faults.{not_so}
 use Rattle.record_checks.proofs.record.take.Goals as goal

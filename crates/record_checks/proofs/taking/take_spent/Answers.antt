@@ -1,7 +1,7 @@
 use Rattle.std.proofs.Common.{sym, subst, Ok}
 use Rattle.cloud_memory.specs.Memory.{Memory}
 use Rattle.cloud_memory.specs.Rooms.{memory_of}
-use Rattle.cloud_memory.specs.RecordBodies.Spelling.{Spent as SpentRecord}
+use Rattle.cloud_memory.specs.RecordBody.Spelling.{Spent as SpentRecord}
 use Rattle.record_checks.specs.Judging.{JudgesBody, SpentPast, SpentTaken}
 use Rattle.record_checks.proofs.Faults.{not_so}
 use Rattle.record_checks.proofs.taking.take_spent.Goals as goal

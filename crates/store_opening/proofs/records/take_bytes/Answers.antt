@@ -1,5 +1,5 @@
 use Rattle.std.proofs.Common.{arith}
-use Rattle.cloud_disk.proofs.RecordBodies.BodyLaws.{body_law}
+use Rattle.cloud_disk.proofs.RecordBody.BodyLaws.{body_law}
 use Rattle.record_laws.specs.RecordChecks.CloudMemory.Rooms.{memory_of}
 use Rattle.store_opening.proofs.Traced.{traced_next}
 use Rattle.store_opening.proofs.records.take_bytes.Goals as goal

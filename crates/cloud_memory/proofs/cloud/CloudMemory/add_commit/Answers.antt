@@ -4,7 +4,7 @@ use Rattle.spent_table.specs.CdBase.ids.Fp.{Fp}
 use Rattle.std.specs.FinMap.{FinMap}
 use Rattle.cloud_areas.specs.UserDedup.command.Command.TheVariants as commands
 use Rattle.cloud_areas.specs.RecordBody.body.CommitBody.{CommitBody}
-use Rattle.cloud_areas.specs.RecordBodies.Spelling as bodies
+use Rattle.cloud_areas.specs.RecordBody.Spelling as bodies
 use Rattle.share_index.specs.Order.{owner_cmp}
 use Rattle.spent_table.specs.declared.Spent.{Spent}
 use Rattle.spent_table.specs.Spending.{spent_by, both, of_recipe}

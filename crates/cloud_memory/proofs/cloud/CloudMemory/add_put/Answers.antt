@@ -5,7 +5,7 @@ use Rattle.cloud_areas.specs.Chains.{IsRecord}
 use Rattle.cloud_areas.specs.Laid.{AreLaid}
 use Rattle.cloud_areas.specs.Placing.{places_given, places_of}
 use Rattle.cloud_areas.specs.RecordBody.body.PutItem.{PutItem}
-use Rattle.cloud_areas.specs.RecordBodies.Spelling as bodies
+use Rattle.cloud_areas.specs.RecordBody.Spelling as bodies
 use Rattle.spent_table.specs.declared.Spent.{Spent}
 use Rattle.spent_table.specs.Spending.{spent_by, both, of_shares}
 use Rattle.cloud_memory.specs.Memory.{Remembers}

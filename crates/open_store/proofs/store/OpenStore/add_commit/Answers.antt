@@ -4,8 +4,8 @@ use Rattle.std.specs.Prelude.{◌-◌, ◌^◌, min}
 use Rattle.open_store.specs.Adding.{IsTooLong}
 use Rattle.checkpoints.specs.CloudMemory.Steps.{with_commit}
 use Rattle.checkpoints.specs.JournalStart.start.Header.{Header}
-use Rattle.checkpoints.specs.RecordBodies.Spelling as bodies
-use Rattle.checkpoints.specs.RecordBodies.Spelling.{body_bytes}
+use Rattle.checkpoints.specs.RecordBody.Spelling as bodies
+use Rattle.checkpoints.specs.RecordBody.Spelling.{body_bytes}
 use Rattle.checkpoints.specs.UserDedup.command.Command.TheVariants as asked
 use Rattle.checkpoints.specs.CloudAreas.Adding.{with_record}
 use Rattle.checkpoints.specs.CloudAreas.Standing.{Chain}
@@ -20,7 +20,7 @@ use Rattle.open_store.proofs.Rooming.{chain_next}
 use Rattle.open_store.proofs.Next.{images_both, images_kept}
 use Rattle.checkpoints.specs.ContainerLog.Laying.{Placed}
 use Rattle.checkpoints.specs.ContainerLog.Places.{container_len, place_of}
-use Rattle.checkpoints.proofs.RecordBody.Spelled.{length-commit}
+use Rattle.checkpoints.proofs.RecordBody.FirstSpelled.{length-commit}
 use Rattle.checkpoints.specs.UserDedup.Owning.{fps_in}
 use Rattle.checkpoints.proofs.MemoryProofs.FullRooms.{full_commit_is}
 use Rattle.open_store.specs.Adding.{commit_body}

@@ -6,8 +6,8 @@ use Rattle.checkpoints.specs.CloudMemory.Rooms.{memory_of}
 use Rattle.checkpoints.specs.FileIndex.Files.{key_of}
 use Rattle.checkpoints.specs.UserDedup.Requests.{fps_of}
 use Rattle.checkpoints.specs.JournalStart.start.Header.{Header}
-use Rattle.checkpoints.specs.RecordBodies.Spelling as bodies
-use Rattle.checkpoints.specs.RecordBodies.Spelling.{body_bytes}
+use Rattle.checkpoints.specs.RecordBody.Spelling as bodies
+use Rattle.checkpoints.specs.RecordBody.Spelling.{body_bytes}
 use Rattle.checkpoints.specs.UserDedup.command.Command.TheVariants as asked
 use Rattle.checkpoints.specs.CloudAreas.Adding.{with_record}
 use Rattle.checkpoints.specs.CloudAreas.Standing.{Chain}
@@ -18,7 +18,7 @@ use Rattle.open_store.specs.declared.store.OpenStore.{OpenStore}
 use Rattle.open_store.specs.Store.{Serves, Fits, chain_with_room}
 use Rattle.open_store.proofs.Rooming.{chain_next}
 use Rattle.open_store.proofs.Next.{images_both, images_kept}
-use Rattle.checkpoints.proofs.RecordBodies.Spelled.{length-delete}
+use Rattle.checkpoints.proofs.RecordBody.Spelled.{length-delete}
 use Rattle.open_store.proofs.Fields.{delete_fits}
 use Rattle.open_store.proofs.Moving.{delete_moved}
 use Rattle.checkpoints.specs.CdEdges.Disk.{moment}

@@ -31,7 +31,7 @@ use Rattle.checkpoints.specs.CloudDisk.Disk.{KeepsOrGrows as GrowsBy}
 use Rattle.open_store.proofs.Growing.{grows_both, grows_sums, grows_still}
 use Rattle.checkpoints.specs.CloudDisk.Disk.{Disk}
 use Rattle.open_store.proofs.Keeping.{serves_on}
-use Rattle.checkpoints.specs.RecordBodies.Spelling.{body_bytes}
+use Rattle.checkpoints.specs.RecordBody.Spelling.{body_bytes}
 use Rattle.open_store.proofs.store.OpenStore.add_put.Goals as goal
 
 pub returns-in-Some-clause-any_moment : goal.returns-in-Some-clause-any_moment

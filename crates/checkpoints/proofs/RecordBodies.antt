@@ -1,2 +1,0 @@
--- What record_bodies has proved, for callers.
-pub use Rattle.cloud_memory.proofs.RecordBodies.Spelled

@@ -1,0 +1,2 @@
+-- What record_body has proved, for callers.
+pub use Rattle.cloud_areas.proofs.RecordBody.BodyLaws

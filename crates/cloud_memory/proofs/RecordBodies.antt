@@ -1,3 +1,0 @@
--- What record_bodies has proved, for callers.
-pub use Rattle.cloud_areas.proofs.RecordBodies.BodyLaws
-pub use Rattle.cloud_areas.proofs.RecordBodies.Spelled

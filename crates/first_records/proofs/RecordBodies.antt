@@ -1,2 +1,0 @@
--- What record_bodies has proved, for callers.
-pub use Rattle.record_checks.proofs.RecordBodies.BodyLaws

@@ -1,2 +1,0 @@
--- What record_body has proved, for callers.
-pub use Rattle.record_body.proofs.Spelled

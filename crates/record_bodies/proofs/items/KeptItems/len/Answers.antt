@@ -1,7 +1,0 @@
-use Rattle.std.proofs.Common.{length, sym, ap, ◌∙◌}
-use Rattle.record_bodies.specs.InPlace.{Walk}
-use Rattle.record_bodies.proofs.Walks.{length-read}
-use Rattle.record_bodies.proofs.items.KeptItems.len.Goals as goal
-
-pub returns : goal.returns
-returns c = sym (length-read c.self.inside.body.now c.self.inside.at c.self.inside.count c.self.invariant) ∙ ap (λ (w : Walk). length w.items) c.self.view_is

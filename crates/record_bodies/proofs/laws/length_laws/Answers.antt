@@ -1,5 +1,0 @@
-use Rattle.record_bodies.proofs.Spelled.{length-delete, length-kept, length-spent, longest}
-use Rattle.record_bodies.proofs.laws.length_laws.Goals as goal
-
-pub returns : goal.returns
-returns c = record { delete = length-delete; kept = length-kept; spent = length-spent; longest = longest }

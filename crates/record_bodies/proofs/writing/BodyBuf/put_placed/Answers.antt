@@ -1,5 +1,0 @@
-use Rattle.record_bodies.proofs.Spelled.{placed_written}
-use Rattle.record_bodies.proofs.writing.BodyBuf.put_placed.Goals as goal
-
-pub returns-in-Some : goal.returns-in-Some
-returns-in-Some c = placed_written c.args.self.now _ _ c.args.place.now c.in-Some.place c.in-Some.is c.put-in-Some.ensures c.put_place.ensures

@@ -1,3 +1,0 @@
--- What record_bodies says, for callers.
-pub use Rattle.cloud_disk.specs.RecordBodies.Reading
-pub use Rattle.cloud_disk.specs.RecordBodies.Spelling
