@@ -1,6 +1,6 @@
 -- Asks that add nothing, one after another.
 use Rattle.std.proofs.Common.{◌≡◌, ℕ, zero, suc, ◌<◌, ◌≤◌, arith, Bool, List, [], ◌∷◌, ◌++◌, Option, Some, None, Result, Ok, Err, refl, sym, ap, ◌∙◌, subst, inl, inr, ◌⊎◌, append-nil}
-use Rattle.std.specs.Prelude.{◌≢◌, true, false, IsOk, IsTrue, OnOk, IsSomeAnd, option_to_list}
+use Rattle.std.specs.Prelude.{◌≢◌, true, false, IsOk, IfSome, IsTrue, OnOk, IsSomeAnd, option_to_list}
 use Rattle.std.specs.Bool.{MatchBool}
 use Rattle.std.specs.List.{Contains}
 use Rattle.std.proofs.lemmas.Bool.{cases_eq}
@@ -127,12 +127,13 @@ module _ {V : Type 0} (clouds : V → ℕ → Cloud) where
           joined (clouds old.shelf.now cloud) (clouds mid.shelf.now cloud) (clouds new.shelf.now cloud) (StandsForSome header (MaySettleAs p)) first
           (weaker (clouds mid.shelf.now cloud) (clouds new.shelf.now cloud) (StandsForSome header (MaySettleAs q)) (StandsForSome header (MaySettleAs p)) rest_here (λ image some. (some.0, fewer some.0 some.1, some.2)))
 
-      fewer : (q : Peer) → IsTrue (clouds old.shelf.now e.cloud).told → (KeepsPeer p q × CountsOn p q) ⊎ ((answer : Reply) × Exec old.servers.shape (clouds old.shelf.now e.cloud).told (serving_at old e.cloud) p r answer q)
+      fewer : (q : Peer) → IsTrue (clouds old.shelf.now e.cloud).told → (KeepsPeer p q × CountsOn p q × (e.reply ≡ None))
+          ⊎ ((answer : Reply) × IfSome e.reply (λ (content : List ℕ). IsReply content answer) × Exec old.servers.shape (clouds old.shelf.now e.cloud).told (serving_at old e.cloud) p r answer q)
           → (list : List Command) → MaySettleAs q list → MaySettleAs p list
       fewer q t (inl x) = stays_in old.servers.shape e.cloud (full_at old.servers e.cloud) r none p q x.0
       fewer q t (inr x) =
           executed_in old.servers.shape e.cloud (full_at old.servers e.cloud) r none p q x.0
-          (subst (λ (b : Bool). MatchBool b (ExecTold (serving_at old e.cloud) p r x.0 q) (ExecUntold old.servers.shape p r x.0 q)) t x.1.does)
+          (subst (λ (b : Bool). MatchBool b (ExecTold (serving_at old e.cloud) p r x.0 q) (ExecUntold old.servers.shape p r x.0 q)) t x.2.does)
 
       at_asked : StandsAt clouds old e.cloud p → IsTrue (clouds old.shelf.now e.cloud).told → (q : Peer) × StandsAt clouds mid e.cloud q × ((list : List Command) → MaySettleAs q list → MaySettleAs p list)
           × ImagesSince (clouds old.shelf.now e.cloud) (clouds mid.shelf.now e.cloud) (header_at old.servers e.cloud) (MaySettleAs p)
@@ -195,6 +196,17 @@ module _ {V : Type 0} (clouds : V → ℕ → Cloud) where
       one_later e a b cloud step (inl same) = subst (λ (n : ℕ). (clouds a.shelf.now n).faults ≤ (clouds b.shelf.now n).faults) (sym same) step.later
       one_later e a b cloud step (inr ne) = subst (λ (x : Cloud). (clouds a.shelf.now cloud).faults ≤ x.faults) (sym (step.rest.clouds_stay cloud ne)) (omega arith)
 
+  -- no cloud is armed
+  pub read_unarmed : (es : List Exchange) (old new : LocalLink V) (cloud : ℕ) → Passes (telling clouds) (λ e. IsReading e.content) old es new
+      → (clouds new.shelf.now cloud).armings ≡ (clouds old.shelf.now cloud).armings
+  read_unarmed [] old new cloud same = ap (λ (l : LocalLink V). (clouds l.shelf.now cloud).armings) same
+  read_unarmed (e ∷ es) old new cloud chain = read_unarmed es chain.1.0 new cloud chain.1.2 ∙ one_unarmed e old chain.1.0 cloud chain.1.1 (cases_eq cloud e.cloud)
+    where
+      one_unarmed : (e : Exchange) (a b : LocalLink V) (cloud : ℕ) → PassesOn clouds a e b → (cloud ≡ e.cloud) ⊎ (cloud ≢ e.cloud)
+          → (clouds b.shelf.now cloud).armings ≡ (clouds a.shelf.now cloud).armings
+      one_unarmed e a b cloud step (inl same) = subst (λ (n : ℕ). (clouds b.shelf.now n).armings ≡ (clouds a.shelf.now n).armings) (sym same) step.armings
+      one_unarmed e a b cloud step (inr ne) = ap (λ (x : Cloud). x.armings) (step.rest.clouds_stay cloud ne)
+
   -- a reply that's Fault came where the cloud's count rose
   pub read_fault : (es : List Exchange) (old new : LocalLink V) (e : Exchange) (content : List ℕ) → Passes (telling clouds) (λ e. IsReading e.content) old es new → Contains es e
       → e.reply ≡ Some content → IsReply content replies.Fault → Rose (clouds old.shelf.now e.cloud).faults (clouds new.shelf.now e.cloud).faults
@@ -242,6 +254,7 @@ one_reply reply heard e = cc
 
 pub passes_by : {V E : Type 0} (clouds : V → ℕ → Cloud) (old new : LocalLink V) (cloud : ℕ) (content reply : List ℕ) (result : Result (Unit {0}) E) → cloud < old.servers.shape.n → AreBytes content
     → LeavesRest clouds cloud old new → rooms_at new.servers cloud ≡ rooms_at old.servers cloud → new.fate ≡ Deliver → new.shelf.ghost_name ≡ old.shelf.ghost_name
+    → (clouds new.shelf.now cloud).armings ≡ (clouds old.shelf.now cloud).armings
     → (clouds old.shelf.now cloud).faults ≤ (clouds new.shelf.now cloud).faults
     → (IsOk result → (r : Request) → asked_at old.servers.shape content ≡ Ok r → SaidBy clouds old new cloud r reply)
     → ((m : Memory) (r : Request) → asked_at old.servers.shape content ≡ Ok r → AddsNothing r → IsOpenWith old.servers cloud m
@@ -250,29 +263,34 @@ pub passes_by : {V E : Type 0} (clouds : V → ℕ → Cloud) (old new : LocalLi
     → ((p : Peer) (r : Request) → IsTrue (clouds old.shelf.now cloud).told → StandsAt clouds old cloud p → asked_at old.servers.shape content ≡ Ok r
     → ImagesSince (clouds old.shelf.now cloud) (clouds new.shelf.now cloud) (header_at old.servers cloud) (MayBecome (serves (telling clouds) old cloud) p r))
     → PassesOn clouds old (exchange_of cloud content result reply) new
-passes_by clouds old new cloud content reply (Ok u) lt bytes rest rooms fate same later said reads exec images = record {
+passes_by clouds old new cloud content reply (Ok u) lt bytes rest rooms fate same armings later said reads exec images = record {
   reached = lt;
   bytes = bytes;
   rest = rest;
   rooms = rooms;
   fate = fate;
   same_reference = same;
+  armings = armings;
   later = later;
   said = λ r heard asked came. subst (SaidBy clouds old new cloud r) (one_reply reply heard came) (said refl r asked);
   reads = reads;
-  goes = λ p r asked is. let x = exec r asked p is in (x.0, x.1, inr (x.2.0, x.2.2));
+  goes = λ p r asked is. let x = exec r asked p is in (x.0, x.1, inr (x.2.0, x.2.1, x.2.2));
   images = images;
 }
-passes_by clouds old new cloud content reply (Err e) lt bytes rest rooms fate same later said reads exec images = record {
+passes_by clouds old new cloud content reply (Err e) lt bytes rest rooms fate same armings later said reads exec images = record {
   reached = lt;
   bytes = bytes;
   rest = rest;
   rooms = rooms;
   fate = fate;
   same_reference = same;
+  armings = armings;
   later = later;
   said = λ r heard asked came. absurd (let never : None ≡ Some heard = came in cc);
   reads = reads;
-  goes = λ p r asked is. let x = exec r asked p is in (x.0, x.1, x.2);
+  goes = λ p r asked is. let x = exec r asked p is in (x.0, x.1, elim x.2 [
+    | inl stays ↦ inl (stays.0, stays.1, refl)
+    | inr went ↦ inr (went.0, tt, went.1)
+  ]);
   images = images;
 }

@@ -1,5 +1,5 @@
 -- What the link tells of its clouds.
-use Rattle.std.specs.Prelude.{◌≡◌, ◌≢◌, ◌⊎◌, ℕ, ◌<◌, ◌≤◌, Bool, true, false, IsTrue, List, Option, Some, None, Ok, IsSomeAnd, nat_lt, slice_get}
+use Rattle.std.specs.Prelude.{◌≡◌, ◌≢◌, ◌⊎◌, ℕ, ◌<◌, ◌≤◌, Bool, true, false, IsTrue, List, Option, Some, None, Ok, IfSome, IsSomeAnd, nat_lt, slice_get}
 use Rattle.cloud_server.specs.CdBase.Reading.{AreBytes}
 use Rattle.cloud_server.specs.CdBase.ids.Fp.{Fp}
 use Rattle.cloud_server.specs.CdBase.shape.Shape.{Shape}
@@ -104,9 +104,9 @@ pub record ReadsOpen (old new : Cloud) (servers : Servers) (e : Exchange) (m : M
   pub says : (content : List ℕ) → e.reply ≡ Some content → Rose old.faults new.faults ⊎ IsSaidBy old m request content
 
 -- Only its cloud was touched, and nothing but the fate beside it; the shelf is the same one; the cloud went on from each peer that it stood
--- for; and whenever a crash came it left a list that the cloud might have settled as, or one with the command that the request adds.
--- Whatever the cloud has, its count of faults doesn't fall, and a reply that came is one that some server gives to
--- the request, Fault only where that count rose. Where the server was open and the request adds nothing, the reply is what its memory says.
+-- for, by the reply that came, and without a reply it may have stayed; and whenever a crash came it left a list that the cloud might have settled
+-- as, or one with the command that the request adds. Whatever the cloud has, it isn't armed, its count of faults doesn't fall, and a reply that
+-- came is one that some server gives to the request, Fault only where that count rose. Where the server was open and the request adds nothing, the reply is what its memory says.
 pub record PassesOn {V : Type 0} (clouds : V → ℕ → Cloud) (old : LocalLink V) (e : Exchange) (new : LocalLink V) : Type 0 where
   pub reached : e.cloud < old.servers.shape.n
   pub bytes : AreBytes e.content
@@ -114,6 +114,7 @@ pub record PassesOn {V : Type 0} (clouds : V → ℕ → Cloud) (old : LocalLink
   pub rooms : rooms_at new.servers e.cloud ≡ rooms_at old.servers e.cloud
   pub fate : new.fate ≡ Deliver
   pub same_reference : new.shelf.ghost_name ≡ old.shelf.ghost_name
+  pub armings : (clouds new.shelf.now e.cloud).armings ≡ (clouds old.shelf.now e.cloud).armings
   pub later : (clouds old.shelf.now e.cloud).faults ≤ (clouds new.shelf.now e.cloud).faults
   pub said : (r : Request) (content : List ℕ) → asked_at old.servers.shape e.content ≡ Ok r → e.reply ≡ Some content
       → (answer : Reply) × IsReply content answer × IsReplyTo (items_of old.servers.shape r) r answer
@@ -122,8 +123,9 @@ pub record PassesOn {V : Type 0} (clouds : V → ℕ → Cloud) (old : LocalLink
   pub reads : (m : Memory) (r : Request) → asked_at old.servers.shape e.content ≡ Ok r → AddsNothing r → IsOpenWith old.servers e.cloud m
       → ReadsOpen (clouds old.shelf.now e.cloud) (clouds new.shelf.now e.cloud) new.servers e m r
   pub goes : (p : Peer) (r : Request) → asked_at old.servers.shape e.content ≡ Ok r → StandsAt clouds old e.cloud p
-      → (q : Peer) × StandsAt clouds new e.cloud q × ((KeepsPeer p q × CountsOn p q)
-      ⊎ ((answer : Reply) × Exec old.servers.shape (clouds old.shelf.now e.cloud).told (serving_at old e.cloud) p r answer q))
+      → (q : Peer) × StandsAt clouds new e.cloud q × ((KeepsPeer p q × CountsOn p q × (e.reply ≡ None))
+      ⊎ ((answer : Reply) × IfSome e.reply (λ (content : List ℕ). IsReply content answer)
+      × Exec old.servers.shape (clouds old.shelf.now e.cloud).told (serving_at old e.cloud) p r answer q))
   pub images : (p : Peer) (r : Request) → IsTrue (clouds old.shelf.now e.cloud).told → StandsAt clouds old e.cloud p → asked_at old.servers.shape e.content ≡ Ok r
       → ImagesSince (clouds old.shelf.now e.cloud) (clouds new.shelf.now e.cloud) (header_at old.servers e.cloud) (MayBecome (serving_at old e.cloud) p r)
 

@@ -503,6 +503,10 @@ pub fn law_of_readings<V: Shelf>()
         → cloud < old.servers.shape.n → IsTrue (V.cloud_at old.shelf.now cloud).told → StandsAt V.cloud_at old cloud p
         → ImagesSince (V.cloud_at old.shelf.now cloud) (V.cloud_at new.shelf.now cloud)
         (header_at old.servers cloud) (MaySettleAs p) }
+    // no cloud is armed
+    ensures armings { (asks : List Exchange) (old new : LocalLink V) (cloud : ℕ)
+        → Passes (telling V.cloud_at) (λ ask. IsReading ask.content) old asks new
+        → (V.cloud_at new.shelf.now cloud).armings ≡ (V.cloud_at old.shelf.now cloud).armings }
     // no cloud's count of faults falls
     ensures later { (asks : List Exchange) (old new : LocalLink V) (cloud : ℕ)
         → Passes (telling V.cloud_at) (λ ask. IsReading ask.content) old asks new

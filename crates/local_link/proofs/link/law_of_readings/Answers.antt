@@ -1,5 +1,5 @@
 use Rattle.local_link.proofs.ByMemory.{open_on, said_on}
-use Rattle.local_link.proofs.Passing.{read_fault, read_images, read_later, read_others, read_same}
+use Rattle.local_link.proofs.Passing.{read_fault, read_images, read_later, read_others, read_same, read_unarmed}
 use Rattle.local_link.proofs.link.law_of_readings.Goals as goal
 
 pub returns-clause-images : goal.returns-clause-images
@@ -10,6 +10,9 @@ returns-clause-others g c = read_others g.V.Shelf.cloud_at
 
 pub returns-clause-same_reference : goal.returns-clause-same_reference
 returns-clause-same_reference g c = read_same g.V.Shelf.cloud_at
+
+pub returns-clause-armings : goal.returns-clause-armings
+returns-clause-armings g c = read_unarmed g.V.Shelf.cloud_at
 
 pub returns-clause-later : goal.returns-clause-later
 returns-clause-later g c = read_later g.V.Shelf.cloud_at
