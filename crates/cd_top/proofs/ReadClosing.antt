@@ -112,6 +112,7 @@ pub read_to : (status : ℕ) (r : AskedRead) (end : ReadEnd) (middle old new : �
     }) r.clouds (given_of r lists) end text))
     → CountsSink sink_before sink_middle end → KeepsDisks r.shape r.clouds middle new
     → (IsOfOpening end → (cloud : ℕ) → IsTrue (middle cloud).told → IsSpared (middle cloud) (new cloud))
+    → ((cloud : ℕ) → (new cloud).armings ≡ (middle cloud).armings)
     → GivesAnyway (record {
       total_before = count;
       total_after = total_after;
@@ -130,7 +131,7 @@ pub read_to : (status : ℕ) (r : AskedRead) (end : ReadEnd) (middle old new : �
       new = new;
     }) r before after
 read_to status r end middle old new count total total_after sink_before sink_middle sink_after before written after same
-    kept reads counts disks areas anyway closes =
+    kept reads counts disks areas unarmed anyway closes =
     subst₂ (λ (o : ℕ → Cloud) (n : ℕ). IsVersionRead status (record {
       sink_before = sink_before;
       sink_after = sink_after;
@@ -150,4 +151,5 @@ read_to status r end middle old new count total total_after sink_before sink_mid
       }) r reads.0 is reads.2);
       kept = disks;
       areas = areas;
+      armings = unarmed;
     }))

@@ -74,7 +74,7 @@ IsClosed status faults now end text before after =
     ⊎ ((status ≡ 6) × IsOfOpening end × Appends before after [] × (now ≡ faults)))
 
 -- A read came to this end. Where the clouds of some K of those named are readable and their lists give the file, and no
--- count of theirs rose, it isn't that the read is refused, whatever the other named clouds are.
+-- count of theirs rose, it isn't that the read is refused, whatever the other named clouds are. No cloud was armed.
 pub record IsReadTo (status : ℕ) (c : Around) (r : AskedRead) (before after : Option (List ℕ)) (end : ReadEnd)
     : Type 0 where
   pub text : List ℕ
@@ -83,6 +83,7 @@ pub record IsReadTo (status : ℕ) (c : Around) (r : AskedRead) (before after : 
   pub closed : IsClosed status c.sink_before c.sink_after end text before after
   pub kept : KeepsDisks r.shape r.clouds c.old c.new
   pub areas : IsOfOpening end → (cloud : ℕ) → IsTrue (c.old cloud).told → IsSpared (c.old cloud) (c.new cloud)
+  pub armings : (cloud : ℕ) → (c.new cloud).armings ≡ (c.old cloud).armings
 
 -- Nothing was written, no cloud changed, and the sink didn't fail.
 pub record IsReadUntouched (c : Around) (before after : Option (List ℕ)) : Type 0 where
@@ -91,8 +92,8 @@ pub record IsReadUntouched (c : Around) (before after : Option (List ℕ)) : Typ
   pub sink : c.sink_after ≡ c.sink_before
 
 -- The whole promise. Memory ran out before all; or DIR failed; or the version was read to an end, and then each image
--- since of a named cloud stands for one of the lists that its images stood for, the other clouds are as they were, and
--- where the openings ended it each told cloud is spared, whatever its areas hold.
+-- since of a named cloud stands for one of the lists that its images stood for, the other clouds are as they were, no
+-- cloud was armed, and where the openings ended it each told cloud is spared, whatever its areas hold.
 pub data IsVersionRead (status : ℕ) (c : Around) (r : AskedRead) (before after : Option (List ℕ)) : Type 0 where
   Unread : status ≡ 6 → IsReadUntouched c before after → IsVersionRead status c r before after
   NoPlace : status ≡ 5 → IsReadUntouched c before after → Rose c.total_before c.total_after

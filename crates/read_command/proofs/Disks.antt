@@ -185,9 +185,10 @@ module _ {V : Type 0} (clouds : V → ℕ → Cloud) where
       → (IsTrue (clouds mid.shelf.now cloud.0).told → Spares (header_at mid.servers cloud.0) false (clouds mid.shelf.now cloud.0) (clouds new.shelf.now cloud.0) result)
       → rooms_at new.servers cloud.0 ≡ rooms_at mid.servers cloud.0
       → OnOk result (IsSomeAnd (server_at new.servers cloud.0) (λ (s : Server). IsOpen s.store))
+      → (clouds new.shelf.now cloud.0).armings ≡ (clouds mid.shelf.now cloud.0).armings
       → came ≡ came_by cloud result
       → Opening clouds mid.servers.shape (clouds mid.shelf.now cloud.0) before new now cloud.0 came
-  opening_by one_header mid new cloud rooms before now result came in_rooms named exact begun own whole loaded counts areas stay at_end is =
+  opening_by one_header mid new cloud rooms before now result came in_rooms named exact begun own whole loaded counts areas stay at_end armings is =
       subst (Opening clouds mid.servers.shape (clouds mid.shelf.now cloud.0) before new now cloud.0) (sym is) (by_result result exact begun own whole loaded counts areas at_end)
     where
       old : Cloud
@@ -261,6 +262,7 @@ module _ {V : Type 0} (clouds : V → ℕ → Cloud) where
         readable = λ any list is. tt;
         end = tt;
         spared = spared;
+        armings = armings;
       }
       by_result (Err error) exact begun own whole loaded counts spares at_end = record {
         opened = λ told. tt;
@@ -281,13 +283,14 @@ module _ {V : Type 0} (clouds : V → ℕ → Cloud) where
           },
         )) counts;
         spared = spared;
+        armings = armings;
       }
 
   -- nothing was opened: memory ran out before it, or a device failed
   pub opening_none : (shape : Shape) (old : Cloud) (new : LocalLink V) (number before now : ℕ) (end : ReadEnd) (came : Result (Unit {0}) ReadEnd) → came ≡ Err end → IsFree end
-      → EndsOne shape old (clouds new.shelf.now number) before now number end → Stays old (clouds new.shelf.now number) → (IsTrue old.told → IsImage old.now (reads old.now))
-      → Opening clouds shape old before new now number came
-  opening_none shape old new number before now end came is free ends stays reads_image =
+      → EndsOne shape old (clouds new.shelf.now number) before now number end → Stays old (clouds new.shelf.now number) → (clouds new.shelf.now number).armings ≡ old.armings
+      → (IsTrue old.told → IsImage old.now (reads old.now)) → Opening clouds shape old before new now number came
+  opening_none shape old new number before now end came is free ends stays armings reads_image =
       subst (Opening clouds shape old before new now number) (sym is) (record {
         opened = λ told. tt;
         rooms = λ told. tt;
@@ -298,14 +301,15 @@ module _ {V : Type 0} (clouds : V → ℕ → Cloud) where
         readable = λ any list readable. free;
         end = ends;
         spared = λ told. spared_still old (clouds new.shelf.now number) stays (reads_image told);
+        armings = armings;
       })
 
   -- a device failed as the journal's halves were read
   pub fails_open : (shape : Shape) (old : Cloud) (new : LocalLink V) (cloud : CloudNo) (before now : ℕ) (end : ReadEnd) → end ≡ ends.ShelfFault cloud
-      → HasFailed old (clouds new.shelf.now cloud.0) before now → Stays old (clouds new.shelf.now cloud.0) → (IsTrue old.told → IsImage old.now (reads old.now))
-      → Opening clouds shape old before new now cloud.0 (Err end)
-  fails_open shape old new cloud before now end is failed stays reads_image =
-      opening_none shape old new cloud.0 before now (ends.ShelfFault cloud) (Err end) (ap Err is) tt ((refl, λ told. tt), failed) stays reads_image
+      → HasFailed old (clouds new.shelf.now cloud.0) before now → Stays old (clouds new.shelf.now cloud.0) → (clouds new.shelf.now cloud.0).armings ≡ old.armings
+      → (IsTrue old.told → IsImage old.now (reads old.now)) → Opening clouds shape old before new now cloud.0 (Err end)
+  fails_open shape old new cloud before now end is failed stays armings reads_image =
+      opening_none shape old new cloud.0 before now (ends.ShelfFault cloud) (Err end) (ap Err is) tt ((refl, λ told. tt), failed) stays armings reads_image
 
   -- over a link that had the same shelf
   pub opening_from : (shape_mid shape : Shape) (cloud_mid cloud : Cloud) (total_mid total : ℕ) (new : LocalLink V) (now number : ℕ) (came : Result (Unit {0}) ReadEnd)

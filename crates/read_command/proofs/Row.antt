@@ -48,9 +48,10 @@ of_one P xs x all has = subst P has.2 (all has.0 x has.1)
 -- ---- all that calls leave, whatever they came to
 
 module _ {V : Type 0} (clouds : V → ℕ → Cloud) where
-  -- each cloud is spared; what is told stays
+  -- each cloud is spared and none is armed; what is told stays
   pub record Leaves (old new : LocalLink V) : Type 0 where
     pub spared : (cloud : ℕ) → IsTrue (clouds old.shelf.now cloud).told → IsSpared (clouds old.shelf.now cloud) (clouds new.shelf.now cloud)
+    pub armings : (cloud : ℕ) → (clouds new.shelf.now cloud).armings ≡ (clouds old.shelf.now cloud).armings
     pub shape : new.servers.shape ≡ old.servers.shape
     pub told : (cloud : ℕ) → (clouds new.shelf.now cloud).told ≡ (clouds old.shelf.now cloud).told
 
@@ -111,6 +112,7 @@ module _ {V : Type 0} (clouds : V → ℕ → Cloud) where
     loaded = λ told rooms list stands within. stands_later number mid.servers.shape new.servers.shape (clouds mid.shelf.now number) (clouds new.shelf.now number)
         (server_at mid.servers number) (server_at new.servers number) list shape cloud server (is.loaded told rooms list stands within);
     faults = ap (λ (k : Cloud). k.faults) cloud ∙ is.faults;
+    armings = ap (λ (k : Cloud). k.armings) cloud ∙ is.armings;
   }
 
   -- before the first
@@ -124,6 +126,7 @@ module _ {V : Type 0} (clouds : V → ℕ → Cloud) where
     others = λ cloud not. refl;
     leaves = record {
       spared = λ cloud told. spared_still (clouds old.shelf.now cloud) (clouds old.shelf.now cloud) (record { armed = refl; past = refl; now = refl }) (reads_image cloud told);
+      armings = λ cloud. refl;
       shape = refl;
       told = λ cloud. refl;
     };
@@ -139,6 +142,7 @@ module _ {V : Type 0} (clouds : V → ℕ → Cloud) where
     shape = so.leaves.shape;
     fate = so.fate;
     told = so.leaves.told;
+    armings = so.leaves.armings;
     total = so.total;
   }
 
@@ -177,6 +181,10 @@ module _ {V : Type 0} (clouds : V → ℕ → Cloud) where
         | inl e ↦ subst (λ (c : ℕ). IsTrue (clouds old.shelf.now c).told → IsSpared (clouds old.shelf.now c) (clouds new.shelf.now c)) (sym e) here.spared told
         | inr ne ↦ subst (λ (k : Cloud). IsSpared (clouds old.shelf.now cloud) k) (sym (rest.clouds_stay cloud ne)) (so.leaves.spared cloud told)
       ];
+      armings = λ cloud. elim (cases_eq cloud number) [
+        | inl e ↦ subst (λ (c : ℕ). (clouds new.shelf.now c).armings ≡ (clouds old.shelf.now c).armings) (sym e) here.armings
+        | inr ne ↦ ap (λ (k : Cloud). k.armings) (rest.clouds_stay cloud ne) ∙ so.leaves.armings cloud
+      ];
       shape = rest.shape_stays ∙ so.leaves.shape;
       told = λ cloud. rest.told_stays cloud ∙ so.leaves.told cloud;
     }
@@ -196,7 +204,7 @@ module _ {V : Type 0} (clouds : V → ℕ → Cloud) where
     pub one_more : (u : Unit {0}) → result ≡ Ok u → new.fate ≡ mid.fate → new.shelf.ghost_name ≡ mid.shelf.ghost_name → SoFar clouds named more before now old new
     one_more u ok fate same =
         let h = subst (Opening clouds old.servers.shape (clouds old.shelf.now number) before new now number) ok here in
-        let becomes : BecomesOpen clouds old new number = record { opened = h.opened; rooms = h.rooms; memory = h.memory; same = h.same; loaded = h.loaded; faults = h.counts.cloud } in
+        let becomes : BecomesOpen clouds old new number = record { opened = h.opened; rooms = h.rooms; memory = h.memory; same = h.same; loaded = h.loaded; faults = h.counts.cloud; armings = h.armings } in
         record {
           front = so.front ++ number ∷ [];
           place = so.place ∙ sym (append_assoc so.front (number ∷ []) more);

@@ -66,7 +66,7 @@ IsFree ends.SinkFault = Unit {0}
 
 -- A cloud that was so was to be opened. Where it opens, its server has the rooms that its journal names, and it stands for
 -- the list that its areas read as, if there is one within these, and nothing failed; the server has the memory that the
--- opening read, and the areas read as they did. Whatever comes it is spared.
+-- opening read, and the areas read as they did. Whatever comes it is spared, and not armed.
 pub record Opening {V : Type 0} (clouds : V → ℕ → Cloud) (shape : Shape) (old : Cloud) (before : ℕ)
     (new : LocalLink V) (now cloud : ℕ) (result : Result (Unit {0}) ReadEnd) : Type 0 where
   pub opened : IsTrue old.told
@@ -84,9 +84,11 @@ pub record Opening {V : Type 0} (clouds : V → ℕ → Cloud) (shape : Shape) (
       → IfErr result IsFree
   pub end : IfErr result (EndsOne shape old (clouds new.shelf.now cloud) before now cloud)
   pub spared : IsTrue old.told → IsSpared old (clouds new.shelf.now cloud)
+  pub armings : (clouds new.shelf.now cloud).armings ≡ old.armings
 
 -- A cloud of a link was opened, in the rooms that its journal names. It stands for the list that its areas read as, if
--- there is one within these. Its server has the memory that the opening read, and the areas read as they did.
+-- there is one within these. Its server has the memory that the opening read, and the areas read as they did. It isn't
+-- armed.
 pub record BecomesOpen {V : Type 0} (clouds : V → ℕ → Cloud) (old new : LocalLink V) (cloud : ℕ) : Type 0 where
   pub opened : IsTrue (clouds old.shelf.now cloud).told
       → InItsRooms old.servers.shape cloud (clouds old.shelf.now cloud)
@@ -103,12 +105,14 @@ pub record BecomesOpen {V : Type 0} (clouds : V → ℕ → Cloud) (old new : Lo
       → IsWithin old.servers.shape rooms list
       → StandsAt clouds new cloud (settled_with list (clouds new.shelf.now cloud))
   pub faults : (clouds new.shelf.now cloud).faults ≡ (clouds old.shelf.now cloud).faults
+  pub armings : (clouds new.shelf.now cloud).armings ≡ (clouds old.shelf.now cloud).armings
 
--- These clouds of a link were opened, and the shelf has no more faults than before.
+-- These clouds of a link were opened. The shelf has no more faults than before, and no cloud was armed.
 pub record AreOpened {V : Type 0} (clouds : V → ℕ → Cloud) (before now : ℕ) (old new : LocalLink V) (named : List ℕ)
     : Type 0 where
   pub each : (cloud : ℕ) → Contains named cloud → BecomesOpen clouds old new cloud
   pub shape : new.servers.shape ≡ old.servers.shape
   pub fate : new.fate ≡ old.fate
   pub told : (cloud : ℕ) → (clouds new.shelf.now cloud).told ≡ (clouds old.shelf.now cloud).told
+  pub armings : (cloud : ℕ) → (clouds new.shelf.now cloud).armings ≡ (clouds old.shelf.now cloud).armings
   pub total : now ≡ before

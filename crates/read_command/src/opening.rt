@@ -35,6 +35,8 @@ fn named_rooms<V: Shelf>(
     ensures same { OnOk result ((V.cloud_at link.new.shelf.now cloud.0 ≡ V.cloud_at link.old.shelf.now cloud.0)
         × (V.faults link.new.shelf.now ≡ V.faults link.old.shelf.now)) }
     ensures stays { Stays (V.cloud_at link.old.shelf.now cloud.0) (V.cloud_at link.new.shelf.now cloud.0) }
+    ensures armings { (V.cloud_at link.new.shelf.now cloud.0).armings
+        ≡ (V.cloud_at link.old.shelf.now cloud.0).armings }
     ensures rest { LeavesRest V.cloud_at cloud.0 link.old link.new }
     ensures still { (link.new.servers ≡ link.old.servers) × (link.new.fate ≡ link.old.fate) }
     ensures same_reference { link.new.shelf.ghost_name ≡ link.old.shelf.ghost_name }
@@ -126,6 +128,8 @@ pub fn open_clouds<V: Shelf>(
         (V.cloud_at link.new.shelf.now) }
     ensures spared { (cloud : ℕ) → IsTrue (V.cloud_at link.old.shelf.now cloud).told
         → IsSpared (V.cloud_at link.old.shelf.now cloud) (V.cloud_at link.new.shelf.now cloud) }
+    ensures armings { (cloud : ℕ) → (V.cloud_at link.new.shelf.now cloud).armings
+        ≡ (V.cloud_at link.old.shelf.now cloud).armings }
     ensures same_reference { link.new.shelf.ghost_name ≡ link.old.shelf.ghost_name }
 {
     let mut rest = clouds;

@@ -57,6 +57,8 @@ fn restore_opened<V: Shelf>(
     }) wanted.now came file.new) }
     ensures kept { KeepsDisks wanted.now.shape wanted.now.clouds.now (V.cloud_at link.old.shelf.now)
         (V.cloud_at link.new.shelf.now) }
+    ensures armings { (cloud : ℕ) → (V.cloud_at link.new.shelf.now cloud).armings
+        ≡ (V.cloud_at link.old.shelf.now cloud).armings }
     ensures same_reference { link.new.shelf.ghost_name ≡ link.old.shelf.ghost_name }
 {
     wanted.clouds.rises();
@@ -125,6 +127,9 @@ pub fn read_file<K: Sink, V: Shelf>(
     // Where the openings end the read, each told cloud is spared, whatever its areas hold.
     ensures areas { IsOfOpening result → (cloud : ℕ) → IsTrue (V.cloud_at shelf.old cloud).told
         → IsSpared (V.cloud_at shelf.old cloud) (V.cloud_at shelf.new cloud) }
+
+    // No cloud is armed, whatever the end is.
+    ensures armings { (cloud : ℕ) → (V.cloud_at shelf.new cloud).armings ≡ (V.cloud_at shelf.old cloud).armings }
 {
     let Ok(mut window) = taken(alloc) else {
         return ReadEnd::NoMemory;

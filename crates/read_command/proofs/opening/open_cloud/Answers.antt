@@ -31,4 +31,4 @@ returns-in-Err-clause-opens g c =
     let old = c.args.link.now in
     let new = c.named_rooms.new.link in
     fails_open clouds old.servers.shape (clouds old.shelf.now c.args.cloud.0) new c.args.cloud (g.V.Shelf.faults old.shelf.now) (g.V.Shelf.faults new.shelf.now) c.in-Err.end
-    c.in-Err.ensures.failed.0 c.in-Err.ensures.failed.1 c.named_rooms.ensures.stays (λ told. g.met.V.Shelf.reads_image old.shelf.now c.args.cloud.0 told)
+    c.in-Err.ensures.failed.0 c.in-Err.ensures.failed.1 c.named_rooms.ensures.stays c.named_rooms.ensures.armings (λ told. g.met.V.Shelf.reads_image old.shelf.now c.args.cloud.0 told)

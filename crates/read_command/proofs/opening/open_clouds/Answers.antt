@@ -86,6 +86,21 @@ returns-in-Err-clause-spared g c =
     let so = subst (λ (l : List CloudNo). SoFar g.V.Shelf.cloud_at named (numbers_of l) before between old mid) c.in-Some.ensures c.clouds.invariant in
     (leaves_next g.V.Shelf.cloud_at named number more before between now old mid new c.requires.rising so c.open_cloud.result e.opens e.rest).spared
 
+pub returns-in-Err-clause-armings : goal.returns-in-Err-clause-armings
+returns-in-Err-clause-armings g c =
+    let number = c.in-Some.cloud.0 in
+    let more = numbers_of c.in-Some.more.now in
+    let named = numbers_of c.args.clouds.now in
+    let mid = c.clouds.link in
+    let old = c.args.link.now in
+    let new = c.open_cloud.new.link in
+    let before = g.V.Shelf.faults old.shelf.now in
+    let between = g.V.Shelf.faults mid.shelf.now in
+    let now = g.V.Shelf.faults new.shelf.now in
+    let e = c.open_cloud.ensures in
+    let so = subst (λ (l : List CloudNo). SoFar g.V.Shelf.cloud_at named (numbers_of l) before between old mid) c.in-Some.ensures c.clouds.invariant in
+    (leaves_next g.V.Shelf.cloud_at named number more before between now old mid new c.requires.rising so c.open_cloud.result e.opens e.rest).armings
+
 pub clouds-preserved : goal.clouds-preserved
 clouds-preserved g c =
     let number = c.in-Some.cloud.0 in

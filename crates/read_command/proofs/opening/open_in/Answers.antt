@@ -20,7 +20,7 @@ returns-in-Ok-reopen-clause-opens g c =
     (opening_by clouds c.law_of_headers.ensures mid new c.args.cloud c.args.rooms (g.V.Shelf.faults mid.shelf.now) (g.V.Shelf.faults new.shelf.now) c.reopen.result _
     (rooms_in c.args.rooms mid.servers c.args.cloud.0 s.closed)
     (subst (λ (k : Cloud). IsTrue k.told → NamesRooms (reads k.now Journal) c.args.rooms) (sym same) c.requires.named)
-    r.exact r.not_begun r.other_store r.whole r.loaded r.counts r.areas r.rooms r.opens (λ i. came_by c.args.cloud (sym c.in-Ok-reopen.is i)))
+    r.exact r.not_begun r.other_store r.whole r.loaded r.counts r.areas r.rooms r.opens r.call.armings (λ i. came_by c.args.cloud (sym c.in-Ok-reopen.is i)))
 
 pub returns-in-Err-reopen-clause-opens : goal.returns-in-Err-reopen-clause-opens
 returns-in-Err-reopen-clause-opens g c =
@@ -36,7 +36,7 @@ returns-in-Err-reopen-clause-opens g c =
     (opening_by clouds c.law_of_headers.ensures mid new c.args.cloud c.args.rooms (g.V.Shelf.faults mid.shelf.now) (g.V.Shelf.faults new.shelf.now) c.reopen.result _
     (rooms_in c.args.rooms mid.servers c.args.cloud.0 s.closed)
     (subst (λ (k : Cloud). IsTrue k.told → NamesRooms (reads k.now Journal) c.args.rooms) (sym same) c.requires.named)
-    r.exact r.not_begun r.other_store r.whole r.loaded r.counts r.areas r.rooms r.opens (ended ∙ (λ i. came_by c.args.cloud (sym c.in-Err-reopen.is i))))
+    r.exact r.not_begun r.other_store r.whole r.loaded r.counts r.areas r.rooms r.opens r.call.armings (ended ∙ (λ i. came_by c.args.cloud (sym c.in-Err-reopen.is i))))
 
 pub returns-in-Err-clause-opens : goal.returns-in-Err-clause-opens
 returns-in-Err-clause-opens g c =
@@ -46,4 +46,4 @@ returns-in-Err-clause-opens g c =
     opening_from clouds new.servers.shape c.args.link.now.servers.shape (clouds new.shelf.now c.args.cloud.0) (clouds c.args.link.now.shelf.now c.args.cloud.0) _ _ new _ c.args.cloud.0 _
     (λ i. (e i).servers.shape) (λ i. clouds (e i).shelf.now c.args.cloud.0) (λ i. g.V.Shelf.faults (e i).shelf.now)
     (opening_none clouds new.servers.shape (clouds new.shelf.now c.args.cloud.0) new c.args.cloud.0 (g.V.Shelf.faults new.shelf.now) _ ends.NoMemory _ refl tt tt
-    (record { armed = refl; past = refl; now = refl }) (λ told. g.met.V.Shelf.reads_image new.shelf.now c.args.cloud.0 told))
+    (record { armed = refl; past = refl; now = refl }) refl (λ told. g.met.V.Shelf.reads_image new.shelf.now c.args.cloud.0 told))

@@ -6,7 +6,7 @@ use Rattle.half_journal.specs.JournalStart.start.Header.{Header}
 use Rattle.subset_restore.specs.CaontRs.Package.{tag as tag_at}
 use Rattle.read_command.specs.Disks.{AreReadable, InItsRooms, IsOpenedToRead, KeepsDisks}
 use Rattle.read_command.specs.Opening.{AreOpened}
-use Rattle.read_command.proofs.Restoring.{came_to, given_anyway, is_due, kept_on}
+use Rattle.read_command.proofs.Restoring.{came_to, given_anyway, is_due, kept_on, reading_chain}
 use Rattle.read_command.proofs.Saying.{came_err, came_ok, says_of}
 use Rattle.read_command.proofs.reading.restore_opened.Goals as goal
 
@@ -65,6 +65,14 @@ returns-clause-kept g c =
     (λ cloud. law.others named went.asks mid new cloud went.passed) c.requires.within
     (λ cloud told. g.met.V.Shelf.reads_image old.shelf.now cloud told)
     (subst (λ (l : List ℕ). KeepsDisks old.servers.shape l (clouds old.shelf.now) (clouds mid.shelf.now)) c.as_slice.ensures c.in-Ok.ensures.kept)
+
+pub returns-clause-armings : goal.returns-clause-armings
+returns-clause-armings g c = λ cloud.
+    let went = c.restore_any.ensures.asked in
+    let mid = c.open_clouds.new.link in
+    let new = c.restore_any.new.link in
+    c.law_of_readings.ensures.armings went.asks mid new cloud (reading_chain g.V.Shelf.cloud_at c.args.wanted.now.clouds.now went.asks mid new went.passed)
+    ∙ c.in-Ok.ensures.armings cloud
 
 pub returns-clause-same_reference : goal.returns-clause-same_reference
 returns-clause-same_reference g c =
