@@ -1,6 +1,6 @@
 -- The target of a rebuild over the servers of this process, request by request; and the clouds that are read between.
 use Rattle.std.proofs.Common.{◌≡◌, ℕ, ◌<◌, Bool, List, [], ◌∷◌, Option, None, refl, sym, ap, ◌∙◌, subst, inl, inr, ◌⊎◌}
-use Rattle.std.specs.Prelude.{◌≢◌, IsTrue, Ok}
+use Rattle.std.specs.Prelude.{◌≢◌, IfSome, IsTrue, Ok}
 use Rattle.std.specs.List.{Contains}
 use Rattle.std.proofs.lemmas.Bool.{cases_eq}
 use Rattle.recipe.specs.CdBase.shape.Shape.{Shape}
@@ -9,10 +9,11 @@ use Rattle.session_model.proofs.CdEdges.Moments.{joined, weaker}
 use Rattle.deletions.specs.Messages.request.Request.{Request}
 use Rattle.deletions.specs.Messages.request.Request.TheVariants as requests
 use Rattle.deletions.specs.Messages.reply.Reply.{Reply}
+use Rattle.deletions.specs.Messages.Replies.{IsReply}
 use Rattle.session_model.specs.UserDedup.command.Command.{Command}
 use Rattle.session_model.specs.UserDedup.Dedup.{FullRoom, Outcome}
-use Rattle.session_model.specs.UserDedup.Exec.{Peer, MaySettleAs, KeepsPeer, Settles, Exec, served}
-use Rattle.session_model.specs.UserDedup.Link.{Exchange, Talk, Passes, ReadsFrom, AddsNothing, Does}
+use Rattle.session_model.specs.UserDedup.Exec.{Peer, MaySettleAs, KeepsPeer, CountsOn, Settles, Exec, served}
+use Rattle.session_model.specs.UserDedup.Link.{Exchange, Talk, Passes, ReadsFrom, AddsNothing, Does, LosesAsk}
 use Rattle.session_model.specs.UserDedup.Requests.{asked_at, HasRecipe}
 use Rattle.session_model.proofs.UserDedup.Asked.{asked_law}
 use Rattle.session_model.proofs.UserDedup.Owned.{contains_here, contains_later}
@@ -76,8 +77,16 @@ module _ {V : Type 0} (clouds : V → ℕ → Cloud) where
       let r : Request = reads.1.0 in
       let asked : asked_at old.servers.shape e.content ≡ Ok r = (asked_law old.servers.shape e.content r step.bytes).1 (record { asked = reads.1.1; recipe = has_recipe old.servers.shape r reads.1.2 }) in
       let x = lost_moves (telling clouds) e.cloud old mid r e.content (restore_errors.Lost (record { 0 = 0 })) (λ a b. Unit {0}) (λ a b. Unit {0})
-      (λ list. adds_none old.servers.shape e.cloud (full_at old.servers e.cloud) list r reads.1.2) (λ a at. step.goes a r asked at) (λ a b. tt) (λ a b. tt) p stands in
+      (λ list. adds_none old.servers.shape e.cloud (full_at old.servers e.cloud) list r reads.1.2) (λ a at. went a r (step.goes a r asked at)) (λ a b. tt) (λ a b. tt) p stands in
       (x.0, x.1, x.2)
+    where
+      -- whether a reply came or not
+      went : (a : Peer) (r : Request) → (q : Peer) × StandsAt clouds mid e.cloud q × ((KeepsPeer a q × CountsOn a q × (e.reply ≡ None))
+          ⊎ ((answer : Reply) × IfSome e.reply (λ (content : List ℕ). IsReply content answer)
+          × Exec old.servers.shape (clouds old.shelf.now e.cloud).told (serving_at old e.cloud) a r answer q))
+          → (q : Peer) × StandsAt clouds mid e.cloud q × LosesAsk (telling clouds) e.cloud old a r q
+      went a r (q, is, inl stays) = (q, is, inl (stays.0, stays.1))
+      went a r (q, is, inr heard) = (q, is, inr (heard.0, heard.2))
 
   module _ (target : ℕ) (from : List ℕ) where
     -- each image since then of a cloud that is read, or not asked
