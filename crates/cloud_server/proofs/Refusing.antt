@@ -15,6 +15,11 @@ use Rattle.server_requests.specs.Messages.reply.Reply.{Reply}
 use Rattle.server_requests.specs.Messages.reply.Reply.TheVariants as replies
 use Rattle.server_requests.specs.Messages.Replies.{IsReply, reply_bytes}
 use Rattle.server_requests.specs.ServerCommands.Leaving.{StoresNothing, EntersNothing, FindsNone, FindsForeign, LeavesAll}
+use Rattle.server_requests.specs.FileIndex.Files.{key_of}
+use Rattle.server_requests.specs.Hashed.{AreAsked, IsHashed, IsOfEntry}
+use Rattle.server_requests.specs.JournalStart.start.Header.{Header}
+use Rattle.server_requests.specs.ServerCommands.Entering.{Enters}
+use Rattle.blob_copy.specs.StoreOpening.CloudMemory.Memory.{Memory}
 use Rattle.server_requests.specs.OpenStore.store.OpenStore.{OpenStore}
 use Rattle.server_requests.specs.OpenStore.Store.{IsOpen}
 use Rattle.cloud_server.specs.Refusals.{IsRefusal, IsErrorReply, MayCome}
@@ -96,6 +101,59 @@ not_damaged content (replies.Rotten named found) at byte never is damaged = omeg
 not_damaged content (replies.Malformed wrong) at byte never is damaged = omega (arith, kinds content 144 142 _ _ is damaged)
 not_damaged content replies.NoMemory at byte never is damaged = omega (arith, kinds content 145 142 _ _ is damaged)
 not_damaged content replies.Deleted at byte never is damaged = omega (arith, kinds content 146 142 _ _ is damaged)
+
+-- ---- what is given
+
+module _ (content : List ℕ) (kind : ℕ) (rest : List ℕ) (begins : content ≡ kind ∷ rest) where
+  of_entry : kind ≢ 135 → (m : Memory) (user : ℕ) (tag : List ℕ) (version : ℕ) (answer : Reply) → IsReply content answer → IsOfEntry m (key_of user tag version) answer
+  of_entry other m user tag version (replies.Recipe bytes) is = absurd (other (kinds content kind 135 _ _ begins is.spelled))
+  of_entry other m user tag version answer is = tt
+
+  are_asked : kind ≢ 137 → (fps : List Fp) (answer : Reply) → IsReply content answer → AreAsked fps answer
+  are_asked other fps (replies.Shares shares) is = absurd (other (kinds content kind 137 _ _ begins is.spelled))
+  are_asked other fps answer is = tt
+
+  -- what gives neither a recipe nor shares has no hash to keep
+  gives_none : kind ≢ 135 → kind ≢ 137 → (m : Memory) (r : Request) (answer : Reply) → IsReply content answer → IsHashed m r answer
+  gives_none one two m requests.Hello answer is = tt
+  gives_none one two m (requests.Query user fps) answer is = tt
+  gives_none one two m (requests.Put user shares) answer is = tt
+  gives_none one two m (requests.Commit user tag version recipe) answer is = tt
+  gives_none one two m (requests.GetRecipe user tag version) answer is = of_entry one m user.0 tag.0 version.0 answer is
+  gives_none one two m (requests.GetShares user fps) answer is = are_asked two fps answer is
+  gives_none one two m (requests.List user after) answer is = tt
+  gives_none one two m (requests.Delete user tag version) answer is = tt
+
+spelled_as : (content : List ℕ) (reply same : Reply) → IsReply content reply → reply ≡ same → content ≡ reply_bytes same
+spelled_as content reply same is e = is.spelled ∙ ap reply_bytes e
+
+pub fault_hashed : (m : Memory) (r : Request) (content : List ℕ) (answer : Reply) → IsReply content replies.Fault → IsReply content answer → IsHashed m r answer
+fault_hashed m r content answer fault is = gives_none content 141 _ fault.spelled (λ e. omega (arith, e)) (λ e. omega (arith, e)) m r answer is
+
+refusal_hashed : (m : Memory) (r : Request) (error : OpenErr) (content : List ℕ) (reply answer : Reply) → IsReply content reply → IsRefusal error reply → IsReply content answer
+    → IsHashed m r answer
+refusal_hashed m r errors.Fault content reply answer one e is =
+    gives_none content 141 _ (spelled_as content reply replies.Fault one e) (λ n. omega (arith, n)) (λ n. omega (arith, n)) m r answer is
+refusal_hashed m r (errors.Damaged at byte) content reply answer one e is =
+    gives_none content 142 _ (spelled_as content reply (replies.Damaged at byte) one e) (λ n. omega (arith, n)) (λ n. omega (arith, n)) m r answer is
+refusal_hashed m r (errors.OtherStore other asked at) content reply answer one e is =
+    gives_none content 142 _ (spelled_as content reply (replies.Damaged e.0 e.1) one e.2) (λ n. omega (arith, n)) (λ n. omega (arith, n)) m r answer is
+refusal_hashed m r (errors.NotBegun len) content reply answer one e is = absurd e
+
+pub refused_hashed : (m : Memory) (r : Request) (error : OpenErr) (content : List ℕ) (answer : Reply) → IsErrorReply error content → IsReply content answer → IsHashed m r answer
+refused_hashed m r error content answer refuses is = refusal_hashed m r error content refuses.reply answer refuses.is refuses.refusal is
+
+-- what only asks leaves the memory
+pub hashed_now : (h : Header) (m new : Memory) (r : Request) (answer said : Reply) → Enters h m new r said → IsHashed m r answer → IsHashed new r answer
+hashed_now h m new requests.Hello answer said e is = tt
+hashed_now h m new (requests.Query user fps) answer said e is = tt
+hashed_now h m new (requests.Put user shares) answer said e is = tt
+hashed_now h m new (requests.Commit user tag version recipe) answer said e is = tt
+hashed_now h m new (requests.GetRecipe user tag version) answer said e is =
+    subst (λ (x : Memory). IsOfEntry x (key_of user.0 tag.0 version.0) answer) (sym e.0) is
+hashed_now h m new (requests.GetShares user fps) answer said e is = is
+hashed_now h m new (requests.List user after) answer said e is = tt
+hashed_now h m new (requests.Delete user tag version) answer said e is = tt
 
 -- ---- the reply to an error
 

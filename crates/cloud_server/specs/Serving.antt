@@ -1,5 +1,6 @@
 -- A server over its cloud, as a peer that users ask.
 use Rattle.std.specs.Prelude.{◌≡◌, ◌≢◌, ◌⊎◌, ℕ, Bool, IsTrue, true, false, List, [], None, Result, Ok, Err}
+use Rattle.server_requests.specs.CdBase.ids.Fp.{Fp}
 use Rattle.server_requests.specs.CdBase.shape.Shape.{Shape}
 use Rattle.server_requests.specs.CdEdges.Causes.{Rose}
 use Rattle.server_requests.specs.CdEdges.area.Area.TheVariants.{Journal}
@@ -126,8 +127,12 @@ abbrev pub EntersBy : OpenStore → OpenStore → Request → List ℕ → Type 
 EntersBy old new request content =
     (answer : Reply) × IsReply content answer × (answer ≢ replies.Fault → Enters old.header (memory_of old.memory) (memory_of new.memory) request answer)
 
+-- Where the content is Rotten areas and memory stay, whatever was asked.
+abbrev pub RottenLeaves : OpenStore → OpenStore → Cloud → Cloud → List ℕ → Type 0
+RottenLeaves old new before after content = (named found : Fp) → IsReply content (replies.Rotten named found) → LeavesBoth old new before after
+
 -- A closed store was opened first: what the areas come to, record by record, is its memory then, and they were spared. The request changed them
--- behind that, and the reply speaks of that memory.
+-- behind that, and the reply speaks of that memory; behind Rotten they stay.
 pub record OpensFirst (old new : OpenStore) (before after : Cloud) (request : Request) (content : List ℕ) : Type 0 where
   pub opened : OpenStore
   pub between : Cloud
@@ -138,3 +143,4 @@ pub record OpensFirst (old new : OpenStore) (before after : Cloud) (request : Re
   pub spares : Spares old.header true before between (some_commands commands)
   pub changes : ChangesBehind opened new between after request
   pub enters : EntersBy opened new request content
+  pub rotten_leaves : RottenLeaves opened new between after content

@@ -51,11 +51,12 @@ impl Server {
     ghost use Rattle.server_requests.specs.OpenStore.Store.{IsOpen, IsSettled, ServesSome, closed};
     ghost use Rattle.server_requests.specs.ServerCommands.Leaving.{IsFound, LeavesAll};
     ghost use Rattle.server_requests.specs.Asking.{IsForMemory};
+    ghost use Rattle.server_requests.specs.Hashed.{IsHashed};
     ghost use Rattle.cloud_server.specs.Names.{header_of};
     ghost use Rattle.cloud_server.specs.Openings.{NotBegunIs, OtherStoreIs};
     ghost use Rattle.cloud_server.specs.Serving.{number_of, IsServing, server_serves, settled_with, ReopensAs};
     ghost use Rattle.cloud_server.specs.Serving.{ExecutesAs, Answered, IsUnopenedReply, CanOpen};
-    ghost use Rattle.cloud_server.specs.Serving.{ChangesBehind, EntersBy, OpensFirst};
+    ghost use Rattle.cloud_server.specs.Serving.{ChangesBehind, EntersBy, OpensFirst, RottenLeaves};
 
     /// A closed server of this cloud of a store of this shape, in these rooms. It takes all its memory here; the only
     /// error is want of memory.
@@ -199,12 +200,13 @@ impl Server {
     /// A request that adds nothing leaves the cloud's areas and the memory as they were. Stored with 0, Lacking, Missing, NotYours
     /// and Full of a user's room by an open server come with no call of a device at all. Whatever the records say, what is
     /// added lies behind the ends of both logs and of the journal, or in its other half. Rotten names what lies then where
-    /// the memory has the share or the recipe, and what lies there is another or shorter. An open server never answers
-    /// Damaged.
+    /// the memory has the share or the recipe, and what lies there is another or shorter; behind it areas and memory are as
+    /// they were. An open server never answers Damaged, and behind Damaged the server is closed.
     ///
     /// Whatever the cloud has, what a reply but Fault says of a Put, a Commit or a Delete is so by the memory, and behind it the
     /// memory is what the reply says (`enters`); Known, Recipe, Missing, Shares and NotYours say what the memory has, which
-    /// stays. Of a closed server that is the memory that its opening read.
+    /// stays. Of a closed server that is the memory that its opening read. Whatever the cloud has and is told of, shares have
+    /// the SHA-256 that was asked for, and a recipe has that of the memory's entry (`hashed`).
     pub fn execute<V: Shelf>(&mut self, shelf: &mut V, request: &[u8], reply: &mut ReplyBuf)
         requires { length request.now < 2 ^ 32 }
         ensures same { self.new.store.header ≡ self.old.store.header }
@@ -244,6 +246,14 @@ impl Server {
         ensures enters { (r : Request) → IsOpen self.old.store
             → asked_at self.old.store.header.shape request.now ≡ Ok r
             → EntersBy self.old.store self.new.store r reply.new }
+        ensures rotten_leaves { (r : Request) → IsOpen self.old.store
+            → asked_at self.old.store.header.shape request.now ≡ Ok r
+            → RottenLeaves self.old.store self.new.store (V.cloud_at shelf.old (number_of self.old))
+            (V.cloud_at shelf.new (number_of self.old)) reply.new }
+        ensures hashed { (r : Request) (answer : Reply) → asked_at self.old.store.header.shape request.now ≡ Ok r
+            → IsReply reply.new answer → IsHashed (memory_of self.new.store.memory) r answer }
+        ensures damaged { (r : Request) (at byte : ℕ) → asked_at self.old.store.header.shape request.now ≡ Ok r
+            → IsReply reply.new (replies.Damaged at byte) → ¬ (IsOpen self.new.store) }
         ensures untouched { (r : Request) (answer : Reply) → IsOpen self.old.store
             → asked_at self.old.store.header.shape request.now ≡ Ok r
             → LeavesAll r answer → IsReply reply.new answer

@@ -20,7 +20,8 @@ ghost use Rattle.server_requests.specs.Asking.{request_of, IsOfShape, IsForMemor
 ghost use Rattle.cloud_server.specs.Keeping.{IsStoreKept};
 ghost use Rattle.cloud_server.specs.Refusals.{MayCome};
 ghost use Rattle.cloud_server.specs.Serving.{ServesAs, ExecutesAs, Answered, IsUnopened, IsUnopenedReply, CanOpen};
-ghost use Rattle.cloud_server.specs.Serving.{ChangesBehind, EntersBy, OpensFirst};
+ghost use Rattle.cloud_server.specs.Serving.{ChangesBehind, EntersBy, OpensFirst, RottenLeaves};
+ghost use Rattle.server_requests.specs.Hashed.{IsHashed};
 ghost use Rattle.cloud_server.specs.Steps.{OpensAs, HasDoneRequest, IsOpenedBy};
 
 use crate::damage::put_refusal;
@@ -69,6 +70,10 @@ fn serve<V: Shelf>(
     ensures behind { ChangesBehind store.old store.new (V.cloud_at shelf.old store.old.header.cloud.0)
         (V.cloud_at shelf.new store.old.header.cloud.0) (request_of asked.now) }
     ensures enters { EntersBy store.old store.new (request_of asked.now) reply.new }
+    ensures rotten_leaves { RottenLeaves store.old store.new (V.cloud_at shelf.old store.old.header.cloud.0)
+        (V.cloud_at shelf.new store.old.header.cloud.0) reply.new }
+    ensures hashed { (answer : Reply) → IsReply reply.new answer
+        → IsHashed (memory_of store.new.memory) (request_of asked.now) answer }
     ensures untouched { (answer : Reply) → LeavesAll (request_of asked.now) answer → IsReply reply.new answer
         → (shelf.new ≡ shelf.old) × (store.new ≡ store.old) }
     ensures no_call { IsForMemory (request_of asked.now) → (shelf.new ≡ shelf.old) × (store.new ≡ store.old) }
@@ -166,6 +171,12 @@ pub(crate) fn answer<V: Shelf>(
         → ChangesBehind store.old store.new (V.cloud_at shelf.old store.old.header.cloud.0)
         (V.cloud_at shelf.new store.old.header.cloud.0) (request_of asked.now) }
     ensures enters { IsOpen store.old → EntersBy store.old store.new (request_of asked.now) reply.new }
+    ensures rotten_leaves { IsOpen store.old
+        → RottenLeaves store.old store.new (V.cloud_at shelf.old store.old.header.cloud.0)
+        (V.cloud_at shelf.new store.old.header.cloud.0) reply.new }
+    ensures hashed { (answer : Reply) → IsReply reply.new answer
+        → IsHashed (memory_of store.new.memory) (request_of asked.now) answer }
+    ensures damaged { (at byte : ℕ) → IsReply reply.new (replies.Damaged at byte) → ¬ (IsOpen store.new) }
     ensures untouched { (answer : Reply) → IsOpen store.old → LeavesAll (request_of asked.now) answer
         → IsReply reply.new answer → (shelf.new ≡ shelf.old) × (store.new ≡ store.old) }
     ensures no_call { IsOpen store.old → IsForMemory (request_of asked.now)

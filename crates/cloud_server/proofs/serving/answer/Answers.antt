@@ -10,10 +10,10 @@ use Rattle.server_requests.specs.OpenStore.Store.{ServesSome}
 use Rattle.server_requests.specs.ServerCommands.Leaving.{IsFound}
 use Rattle.server_requests.specs.ServerCommands.Serving.{serves}
 use Rattle.server_requests.specs.Asking.{request_of}
-use Rattle.cloud_server.specs.Serving.{ServesAs, Answered, ChangesBehind, EntersBy}
+use Rattle.cloud_server.specs.Serving.{ServesAs, Answered, ChangesBehind, EntersBy, RottenLeaves}
 use Rattle.cloud_server.specs.Steps.{HasDoneRequest}
 use Rattle.cloud_server.proofs.Executed.{opened_executes, opened_images, shut_images, refused_executes}
-use Rattle.cloud_server.proofs.Refusing.{not_rotten, refused_answered, answered_behind}
+use Rattle.cloud_server.proofs.Refusing.{not_rotten, refused_answered, answered_behind, refused_hashed}
 use Rattle.cloud_server.proofs.serving.answer.Goals as goal
 
 pub returns-in-Ok-clause-exec : goal.returns-in-Ok-clause-exec
@@ -129,6 +129,7 @@ returns-in-Ok-clause-first g c told shut =
       spares = h.spares;
       changes = subst (λ (x : Header). ChangesBehind mid new (at between x.cloud.0) (at after x.cloud.0) r) d.header c.serve.ensures.behind;
       enters = c.serve.ensures.enters;
+      rotten_leaves = subst (λ (x : Header). RottenLeaves mid new (at between x.cloud.0) (at after x.cloud.0) c.serve.new.reply) d.header c.serve.ensures.rotten_leaves;
     })
 
 pub returns-in-Err-clause-refusals : goal.returns-in-Err-clause-refusals
@@ -139,3 +140,24 @@ returns-in-Err-clause-closed g c told shut = inr (record { error = c.in-Err.erro
 
 pub returns-in-Err-clause-first : goal.returns-in-Err-clause-first
 returns-in-Err-clause-first g c told shut = inr (record { error = c.in-Err.error; unopened = c.in-Err.ensures.error.1; refuses = c.put_refusal.ensures })
+
+pub returns-in-Ok-clause-rotten_leaves : goal.returns-in-Ok-clause-rotten_leaves
+returns-in-Ok-clause-rotten_leaves g c is_open =
+    let alone = c.in-Ok.ensures.alone is_open in
+    let old = c.args.store.now in let at = g.V.Shelf.cloud_at in let new = c.serve.new.store in let after = c.serve.new.shelf in
+    let Q : OpenStore → (ℕ → Cloud) → Type 0 = λ s k. RottenLeaves s new (k s.header.cloud.0) (at after s.header.cloud.0) c.serve.new.reply in
+    subst (Q old) (ap at alone.2) (subst (λ (s : OpenStore). Q s (at c.ensure_open.new.shelf)) alone.1 c.serve.ensures.rotten_leaves)
+
+pub returns-in-Err-clause-rotten_leaves : goal.returns-in-Err-clause-rotten_leaves
+returns-in-Err-clause-rotten_leaves g c is_open named found rotten =
+    absurd (not_rotten c.in-Err.error c.put_refusal.new.reply named found c.put_refusal.ensures rotten)
+
+pub returns-in-Err-clause-hashed : goal.returns-in-Err-clause-hashed
+returns-in-Err-clause-hashed g c answer is =
+    refused_hashed (memory_of c.ensure_open.new.store.memory) (request_of c.args.asked.now) c.in-Err.error c.put_refusal.new.reply answer c.put_refusal.ensures is
+
+pub returns-in-Ok-clause-damaged : goal.returns-in-Ok-clause-damaged
+returns-in-Ok-clause-damaged g c at byte damaged = absurd (c.serve.ensures.undamaged at byte damaged)
+
+pub returns-in-Err-clause-damaged : goal.returns-in-Err-clause-damaged
+returns-in-Err-clause-damaged g c at byte damaged = c.in-Err.ensures.shut

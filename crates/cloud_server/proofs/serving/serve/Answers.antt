@@ -3,7 +3,8 @@ use Rattle.server_requests.specs.Messages.reply.Reply.TheVariants as replies
 use Rattle.server_requests.specs.Asking.{request_of}
 use Rattle.cloud_server.proofs.Bounds.{reply_fits}
 use Rattle.cloud_server.proofs.Executed.{served_does, cut_does, served_images}
-use Rattle.cloud_server.proofs.Refusing.{not_damaged, fault_not_damaged, fault_not_rotten, fault_leaves, fault_answered}
+use Rattle.cloud_server.proofs.Refusing.{not_damaged, fault_not_damaged, fault_not_rotten, fault_leaves, fault_answered, fault_hashed, hashed_now}
+use Rattle.blob_copy.specs.StoreOpening.CloudMemory.Rooms.{memory_of}
 use Rattle.cloud_server.proofs.serving.serve.Goals as goal
 
 pub returns-in-Ok-clause-does : goal.returns-in-Ok-clause-does
@@ -81,3 +82,19 @@ returns-in-Ok-clause-enters g c = (let e = c.in-Ok.ensures.enters in (e.reply, e
 
 pub returns-in-Err-clause-enters : goal.returns-in-Err-clause-enters
 returns-in-Err-clause-enters g c = (replies.Fault, c.write_fault.ensures.is, λ other. absurd (other refl))
+
+pub returns-in-Ok-clause-rotten_leaves : goal.returns-in-Ok-clause-rotten_leaves
+returns-in-Ok-clause-rotten_leaves g c named found rotten = c.in-Ok.ensures.does.spared named found rotten
+
+pub returns-in-Err-clause-rotten_leaves : goal.returns-in-Err-clause-rotten_leaves
+returns-in-Err-clause-rotten_leaves g c named found rotten = absurd (fault_not_rotten c.write_fault.new.out named found c.write_fault.ensures.is rotten)
+
+pub returns-in-Ok-clause-hashed : goal.returns-in-Ok-clause-hashed
+returns-in-Ok-clause-hashed g c answer is =
+    let e = c.in-Ok.ensures.enters in
+    hashed_now c.args.store.now.header (memory_of c.args.store.now.memory) (memory_of c.dispatch.new.store.memory) (request_of c.args.asked.now) answer e.reply e.said
+    (c.in-Ok.ensures.hashed answer is)
+
+pub returns-in-Err-clause-hashed : goal.returns-in-Err-clause-hashed
+returns-in-Err-clause-hashed g c answer is =
+    fault_hashed (memory_of c.dispatch.new.store.memory) (request_of c.args.asked.now) c.write_fault.new.out answer c.write_fault.ensures.is is

@@ -1,6 +1,8 @@
 use Rattle.std.proofs.Common.{◌≡◌, ◌⊎◌, ℕ, Ok, Result, sym, ◌∙◌, subst}
 use Rattle.server_requests.specs.Messages.request.Request.{Request}
 use Rattle.server_requests.specs.Asking.{request_of}
+use Rattle.server_requests.specs.Hashed.{IsHashed}
+use Rattle.blob_copy.specs.StoreOpening.CloudMemory.Rooms.{memory_of}
 use Rattle.cloud_server.specs.Serving.{ExecutesAs, ChangesBehind, EntersBy, OpensFirst, IsUnopenedReply}
 use Rattle.cloud_server.proofs.server.Server.execute.Goals as goal
 
@@ -39,3 +41,14 @@ unfolding asks
 returns-in-Ok-clause-enters g c r opened asked =
     let old = c.args.self.now.store in
     subst (λ (x : Request). EntersBy old c.answer.new.store x c.answer.new.reply) (same_asked (request_of c.in-Ok.asked) r (sym c.in-Ok.ensures.reads ∙ asked)) (c.answer.ensures.enters opened)
+
+pub returns-in-Ok-clause-rotten_leaves : goal.returns-in-Ok-clause-rotten_leaves
+returns-in-Ok-clause-rotten_leaves g c r opened asked = c.answer.ensures.rotten_leaves opened
+
+pub returns-in-Ok-clause-hashed : goal.returns-in-Ok-clause-hashed
+unfolding asks
+returns-in-Ok-clause-hashed g c r answer asked is =
+    subst (λ (x : Request). IsHashed (memory_of c.answer.new.store.memory) x answer) (same_asked (request_of c.in-Ok.asked) r (sym c.in-Ok.ensures.reads ∙ asked)) (c.answer.ensures.hashed answer is)
+
+pub returns-in-Ok-clause-damaged : goal.returns-in-Ok-clause-damaged
+returns-in-Ok-clause-damaged g c r at byte asked damaged = c.answer.ensures.damaged at byte damaged
