@@ -12,6 +12,8 @@ mod file_recipe_cases;
 #[cfg(test)]
 mod gf256_cases;
 #[cfg(test)]
+mod hash_lanes_cases;
+#[cfg(test)]
 mod pool_map_cases;
 #[cfg(test)]
 mod rabin_chunker_cases;

@@ -1,0 +1,59 @@
+//! Values of the standard, and of the digests that are made one at a time.
+
+use cd_base::sha256;
+use hash_lanes::sha256_of_four;
+use std::test::Fail;
+
+// FIPS 180-4's examples of no bytes, of three, of 56 and of 112
+#[test]
+fn digests_of_the_standard(rt: HostRuntime) -> Result<(), Fail> {
+    let found = sha256_of_four(
+        b"",
+        b"abc",
+        b"abcdbcdecdefdefgefghfghighijhijkijkljklmklmnlmnomnopnopq",
+        b"abcdefghbcdefghicdefghijdefghijkefghijklfghijklmghijklmnhijklmnoijklmnopjklmnopqklmnopqrlmnopqrsmnopqrstnopqrstu",
+    );
+    let none = [
+        0xe3, 0xb0, 0xc4, 0x42, 0x98, 0xfc, 0x1c, 0x14, 0x9a, 0xfb, 0xf4, 0xc8, 0x99, 0x6f, 0xb9,
+        0x24, 0x27, 0xae, 0x41, 0xe4, 0x64, 0x9b, 0x93, 0x4c, 0xa4, 0x95, 0x99, 0x1b, 0x78, 0x52,
+        0xb8, 0x55,
+    ];
+    let three = [
+        0xba, 0x78, 0x16, 0xbf, 0x8f, 0x01, 0xcf, 0xea, 0x41, 0x41, 0x40, 0xde, 0x5d, 0xae, 0x22,
+        0x23, 0xb0, 0x03, 0x61, 0xa3, 0x96, 0x17, 0x7a, 0x9c, 0xb4, 0x10, 0xff, 0x61, 0xf2, 0x00,
+        0x15, 0xad,
+    ];
+    let longer = [
+        0x24, 0x8d, 0x6a, 0x61, 0xd2, 0x06, 0x38, 0xb8, 0xe5, 0xc0, 0x26, 0x93, 0x0c, 0x3e, 0x60,
+        0x39, 0xa3, 0x3c, 0xe4, 0x59, 0x64, 0xff, 0x21, 0x67, 0xf6, 0xec, 0xed, 0xd4, 0x19, 0xdb,
+        0x06, 0xc1,
+    ];
+    let longest = [
+        0xcf, 0x5b, 0x16, 0xa7, 0x78, 0xaf, 0x83, 0x80, 0x03, 0x6c, 0xe5, 0x9e, 0x7b, 0x04, 0x92,
+        0x37, 0x0b, 0x24, 0x9b, 0x11, 0xe8, 0xf0, 0x7a, 0x51, 0xaf, 0xac, 0x45, 0x03, 0x7a, 0xfe,
+        0xe9, 0xd1,
+    ];
+    assert_eq!(rt; found, [none, three, longer, longest]);
+    Ok(())
+}
+
+// Lengths about the ends of a block, each in another lane than in the pass before.
+#[test]
+fn digests_of_many_lengths(rt: HostRuntime) -> Result<(), Fail> {
+    let bytes = [0xa5u8; 260];
+    let lengths = [
+        1usize, 54, 55, 56, 57, 63, 64, 65, 118, 119, 120, 121, 127, 128, 129, 260,
+    ];
+    for place in 0..lengths.len() {
+        let (first, _) = bytes.split_at(lengths[place].min(260));
+        let (second, _) = bytes.split_at(lengths[(place + 1) % 16].min(260));
+        let (third, _) = bytes.split_at(lengths[(place + 5) % 16].min(260));
+        let (fourth, _) = bytes.split_at(lengths[(place + 15) % 16].min(260));
+        let found = sha256_of_four(first, second, third, fourth);
+        assert_eq!(rt; found[0], sha256(first).0);
+        assert_eq!(rt; found[1], sha256(second).0);
+        assert_eq!(rt; found[2], sha256(third).0);
+        assert_eq!(rt; found[3], sha256(fourth).0);
+    }
+    Ok(())
+}
