@@ -36,3 +36,7 @@ EachWithShare first len width shares before now = (j : ℕ) (d : CloudFile) → 
 -- each of the clouds from `first` on has the shares of these secrets more
 abbrev pub EachWithSecrets : Shape → ℕ → List (List ℕ) → List CloudFile → List CloudFile → Type 0
 EachWithSecrets s first secrets before now = (j : ℕ) (d : CloudFile) → j < length before → slice_index_or now j d ≡ with_secrets s (first + j) (slice_index_or before j d) secrets
+
+-- the hashes of the shares at four places from a first one on, but for those from an end on
+abbrev pub HasDigests : ℕ → List ℕ → ℕ → ℕ → List (List ℕ) → Type 0
+HasDigests width shares base end four = (j : ℕ) → j < 4 → base + j < end → slice_index_or four j [] ≡ sha256 (row width (base + j) shares)

@@ -2,9 +2,11 @@
 
 ghost use Rattle.std.specs.Prelude.{◌≡◌, [], length, slice_get, OnOk, IsTrue, ◌↔◌};
 ghost use Rattle.std.specs.Option.{option_copied};
+ghost use Rattle.sha2.specs.Sha256.{sha256 as sha256_of};
 ghost use Rattle.file_recipe.specs.Progress.{with_share};
 
-use rabin_chunker::{Bytes, NoMemory, sha256};
+use caont_rs::Fp;
+use rabin_chunker::{Bytes, NoMemory};
 use recipe::{Item, Recipe};
 use std::marker::Model;
 
@@ -19,12 +21,19 @@ pub struct CloudFile {
 }
 
 impl CloudFile {
-    // Appends the share of the next secret, and its item. For want of memory a part of it may stand there.
-    pub(crate) fn add(&mut self, secret_len: u32, share: &[u8]) -> Result<(), NoMemory>
+    // Appends the share of the next secret, and its item, by the hash of the share. For want of memory a part of it may
+    // stand there.
+    pub(crate) fn add(
+        &mut self,
+        secret_len: u32,
+        share: &[u8],
+        digest: [u8; 32],
+    ) -> Result<(), NoMemory>
+        requires digest { digest ≡ sha256_of share.now }
         ensures { OnOk result (self.new ≡ with_share self.old secret_len share.now) }
     {
         self.recipe.items.push(Item {
-            fp: sha256(share),
+            fp: Fp(digest),
             secret_len,
         })?;
         self.shares.extend(share)

@@ -1,6 +1,6 @@
 //! Dispersing a file.
 
-ghost use Rattle.std.specs.Prelude.{◌≡◌, ◌+◌, ◌*◌, ◌/◌, ◌≤◌, ◌<◌, ℕ, [], length, map, min, OnOk, IfOk};
+ghost use Rattle.std.specs.Prelude.{◌≡◌, ◌+◌, ◌*◌, ◌/◌, ◌≤◌, ◌<◌, ℕ, [], length, map, min, OnOk, IfOk, ◌-◌, ◌%◌, ◌≢◌};
 ghost use Rattle.std.specs.List.{range_with_len};
 ghost use Rattle.rabin_chunker.specs.CdBase.Limits.{IsPath};
 ghost use Rattle.caont_rs.specs.ReedSolomon.Dispersal.{row};
@@ -9,11 +9,12 @@ ghost use Rattle.caont_rs.specs.Package.{share};
 ghost use Rattle.recipe.specs.Spelling.{file_limit, item_limit};
 ghost use Rattle.file_recipe.specs.FileRecipe.{secrets};
 ghost use Rattle.file_recipe.specs.Clouds.{cloud_file, files_from, dispersed};
-ghost use Rattle.file_recipe.specs.Progress.{unshared, EachWithShare, EachWithSecrets};
+ghost use Rattle.file_recipe.specs.Progress.{unshared, EachWithShare, EachWithSecrets, HasDigests};
 
 use crate::{CloudFile, CloudFiles};
-use caont_rs::disperse;
-use rabin_chunker::{Bytes, Chunker, CloudNo, Ends, NoMemory, Shape, share_len};
+use caont_rs::{Fp, disperse};
+use hash_lanes::sha256_of_four;
+use rabin_chunker::{Bytes, Chunker, CloudNo, Ends, NoMemory, Shape, sha256, share_len};
 use recipe::{ITEM_LIMIT, Items, Recipe};
 use std::alloc::Global;
 
@@ -131,7 +132,58 @@ fn unshared_files(
     each_unshared(alloc, shape, path, file, &name_shares, first, clouds, count)
 }
 
-// Gives the clouds from `first` on their shares of a secret, of those of all clouds, which lie one after another.
+// The share of a place, of those that lie one after another.
+fn share_at(place: usize, width: usize, shares: &[u8]) -> &[u8]
+    requires { (place + 1) * width ≤ length shares.now }
+    ensures { result.now ≡ row width place shares.now }
+{
+    let start = place * width;
+    &shares[start..start + width]
+}
+
+// The hashes of four shares from a place on, of those before `end`. What stands for a place from there on is another's.
+fn four_digests(place: usize, end: usize, width: usize, shares: &[u8]) -> [[u8; 32]; 4]
+    requires some { place < end }
+    requires few { end ≤ 16 }
+    requires room { end * width ≤ length shares.now }
+    ensures { HasDigests width shares.now place end result }
+{
+    let last = end - 1;
+    let first = share_at(place, width, shares);
+    if place == last {
+        let Fp(only) = sha256(first);
+        return [only, only, only, only];
+    }
+    let second = share_at(place + 1, width, shares);
+    let third = share_at(last.min(place + 2), width, shares);
+    let fourth = share_at(last.min(place + 3), width, shares);
+    sha256_of_four(first, second, third, fourth)
+}
+
+// The hashes of the four shares among which the one at a place is, the `done`-th of those before `end`.
+fn digests_at(
+    four: [[u8; 32]; 4],
+    done: usize,
+    place: usize,
+    end: usize,
+    width: usize,
+    shares: &[u8],
+) -> [[u8; 32]; 4]
+    requires kept { done % 4 ≢ 0 → HasDigests width shares.now (place - done % 4) end four }
+    requires some { place < end }
+    requires few { end ≤ 16 }
+    requires room { end * width ≤ length shares.now }
+    ensures { HasDigests width shares.now (place - done % 4) end result }
+{
+    if done % 4 == 0 {
+        four_digests(place, end, width, shares)
+    } else {
+        four
+    }
+}
+
+// Gives the clouds from `first` on their shares of a secret, of those of all clouds, which lie one after another. The
+// shares are as long as each other, and four are hashed at once.
 fn add_shares(
     files: &mut [CloudFile],
     first: usize,
@@ -143,10 +195,15 @@ fn add_shares(
     requires room { (first + length files.old) * width ≤ length shares.now }
     ensures { OnOk result (EachWithShare first secret_len width shares.now files.old files.new) }
 {
+    let end = first + files.len();
+    let mut four = [[0u8; 32]; 4];
     for place in 0..files.len() {
-        let start = (first + place) * width;
+        let next = digests_at(four, place, first + place, end, width, shares);
+        four = next;
+        let share = share_at(first + place, width, shares);
+        let digest = four[place % 4];
         let file = &mut files[place];
-        file.add(secret_len, &shares[start..start + width])?;
+        file.add(secret_len, share, digest)?;
     }
     Ok(())
 }
