@@ -22,6 +22,7 @@ use Rattle.cloud_server.specs.Messages.Replies.{IsReply}
 use Rattle.messages.specs.ReplyReading.{reply_at}
 use Rattle.messages.proofs.ReplyLaws.{reply_law}
 use Rattle.cloud_server.specs.OpenStore.Store.{IsOpen}
+use Rattle.cloud_server.specs.OpenStore.store.OpenStore.{OpenStore}
 use Rattle.cloud_server.specs.ServerCommands.Entering.{Enters, ReadsBy}
 use Rattle.cloud_server.specs.ServerCommands.Leaving.{IsFound, IsSteady}
 use Rattle.cloud_server.specs.ServerCommands.ServerReads.Found.{IsFoundRecipe, IsFoundShare, IsOther}
@@ -35,11 +36,11 @@ use Rattle.local_link.specs.Steps.{Replied}
 use Rattle.local_link.specs.declared.fate.Fate.{Fate}
 use Rattle.local_link.specs.declared.fate.Fate.TheVariants.{Deliver, LoseReply, LoseRequest}
 use Rattle.local_link.specs.Tells.{server_at, IsOpenWith, IsSaidBy, LeavesRest, ReadsOpen, PassesOn, telling}
-use Rattle.local_link.proofs.Passing.{fault_bytes, has_recipe, one_answer, one_reply, read_later, rose_before, rose_behind}
+use Rattle.local_link.proofs.Passing.{fault_alone, has_recipe, one_answer, one_reply, read_later, rose_before, rose_behind}
 
 -- ---- one request
 
-is_steady : (m : Memory) (r : Request) → AddsNothing r → IsSteady m r
+pub is_steady : (m : Memory) (r : Request) → AddsNothing r → IsSteady m r
 is_steady m requests.Hello none = tt
 is_steady m (requests.Query user fps) none = tt
 is_steady m (requests.Put user shares) none = absurd none
@@ -117,6 +118,25 @@ by_open (Some b) (Some a) old new m r none is behind =
     by_end same (inl rose) = inl rose
     by_end same (inr at_end) = inr (at_end, same)
 
+-- What it replies is by its memory, or Fault.
+pub by_stores : (before after : OpenStore) (old new : Cloud) (m : Memory) (r : Request) (content : List ℕ) → AddsNothing r
+    → memory_of before.memory ≡ m → memory_of after.memory ≡ m → reads new.now ≡ reads old.now → new.told ≡ old.told → EntersBy before after r content
+    → ((named what : Fp) → IsReply content (replies.Rotten named what) → IsFound new (memory_of after.memory) r named what)
+    → IsReply content replies.Fault ⊎ IsSaidBy old m r content
+by_stores before after old new m r content none has keeps same told enters found = by_answer enters.0 enters.1 enters.2 (is_fault enters.0)
+  where
+    by_answer : (answer : Reply) → IsReply content answer
+        → (answer ≢ replies.Fault → Enters before.header (memory_of before.memory) (memory_of after.memory) r answer)
+        → (answer ≡ replies.Fault) ⊎ (answer ≢ replies.Fault) → IsReply content replies.Fault ⊎ IsSaidBy old m r content
+    by_answer answer reply says (inl is_one) = inl (subst (IsReply content) is_one reply)
+    by_answer answer reply says (inr other) =
+        inr (said_there new old m (sym told) (sym same) r content (record {
+          answer = answer;
+          is = reply;
+          by = subst (λ (n : Memory). ReadsBy n r answer) has (reads_of before.header (memory_of before.memory) (memory_of after.memory) r answer none (says other));
+          found = λ named what rotten. subst (λ (n : Memory). IsFound new n r named what) keeps (found named what rotten);
+        }))
+
 -- What it replies is by its memory, or the count rose.
 by_says : (before after : Option Server) (old new : Cloud) (m : Memory) (r : Request) (content : List ℕ) → AddsNothing r
     → IsSomeAnd before (λ (b : Server). IsOpen b.store × (memory_of b.store.memory ≡ m)) → IsSomeAnd after (λ (a : Server). memory_of a.store.memory ≡ m)
@@ -127,31 +147,20 @@ by_says : (before after : Option Server) (old new : Cloud) (m : Memory) (r : Req
 by_says None after old new m r content none is keeps stays told enters found fault = absurd is
 by_says (Some b) None old new m r content none is keeps stays told enters found fault = absurd keeps
 by_says (Some b) (Some a) old new m r content none is keeps stays told enters found fault =
-    let e = enters is.0 in
-    by_answer e.0 e.1 e.2 (is_fault e.0)
+    by_content (by_stores b.store a.store old new m r content none is.1 keeps (ap reads stays.now) told (enters is.0) found)
   where
-    by_answer : (answer : Reply) → IsReply content answer
-        → (answer ≢ replies.Fault → Enters b.store.header (memory_of b.store.memory) (memory_of a.store.memory) r answer)
-        → (answer ≡ replies.Fault) ⊎ (answer ≢ replies.Fault) → Rose old.faults new.faults ⊎ IsSaidBy old m r content
-    by_answer answer reply says (inl is_one) = inl (fault (subst (IsReply content) is_one reply))
-    by_answer answer reply says (inr other) =
-        inr (said_there new old m (sym told) (sym (ap reads stays.now)) r content (record {
-          answer = answer;
-          is = reply;
-          by = subst (λ (n : Memory). ReadsBy n r answer) is.1 (reads_of b.store.header (memory_of b.store.memory) (memory_of a.store.memory) r answer none (says other));
-          found = λ named what rotten. subst (λ (n : Memory). IsFound new n r named what) keeps (found named what rotten);
-        }))
+    by_content : IsReply content replies.Fault ⊎ IsSaidBy old m r content → Rose old.faults new.faults ⊎ IsSaidBy old m r content
+    by_content (inl is_one) = inl (fault is_one)
+    by_content (inr says) = inr says
 
 -- ---- one ask
 
 fault_rose : (shape : Shape) (old new : Cloud) (before now : ℕ) (r : Request) (content : List ℕ) → Replied shape old new before now r content → IsReply content replies.Fault
     → Rose old.faults new.faults
 fault_rose shape old new before now r content x fault =
-    let are : AreBytes content = subst AreBytes (sym fault.spelled) fault_bytes in
-    let answer_is : x.answer ≡ replies.Fault = one_answer x.answer replies.Fault (sym ((reply_law content x.answer are).1 x.is) ∙ (reply_law content replies.Fault are).1 fault) in
-    (x.fault answer_is).cloud
+    (x.fault (fault_alone content x.answer x.is fault)).cloud
 
-lost_there : (f : Fate) → (f ≡ LoseRequest) ⊎ (f ≢ LoseRequest)
+pub lost_there : (f : Fate) → (f ≡ LoseRequest) ⊎ (f ≢ LoseRequest)
 lost_there Deliver = inr (λ e. let never : Deliver ≡ LoseRequest = e in cc)
 lost_there LoseRequest = inl refl
 lost_there LoseReply = inr (λ e. let never : LoseReply ≡ LoseRequest = e in cc)
@@ -212,7 +221,7 @@ found_is cloud m r content named what are read x = x.found named what ((reply_la
 
 -- ---- the chain
 
-stays_here : (c : Cloud) → Stays c c
+pub stays_here : (c : Cloud) → Stays c c
 stays_here c = record { armed = refl; past = refl; now = refl }
 
 stays_twice : (a b c : Cloud) → Stays a b → Stays b c → Stays a c

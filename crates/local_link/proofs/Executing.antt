@@ -26,11 +26,11 @@ use Rattle.cloud_server.specs.CloudMemory.Rooms.{memory_of}
 use Rattle.cloud_server.specs.OpenStore.Store.{IsOpen}
 use Rattle.cloud_server.specs.ServerCommands.Leaving.{IsFound}
 use Rattle.cloud_server.specs.declared.server.Server.{Server}
-use Rattle.cloud_server.specs.Serving.{IsServing, CanOpen, IsUnopenedReply, ChangesBehind, EntersBy, OpensFirst}
+use Rattle.cloud_server.specs.Serving.{IsServing, CanOpen, IsUnopenedReply, ChangesBehind, EntersBy}
 use Rattle.local_link.specs.declared.servers.Servers.{Servers}
 use Rattle.local_link.specs.declared.link.LocalLink.{LocalLink}
 use Rattle.local_link.specs.Tells.{server_at, rooms_at, header_at, full_at, IsPeer}
-use Rattle.local_link.specs.Steps.{HasPutServer, Executed, Replied, RepliesOpen, HasServerExecuted}
+use Rattle.local_link.specs.Steps.{HasPutServer, Executed, Replied, RepliesOpen, OpensOrShuts, HasServerExecuted}
 use Rattle.local_link.proofs.Standing.{header_put, here_now, said_of, known_of, peer_moves}
 use Rattle.local_link.proofs.Malformed.{place_fits}
 
@@ -109,15 +109,15 @@ module _ (old_servers new_servers : Servers) (cloud : ℕ) (before after : Serve
 
   pub first_here : (r : Request) → IsTrue (old cloud).told → asked_at old_servers.shape content ≡ Ok r
       → IsSomeAnd (server_at old_servers cloud) (λ (s : Server). ¬ (IsOpen s.store)
-      → IsSomeAnd (server_at new_servers cloud) (λ (t : Server). OpensFirst s.store t.store (old cloud) (new cloud) r reply ⊎ IsUnopenedReply s.store (old cloud) (new cloud) reply))
+      → IsSomeAnd (server_at new_servers cloud) (λ (t : Server). OpensOrShuts s.store t.store (old cloud) (new cloud) r reply))
   first_here r told asked =
       said_of (server_at old_servers cloud) before (λ (s : Server). ¬ (IsOpen s.store)
-      → IsSomeAnd (server_at new_servers cloud) (λ (t : Server). OpensFirst s.store t.store (old cloud) (new cloud) r reply ⊎ IsUnopenedReply s.store (old cloud) (new cloud) reply)) put.here
+      → IsSomeAnd (server_at new_servers cloud) (λ (t : Server). OpensOrShuts s.store t.store (old cloud) (new cloud) r reply)) put.here
       (λ shut.
       let at_cloud =
       subst (λ (d : Header). IsTrue (old d.cloud.0).told → ¬ (IsOpen before.store) → asked_at d.shape content ≡ Ok r
-      → OpensFirst before.store after.store (old d.cloud.0) (new d.cloud.0) r reply ⊎ IsUnopenedReply before.store (old d.cloud.0) (new d.cloud.0) reply) h (x.first r) in
-      said_of (server_at new_servers cloud) after (λ (t : Server). OpensFirst before.store t.store (old cloud) (new cloud) r reply ⊎ IsUnopenedReply before.store (old cloud) (new cloud) reply) here
+      → OpensOrShuts before.store after.store (old d.cloud.0) (new d.cloud.0) r reply) h (x.first r) in
+      said_of (server_at new_servers cloud) after (λ (t : Server). OpensOrShuts before.store t.store (old cloud) (new cloud) r reply) here
       (at_cloud told shut asked))
 
   told_goes : (p : Peer) (r : Request) → AreBytes content → (old cloud).told ≡ true → IsPeer old_servers.shape cloud (old cloud) (server_at old_servers cloud) p → asked_at old_servers.shape content ≡ Ok r
@@ -286,9 +286,9 @@ enters_counted {V} a b cloud server r reply e is =
 
 pub first_counted : {V : Type 0} (clouds : V → ℕ → Cloud) (a b : LocalLink V) (cloud : ℕ) (server : Option Server) (old : Cloud) (r : Request) (reply : List ℕ) → b ≡ a
     → IsSomeAnd server (λ (s : Server). ¬ (IsOpen s.store) → IsSomeAnd (server_at a.servers cloud) (λ (t : Server).
-    OpensFirst s.store t.store old (clouds a.shelf.now cloud) r reply ⊎ IsUnopenedReply s.store old (clouds a.shelf.now cloud) reply))
+    OpensOrShuts s.store t.store old (clouds a.shelf.now cloud) r reply))
     → IsSomeAnd server (λ (s : Server). ¬ (IsOpen s.store) → IsSomeAnd (server_at b.servers cloud) (λ (t : Server).
-    OpensFirst s.store t.store old (clouds b.shelf.now cloud) r reply ⊎ IsUnopenedReply s.store old (clouds b.shelf.now cloud) reply))
+    OpensOrShuts s.store t.store old (clouds b.shelf.now cloud) r reply))
 first_counted {V} clouds a b cloud server old r reply e is =
     subst (λ (l : LocalLink V). IsSomeAnd server (λ (s : Server). ¬ (IsOpen s.store) → IsSomeAnd (server_at l.servers cloud) (λ (t : Server).
-    OpensFirst s.store t.store old (clouds l.shelf.now cloud) r reply ⊎ IsUnopenedReply s.store old (clouds l.shelf.now cloud) reply))) (sym e) is
+    OpensOrShuts s.store t.store old (clouds l.shelf.now cloud) r reply))) (sym e) is

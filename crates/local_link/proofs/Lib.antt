@@ -5,5 +5,6 @@ pub mod Executing
 pub mod Malformed
 pub mod Passing
 pub mod Placing
+pub mod Recalling
 pub mod Standing
 pub mod StoreOpening

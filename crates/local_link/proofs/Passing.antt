@@ -23,14 +23,17 @@ use Rattle.cloud_server.specs.UserDedup.Requests.{asked_at, HasRecipe}
 use Rattle.cloud_server.specs.UserDedup.Exec.{Peer, MaySettleAs, KeepsPeer, CountsOn, Exec, ExecTold, ExecUntold, IsCut, items_of, served}
 use Rattle.cloud_server.proofs.UserDedup.Asked.{asked_law}
 use Rattle.cloud_server.specs.CloudMemory.Memory.{Memory}
+use Rattle.cloud_server.specs.OpenStore.Store.{IsOpen}
+use Rattle.cloud_server.specs.OpenStore.store.OpenStore.{OpenStore}
+use Rattle.cloud_server.specs.Serving.{OpensFirst, IsUnopenedReply}
 use Rattle.cloud_server.specs.CloudAreas.Peers.{StandsForSome, ImagesSince, MayBecome}
 use Rattle.local_link.specs.declared.link.LocalLink.{LocalLink}
-use Rattle.local_link.specs.Tells.{server_at, header_at, rooms_at, full_at, is_delivered, IsPeer, LeavesRest, serving_at, StandsAt, IsOpenWith, ReadsOpen, PassesOn, telling}
+use Rattle.local_link.specs.Tells.{server_at, header_at, rooms_at, full_at, is_delivered, IsPeer, LeavesRest, serving_at, StandsAt, IsOpenWith, IsReadAs, ReadsOpen, ReadsTold, PassesOn, telling}
 use Rattle.cloud_server.specs.UserDedup.Link.{Exchange, IsReading, exchange_of, AddsNothing, Passes, ReadsFrom, Asks, serves}
 use Rattle.cloud_server.specs.CdBase.Reading.{AreBytes}
 use Rattle.local_link.specs.declared.fate.Fate.{Fate}
 use Rattle.local_link.specs.declared.fate.Fate.TheVariants.{Deliver, LoseReply, LoseRequest}
-use Rattle.local_link.specs.Steps.{Replied}
+use Rattle.local_link.specs.Steps.{OpensOrShuts, Replied}
 use Rattle.local_link.proofs.Standing.{images_now, header_stays, peer_moves}
 
 -- ---- what adds nothing
@@ -95,6 +98,18 @@ fault_bytes (suc i) = omega arith
 
 pub one_answer : (a b : Reply) → (let r : Result Reply ℕ = Ok a in let s : Result Reply ℕ = Ok b in r ≡ s) → a ≡ b
 one_answer a b e = cc
+
+-- a content that is Fault is no other reply
+pub fault_alone : (content : List ℕ) (answer : Reply) → IsReply content answer → IsReply content replies.Fault → answer ≡ replies.Fault
+fault_alone content answer is fault =
+    let are : AreBytes content = subst AreBytes (sym fault.spelled) fault_bytes in
+    one_answer answer replies.Fault (sym ((reply_law content answer are).1 is) ∙ (reply_law content replies.Fault are).1 fault)
+
+-- a server that isn't opened is closed behind Fault
+pub shut_behind : (before after : OpenStore) (old new : Cloud) (r : Request) (content : List ℕ) (answer : Reply) → IsReply content answer → (answer ≡ replies.Fault → ¬ (IsOpen after))
+    → OpensFirst before after old new r content ⊎ IsUnopenedReply before old new content → OpensOrShuts before after old new r content
+shut_behind before after old new r content answer is shut (inl x) = inl x
+shut_behind before after old new r content answer is shut (inr x) = inr (x, λ fault. shut (fault_alone content answer is fault))
 
 module _ {V : Type 0} (clouds : V → ℕ → Cloud) where
   -- one ask, and what follows
@@ -226,8 +241,7 @@ module _ {V : Type 0} (clouds : V → ℕ → Cloud) where
           let step = chain.1.1 in
           let asked = (asked_law old.servers.shape x.content reads.0 step.bytes).1 (record { asked = reads.1; recipe = has_recipe old.servers.shape reads.0 reads.2 }) in
           let said = step.said reads.0 content asked came in
-          let are : AreBytes content = subst AreBytes (sym fault.spelled) fault_bytes in
-          let answer_is : said.0 ≡ replies.Fault = one_answer said.0 replies.Fault (sym ((reply_law content said.0 are).1 said.1) ∙ (reply_law content replies.Fault are).1 fault) in
+          let answer_is : said.0 ≡ replies.Fault = fault_alone content said.0 said.1 fault in
           let rest = read_later es chain.1.0 new x.cloud chain.1.2 in
           rose_before (clouds old.shelf.now x.cloud).faults (clouds chain.1.0.shelf.now x.cloud).faults (clouds new.shelf.now x.cloud).faults (said.4 answer_is) rest
 
@@ -259,11 +273,14 @@ pub passes_by : {V E : Type 0} (clouds : V → ℕ → Cloud) (old new : LocalLi
     → (IsOk result → (r : Request) → asked_at old.servers.shape content ≡ Ok r → SaidBy clouds old new cloud r reply)
     → ((m : Memory) (r : Request) → asked_at old.servers.shape content ≡ Ok r → AddsNothing r → IsOpenWith old.servers cloud m
     → ReadsOpen (clouds old.shelf.now cloud) (clouds new.shelf.now cloud) new.servers (exchange_of cloud content result reply) m r)
+    → ((m : Memory) (r : Request) → IsTrue (clouds old.shelf.now cloud).told → asked_at old.servers.shape content ≡ Ok r → AddsNothing r
+    → IsReadAs (header_at old.servers cloud) (clouds old.shelf.now cloud) (server_at old.servers cloud) m
+    → ReadsTold (header_at old.servers cloud) (clouds old.shelf.now cloud) (clouds new.shelf.now cloud) (server_at new.servers cloud) (exchange_of cloud content result reply) m r)
     → ((r : Request) → asked_at old.servers.shape content ≡ Ok r → Asks (telling clouds) cloud old r reply result new)
     → ((p : Peer) (r : Request) → IsTrue (clouds old.shelf.now cloud).told → StandsAt clouds old cloud p → asked_at old.servers.shape content ≡ Ok r
     → ImagesSince (clouds old.shelf.now cloud) (clouds new.shelf.now cloud) (header_at old.servers cloud) (MayBecome (serves (telling clouds) old cloud) p r))
     → PassesOn clouds old (exchange_of cloud content result reply) new
-passes_by clouds old new cloud content reply (Ok u) lt bytes rest rooms fate same armings later said reads exec images = record {
+passes_by clouds old new cloud content reply (Ok u) lt bytes rest rooms fate same armings later said reads recalls exec images = record {
   reached = lt;
   bytes = bytes;
   rest = rest;
@@ -274,10 +291,11 @@ passes_by clouds old new cloud content reply (Ok u) lt bytes rest rooms fate sam
   later = later;
   said = λ r heard asked came. subst (SaidBy clouds old new cloud r) (one_reply reply heard came) (said refl r asked);
   reads = reads;
+  recalls = recalls;
   goes = λ p r asked is. let x = exec r asked p is in (x.0, x.1, inr (x.2.0, x.2.1, x.2.2));
   images = images;
 }
-passes_by clouds old new cloud content reply (Err e) lt bytes rest rooms fate same armings later said reads exec images = record {
+passes_by clouds old new cloud content reply (Err e) lt bytes rest rooms fate same armings later said reads recalls exec images = record {
   reached = lt;
   bytes = bytes;
   rest = rest;
@@ -288,6 +306,7 @@ passes_by clouds old new cloud content reply (Err e) lt bytes rest rooms fate sa
   later = later;
   said = λ r heard asked came. absurd (let never : None ≡ Some heard = came in cc);
   reads = reads;
+  recalls = recalls;
   goes = λ p r asked is. let x = exec r asked p is in (x.0, x.1, elim x.2 [
     | inl stays ↦ inl (stays.0, stays.1, refl)
     | inr went ↦ inr (went.0, tt, went.1)

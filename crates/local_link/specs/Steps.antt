@@ -22,6 +22,7 @@ use Rattle.cloud_server.specs.Openings.{NotBegunIs, OtherStoreIs}
 use Rattle.cloud_server.specs.StoreOpening.Exact.{Opens}
 use Rattle.cloud_server.specs.UserDedup.Spending.{IsWithin}
 use Rattle.cloud_server.specs.OpenStore.Store.{IsOpen}
+use Rattle.cloud_server.specs.OpenStore.store.OpenStore.{OpenStore}
 use Rattle.cloud_server.specs.CloudAreas.Peers.{ImagesNow, ImagesSince, MayBecome}
 use Rattle.cloud_server.specs.CloudAreas.Standing.{StandsFor}
 use Rattle.cloud_server.specs.CloudMemory.Rooms.{memory_of}
@@ -72,6 +73,11 @@ pub record RepliesOpen (old new : ℕ → Cloud) (faults_before faults_after : �
   pub untouched : (answer : Reply) → LeavesAll request answer → IsReply reply answer → (new ≡ old)
       × (faults_after ≡ faults_before)
 
+-- A closed server was opened first; or its cloud isn't opened, and where that is for a device that failed the server is closed still.
+abbrev pub OpensOrShuts : OpenStore → OpenStore → Cloud → Cloud → Request → List ℕ → Type 0
+OpensOrShuts old new before after request content = OpensFirst old new before after request content
+    ⊎ (IsUnopenedReply old before after content × (IsReply content replies.Fault → ¬ (IsOpen new)))
+
 -- A server executed the content, over the clouds of a shelf.
 pub record HasServerExecuted (before after : Server) (old new : ℕ → Cloud) (faults_before faults_after : ℕ) (content reply : List ℕ) : Type 0 where
   pub same : after.store.header ≡ before.store.header
@@ -88,8 +94,7 @@ pub record HasServerExecuted (before after : Server) (old new : ℕ → Cloud) (
   pub closed : (request : Request) → IsTrue (old (number_of before)).told → ¬ IsOpen before.store → asked_at before.store.header.shape content ≡ Ok request
       → CanOpen before.store (old (number_of before)) ⊎ IsUnopenedReply before.store (old (number_of before)) (new (number_of before)) reply
   pub first : (request : Request) → IsTrue (old (number_of before)).told → ¬ (IsOpen before.store) → asked_at before.store.header.shape content ≡ Ok request
-      → OpensFirst before.store after.store (old (number_of before)) (new (number_of before)) request reply
-      ⊎ IsUnopenedReply before.store (old (number_of before)) (new (number_of before)) reply
+      → OpensOrShuts before.store after.store (old (number_of before)) (new (number_of before)) request reply
   pub behind : (request : Request) → IsOpen before.store → asked_at before.store.header.shape content ≡ Ok request
       → ChangesBehind before.store after.store (old (number_of before)) (new (number_of before)) request
   pub enters : (request : Request) → IsOpen before.store → asked_at before.store.header.shape content ≡ Ok request

@@ -3,7 +3,8 @@ use Rattle.std.specs.Prelude.{◌≡◌, ◌≢◌, ◌⊎◌, ℕ, ◌<◌, ◌
 use Rattle.cloud_server.specs.CdBase.Reading.{AreBytes}
 use Rattle.cloud_server.specs.CdBase.ids.Fp.{Fp}
 use Rattle.cloud_server.specs.CdBase.shape.Shape.{Shape}
-use Rattle.cloud_server.specs.CdEdges.Disk.{Cloud}
+use Rattle.cloud_server.specs.CdEdges.Disk.{Cloud, Image, IsImage, LeavesOnly, reads}
+use Rattle.cloud_server.specs.CdEdges.area.Area.TheVariants.{Journal}
 use Rattle.cloud_server.specs.CdEdges.Shelf.{Stays}
 use Rattle.cloud_server.specs.UserDedup.command.Command.{Command}
 use Rattle.cloud_server.specs.Messages.request.Request.{Request}
@@ -17,6 +18,8 @@ use Rattle.cloud_server.specs.UserDedup.Requests.{asked_at}
 use Rattle.cloud_server.specs.UserDedup.Exec.{Peer, KeepsPeer, CountsOn, Exec, StandsSound, items_of, served}
 use Rattle.cloud_server.specs.UserDedup.Link.{LinkTelling, Exchange, AddsNothing}
 use Rattle.cloud_server.specs.CloudAreas.Peers.{ImagesSince, MayBecome}
+use Rattle.cloud_server.specs.JournalHalves.Beginnings.{IsUnbegun}
+use Rattle.cloud_server.specs.StoreOpening.Exact.{Opens}
 use Rattle.cloud_server.specs.JournalStart.rooms.UserRooms.{UserRooms}
 use Rattle.cloud_server.specs.JournalStart.start.Header.{Header}
 use Rattle.cloud_server.specs.JournalStart.Ranges.{usual_rooms}
@@ -103,10 +106,27 @@ pub record ReadsOpen (old new : Cloud) (servers : Servers) (e : Exchange) (m : M
   pub at_end : Rose old.faults new.faults ⊎ IsOpenWith servers e.cloud m
   pub says : (content : List ℕ) → e.reply ≡ Some content → Rose old.faults new.faults ⊎ IsSaidBy old m request content
 
+-- What the areas read opens with this header, to this memory, and a crash leaves nothing else. The server is closed, or has the memory.
+pub record IsReadAs (header : Header) (cloud : Cloud) (server : Option Server) (m : Memory) : Type 0 where
+  pub commands : ℕ
+  pub opens : Opens header false (reads cloud.now) m (Ok commands)
+  pub begun : ¬ IsUnbegun (reads cloud.now Journal)
+  pub alone : (image : Image) → IsImage cloud.now image → image ≡ reads cloud.now
+  pub keeps : IsSomeAnd server (λ (s : Server). IsOpen s.store → memory_of s.store.memory ≡ m)
+
+-- Such a told cloud was asked for what adds nothing. It is so still, it reads as it did, and a crash at any moment since leaves nothing else. What
+-- came back is Fault, or by the memory.
+pub record ReadsTold (header : Header) (old new : Cloud) (server : Option Server) (e : Exchange) (m : Memory) (request : Request) : Type 0 where
+  pub at_end : IsReadAs header new server m
+  pub since : LeavesOnly old new (λ (image : Image). image ≡ reads old.now)
+  pub same : reads new.now ≡ reads old.now
+  pub says : (content : List ℕ) → e.reply ≡ Some content → IsReply content replies.Fault ⊎ IsSaidBy old m request content
+
 -- Only its cloud was touched, and nothing but the fate beside it; the shelf is the same one; the cloud went on from each peer that it stood
 -- for, by the reply that came, and without a reply it may have stayed; and whenever a crash came it left a list that the cloud might have settled
 -- as, or one with the command that the request adds. Whatever the cloud has, it isn't armed, its count of faults doesn't fall, and a reply that
--- came is one that some server gives to the request, Fault only where that count rose. Where the server was open and the request adds nothing, the reply is what its memory says.
+-- came is one that some server gives to the request, Fault only where that count rose. Where the server was open and the request adds nothing, the reply is what its memory says; and so it is of a
+-- told cloud whose areas open to a memory, whatever failed before.
 pub record PassesOn {V : Type 0} (clouds : V → ℕ → Cloud) (old : LocalLink V) (e : Exchange) (new : LocalLink V) : Type 0 where
   pub reached : e.cloud < old.servers.shape.n
   pub bytes : AreBytes e.content
@@ -122,6 +142,9 @@ pub record PassesOn {V : Type 0} (clouds : V → ℕ → Cloud) (old : LocalLink
       × (answer ≡ replies.Fault → Rose (clouds old.shelf.now e.cloud).faults (clouds new.shelf.now e.cloud).faults)
   pub reads : (m : Memory) (r : Request) → asked_at old.servers.shape e.content ≡ Ok r → AddsNothing r → IsOpenWith old.servers e.cloud m
       → ReadsOpen (clouds old.shelf.now e.cloud) (clouds new.shelf.now e.cloud) new.servers e m r
+  pub recalls : (m : Memory) (r : Request) → IsTrue (clouds old.shelf.now e.cloud).told → asked_at old.servers.shape e.content ≡ Ok r → AddsNothing r
+      → IsReadAs (header_at old.servers e.cloud) (clouds old.shelf.now e.cloud) (server_at old.servers e.cloud) m
+      → ReadsTold (header_at old.servers e.cloud) (clouds old.shelf.now e.cloud) (clouds new.shelf.now e.cloud) (server_at new.servers e.cloud) e m r
   pub goes : (p : Peer) (r : Request) → asked_at old.servers.shape e.content ≡ Ok r → StandsAt clouds old e.cloud p
       → (q : Peer) × StandsAt clouds new e.cloud q × ((KeepsPeer p q × CountsOn p q × (e.reply ≡ None))
       ⊎ ((answer : Reply) × IfSome e.reply (λ (content : List ℕ). IsReply content answer)

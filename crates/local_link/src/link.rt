@@ -2,6 +2,7 @@
 
 ghost use Rattle.std.specs.Prelude.{◌≡◌, ◌⊎◌, ◌<◌, ◌≤◌, ℕ, List, Some, IsTrue};
 ghost use Rattle.cloud_server.specs.CdEdges.Causes.{Rose};
+ghost use Rattle.cloud_server.specs.CdEdges.Disk.{LeavesOnly, reads};
 ghost use Rattle.cloud_server.specs.CdEdges.Shelf.{Stays};
 ghost use Rattle.cloud_server.specs.CloudMemory.Memory.{Memory};
 ghost use Rattle.cloud_server.specs.Messages.Requests.{IsRequest};
@@ -15,7 +16,7 @@ ghost use Rattle.local_link.specs.declared.servers.Servers.{Servers};
 ghost use Rattle.cloud_server.specs.CloudAreas.Peers.{ImagesSince};
 ghost use Rattle.local_link.specs.declared.link.LocalLink.{LocalLink};
 ghost use Rattle.cloud_server.specs.UserDedup.Link.{AddsNothing, Exchange, IsReading, Passes, ReadsFrom};
-ghost use Rattle.local_link.specs.Tells.{server_at, header_at, telling, StandsAt, IsOpenWith, IsSaidBy};
+ghost use Rattle.local_link.specs.Tells.{server_at, header_at, telling, StandsAt, IsOpenWith, IsReadAs, IsSaidBy};
 
 use crate::Fate;
 use crate::servers::Servers;
@@ -69,12 +70,12 @@ impl<'a, V: Shelf> LocalLink<'a, V> {
     ghost use Rattle.cloud_server.specs.declared.server.Server.{Server};
     ghost use Rattle.cloud_server.specs.JournalStart.rooms.UserRooms.{UserRooms};
     ghost use Rattle.cloud_server.specs.UserDedup.Cloud.{counted};
-    ghost use Rattle.cloud_server.specs.Serving.{ReopensAs, settled_with, CanOpen, IsUnopenedReply, ChangesBehind, EntersBy, OpensFirst};
+    ghost use Rattle.cloud_server.specs.Serving.{ReopensAs, settled_with, CanOpen, IsUnopenedReply, ChangesBehind, EntersBy};
     ghost use Rattle.cloud_server.specs.CloudAreas.Standing.{StandsFor};
     ghost use Rattle.cloud_server.specs.CdEdges.Disk.{reads};
     ghost use Rattle.local_link.specs.declared.fate.Fate.TheVariants.{Deliver, LoseRequest};
     ghost use Rattle.local_link.specs.Tells.{server_at, rooms_at, header_at, is_delivered, telling, LeavesRest};
-    ghost use Rattle.local_link.specs.Steps.{IsClosedIn, Replied, RepliesOpen};
+    ghost use Rattle.local_link.specs.Steps.{IsClosedIn, OpensOrShuts, Replied, RepliesOpen};
     ghost use Rattle.local_link.specs.Calls.{MayServe, Replaces, Armed, WasBefore, no_commands};
 
     /// A link to the clouds of this shelf, over a closed server for each, all in these rooms. The next ask is
@@ -467,10 +468,8 @@ impl<'a, V: Shelf> LocalLink<'a, V> {
             → asked_at ((telling V.cloud_at).shape self.old) request.now ≡ Ok r
             → (content : List ℕ) × OnOk result (reply.new ≡ content)
             × IsSomeAnd (server_at self.old.servers cloud.0) (λ before. ¬ (IsOpen before.store)
-            → IsSomeAnd (server_at self.new.servers cloud.0) (λ after. OpensFirst before.store after.store
-            (V.cloud_at self.old.shelf.now cloud.0) (V.cloud_at self.new.shelf.now cloud.0) r content
-            ⊎ IsUnopenedReply before.store (V.cloud_at self.old.shelf.now cloud.0)
-            (V.cloud_at self.new.shelf.now cloud.0) content)) }
+            → IsSomeAnd (server_at self.new.servers cloud.0) (λ after. OpensOrShuts before.store after.store
+            (V.cloud_at self.old.shelf.now cloud.0) (V.cloud_at self.new.shelf.now cloud.0) r content)) }
 
         ensures rest { LeavesRest V.cloud_at cloud.0 self.old self.new }
         ensures same_reference { self.new.shelf.ghost_name ≡ self.old.shelf.ghost_name }
@@ -529,6 +528,24 @@ pub fn law_of_readings<V: Shelf>()
         → IsOpenWith old.servers ask.cloud m
         → Rose (V.cloud_at old.shelf.now ask.cloud).faults (V.cloud_at new.shelf.now ask.cloud).faults
         ⊎ IsSaidBy (V.cloud_at old.shelf.now ask.cloud) m request content }
+    // What a told cloud reads opens, a crash leaves nothing else, and its server is closed or has the memory that the
+    // opening reads: so it stays, whatever failed, and a crash since leaves nothing else
+    ensures reading { (asks : List Exchange) (old new : LocalLink V) (cloud : ℕ) (m : Memory)
+        → Passes (telling V.cloud_at) (λ ask. IsReading ask.content) old asks new
+        → IsTrue (V.cloud_at old.shelf.now cloud).told
+        → IsReadAs (header_at old.servers cloud) (V.cloud_at old.shelf.now cloud) (server_at old.servers cloud) m
+        → IsReadAs (header_at new.servers cloud) (V.cloud_at new.shelf.now cloud) (server_at new.servers cloud) m
+        × LeavesOnly (V.cloud_at old.shelf.now cloud) (V.cloud_at new.shelf.now cloud)
+        (λ image. image ≡ reads (V.cloud_at old.shelf.now cloud).now)
+        × (reads (V.cloud_at new.shelf.now cloud).now ≡ reads (V.cloud_at old.shelf.now cloud).now) }
+    // and each of its replies is by that memory, or Fault
+    ensures recalled { (asks : List Exchange) (old new : LocalLink V) (ask : Exchange) (content : List ℕ) (m : Memory)
+        (request : Request) → Passes (telling V.cloud_at) (λ ask. IsReading ask.content) old asks new
+        → Contains asks ask → ask.reply ≡ Some content → IsRequest ask.content request → AddsNothing request
+        → IsTrue (V.cloud_at old.shelf.now ask.cloud).told
+        → IsReadAs (header_at old.servers ask.cloud) (V.cloud_at old.shelf.now ask.cloud)
+        (server_at old.servers ask.cloud) m
+        → IsReply content replies.Fault ⊎ IsSaidBy (V.cloud_at old.shelf.now ask.cloud) m request content }
     // the clouds that aren't named are as they were
     ensures others { (named : List ℕ) (asks : List Exchange) (old new : LocalLink V) (cloud : ℕ)
         → Passes (telling V.cloud_at) (ReadsFrom named) old asks new

@@ -1,5 +1,6 @@
 use Rattle.local_link.proofs.ByMemory.{open_on, said_on}
 use Rattle.local_link.proofs.Passing.{read_fault, read_images, read_later, read_others, read_same, read_unarmed}
+use Rattle.local_link.proofs.Recalling.{reading_on, recalled_on}
 use Rattle.local_link.proofs.link.law_of_readings.Goals as goal
 
 pub returns-clause-images : goal.returns-clause-images
@@ -22,6 +23,12 @@ returns-clause-fault g c = read_fault g.V.Shelf.cloud_at
 
 pub returns-clause-memory : goal.returns-clause-memory
 returns-clause-memory g c = open_on g.V.Shelf.cloud_at
+
+pub returns-clause-reading : goal.returns-clause-reading
+returns-clause-reading g c = reading_on g.V.Shelf.cloud_at
+
+pub returns-clause-recalled : goal.returns-clause-recalled
+returns-clause-recalled g c = recalled_on g.V.Shelf.cloud_at
 
 pub returns-clause-said : goal.returns-clause-said
 returns-clause-said g c = said_on g.V.Shelf.cloud_at

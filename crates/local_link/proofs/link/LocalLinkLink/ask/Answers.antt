@@ -2,6 +2,7 @@ use Rattle.std.proofs.Common.{arith}
 use Rattle.std.proofs.lemmas.Bool.{ltb-true}
 use Rattle.local_link.proofs.ByMemory.{reads_by}
 use Rattle.local_link.proofs.Passing.{heard, passes_by, said_by}
+use Rattle.local_link.proofs.Recalling.{recalled}
 use Rattle.local_link.proofs.link.LocalLinkLink.ask.Goals as goal
 
 pub returns-clause-passes : goal.returns-clause-passes
@@ -14,4 +15,8 @@ returns-clause-passes g c =
     reads_by g.V.Shelf.cloud_at c.args.self.now c.ask_cloud.new.self c.args.cloud.0 m r none is e.rest e.unheard (λ arrives. e.behind arrives r asked)
     c.args.request.now c.ask_cloud.new.reply (g.V.Shelf.faults c.args.self.now.shelf.now) (g.V.Shelf.faults c.ask_cloud.new.self.shelf.now) c.ask_cloud.result
     (λ ok. heard c.args.self.now.fate (e.delivered.0 ok)) (λ arrives. e.enters arrives r asked) (λ arrives. e.found arrives r asked) (λ arrives. e.answered arrives r asked))
+    (λ m r told asked none is.
+    recalled g.V.Shelf.cloud_at c.args.self.now c.ask_cloud.new.self c.args.cloud.0 m r none told is e.rest e.unheard c.args.request.now c.ask_cloud.new.reply c.ask_cloud.result
+    (λ ok. heard c.args.self.now.fate (e.delivered.0 ok)) (λ arrives. e.behind arrives r asked) (λ arrives. e.first arrives r told asked)
+    (λ arrives. e.enters arrives r asked) (λ arrives. e.found arrives r asked))
     e.exec e.images

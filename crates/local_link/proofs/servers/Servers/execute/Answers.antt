@@ -1,4 +1,6 @@
 use Rattle.std.proofs.Common.{refl, ap}
+use Rattle.cloud_server.specs.Serving.{number_of}
+use Rattle.local_link.proofs.Passing.{shut_behind}
 use Rattle.local_link.proofs.Placing.{stands_at}
 use Rattle.local_link.proofs.servers.Servers.execute.Goals as goal
 
@@ -19,7 +21,9 @@ returns g c = (
     uncounted = λ at asked. ap g.V.Shelf.faults (c.execute.ensures.malformed at asked).2;
     untold = λ r asked. let e = c.execute.ensures.untold r asked in record { answer = e.0; is = e.1; kind = e.2; memory = e.3; fault = λ f. (e.4 f).0; still = e.5 };
     closed = c.execute.ensures.closed;
-    first = c.execute.ensures.first;
+    first = λ r told shut asked. let e = c.execute.ensures.untold r asked in
+        let before = c.index_mut.result.now in
+        shut_behind before.store c.execute.new.self.store (g.V.Shelf.cloud_at c.args.shelf.now (number_of before)) (g.V.Shelf.cloud_at c.execute.new.shelf (number_of before)) r c.execute.new.reply e.0 e.1 (λ f. (e.4 f).1) (c.execute.ensures.first r told shut asked);
     behind = c.execute.ensures.behind;
     enters = c.execute.ensures.enters;
     opened = λ r is_open asked. record {
