@@ -7,6 +7,7 @@ use Rattle.ports_link.specs.declared.lines.CloudLine.{CloudLine}
 use Rattle.ports_link.specs.declared.link.PortsLink.{PortsLink}
 use Rattle.ports_link.specs.Exchange.{NoFrame}
 use Rattle.ports_link.specs.Lines.{AsksOn, has_port, line_of}
+use Rattle.ports_link.specs.Sending.{SendsOnly}
 
 -- the frames of these contents are the bytes
 pub record HasAsked (bytes : List ℕ) (contents : List (List ℕ)) : Type 0 where
@@ -46,13 +47,14 @@ pub record HasPassedOnPort (old new : Telling) (before after : CloudLine) (port 
   pub heard : IsHeard old new port before after request reply
 
 -- What an ask leaves: the same ports, which tell as much as before and have failed as often or more, of each cloud the port that it had, and
--- the other clouds' lines. Ports that tell their bytes say this of it.
+-- the other clouds' lines. Ports that tell their bytes say this of it: lost or not, nothing but the request's frame was sent, or a front of it.
 pub record PassesOver {P : Type 0} (tells : P → Telling) (faults : P → ℕ) (old : PortsLink P) (e : Exchange) (new : PortsLink P) : Type 0 where
   pub same_reference : new.ports.ghost_name ≡ old.ports.ghost_name
   pub told : (tells new.ports.now).told ≡ (tells old.ports.now).told
   pub later : faults old.ports.now ≤ faults new.ports.now
   pub lines : (cloud : ℕ) → (line_of new.lines.items.items cloud).port ≡ (line_of old.lines.items.items cloud).port
   pub apart : (cloud : ℕ) → cloud ≢ e.cloud → line_of new.lines.items.items cloud ≡ line_of old.lines.items.items cloud
+  pub sends : IsTrue (tells old.ports.now).told → SendsOnly (λ content. content ≡ e.content) (tells old.ports.now) (tells new.ports.now)
   pub bytes : IsTrue (tells old.ports.now).told → (port : ℕ) → (line_of old.lines.items.items e.cloud).port ≡ Some port
       → HasPassedOnPort (tells old.ports.now) (tells new.ports.now)
       (line_of old.lines.items.items e.cloud) (line_of new.lines.items.items e.cloud) port e.content e.reply

@@ -6,6 +6,7 @@ ghost use Rattle.transcript.specs.CdEdges.Causes.{HasCause};
 ghost use Rattle.user_dedup.specs.Frames.Frames.{IsContent, IsLength, frame, frame_limit};
 ghost use Rattle.transcript.specs.CdEdges.Ports.{OthersStay, Received, Sent, SentPart};
 ghost use Rattle.ports_link.specs.Exchange.{Broke, Came, CameNone, Cut, Ended, HasRepliedOnPort, Whole};
+ghost use Rattle.ports_link.specs.Sending.{SendsOnly};
 
 use transcript::{Failed, Ports, receive, send_all};
 use user_dedup::{ReplyBuf, header, is_length};
@@ -117,6 +118,8 @@ fn take_some<P: Ports>(
         → IfOk result (λ count. 0 < count → Came (P.tells ports.old) (P.tells ports.new) port reply.old reply.new) }
     ensures ended { IsTrue (P.tells ports.old).told
         → IfOk result (λ count. count ≡ 0 → Ended (P.tells ports.old) (P.tells ports.new) port) }
+    ensures unsent { IsTrue (P.tells ports.old).told
+        → ((P.tells ports.new).port port).sent ≡ ((P.tells ports.old).port port).sent }
     ensures others { IsTrue (P.tells ports.old).told → OthersStay (P.tells ports.old) (P.tells ports.new) port }
     ensures opened { IsTrue (P.tells ports.old).told → (P.tells ports.new).opened ≡ (P.tells ports.old).opened }
     ensures told { (P.tells ports.new).told ≡ (P.tells ports.old).told }
@@ -145,6 +148,8 @@ fn take_content<P: Ports>(
         → IfOk result (λ all. IsTrue all → Whole (P.tells ports.old) (P.tells ports.new) port count reply.new) }
     ensures cut { IsTrue (P.tells ports.old).told
         → IfOk result (λ all. IsFalse all → Cut (P.tells ports.old) (P.tells ports.new) port count) }
+    ensures unsent { IsTrue (P.tells ports.old).told
+        → ((P.tells ports.new).port port).sent ≡ ((P.tells ports.old).port port).sent }
     ensures others { IsTrue (P.tells ports.old).told → OthersStay (P.tells ports.old) (P.tells ports.new) port }
     ensures opened { IsTrue (P.tells ports.old).told → (P.tells ports.new).opened ≡ (P.tells ports.old).opened }
     ensures told { (P.tells ports.new).told ≡ (P.tells ports.old).told }
@@ -170,6 +175,8 @@ fn take_frame<P: Ports>(ports: &mut P, port: u32, reply: &mut ReplyBuf) -> Resul
         → IsContent reply.new × Received (P.tells ports.old) (P.tells ports.new) port (frame reply.new)) }
     ensures none { IsTrue (P.tells ports.old).told
         → IfOk result (λ all. IsFalse all → CameNone (P.tells ports.old) (P.tells ports.new) port) }
+    ensures unsent { IsTrue (P.tells ports.old).told
+        → ((P.tells ports.new).port port).sent ≡ ((P.tells ports.old).port port).sent }
     ensures others { IsTrue (P.tells ports.old).told → OthersStay (P.tells ports.old) (P.tells ports.new) port }
     ensures opened { IsTrue (P.tells ports.old).told → (P.tells ports.new).opened ≡ (P.tells ports.old).opened }
     ensures told { (P.tells ports.new).told ≡ (P.tells ports.old).told }
@@ -189,7 +196,7 @@ fn take_frame<P: Ports>(ports: &mut P, port: u32, reply: &mut ReplyBuf) -> Resul
 }
 
 /// Sends a request's frame on a port, and takes one frame that comes there. It answers whether one came: then the reply's content is
-/// that of the frame, and else it is empty.
+/// that of the frame, and else it is empty. Where the ports fail the frame was sent, or its first bytes, and nothing else.
 pub fn exchange<P: Ports>(
     ports: &mut P,
     port: u32,
@@ -203,6 +210,8 @@ pub fn exchange<P: Ports>(
     ensures broke { IsTrue (P.tells ports.old).told
         → IfOk result (λ all. IsFalse all → Broke (P.tells ports.old) (P.tells ports.new) port request.now) }
     ensures empty { IfOk result (λ all. IsFalse all → reply.new ≡ []) }
+    ensures sends { IsTrue (P.tells ports.old).told
+        → SendsOnly (λ content. content ≡ request.now) (P.tells ports.old) (P.tells ports.new) }
     ensures others { IsTrue (P.tells ports.old).told → OthersStay (P.tells ports.old) (P.tells ports.new) port }
     ensures opened { IsTrue (P.tells ports.old).told → (P.tells ports.new).opened ≡ (P.tells ports.old).opened }
     ensures told { (P.tells ports.new).told ≡ (P.tells ports.old).told }

@@ -4,7 +4,8 @@ ghost use Rattle.std.specs.Prelude.{◌≡◌, ◌≤◌, [], length, All, IsTru
 ghost use Rattle.transcript.specs.CdEdges.Causes.{HasCause};
 ghost use Rattle.transcript.specs.CdEdges.Ports.{OthersStay};
 ghost use Rattle.ports_link.specs.Greetings.{AreAsAsked, HasShape, IsOfFirst};
-ghost use Rattle.ports_link.specs.Hellos.{AreGreeted, Hears, NextGreeted, lines_by};
+ghost use Rattle.ports_link.specs.Hellos.{AreGreeted, Hears, NextGreeted, hello, lines_by};
+ghost use Rattle.ports_link.specs.Sending.{SendsOnly};
 
 use crate::exchange;
 use crate::judging::{AskedClouds, Greeting};
@@ -28,6 +29,8 @@ const HELLO: [u8; 1] = [1];
 pub fn ask_hello<P: Ports>(ports: &mut P, port: u32, reply: &mut ReplyBuf) -> Result<(), Failed>
     ensures hears { IsTrue (P.tells ports.old).told
         → OnOk result (Hears (P.tells ports.old) (P.tells ports.new) port reply.new) }
+    ensures sends { IsTrue (P.tells ports.old).told
+        → SendsOnly (λ content. content ≡ hello) (P.tells ports.old) (P.tells ports.new) }
     ensures others { IsTrue (P.tells ports.old).told → OthersStay (P.tells ports.old) (P.tells ports.new) port }
     ensures opened { IsTrue (P.tells ports.old).told → (P.tells ports.new).opened ≡ (P.tells ports.old).opened }
     ensures told { (P.tells ports.new).told ≡ (P.tells ports.old).told }

@@ -6,6 +6,7 @@ ghost use Rattle.user_dedup.specs.Frames.Frames.{IsContent};
 ghost use Rattle.transcript.specs.CdEdges.Ports.{OthersStay};
 ghost use Rattle.user_dedup.specs.CdBase.Numbers.{numbers_of};
 ghost use Rattle.ports_link.specs.Lines.{AsksOn, has_port, lines_for};
+ghost use Rattle.ports_link.specs.Sending.{SendsOnly};
 
 use crate::asking::{exchange, send_frame};
 use crate::lines::{CloudLine, Lines};
@@ -150,6 +151,8 @@ fn ask_on<P: Ports>(
     ensures asks { IsTrue (P.tells ports.old).told
         → IfOk result (λ after. AsksOn (P.tells ports.old) (P.tells ports.new) port line after request.now reply.new) }
     ensures others { IsTrue (P.tells ports.old).told → OthersStay (P.tells ports.old) (P.tells ports.new) port }
+    ensures sends { IsTrue (P.tells ports.old).told
+        → SendsOnly (λ content. content ≡ request.now) (P.tells ports.old) (P.tells ports.new) }
     ensures told { (P.tells ports.new).told ≡ (P.tells ports.old).told }
     ensures cause { HasCause (P.faults ports.old) (P.faults ports.new) result }
     ensures port { IfOk result (λ after. after.port ≡ line.port) }

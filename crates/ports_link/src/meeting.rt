@@ -3,7 +3,8 @@
 ghost use Rattle.std.specs.Prelude.{◌≡◌, ◌≤◌, ◌<◌, ◌+◌, [], ℕ, List, length, Ok, Err, IsTrue, IfOk, OnErr, MatchOption};
 ghost use Rattle.std.specs.Prelude.{MatchResult};
 ghost use Rattle.ports_link.specs.Dialled.{AreDialled, OnlyDialled};
-ghost use Rattle.ports_link.specs.Hellos.{AreReached, HaveTalks, ports_of};
+ghost use Rattle.ports_link.specs.Hellos.{AreReached, HaveTalks, hello, ports_of};
+ghost use Rattle.ports_link.specs.Sending.{SendsOnly};
 ghost use Rattle.ports_link.specs.Meeting.{CountsMeeting, IsMet, Meets, MeetsAll};
 
 use crate::greeting::{Greeted, ask_hello, together};
@@ -58,6 +59,8 @@ fn meet_next<P: Ports>(
         (λ x. IsMet asked count before.now (P.tells ports.old) x.0 x.1 (P.tells ports.new))
         (λ e. (dialled : List ℕ) × Meets asked count before.now (P.tells ports.old) dialled (Err e)
         (P.tells ports.new)) }
+    ensures sends { IsTrue (P.tells ports.old).told
+        → SendsOnly (λ content. content ≡ hello) (P.tells ports.old) (P.tells ports.new) }
     ensures told { (P.tells ports.new).told ≡ (P.tells ports.old).told }
     ensures later { P.faults ports.old ≤ P.faults ports.new }
     ensures cause { CountsMeeting (P.faults ports.old) (P.faults ports.new) result }
@@ -90,6 +93,8 @@ fn meet_each<P: Ports>(
         (Ok replies.greetings.items) (P.tells ports.new))
         (λ e. (dialled : List ℕ) × Meets asked (length addresses.now) [] (P.tells ports.old) dialled (Err e)
         (P.tells ports.new)) }
+    ensures sends { IsTrue (P.tells ports.old).told
+        → SendsOnly (λ content. content ≡ hello) (P.tells ports.old) (P.tells ports.new) }
     ensures told { (P.tells ports.new).told ≡ (P.tells ports.old).told }
     ensures later { P.faults ports.old ≤ P.faults ports.new }
     ensures cause { CountsMeeting (P.faults ports.old) (P.faults ports.new) result }
@@ -150,6 +155,8 @@ pub fn meet_all<P: Ports>(
         → IfOk result (λ greeted. AreDialled (P.tells ports.old) (P.tells ports.new) (ports_of greeted.lines.items)) }
     ensures others { IsTrue (P.tells ports.old).told
         → OnErr result (OnlyDialled (P.tells ports.old) (P.tells ports.new)) }
+    ensures sends { IsTrue (P.tells ports.old).told
+        → SendsOnly (λ content. content ≡ hello) (P.tells ports.old) (P.tells ports.new) }
     ensures told { (P.tells ports.new).told ≡ (P.tells ports.old).told }
     ensures later { P.faults ports.old ≤ P.faults ports.new }
     ensures cause { CountsMeeting (P.faults ports.old) (P.faults ports.new) result }

@@ -43,6 +43,7 @@ returns-in-Ok-clause-passes g c =
       same_reference = refl;
       told = c.in-Ok.ensures.told;
       later = c.ask_on.ensures.cause.later;
+      sends = c.ask_on.ensures.sends;
       lines = λ cloud. ap (λ (l : List CloudLine). (line_of l cloud).port) c.set.ensures
           ∙ port_kept lines c.args.cloud.0 c.in-Ok.after within (c.in-Ok.ensures.port ∙ ap (λ (l : CloudLine). l.port) c.get-line.ensures) cloud;
       apart = λ cloud ne. ap (λ (l : List CloudLine). line_of l cloud) c.set.ensures
@@ -61,6 +62,7 @@ returns-in-Err-clause-passes g c =
       same_reference = refl;
       told = c.in-Err.ensures.told;
       later = c.ask_on.ensures.cause.later;
+      sends = c.ask_on.ensures.sends;
       lines = λ cloud. refl;
       apart = λ cloud ne. refl;
       bytes = λ told. passed_lost (g.P.Ports.tells c.args.self.now.ports.now) (g.P.Ports.tells c.ask_on.new.ports) lines c.args.cloud.0 c.in-Some.port within there
