@@ -307,9 +307,13 @@ passes_by clouds old new cloud content reply (Err e) lt bytes rest rooms fate sa
   said = λ r heard asked came. absurd (let never : None ≡ Some heard = came in cc);
   reads = reads;
   recalls = recalls;
-  goes = λ p r asked is. let x = exec r asked p is in (x.0, x.1, elim x.2 [
-    | inl stays ↦ inl (stays.0, stays.1, refl)
-    | inr went ↦ inr (went.0, tt, went.1)
-  ]);
+  goes = λ p r asked is. let x = exec r asked p is in (
+    x.0,
+    x.1,
+    elim x.2 [
+      | inl stays ↦ inl (stays.0, stays.1, refl)
+      | inr went ↦ inr (went.0, tt, went.1)
+    ],
+  );
   images = images;
 }

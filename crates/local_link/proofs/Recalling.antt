@@ -4,8 +4,7 @@ use Rattle.std.specs.Prelude.{◌≢◌, IsOk, IsTrue, OnOk, IsSomeAnd}
 use Rattle.std.specs.List.{Contains}
 use Rattle.std.proofs.lemmas.Bool.{cases_eq}
 use Rattle.cloud_server.specs.CdBase.ids.Fp.{Fp}
-use Rattle.cloud_server.specs.CdBase.shape.Shape.{Shape}
-use Rattle.cloud_server.specs.CdEdges.Disk.{Cloud, Image, IsImage, LeavesOnly, reads}
+use Rattle.cloud_server.specs.CdEdges.Disk.{Cloud, Image, LeavesOnly, reads}
 use Rattle.cloud_server.specs.CdEdges.Shelf.{Stays}
 use Rattle.cloud_server.specs.CdEdges.area.Area.TheVariants.{Journal}
 use Rattle.cloud_server.proofs.CdEdges.Moments.{at_end, joined, started, stayed, weaker}
@@ -16,18 +15,16 @@ use Rattle.cloud_server.specs.HalfJournal.errors.OpenErr.{OpenErr}
 use Rattle.cloud_server.specs.HalfJournal.errors.OpenErr.TheVariants as errors
 use Rattle.cloud_server.specs.JournalHalves.Beginnings.{IsUnbegun}
 use Rattle.cloud_server.specs.JournalStart.start.Header.{Header}
-use Rattle.cloud_server.specs.JournalStart.rooms.UserRooms.{UserRooms}
 use Rattle.cloud_server.specs.Messages.request.Request.{Request}
 use Rattle.cloud_server.specs.Messages.Requests.{IsRequest}
 use Rattle.cloud_server.specs.Messages.reply.Reply.TheVariants as replies
 use Rattle.cloud_server.specs.Messages.Replies.{IsReply}
-use Rattle.cloud_server.specs.Names.{header_of}
 use Rattle.cloud_server.specs.Openings.{OpensTo}
 use Rattle.cloud_server.specs.OpenStore.Store.{IsOpen}
 use Rattle.cloud_server.specs.OpenStore.store.OpenStore.{OpenStore}
 use Rattle.cloud_server.specs.Refusals.{IsErrorReply}
 use Rattle.cloud_server.specs.ServerCommands.Leaving.{IsFound}
-use Rattle.cloud_server.specs.Serving.{ChangesBehind, EntersBy, OpensFirst, IsUnopenedReply, an_error, some_commands}
+use Rattle.cloud_server.specs.Serving.{ChangesBehind, EntersBy, IsUnopenedReply, an_error, some_commands}
 use Rattle.cloud_server.specs.StoreOpening.Exact.{Opens, New, Read}
 use Rattle.cloud_server.specs.StoreOpening.Spared.{Spares}
 use Rattle.cloud_server.specs.UserDedup.Link.{AddsNothing, Exchange, IsReading, Passes, exchange_of}
@@ -37,12 +34,11 @@ use Rattle.cloud_server.proofs.UserDedup.Owned.{contains_cases, contains_nothing
 use Rattle.store_opening.specs.HalfJournal.journal.Stage.{Stage}
 use Rattle.store_opening.specs.HalfJournal.journal.Stage.TheVariants as stages
 use Rattle.store_opening.proofs.OneOpening.{one_opening}
-use Rattle.local_link.specs.declared.fate.Fate.{Fate}
 use Rattle.local_link.specs.declared.fate.Fate.TheVariants.{LoseRequest}
 use Rattle.local_link.specs.declared.link.LocalLink.{LocalLink}
 use Rattle.local_link.specs.declared.servers.Servers.{Servers}
 use Rattle.local_link.specs.Steps.{OpensOrShuts}
-use Rattle.local_link.specs.Tells.{server_at, rooms_at, header_at, IsReadAs, IsSaidBy, LeavesRest, ReadsTold, PassesOn, telling}
+use Rattle.local_link.specs.Tells.{server_at, header_at, IsReadAs, IsSaidBy, LeavesRest, ReadsTold, PassesOn, telling}
 use Rattle.local_link.proofs.ByMemory.{by_stores, is_steady, lost_there, said_there}
 use Rattle.local_link.proofs.Passing.{has_recipe, one_reply}
 use Rattle.local_link.proofs.Standing.{header_is, header_stays}
@@ -148,8 +144,8 @@ module _ (header : Header) (m : Memory) (old new : Cloud) (told : IsTrue old.tol
   pub left_so : (before after : Option Server) (content : List ℕ) → IsSomeAnd before (λ (b : Server). b.store.header ≡ header) → IsReadAs header old before m → Behind before after
       → First before after content → Along old new × Keeps after
   left_so None after content same is behind first = absurd same
-  left_so (Some b) None content same is behind first = elim (open_or_shut b.store) [ | inl opened ↦ absurd (behind opened) | inr shut ↦ absurd (first shut) ]
-  left_so (Some b) (Some a) content same is behind first = elim (open_or_shut b.store) [ | inl opened ↦ by_change (behind opened) opened | inr shut ↦ by_first (first shut) ]
+  left_so (Some b) None content same is behind first = elim (open_or_shut b.store) [ inl opened ↦ absurd (behind opened) | inr shut ↦ absurd (first shut) ]
+  left_so (Some b) (Some a) content same is behind first = elim (open_or_shut b.store) [ inl opened ↦ by_change (behind opened) opened | inr shut ↦ by_first (first shut) ]
     where
       by_change : ChangesBehind b.store a.store old new r → IsOpen b.store → Along old new × Keeps (Some a)
       by_change x opened =
