@@ -111,7 +111,7 @@ pub read_to : (status : ℕ) (r : AskedRead) (end : ReadEnd) (middle old new : �
       new = new;
     }) r.clouds (given_of r lists) end text))
     → CountsSink sink_before sink_middle end → KeepsDisks r.shape r.clouds middle new
-    → (IsOfOpening end → (cloud : ℕ) → IsTrue (middle cloud).told → IsSpared (middle cloud) (new cloud))
+    → ((cloud : ℕ) → IsTrue (middle cloud).told → IsSpared (middle cloud) (new cloud))
     → ((cloud : ℕ) → (new cloud).armings ≡ (middle cloud).armings)
     → GivesAnyway (record {
       total_before = count;

@@ -82,7 +82,7 @@ pub record IsReadTo (status : ℕ) (c : Around) (r : AskedRead) (before after : 
   pub anyway : GivesAnyway (outside c) r.shape r.user (key_of r.shape r.path r.version) r.clouds (end ≡ ends.Refused)
   pub closed : IsClosed status c.sink_before c.sink_after end text before after
   pub kept : KeepsDisks r.shape r.clouds c.old c.new
-  pub areas : IsOfOpening end → (cloud : ℕ) → IsTrue (c.old cloud).told → IsSpared (c.old cloud) (c.new cloud)
+  pub areas : (cloud : ℕ) → IsTrue (c.old cloud).told → IsSpared (c.old cloud) (c.new cloud)
   pub armings : (cloud : ℕ) → (c.new cloud).armings ≡ (c.old cloud).armings
 
 -- Nothing was written, no cloud changed, and the sink didn't fail.
@@ -93,7 +93,7 @@ pub record IsReadUntouched (c : Around) (before after : Option (List ℕ)) : Typ
 
 -- The whole promise. Memory ran out before all; or DIR failed; or the version was read to an end, and then each image
 -- since of a named cloud stands for one of the lists that its images stood for, the other clouds are as they were, no
--- cloud was armed, and where the openings ended it each told cloud is spared, whatever its areas hold.
+-- cloud was armed, and each told cloud is spared, whatever its areas hold.
 pub data IsVersionRead (status : ℕ) (c : Around) (r : AskedRead) (before after : Option (List ℕ)) : Type 0 where
   Unread : status ≡ 6 → IsReadUntouched c before after → IsVersionRead status c r before after
   NoPlace : status ≡ 5 → IsReadUntouched c before after → Rose c.total_before c.total_after

@@ -6,9 +6,10 @@ use Rattle.half_journal.specs.CdBase.ids.CloudNo.{CloudNo}
 use Rattle.half_journal.specs.JournalStart.rooms.UserRooms.{UserRooms}
 use Rattle.half_journal.specs.CdEdges.area.Area.{Area}
 use Rattle.half_journal.specs.CdEdges.area.Area.TheVariants.{Journal, Shares, Recipes}
-use Rattle.half_journal.specs.CdEdges.Disk.{Areas, Cloud, Image, IsImage, Store, reads}
-use Rattle.half_journal.specs.CdEdges.Shelf.{HasFailed, KeepsCounts, Stays}
+use Rattle.half_journal.specs.CdEdges.Disk.{Areas, Cloud, Image, IsImage, MayLeave, Store, reads}
+use Rattle.half_journal.specs.CdEdges.Shelf.{HasFailed, KeepsCounts, Stays, stable}
 use Rattle.half_journal.proofs.CdEdges.Moments.{stayed, weaker}
+use Rattle.half_journal.proofs.CdEdges.Torn.{only}
 use Rattle.half_journal.specs.declared.errors.OpenErr.{OpenErr}
 use Rattle.half_journal.specs.declared.errors.OpenErr.TheVariants as errors
 use Rattle.half_journal.specs.JournalStart.start.Header.{Header}
@@ -35,11 +36,11 @@ use Rattle.local_link.specs.declared.link.LocalLink.{LocalLink}
 use Rattle.local_link.specs.declared.servers.Servers.{Servers}
 use Rattle.local_link.specs.Calls.{header_of}
 use Rattle.local_link.specs.Steps.{IsClosedIn}
-use Rattle.local_link.specs.Tells.{server_at, rooms_at, rooms_of, header_at, IsOpenWith, StandsAt}
+use Rattle.local_link.specs.Tells.{server_at, rooms_at, rooms_of, header_at, StandsAt}
 use Rattle.read_command.specs.declared.end.ReadEnd.{ReadEnd}
 use Rattle.read_command.specs.declared.end.ReadEnd.TheVariants as ends
 use Rattle.read_command.specs.Disks.{IsUnopenedToRead, IsSpared, InItsRooms, NamesRooms, OpensWith, StaysShut, Current, Unbegun, Broken}
-use Rattle.read_command.specs.Opening.{EndsOne, IsFree, Opening, end_by}
+use Rattle.read_command.specs.Opening.{EndsOne, HasRead, IsFree, Opening, end_by}
 
 -- ---- where nothing is begun
 
@@ -105,37 +106,60 @@ opens_to header image (Err (errors.NotBegun len)) (Some s) is = (memory_of s.sto
 opens_to header image (Err (errors.Damaged at byte)) (Some s) is = (memory_of s.store.memory, is)
 opens_to header image (Err (errors.OtherStore found asked at)) (Some s) is = (memory_of s.store.memory, is)
 
--- the server that opened has the memory that the opening read
-opens_with : (header : Header) (old : Cloud) (commands : ℕ) (servers : Servers) (cloud : ℕ)
-    → (let answer : Result ℕ OpenErr = Ok commands in IsSomeAnd (server_at servers cloud) (λ (s : Server). OnFault answer (Unit {0}) (Opens header false (reads old.now) (memory_of s.store.memory) answer)))
-    → IsSomeAnd (server_at servers cloud) (λ (s : Server). IsOpen s.store) → OpensWith header old (IsOpenWith servers cloud)
-opens_with header old commands servers cloud exact at_end = by_server (server_at servers cloud) refl exact at_end
+-- areas that were synced alone have all that they read on the disk
+settled : (old new : Cloud) → AreSynced old new → (area : Area) → new.now area ≡ stable (old.now area).read
+settled old new s Journal =
+    s.recipes.others Journal (λ e. let never : Journal ≡ Recipes = e in cc) ∙ s.shares.others Journal (λ e. let never : Journal ≡ Shares = e in cc) ∙ s.journal.area
+settled old new s Shares =
+    s.recipes.others Shares (λ e. let never : Shares ≡ Recipes = e in cc)
+    ∙ s.shares.area ∙ ap (λ (x : Store). stable x.read) (s.journal.others Shares (λ e. let never : Shares ≡ Journal = e in cc))
+settled old new s Recipes =
+    s.recipes.area
+    ∙ ap (λ (x : Store). stable x.read)
+    (s.shares.others Recipes (λ e. let never : Recipes ≡ Shares = e in cc) ∙ s.journal.others Recipes (λ e. let never : Recipes ≡ Journal = e in cc))
+
+-- so they read as they did, and a crash leaves nothing else
+synced_same : (old new : Cloud) → AreSynced old new → reads new.now ≡ reads old.now
+synced_same old new s = λ i area. (settled old new s area i).read
+
+synced_alone : (old new : Cloud) → AreSynced old new → (image : Image) → IsImage new.now image → image ≡ reads new.now
+synced_alone old new s image left = λ i area. by_area area i
   where
-    by_server : (at : Option Server) → server_at servers cloud ≡ at
+    by_area : (area : Area) → image area ≡ (new.now area).read
+    by_area area =
+        only (old.now area).read (image area) (subst (λ (x : Store). MayLeave x (image area)) (settled old new s area) (left area)) ∙ sym (ap (λ (x : Store). x.read) (settled old new s area))
+
+-- the server that opened has the memory that the opening read, and the areas are read so still
+opens_with : {V : Type 0} (clouds : V → ℕ → Cloud) (header : Header) (old : Cloud) (commands : ℕ) (new : LocalLink V) (cloud : ℕ) → header_at new.servers cloud ≡ header
+    → (let answer : Result ℕ OpenErr = Ok commands in IsSomeAnd (server_at new.servers cloud) (λ (s : Server). OnFault answer (Unit {0}) (Opens header false (reads old.now) (memory_of s.store.memory) answer)))
+    → ¬ IsUnbegun (reads old.now Journal) → AreSynced old (clouds new.shelf.now cloud) → OpensWith header old (HasRead clouds new cloud header)
+opens_with {V} clouds header old commands new cloud header_is exact begun synced = by_server (server_at new.servers cloud) refl exact
+  where
+    after : Cloud
+    after = clouds new.shelf.now cloud
+
+    same : reads old.now ≡ reads after.now
+    same = sym (synced_same old after synced)
+
+    by_server : (at : Option Server) → server_at new.servers cloud ≡ at
         → (let answer : Result ℕ OpenErr = Ok commands in IsSomeAnd at (λ (s : Server). OnFault answer (Unit {0}) (Opens header false (reads old.now) (memory_of s.store.memory) answer)))
-        → IsSomeAnd at (λ (s : Server). IsOpen s.store) → OpensWith header old (IsOpenWith servers cloud)
-    by_server None is opens open_there = absurd opens
-    by_server (Some s) is opens open_there = record {
+        → OpensWith header old (HasRead clouds new cloud header)
+    by_server None is opens = absurd opens
+    by_server (Some s) is opens = record {
       memory = memory_of s.store.memory;
       commands = commands;
       opens = opens;
-      has = subst (λ (o : Option Server). IsSomeAnd o (λ (t : Server). IsOpen t.store × (memory_of t.store.memory ≡ memory_of s.store.memory))) (sym is) (open_there, refl);
+      has = (
+        header_is,
+        record {
+          commands = commands;
+          opens = subst (λ (image : Image). Opens header false image (memory_of s.store.memory) (Ok commands)) same opens;
+          begun = subst (λ (image : Image). ¬ IsUnbegun (image Journal)) same begun;
+          alone = synced_alone old after synced;
+          keeps = subst (λ (o : Option Server). IsSomeAnd o (λ (t : Server). IsOpen t.store → memory_of t.store.memory ≡ memory_of s.store.memory)) (sym is) (λ opened. refl);
+        },
+      );
     }
-
--- areas that were synced alone read as they did
-synced_same : (old new : Cloud) → AreSynced old new → reads new.now ≡ reads old.now
-synced_same old new s = λ i area. by_area area i
-  where
-    by_area : (area : Area) → (new.now area).read ≡ (old.now area).read
-    by_area Journal =
-        ap (λ (x : Store). x.read) (s.recipes.others Journal (λ e. let never : Journal ≡ Recipes = e in cc))
-        ∙ ap (λ (x : Store). x.read) (s.shares.others Journal (λ e. let never : Journal ≡ Shares = e in cc)) ∙ ap (λ (x : Store). x.read) s.journal.area
-    by_area Shares =
-        ap (λ (x : Store). x.read) (s.recipes.others Shares (λ e. let never : Shares ≡ Recipes = e in cc))
-        ∙ ap (λ (x : Store). x.read) s.shares.area ∙ ap (λ (x : Store). x.read) (s.journal.others Shares (λ e. let never : Shares ≡ Journal = e in cc))
-    by_area Recipes =
-        ap (λ (x : Store). x.read) s.recipes.area
-        ∙ ap (λ (x : Store). x.read) (s.shares.others Recipes (λ e. let never : Recipes ≡ Shares = e in cc)) ∙ ap (λ (x : Store). x.read) (s.journal.others Recipes (λ e. let never : Recipes ≡ Journal = e in cc))
 
 -- ---- what an opening comes to
 
@@ -184,12 +208,12 @@ module _ {V : Type 0} (clouds : V → ℕ → Cloud) where
       → OnFault result (HasFailed (clouds mid.shelf.now cloud.0) (clouds new.shelf.now cloud.0) before now) (KeepsCounts (clouds mid.shelf.now cloud.0) (clouds new.shelf.now cloud.0) before now)
       → (IsTrue (clouds mid.shelf.now cloud.0).told → Spares (header_at mid.servers cloud.0) false (clouds mid.shelf.now cloud.0) (clouds new.shelf.now cloud.0) result)
       → rooms_at new.servers cloud.0 ≡ rooms_at mid.servers cloud.0
-      → OnOk result (IsSomeAnd (server_at new.servers cloud.0) (λ (s : Server). IsOpen s.store))
+      → new.servers.shape ≡ mid.servers.shape
       → (clouds new.shelf.now cloud.0).armings ≡ (clouds mid.shelf.now cloud.0).armings
       → came ≡ came_by cloud result
       → Opening clouds mid.servers.shape (clouds mid.shelf.now cloud.0) before new now cloud.0 came
-  opening_by one_header mid new cloud rooms before now result came in_rooms named exact begun own whole loaded counts areas stay at_end armings is =
-      subst (Opening clouds mid.servers.shape (clouds mid.shelf.now cloud.0) before new now cloud.0) (sym is) (by_result result exact begun own whole loaded counts areas at_end)
+  opening_by one_header mid new cloud rooms before now result came in_rooms named exact begun own whole loaded counts areas stay shape_stays armings is =
+      subst (Opening clouds mid.servers.shape (clouds mid.shelf.now cloud.0) before new now cloud.0) (sym is) (by_result result exact begun own whole loaded counts areas)
     where
       old : Cloud
       old = clouds mid.shelf.now cloud.0
@@ -205,6 +229,9 @@ module _ {V : Type 0} (clouds : V → ℕ → Cloud) where
 
       header : header_at mid.servers cloud.0 ≡ asked
       header = ap (λ (r : UserRooms). header_of shape r cloud.0) in_rooms
+
+      header_new : header_at new.servers cloud.0 ≡ header_at mid.servers cloud.0
+      header_new = λ i. header_of (shape_stays i) (stay i) cloud.0
 
       -- lists that stand in any rooms stand in those of the server
       same : IsTrue old.told → (any : UserRooms) (list : List Command) → StandsFor (reads old.now) (header_of shape any cloud.0) list → ¬ IsUnbegun (reads old.now Journal)
@@ -235,9 +262,8 @@ module _ {V : Type 0} (clouds : V → ℕ → Cloud) where
           → IfOk r (λ commands. (commands ≡ counted list) × StandsAt clouds new cloud.0 (settled_with list after)))
           → OnFault r (HasFailed old after before now) (KeepsCounts old after before now)
           → (IsTrue old.told → Spares (header_at mid.servers cloud.0) false old after r)
-          → OnOk r (IsSomeAnd (server_at new.servers cloud.0) (λ (s : Server). IsOpen s.store))
           → Opening clouds mid.servers.shape old before new now cloud.0 (came_by cloud r)
-      by_result (Ok commands) exact begun own whole loaded counts spares at_end = record {
+      by_result (Ok commands) exact begun own whole loaded counts spares = record {
         opened = λ told. (
           rooms,
           named told,
@@ -252,7 +278,8 @@ module _ {V : Type 0} (clouds : V → ℕ → Cloud) where
         memory = λ told. (
           rooms,
           named told,
-          subst (λ (h : Header). OpensWith h old (IsOpenWith new.servers cloud.0)) header (opens_with (header_at mid.servers cloud.0) old commands new.servers cloud.0 (exact told) at_end),
+          subst (λ (h : Header). OpensWith h old (HasRead clouds new cloud.0 h)) header
+              (opens_with clouds (header_at mid.servers cloud.0) old commands new cloud.0 header_new (exact told) (begun_by (reads old.now Journal) (begun told)) ((spares told).unasked refl)),
         );
         same = λ told. synced_same old after ((spares told).unasked refl);
         loaded = λ told any list stands is.
@@ -264,7 +291,7 @@ module _ {V : Type 0} (clouds : V → ℕ → Cloud) where
         spared = spared;
         armings = armings;
       }
-      by_result (Err error) exact begun own whole loaded counts spares at_end = record {
+      by_result (Err error) exact begun own whole loaded counts spares = record {
         opened = λ told. tt;
         rooms = λ told. tt;
         memory = λ told. tt;

@@ -85,6 +85,13 @@ among_has (x ∷ xs) cloud has = elim (contains_cases x xs cloud has) [
     by_test true e = refl
     by_test false e = e
 
+pub named_or_not : (xs : List ℕ) (cloud : ℕ) → Contains xs cloud ⊎ (Contains xs cloud → ⊥)
+named_or_not xs cloud = by_test (among xs cloud) refl
+  where
+    by_test : (b : Bool) → among xs cloud ≡ b → Contains xs cloud ⊎ (Contains xs cloud → ⊥)
+    by_test true e = inl (has_among xs cloud e)
+    by_test false e = inr (λ has. let never : false ≡ true = sym e ∙ among_has xs cloud has in cc)
+
 -- ---- what is due
 
 -- a settled cloud that may have been read has its list

@@ -1,6 +1,6 @@
 -- Rising clouds opened in order.
 use Rattle.std.proofs.Common.{◌≡◌, ℕ, ◌<◌, List, [], ◌∷◌, ◌++◌, length, refl, sym, ap, ◌∙◌, subst, inl, inr, arith, append_assoc, append-nil, length-append}
-use Rattle.std.specs.Prelude.{◌≢◌, IsSomeAnd, IsTrue, Option, Result, Ok, Err, All}
+use Rattle.std.specs.Prelude.{◌≢◌, IsTrue, Option, Result, Ok, Err, All}
 use Rattle.std.specs.List.{Contains}
 use Rattle.std.specs.List.Sorted.{IsStrictlyIncreasing}
 use Rattle.std.proofs.lemmas.Bool.{cases_eq}
@@ -21,14 +21,12 @@ use Rattle.local_link.specs.CloudServer.server.Server.{Server}
 use Rattle.local_link.specs.CloudServer.Serving.{settled_with}
 use Rattle.local_link.specs.declared.link.LocalLink.{LocalLink}
 use Rattle.half_journal.specs.JournalStart.start.Header.{Header}
-use Rattle.local_link.specs.CloudMemory.Rooms.{memory_of}
-use Rattle.local_link.specs.OpenStore.Store.{IsOpen}
-use Rattle.local_link.specs.Tells.{server_at, rooms_of, IsOpenWith, IsPeer, LeavesRest}
+use Rattle.local_link.specs.Tells.{server_at, rooms_of, IsPeer, IsReadAs, LeavesRest}
 use Rattle.read_command.specs.declared.end.ReadEnd.{ReadEnd}
 use Rattle.read_command.specs.declared.end.ReadEnd.TheVariants as ends
 use Rattle.read_command.specs.Disks.{AreReadable, InItsRooms, IsSpared, IsStoppedAtCloud, KeepsDisks, NamesRooms, OpensWith, StaysShut}
 use Rattle.read_command.proofs.Disks.{images_by, opening_from, spared_still}
-use Rattle.read_command.specs.Opening.{Opening, BecomesOpen, AreOpened, EndsBy, EndsOpening, IsFree}
+use Rattle.read_command.specs.Opening.{Opening, BecomesOpen, AreOpened, EndsBy, EndsOpening, HasRead, IsFree}
 
 -- ---- rising clouds
 
@@ -87,17 +85,22 @@ stands_later number s t k l o p list ts lk po is =
     (subst (λ (x : Option Server). IsPeer s number k x (settled_with list k)) (sym po) is))
 
 -- a server that stays has its memory still
-later_memory : {V : Type 0} (shape : Shape) (number : ℕ) (cloud : Cloud) (mid new : LocalLink V) → server_at new.servers number ≡ server_at mid.servers number
-    → InItsRooms shape number cloud (λ (h : Header). OpensWith h cloud (IsOpenWith mid.servers number))
-    → InItsRooms shape number cloud (λ (h : Header). OpensWith h cloud (IsOpenWith new.servers number))
-later_memory shape number cloud mid new server is = (
+later_memory : {V : Type 0} (clouds : V → ℕ → Cloud) (shape : Shape) (number : ℕ) (cloud : Cloud) (mid new : LocalLink V) → new.servers.shape ≡ mid.servers.shape
+    → clouds new.shelf.now number ≡ clouds mid.shelf.now number → server_at new.servers number ≡ server_at mid.servers number
+    → InItsRooms shape number cloud (λ (h : Header). OpensWith h cloud (HasRead clouds mid number h))
+    → InItsRooms shape number cloud (λ (h : Header). OpensWith h cloud (HasRead clouds new number h))
+later_memory clouds shape number cloud mid new shapes same server is = (
   is.0,
   is.1,
   record {
     memory = is.2.memory;
     commands = is.2.commands;
     opens = is.2.opens;
-    has = subst (λ (o : Option Server). IsSomeAnd o (λ (s : Server). IsOpen s.store × (memory_of s.store.memory ≡ is.2.memory))) (sym server) is.2.has;
+    has = (
+      (λ i. header_of (shapes i) (rooms_of (server i)) number) ∙ is.2.has.0,
+      subst (λ (c : Cloud). IsReadAs (header_of shape is.0 number) c (server_at new.servers number) is.2.memory) (sym same)
+          (subst (λ (o : Option Server). IsReadAs (header_of shape is.0 number) (clouds mid.shelf.now number) o is.2.memory) (sym server) is.2.has.1),
+    );
   },
 )
 
@@ -107,7 +110,7 @@ module _ {V : Type 0} (clouds : V → ℕ → Cloud) where
   becomes_later old mid new number shape cloud server is = record {
     opened = is.opened;
     rooms = λ told. subst (λ (o : Option Server). NamesRooms (reads (clouds old.shelf.now number).now Journal) (rooms_of o)) (sym server) (is.rooms told);
-    memory = λ told. later_memory old.servers.shape number (clouds old.shelf.now number) mid new server (is.memory told);
+    memory = λ told. later_memory clouds old.servers.shape number (clouds old.shelf.now number) mid new shape cloud server (is.memory told);
     same = λ told. ap (λ (k : Cloud). reads k.now) cloud ∙ is.same told;
     loaded = λ told rooms list stands within. stands_later number mid.servers.shape new.servers.shape (clouds mid.shelf.now number) (clouds new.shelf.now number)
         (server_at mid.servers number) (server_at new.servers number) list shape cloud server (is.loaded told rooms list stands within);

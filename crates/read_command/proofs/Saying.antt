@@ -1,6 +1,6 @@
 -- What the clouds that were opened said in a restore, by the memories that their openings read.
-use Rattle.std.proofs.Common.{◌≡◌, ℕ, ◌≤◌, ◌⊎◌, false, List, [], ◌∷◌, map, arith, refl, sym, ap, ◌∙◌, subst, inl, inr}
-use Rattle.std.specs.Prelude.{IsTrue, Some, None, Result, Ok, Err}
+use Rattle.std.proofs.Common.{◌≡◌, ℕ, ◌≤◌, ◌⊎◌, Bool, false, List, [], ◌∷◌, map, arith, refl, sym, ap, ◌∙◌, subst, inl, inr}
+use Rattle.std.specs.Prelude.{◌≢◌, IsTrue, Some, None, Result, Ok, Err}
 use Rattle.std.specs.List.{Contains}
 use Rattle.half_journal.specs.CdBase.ids.CloudNo.{CloudNo}
 use Rattle.half_journal.specs.CdBase.ids.Fp.{Fp}
@@ -9,22 +9,28 @@ use Rattle.half_journal.specs.CdBase.ids.UserId.{UserId}
 use Rattle.half_journal.specs.CdBase.ids.Version.{Version}
 use Rattle.half_journal.specs.CdBase.shape.Shape.{Shape}
 use Rattle.half_journal.specs.CdEdges.Causes.{Rose}
-use Rattle.half_journal.specs.CdEdges.Disk.{Cloud, reads}
-use Rattle.half_journal.specs.CdEdges.Shelf.{Stays}
+use Rattle.half_journal.specs.CdEdges.Disk.{Cloud, Image, IsImage, LeavesOnly, reads}
+use Rattle.half_journal.proofs.CdEdges.Moments.{joined, weaker}
 use Rattle.half_journal.specs.JournalStart.start.Header.{Header}
-use Rattle.cloud_areas.specs.UserDedup.Link.{AddsNothing, IsReading, Passes, Talk}
+use Rattle.cloud_areas.specs.UserDedup.Link.{AddsNothing, IsReading, Passes, ReadsFrom, Talk}
 use Rattle.cloud_areas.specs.UserDedup.Link.{Exchange as Asked_one}
 use Rattle.cloud_areas.proofs.UserDedup.Owned.{contains_here}
 use Rattle.local_link.specs.CloudMemory.Memory.{Memory}
+use Rattle.local_link.specs.CdBase.Reading.{AreBytes}
+use Rattle.local_link.specs.Messages.ReplyReading.{reply_at}
+use Rattle.local_link.specs.Messages.Replies.{IsReply}
 use Rattle.local_link.specs.Messages.Requests.{IsRequest}
+use Rattle.local_link.specs.Messages.reply.Reply.{Reply}
 use Rattle.local_link.specs.Messages.reply.Reply.TheVariants as replies
 use Rattle.local_link.specs.Messages.request.Request.{Request}
 use Rattle.local_link.specs.Messages.request.Request.TheVariants as requests
 use Rattle.local_link.specs.ServerCommands.Entering.{ReadsBy}
 use Rattle.local_link.specs.ServerCommands.Leaving.{IsFound}
 use Rattle.local_link.specs.declared.link.LocalLink.{LocalLink}
-use Rattle.local_link.specs.Tells.{IsOpenWith, IsSaidBy, telling}
+use Rattle.local_link.specs.Tells.{IsReadAs, IsSaidBy, header_at, server_at, telling}
 use Rattle.local_link.proofs.ByMemory.{found_is, said_is, said_there}
+use Rattle.local_link.proofs.Passing.{fault_alone}
+use Rattle.messages.proofs.ReplyLaws.{reply_law}
 use Rattle.subset_restore.specs.RestoreJob.Asking.{is_lost}
 use Rattle.subset_restore.specs.RestoreJob.Exchanges.{CloudExchange, PassesAll, RestorePassed, RestoreRun, Unlost, passed_on}
 use Rattle.subset_restore.specs.RestoreJob.Refusals.{Names}
@@ -37,11 +43,11 @@ use Rattle.subset_restore.specs.Transcript.refusal.Refusal.{Refusal}
 use Rattle.subset_restore.specs.Transcript.refusal.Refusal.TheVariants as refusals
 use Rattle.subset_restore.specs.Tries.{Try}
 use Rattle.subset_restore.proofs.Elements.{contains_back, contains_mapped}
-use Rattle.read_command.specs.Disks.{InItsRooms, OpensWith}
+use Rattle.read_command.specs.Disks.{InItsRooms, IsSpared, OpensWith}
 use Rattle.read_command.specs.Ends.{Outside, ByMemory, CameOf, IsSaid, SaysOf}
-use Rattle.read_command.specs.Opening.{AreOpened}
+use Rattle.read_command.specs.Opening.{AreOpened, HasRead}
 use Rattle.read_command.proofs.Refusing.{HasHeard, of_damaged, of_missing, of_rotten, restore_heard}
-use Rattle.read_command.proofs.Restoring.{reading_chain}
+use Rattle.read_command.proofs.Restoring.{named_or_not, reading_chain}
 
 rose_within : (a b c d : ℕ) → a ≤ b → Rose b c → c ≤ d → Rose a d
 rose_within a b c d first rose last = omega (arith, rose)
@@ -67,18 +73,41 @@ unlost (errors.BadShare cloud secret name wrong) P why found is p = p
 by_more : (c : Outside) (shape : Shape) (cloud : ℕ) (P Q : Memory → Type 0) → ((m : Memory) → P m → Q m) → ByMemory c shape cloud P → ByMemory c shape cloud Q
 by_more c shape cloud P Q more is told =
     let o = is told in
-    (o.0, o.1, record { memory = o.2.memory; commands = o.2.commands; opens = o.2.opens; has = λ free. more o.2.memory (o.2.has free) })
+    (o.0, o.1, record { memory = o.2.memory; commands = o.2.commands; opens = o.2.opens; has = more o.2.memory o.2.has })
+
+-- what came that reads as another reply isn't Fault
+not_fault : {Risen Says : Type 0} (content : List ℕ) (answer : Reply) → AreBytes content → (let is : Result Reply ℕ = Ok answer in reply_at content ≡ is) → answer ≢ replies.Fault
+    → (IsReply content replies.Fault × Risen) ⊎ Says → Says
+not_fault content answer are read other (inr says) = says
+not_fault content answer are read other (inl fault) = absurd (other (fault_alone content answer ((reply_law content answer are).0 read) fault.0))
+
+module _ {V : Type 0} (clouds : V → ℕ → Cloud) where
+  -- what the cloud of this number reads opens to the memory
+  abbrev pub Reads : LocalLink V → ℕ → Memory → Type 0
+  Reads a cloud m = IsReadAs (header_at a.servers cloud) (clouds a.shelf.now cloud) (server_at a.servers cloud) m
+
+  -- it does so still, and reads as it did
+  abbrev pub ReadsOn : LocalLink V → LocalLink V → ℕ → Memory → Type 0
+  ReadsOn a b cloud m = Reads b cloud m × LeavesOnly (clouds a.shelf.now cloud) (clouds b.shelf.now cloud) (λ (image : Image). image ≡ reads (clouds a.shelf.now cloud).now)
+      × (reads (clouds b.shelf.now cloud).now ≡ reads (clouds a.shelf.now cloud).now)
+
+  abbrev pub Chain : LocalLink V → List Asked_one → LocalLink V → Type 0
+  Chain a asks b = Passes (telling clouds) (λ e. IsReading e.content) a asks b
+
+-- What is known of asks that add nothing.
+pub record Readings {V : Type 0} (clouds : V → ℕ → Cloud) : Type 0 where
+  pub later : (asks : List Asked_one) (a b : LocalLink V) (cloud : ℕ) → Chain clouds a asks b → (clouds a.shelf.now cloud).faults ≤ (clouds b.shelf.now cloud).faults
+  pub fault : (asks : List Asked_one) (a b : LocalLink V) (ask : Asked_one) (content : List ℕ) → Chain clouds a asks b → Contains asks ask → ask.reply ≡ Some content
+      → IsReply content replies.Fault → Rose (clouds a.shelf.now ask.cloud).faults (clouds b.shelf.now ask.cloud).faults
+  pub reading : (asks : List Asked_one) (a b : LocalLink V) (cloud : ℕ) (m : Memory) → Chain clouds a asks b → IsTrue (clouds a.shelf.now cloud).told → Reads clouds a cloud m
+      → ReadsOn clouds a b cloud m
+  pub recalled : (asks : List Asked_one) (a b : LocalLink V) (ask : Asked_one) (content : List ℕ) (m : Memory) (r : Request) → Chain clouds a asks b
+      → Contains asks ask → ask.reply ≡ Some content → IsRequest ask.content r → AddsNothing r → IsTrue (clouds a.shelf.now ask.cloud).told → Reads clouds a ask.cloud m
+      → IsReply content replies.Fault ⊎ IsSaidBy (clouds a.shelf.now ask.cloud) m r content
 
 module _ {V : Type 0} (clouds : V → ℕ → Cloud) (named : List ℕ) (shape : Shape) (total_before between total_after : ℕ) (old mid new : LocalLink V)
     (same : old.servers.shape ≡ shape) (opened : AreOpened clouds total_before between old mid named) (user : UserId) (tag : Tag) (version : Version)
-    (talk : LocalLink V → ℕ → Talk → Type 0) (was : List ℕ) (none : was ≡ [])
-    (later : (asks : List Asked_one) (a b : LocalLink V) (cloud : ℕ) → Passes (telling clouds) (λ e. IsReading e.content) a asks b
-    → (clouds a.shelf.now cloud).faults ≤ (clouds b.shelf.now cloud).faults)
-    (keeps : (asks : List Asked_one) (a b : LocalLink V) (cloud : ℕ) (m : Memory) → Passes (telling clouds) (λ e. IsReading e.content) a asks b → IsOpenWith a.servers cloud m
-    → Rose (clouds a.shelf.now cloud).faults (clouds b.shelf.now cloud).faults ⊎ (IsOpenWith b.servers cloud m × Stays (clouds a.shelf.now cloud) (clouds b.shelf.now cloud)))
-    (said : (asks : List Asked_one) (a b : LocalLink V) (ask : Asked_one) (content : List ℕ) (m : Memory) (r : Request) → Passes (telling clouds) (λ e. IsReading e.content) a asks b
-    → Contains asks ask → ask.reply ≡ Some content → IsRequest ask.content r → AddsNothing r → IsOpenWith a.servers ask.cloud m
-    → Rose (clouds a.shelf.now ask.cloud).faults (clouds b.shelf.now ask.cloud).faults ⊎ IsSaidBy (clouds a.shelf.now ask.cloud) m r content) where
+    (talk : LocalLink V → ℕ → Talk → Type 0) (was : List ℕ) (none : was ≡ []) (law : Readings clouds) where
   abbrev around : Outside
   around = record { total_before = total_before; total_after = total_after; old = clouds old.shelf.now; new = clouds new.shelf.now }
 
@@ -90,14 +119,10 @@ module _ {V : Type 0} (clouds : V → ℕ → Cloud) (named : List ℕ) (shape :
   abbrev Tried : LocalLink V → List Try → LocalLink V → Type 0
   Tried a tries b = AllRefused (telling clouds) talk wanted was a tries b
 
-  abbrev GoesOpen : LocalLink V → LocalLink V → ℕ → Memory → Type 0
-  GoesOpen a b cloud m = Rose (clouds a.shelf.now cloud).faults (clouds b.shelf.now cloud).faults
-      ⊎ (IsOpenWith b.servers cloud m × Stays (clouds a.shelf.now cloud) (clouds b.shelf.now cloud))
-
   later_all : (tries : List Try) (a b : LocalLink V) → Tried a tries b → (cloud : ℕ) → (clouds a.shelf.now cloud).faults ≤ (clouds b.shelf.now cloud).faults
   later_all [] a b at_once cloud = subst (λ (l : LocalLink V). (clouds a.shelf.now cloud).faults ≤ (clouds l.shelf.now cloud).faults) (sym at_once) (omega arith)
   later_all (x ∷ tries) a b all cloud =
-      let first = later all.1.asked.asks a all.0 cloud (reading_chain clouds x.subset all.1.asked.asks a all.0 all.1.asked.passed) in
+      let first = law.later all.1.asked.asks a all.0 cloud (reading_chain clouds x.subset all.1.asked.asks a all.0 all.1.asked.passed) in
       let rest = later_all tries all.0 b all.2 cloud in
       omega arith
 
@@ -105,72 +130,60 @@ module _ {V : Type 0} (clouds : V → ℕ → Cloud) (named : List ℕ) (shape :
   told_all [] a b at_once cloud = ap (λ (l : LocalLink V). (clouds l.shelf.now cloud).told) at_once
   told_all (x ∷ tries) a b all cloud = told_all tries all.0 b all.2 cloud ∙ (λ i. all.1.asked.told i cloud)
 
-  -- an open server keeps its memory, unless the count rose
-  goes_twice : (a b c : LocalLink V) (cloud : ℕ) (m : Memory) → (clouds a.shelf.now cloud).faults ≤ (clouds b.shelf.now cloud).faults
-      → (clouds b.shelf.now cloud).faults ≤ (clouds c.shelf.now cloud).faults → GoesOpen a b cloud m → (IsOpenWith b.servers cloud m → GoesOpen b c cloud m) → GoesOpen a c cloud m
-  goes_twice a b c cloud m first last (inl rose) more =
-      inl (rose_within (clouds a.shelf.now cloud).faults (clouds a.shelf.now cloud).faults (clouds b.shelf.now cloud).faults (clouds c.shelf.now cloud).faults (omega arith) rose last)
-  goes_twice a b c cloud m first last (inr x) more = further (more x.0)
-    where
-      further : GoesOpen b c cloud m → GoesOpen a c cloud m
-      further (inl rose) =
-          inl (rose_within (clouds a.shelf.now cloud).faults (clouds b.shelf.now cloud).faults (clouds c.shelf.now cloud).faults (clouds c.shelf.now cloud).faults first rose (omega arith))
-      further (inr y) = inr (y.0, record { armed = y.1.armed ∙ x.1.armed; past = y.1.past ∙ x.1.past; now = y.1.now ∙ x.1.now })
-
-  open_all : (tries : List Try) (a b : LocalLink V) (cloud : ℕ) (m : Memory) → Tried a tries b → IsOpenWith a.servers cloud m → GoesOpen a b cloud m
-  open_all [] a b cloud m at_once is =
-      subst (λ (l : LocalLink V). GoesOpen a l cloud m) (sym at_once) (inr (is, record { armed = refl; past = refl; now = refl }))
-  open_all (x ∷ tries) a b cloud m all is =
-      let chain = reading_chain clouds x.subset all.1.asked.asks a all.0 all.1.asked.passed in
-      goes_twice a all.0 b cloud m (later all.1.asked.asks a all.0 cloud chain) (later_all tries all.0 b all.2 cloud) (keeps all.1.asked.asks a all.0 cloud m chain is)
-      (λ open_there. open_all tries all.0 b cloud m all.2 open_there)
+  -- what its areas read opens to the memory still
+  reading_all : (tries : List Try) (a b : LocalLink V) (cloud : ℕ) (m : Memory) → Tried a tries b → IsTrue (clouds a.shelf.now cloud).told → Reads clouds a cloud m
+      → Reads clouds b cloud m × (reads (clouds b.shelf.now cloud).now ≡ reads (clouds a.shelf.now cloud).now)
+  reading_all [] a b cloud m at_once told is =
+      subst (λ (l : LocalLink V). Reads clouds l cloud m × (reads (clouds l.shelf.now cloud).now ≡ reads (clouds a.shelf.now cloud).now)) (sym at_once) (is, refl)
+  reading_all (x ∷ tries) a b cloud m all told is =
+      let first = law.reading all.1.asked.asks a all.0 cloud m (reading_chain clouds x.subset all.1.asked.asks a all.0 all.1.asked.passed) told is in
+      let more = reading_all tries all.0 b cloud m all.2 (subst (λ (t : Bool). IsTrue t) (sym (λ i. all.1.asked.told i cloud)) told) first.0 in
+      (more.0, more.1 ∙ first.2)
 
   -- ---- what was said in one restore behind some tries
 
   module _ (tries : List Try) (at to : LocalLink V) (all : Tried mid tries at) (log : List CloudExchange) (chain : PassesAll (telling clouds) at to log)
       (rest : (cloud : ℕ) → (clouds to.shelf.now cloud).faults ≤ (clouds new.shelf.now cloud).faults) (x : CloudExchange) (has : Contains log x) (is_named : Contains named x.cloud)
-      (told : IsTrue (clouds old.shelf.now x.cloud).told) (m : Memory) (free : Rose (clouds old.shelf.now x.cloud).faults (clouds new.shelf.now x.cloud).faults → ⊥)
-      (r : Request) (asks : IsRequest x.request r) (adds : AddsNothing r) where
-    first : (clouds old.shelf.now x.cloud).faults ≤ (clouds mid.shelf.now x.cloud).faults
-    first = (let e = (opened.each x.cloud is_named).faults in omega arith)
+      (told : IsTrue (clouds old.shelf.now x.cloud).told) (m : Memory) (is : Reads clouds mid x.cloud m) (r : Request) (asks : IsRequest x.request r) (adds : AddsNothing r) where
+    told_mid : IsTrue (clouds mid.shelf.now x.cloud).told
+    told_mid = subst (λ (t : Bool). IsTrue t) (sym (opened.told x.cloud)) told
 
-    middle : (clouds mid.shelf.now x.cloud).faults ≤ (clouds at.shelf.now x.cloud).faults
-    middle = later_all tries mid at all x.cloud
+    told_at : IsTrue (clouds at.shelf.now x.cloud).told
+    told_at = subst (λ (t : Bool). IsTrue t) (sym (told_all tries mid at all x.cloud)) told_mid
 
-    here : (clouds at.shelf.now x.cloud).faults ≤ (clouds to.shelf.now x.cloud).faults
-    here = later (map passed_on log) at to x.cloud chain
+    so_far : Reads clouds at x.cloud m × (reads (clouds at.shelf.now x.cloud).now ≡ reads (clouds mid.shelf.now x.cloud).now)
+    so_far = reading_all tries mid at x.cloud m all told_mid is
 
-    there : IsSaidBy (clouds at.shelf.now x.cloud) m r x.reply → Stays (clouds mid.shelf.now x.cloud) (clouds at.shelf.now x.cloud) → IsSaidBy (clouds old.shelf.now x.cloud) m r x.reply
-    there is stays =
-        said_there (clouds at.shelf.now x.cloud) (clouds old.shelf.now x.cloud) m (sym (told_all tries mid at all x.cloud ∙ opened.told x.cloud))
-        (sym (ap reads stays.now ∙ (opened.each x.cloud is_named).same told)) r x.reply is
+    risen : Rose (clouds at.shelf.now x.cloud).faults (clouds to.shelf.now x.cloud).faults → Rose (clouds old.shelf.now x.cloud).faults (clouds new.shelf.now x.cloud).faults
+    risen rose =
+        let a = (opened.each x.cloud is_named).faults in let b = later_all tries mid at all x.cloud in
+        rose_within (clouds old.shelf.now x.cloud).faults (clouds at.shelf.now x.cloud).faults (clouds to.shelf.now x.cloud).faults (clouds new.shelf.now x.cloud).faults
+        (omega arith) rose (rest x.cloud)
 
-    by_reply : Stays (clouds mid.shelf.now x.cloud) (clouds at.shelf.now x.cloud)
-        → Rose (clouds at.shelf.now x.cloud).faults (clouds to.shelf.now x.cloud).faults ⊎ IsSaidBy (clouds at.shelf.now x.cloud) m r x.reply → IsSaidBy (clouds old.shelf.now x.cloud) m r x.reply
-    by_reply stays (inl rose) =
-        let a = first in let b = middle in let c = rest x.cloud in
-        absurd (free (rose_within (clouds old.shelf.now x.cloud).faults (clouds at.shelf.now x.cloud).faults (clouds to.shelf.now x.cloud).faults (clouds new.shelf.now x.cloud).faults (omega arith) rose c))
-    by_reply stays (inr is) = there is stays
-
-    by_tries : GoesOpen mid at x.cloud m → IsSaidBy (clouds old.shelf.now x.cloud) m r x.reply
-    by_tries (inl rose) =
-        let a = first in let b = here in let c = rest x.cloud in
-        absurd (free (rose_within (clouds old.shelf.now x.cloud).faults (clouds mid.shelf.now x.cloud).faults (clouds at.shelf.now x.cloud).faults (clouds new.shelf.now x.cloud).faults a rose (omega arith)))
-    by_tries (inr y) = by_reply y.1 (said (map passed_on log) at to (passed_on x) x.reply m r chain (contains_mapped passed_on log x has) refl asks adds y.0)
+    said_here : (IsReply x.reply replies.Fault × Rose (clouds old.shelf.now x.cloud).faults (clouds new.shelf.now x.cloud).faults) ⊎ IsSaidBy (clouds old.shelf.now x.cloud) m r x.reply
+    said_here = by_reply (law.recalled (map passed_on log) at to (passed_on x) x.reply m r chain (contains_mapped passed_on log x has) refl asks adds told_at so_far.0)
+      where
+        by_reply : IsReply x.reply replies.Fault ⊎ IsSaidBy (clouds at.shelf.now x.cloud) m r x.reply
+            → (IsReply x.reply replies.Fault × Rose (clouds old.shelf.now x.cloud).faults (clouds new.shelf.now x.cloud).faults) ⊎ IsSaidBy (clouds old.shelf.now x.cloud) m r x.reply
+        by_reply (inl fault) = inl (fault, risen (law.fault (map passed_on log) at to (passed_on x) x.reply chain (contains_mapped passed_on log x has) refl fault))
+        by_reply (inr says) =
+            inr (said_there (clouds at.shelf.now x.cloud) (clouds old.shelf.now x.cloud) m (sym (told_all tries mid at all x.cloud ∙ opened.told x.cloud))
+            (sym (so_far.1 ∙ (opened.each x.cloud is_named).same told)) r x.reply says)
 
   said_in : (tries : List Try) (at to : LocalLink V) → Tried mid tries at → (log : List CloudExchange) → PassesAll (telling clouds) at to log
       → ((cloud : ℕ) → (clouds to.shelf.now cloud).faults ≤ (clouds new.shelf.now cloud).faults) → (x : CloudExchange) → Contains log x → Contains named x.cloud → IsSaid around shape x
   said_in tries at to all log chain rest x has is_named told =
       let o = subst
-      (λ (s : Shape). InItsRooms s x.cloud (clouds old.shelf.now x.cloud) (λ (h : Header). OpensWith h (clouds old.shelf.now x.cloud) (IsOpenWith mid.servers x.cloud)))
-      same ((opened.each x.cloud is_named).memory told) in (
+      (λ (s : Shape). InItsRooms s x.cloud (clouds old.shelf.now x.cloud) (λ (h : Header). OpensWith h (clouds old.shelf.now x.cloud) (HasRead clouds mid x.cloud h)))
+      same ((opened.each x.cloud is_named).memory told) in
+      let is = subst (λ (h : Header). IsReadAs h (clouds mid.shelf.now x.cloud) (server_at mid.servers x.cloud) o.2.memory) (sym o.2.has.0) o.2.has.1 in (
         o.0,
         o.1,
         record {
           memory = o.2.memory;
           commands = o.2.commands;
           opens = o.2.opens;
-          has = λ free r asks adds. by_tries tries at to all log chain rest x has is_named told o.2.memory free r asks adds (open_all tries mid at x.cloud o.2.memory all o.2.has);
+          has = λ r asks adds. said_here tries at to all log chain rest x has is_named told o.2.memory is r asks adds;
         },
       )
 
@@ -211,6 +224,11 @@ module _ {V : Type 0} (clouds : V → ℕ → Cloud) (named : List ℕ) (shape :
   abbrev key : Tag × Version
   key = (tag, version)
 
+  -- what is said of an exchange
+  abbrev Says : CloudExchange → Memory → Type 0
+  Says x m = (r : Request) → IsRequest x.request r → AddsNothing r
+      → (IsReply x.reply replies.Fault × Rose (clouds old.shelf.now x.cloud).faults (clouds new.shelf.now x.cloud).faults) ⊎ IsSaidBy (clouds old.shelf.now x.cloud) m r x.reply
+
   abbrev of_recipe : Request
   of_recipe = requests.GetRecipe user tag version
 
@@ -222,12 +240,12 @@ module _ {V : Type 0} (clouds : V → ℕ → Cloud) (named : List ℕ) (shape :
       (λ m says. by_asked w m says w.asked) (came.said w.x w.has (subst (Contains named) (sym w.cloud_is) is_named)))
     where
       by_asked : (w : HasHeard user tag version came.log cloud replies.Missing) (m : Memory)
-          → ((r : Request) → IsRequest w.x.request r → AddsNothing r → IsSaidBy (clouds old.shelf.now w.x.cloud) m r w.x.reply)
+          → Says w.x m
           → IsRequest w.x.request of_recipe ⊎ ((fps : List Fp) × IsRequest w.x.request (requests.GetShares user fps)) → ReadsBy m of_recipe replies.Missing
-      by_asked w m says (inl asks) = said_is (clouds old.shelf.now w.x.cloud) m of_recipe w.x.reply replies.Missing w.bytes w.read (says of_recipe asks tt)
+      by_asked w m says (inl asks) = said_is (clouds old.shelf.now w.x.cloud) m of_recipe w.x.reply replies.Missing w.bytes w.read (not_fault w.x.reply replies.Missing w.bytes w.read (λ e. let never : replies.Missing ≡ replies.Fault = e in cc) (says of_recipe asks tt))
       by_asked w m says (inr some) =
           let r = requests.GetShares user some.0 in
-          absurd (said_is (clouds old.shelf.now w.x.cloud) m r w.x.reply replies.Missing w.bytes w.read (says r some.1 tt))
+          absurd (said_is (clouds old.shelf.now w.x.cloud) m r w.x.reply replies.Missing w.bytes w.read (not_fault w.x.reply replies.Missing w.bytes w.read (λ e. let never : replies.Missing ≡ replies.Fault = e in cc) (says r some.1 tt)))
 
   damaged_said : (cloud : CloudNo) (at byte : ℕ) → Contains named cloud.0 → CameOf around shape user key named (Err (errors.CloudDamaged cloud at byte)) []
       → SaysOf around shape user key (errors.CloudDamaged cloud at byte)
@@ -238,12 +256,12 @@ module _ {V : Type 0} (clouds : V → ℕ → Cloud) (named : List ℕ) (shape :
       (by_more around shape w.x.cloud _ (λ m. ⊥) (λ m says. by_asked w m says w.asked) (came.said w.x w.has (subst (Contains named) (sym w.cloud_is) is_named)))
     where
       by_asked : (w : HasHeard user tag version came.log cloud (replies.Damaged at byte)) (m : Memory)
-          → ((r : Request) → IsRequest w.x.request r → AddsNothing r → IsSaidBy (clouds old.shelf.now w.x.cloud) m r w.x.reply)
+          → Says w.x m
           → IsRequest w.x.request of_recipe ⊎ ((fps : List Fp) × IsRequest w.x.request (requests.GetShares user fps)) → ⊥
-      by_asked w m says (inl asks) = said_is (clouds old.shelf.now w.x.cloud) m of_recipe w.x.reply (replies.Damaged at byte) w.bytes w.read (says of_recipe asks tt)
+      by_asked w m says (inl asks) = said_is (clouds old.shelf.now w.x.cloud) m of_recipe w.x.reply (replies.Damaged at byte) w.bytes w.read (not_fault w.x.reply (replies.Damaged at byte) w.bytes w.read (λ e. let never : replies.Damaged at byte ≡ replies.Fault = e in cc) (says of_recipe asks tt))
       by_asked w m says (inr some) =
           let r = requests.GetShares user some.0 in
-          said_is (clouds old.shelf.now w.x.cloud) m r w.x.reply (replies.Damaged at byte) w.bytes w.read (says r some.1 tt)
+          said_is (clouds old.shelf.now w.x.cloud) m r w.x.reply (replies.Damaged at byte) w.bytes w.read (not_fault w.x.reply (replies.Damaged at byte) w.bytes w.read (λ e. let never : replies.Damaged at byte ≡ replies.Fault = e in cc) (says r some.1 tt))
 
   -- what lies at a place of the entry or of a share
   abbrev Found : Fp → Fp → ℕ → Memory → Type 0
@@ -257,12 +275,12 @@ module _ {V : Type 0} (clouds : V → ℕ → Cloud) (named : List ℕ) (shape :
       (by_more around shape w.x.cloud _ (Found name found w.x.cloud) (λ m says. by_asked w m says w.asked) (came.said w.x w.has (subst (Contains named) (sym w.cloud_is) is_named)))
     where
       by_asked : (w : HasHeard user tag version came.log cloud (replies.Rotten name found)) (m : Memory)
-          → ((r : Request) → IsRequest w.x.request r → AddsNothing r → IsSaidBy (clouds old.shelf.now w.x.cloud) m r w.x.reply)
+          → Says w.x m
           → IsRequest w.x.request of_recipe ⊎ ((fps : List Fp) × IsRequest w.x.request (requests.GetShares user fps)) → Found name found w.x.cloud m
-      by_asked w m says (inl asks) = inl (found_is (clouds old.shelf.now w.x.cloud) m of_recipe w.x.reply name found w.bytes w.read (says of_recipe asks tt))
+      by_asked w m says (inl asks) = inl (found_is (clouds old.shelf.now w.x.cloud) m of_recipe w.x.reply name found w.bytes w.read (not_fault w.x.reply (replies.Rotten name found) w.bytes w.read (λ e. let never : replies.Rotten name found ≡ replies.Fault = e in cc) (says of_recipe asks tt)))
       by_asked w m says (inr some) =
           let r = requests.GetShares user some.0 in
-          inr (some.0, found_is (clouds old.shelf.now w.x.cloud) m r w.x.reply name found w.bytes w.read (says r some.1 tt))
+          inr (some.0, found_is (clouds old.shelf.now w.x.cloud) m r w.x.reply name found w.bytes w.read (not_fault w.x.reply (replies.Rotten name found) w.bytes w.read (λ e. let never : replies.Rotten name found ≡ replies.Fault = e in cc) (says r some.1 tt)))
 
   pub says_of : (e : RestoreErr) → NoneCame (telling clouds) talk wanted mid new was e → Names (Contains named) e → SaysOf around shape user key e
   says_of (errors.Missing cloud) came names = missing_said cloud names (came_err (errors.Missing cloud) (refusals.Missing cloud) refl refl came)
@@ -278,3 +296,37 @@ module _ {V : Type 0} (clouds : V → ℕ → Cloud) (named : List ℕ) (shape :
   says_of (errors.CloudNoMemory cloud) came names = tt
   says_of (errors.Strange cloud kind) came names = tt
   says_of (errors.BadShare cloud secret name wrong) came names = tt
+
+-- ---- what the asks leave of the areas
+
+-- each told cloud is spared by them, as by the openings
+pub spared_on : {V : Type 0} (clouds : V → ℕ → Cloud) (named : List ℕ) (before between : ℕ) (old mid new : LocalLink V) → AreOpened clouds before between old mid named → (asks : List Asked_one)
+    → Passes (telling clouds) (ReadsFrom named) mid asks new → Readings clouds → ((cloud : ℕ) → (Contains named cloud → ⊥) → clouds new.shelf.now cloud ≡ clouds mid.shelf.now cloud)
+    → ((cloud : ℕ) → IsTrue (clouds old.shelf.now cloud).told → IsSpared (clouds old.shelf.now cloud) (clouds mid.shelf.now cloud))
+    → (cloud : ℕ) → IsTrue (clouds old.shelf.now cloud).told → IsSpared (clouds old.shelf.now cloud) (clouds new.shelf.now cloud)
+spared_on clouds named before between old mid new opened asks passed law others spared cloud told = by_name (named_or_not named cloud)
+  where
+    one : Cloud
+    one = clouds old.shelf.now cloud
+
+    two : Cloud
+    two = clouds mid.shelf.now cloud
+
+    three : Cloud
+    three = clouds new.shelf.now cloud
+
+    first : IsSpared one two
+    first = spared cloud told
+
+    by_name : Contains named cloud ⊎ (Contains named cloud → ⊥) → IsSpared one three
+    by_name (inr not) = subst (λ (c : Cloud). IsSpared one c) (sym (others cloud not)) first
+    by_name (inl has) =
+        let o = (opened.each cloud has).memory told in
+        let is = subst (λ (h : Header). IsReadAs h two (server_at mid.servers cloud) o.2.memory) (sym o.2.has.0) o.2.has.1 in
+        let r = law.reading asks mid new cloud o.2.memory (reading_chain clouds named asks mid new passed) (subst (λ (t : Bool). IsTrue t) (sym (opened.told cloud)) told) is in
+        record {
+          any_moment = joined one two three (λ (image : Image). IsImage one.now image) first.any_moment
+              (weaker two three (λ (image : Image). image ≡ reads two.now) (λ (image : Image). IsImage one.now image) r.1
+              (λ image same. subst (λ (i : Image). IsImage one.now i) (sym same) first.still_read));
+          still_read = subst (λ (i : Image). IsImage one.now i) (sym r.2) first.still_read;
+        }

@@ -17,6 +17,7 @@ use Rattle.half_journal.specs.JournalStart.start.Header.{Header}
 use Rattle.cloud_areas.specs.UserDedup.Link.{AddsNothing}
 use Rattle.kept_files.specs.Kept.{key_of}
 use Rattle.local_link.specs.CloudMemory.Memory.{Memory}
+use Rattle.local_link.specs.Messages.Replies.{IsReply}
 use Rattle.local_link.specs.Messages.Requests.{IsRequest}
 use Rattle.local_link.specs.Messages.reply.Reply.TheVariants as replies
 use Rattle.local_link.specs.Messages.request.Request.{Request}
@@ -128,11 +129,10 @@ GivesAnyway c shape user key named It = (rooms : ℕ → UserRooms) (lists : ℕ
 
 -- ---- what the clouds said
 
--- What is said of the memory that the opening of a told cloud reads, in the rooms that its journal names. Of a cloud whose
--- count rose nothing is said.
+-- What is said of the memory that the opening of a told cloud reads, in the rooms that its journal names.
 abbrev pub ByMemory : Outside → Shape → ℕ → (Memory → Type 0) → Type 0
 ByMemory c shape cloud P = IsTrue (c.old cloud).told → InItsRooms shape cloud (c.old cloud) (λ (header : Header).
-    OpensWith header (c.old cloud) (λ m. (Rose (c.old cloud).faults (c.new cloud).faults → ⊥) → P m))
+    OpensWith header (c.old cloud) P)
 
 -- What a refusal says of its cloud's memory. Missing: it has no entry of the version. Rotten: what lies at the place that it
 -- has for the entry, or for a share, is another or shorter. Damaged never comes.
@@ -145,14 +145,16 @@ SaysOf c shape user key (errors.CloudRotten cloud named found) = ByMemory c shap
 SaysOf c shape user key (errors.CloudDamaged cloud at byte) = ByMemory c shape cloud.0 (λ m. ⊥)
 SaysOf c shape user key e = Unit {0}
 
--- A cloud's reply is what its memory says: a recipe has the fingerprint of the memory's entry, and shares have those that
--- were asked for.
+-- A cloud's reply is Fault, and its count rose; or it is what its memory says: a recipe has the fingerprint of the memory's
+-- entry, and shares have those that were asked for.
 abbrev pub IsSaid : Outside → Shape → CloudExchange → Type 0
 IsSaid c shape x = ByMemory c shape x.cloud
-    (λ m. (r : Request) → IsRequest x.request r → AddsNothing r → IsSaidBy (c.old x.cloud) m r x.reply)
+    (λ m. (r : Request) → IsRequest x.request r → AddsNothing r
+    → (IsReply x.reply replies.Fault × Rose (c.old x.cloud).faults (c.new x.cloud).faults)
+    ⊎ IsSaidBy (c.old x.cloud) m r x.reply)
 
 -- The result comes of what k of the named clouds were asked and said, in order; and what each of them said that is told is
--- what its memory says.
+-- what its memory says, or Fault.
 pub record CameOf (c : Outside) (shape : Shape) (user : UserId) (key : Tag × Version) (named : List ℕ)
     (result : Result (Unit {0}) RestoreErr) (file : List ℕ) : Type 0 where
   pub chosen : List CloudNo

@@ -9,7 +9,7 @@ ghost use Rattle.read_command.specs.Disks.{AreReadable, IsSpared, KeepsDisks};
 ghost use Rattle.read_command.specs.Opening.{EndsOpening, IsFree};
 ghost use Rattle.kept_files.specs.Kept.{key_of};
 ghost use Rattle.read_command.specs.declared.end.ReadEnd.TheVariants.{Refused};
-ghost use Rattle.read_command.specs.Ends.{CountsSink, GivesAnyway, IsOfOpening, Reads, Restored};
+ghost use Rattle.read_command.specs.Ends.{CountsSink, GivesAnyway, Reads, Restored};
 
 use crate::opening::open_clouds;
 use crate::writing::write_came;
@@ -44,8 +44,8 @@ fn restore_opened<V: Shelf>(
     requires within { All (λ cloud. cloud < wanted.now.shape.n) wanted.now.clouds.now }
     ensures end { IfErr result (EndsOpening wanted.now.shape wanted.now.clouds.now (V.cloud_at link.old.shelf.now)
         (V.cloud_at link.new.shelf.now) (V.faults link.old.shelf.now) (V.faults link.new.shelf.now)) }
-    ensures spared { IfErr result (λ end. (cloud : ℕ) → IsTrue (V.cloud_at link.old.shelf.now cloud).told
-        → IsSpared (V.cloud_at link.old.shelf.now cloud) (V.cloud_at link.new.shelf.now cloud)) }
+    ensures spared { (cloud : ℕ) → IsTrue (V.cloud_at link.old.shelf.now cloud).told
+        → IsSpared (V.cloud_at link.old.shelf.now cloud) (V.cloud_at link.new.shelf.now cloud) }
     ensures free { (rooms : ℕ → UserRooms) (lists : ℕ → List Command)
         → AreReadable wanted.now.shape wanted.now.clouds.now (V.cloud_at link.old.shelf.now) rooms lists
         → IfErr result IsFree }
@@ -124,8 +124,8 @@ pub fn read_file<K: Sink, V: Shelf>(
     // within its rooms; the others are as they were.
     ensures kept { KeepsDisks wanted.now.shape wanted.now.clouds.now (V.cloud_at shelf.old) (V.cloud_at shelf.new) }
 
-    // Where the openings end the read, each told cloud is spared, whatever its areas hold.
-    ensures areas { IsOfOpening result → (cloud : ℕ) → IsTrue (V.cloud_at shelf.old cloud).told
+    // Each told cloud is spared, whatever its areas hold and whatever the end is.
+    ensures areas { (cloud : ℕ) → IsTrue (V.cloud_at shelf.old cloud).told
         → IsSpared (V.cloud_at shelf.old cloud) (V.cloud_at shelf.new cloud) }
 
     // No cloud is armed, whatever the end is.

@@ -20,7 +20,7 @@ returns-in-Ok-reopen-clause-opens g c =
     (opening_by clouds c.law_of_headers.ensures mid new c.args.cloud c.args.rooms (g.V.Shelf.faults mid.shelf.now) (g.V.Shelf.faults new.shelf.now) c.reopen.result _
     (rooms_in c.args.rooms mid.servers c.args.cloud.0 s.closed)
     (subst (λ (k : Cloud). IsTrue k.told → NamesRooms (reads k.now Journal) c.args.rooms) (sym same) c.requires.named)
-    r.exact r.not_begun r.other_store r.whole r.loaded r.counts r.areas r.rooms r.opens r.call.armings (λ i. came_by c.args.cloud (sym c.in-Ok-reopen.is i)))
+    r.exact r.not_begun r.other_store r.whole r.loaded r.counts r.areas r.rooms r.rest.shape_stays r.call.armings (λ i. came_by c.args.cloud (sym c.in-Ok-reopen.is i)))
 
 pub returns-in-Err-reopen-clause-opens : goal.returns-in-Err-reopen-clause-opens
 returns-in-Err-reopen-clause-opens g c =
@@ -36,7 +36,7 @@ returns-in-Err-reopen-clause-opens g c =
     (opening_by clouds c.law_of_headers.ensures mid new c.args.cloud c.args.rooms (g.V.Shelf.faults mid.shelf.now) (g.V.Shelf.faults new.shelf.now) c.reopen.result _
     (rooms_in c.args.rooms mid.servers c.args.cloud.0 s.closed)
     (subst (λ (k : Cloud). IsTrue k.told → NamesRooms (reads k.now Journal) c.args.rooms) (sym same) c.requires.named)
-    r.exact r.not_begun r.other_store r.whole r.loaded r.counts r.areas r.rooms r.opens r.call.armings (ended ∙ (λ i. came_by c.args.cloud (sym c.in-Err-reopen.is i))))
+    r.exact r.not_begun r.other_store r.whole r.loaded r.counts r.areas r.rooms r.rest.shape_stays r.call.armings (ended ∙ (λ i. came_by c.args.cloud (sym c.in-Err-reopen.is i))))
 
 pub returns-in-Err-clause-opens : goal.returns-in-Err-clause-opens
 returns-in-Err-clause-opens g c =

@@ -6,6 +6,7 @@ use Rattle.read_command.specs.Opening.{EndsOpening, IsFree}
 use Rattle.read_command.specs.Ends.{Outside, IsWritten, Restored}
 use Rattle.read_command.specs.declared.end.ReadEnd.{ReadEnd}
 use Rattle.read_command.specs.declared.end.ReadEnd.TheVariants as ends
+use Rattle.read_command.proofs.Disks.{spared_still}
 use Rattle.read_command.proofs.Whole.{nothing_more, reads_whole, reads_stopped, whole_anyway}
 use Rattle.read_command.proofs.reading.read_file.Goals as goal
 
@@ -53,6 +54,16 @@ returns-clause-reads g c =
     reads_stopped (around c.args.shelf.now c.shelf-1.given.0) r (g.K.Sink.written c.args.sink.now) end
     (subst (λ (a : g.row.V.Denot). ended a c.shelf-1.given.0) c.of-link.ensures.shelf (subst (λ (b : g.row.V.Denot). ended first b) back c.in-Err.ensures.end))
     (subst (λ (a : g.row.V.Denot). (rooms : ℕ → UserRooms) (lists : ℕ → List Command) → AreReadable r.shape r.clouds.now (g.V.Shelf.cloud_at a) rooms lists → IsFree end) c.of-link.ensures.shelf c.in-Err.ensures.free)
+
+pub returns-in_default-clause-areas : goal.returns-in_default-clause-areas
+returns-in_default-clause-areas g c = λ cloud told.
+    let here = g.V.Shelf.cloud_at c.args.shelf.now cloud in
+    spared_still here here (record { armed = refl; past = refl; now = refl }) (g.met.V.Shelf.reads_image c.args.shelf.now cloud told)
+
+pub returns-in_default-make-clause-areas : goal.returns-in_default-make-clause-areas
+returns-in_default-make-clause-areas g c = λ cloud told.
+    let here = g.V.Shelf.cloud_at c.args.shelf.now cloud in
+    spared_still here here (record { armed = refl; past = refl; now = refl }) (g.met.V.Shelf.reads_image c.args.shelf.now cloud told)
 
 pub returns-in_default-clause-anyway : goal.returns-in_default-clause-anyway
 returns-in_default-clause-anyway g c rooms lists chosen file has are given free is = (let never : ends.NoMemory ≡ ends.Refused = is in cc)

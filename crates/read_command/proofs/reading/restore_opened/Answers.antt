@@ -7,7 +7,7 @@ use Rattle.subset_restore.specs.CaontRs.Package.{tag as tag_at}
 use Rattle.read_command.specs.Disks.{AreReadable, InItsRooms, IsOpenedToRead, KeepsDisks}
 use Rattle.read_command.specs.Opening.{AreOpened}
 use Rattle.read_command.proofs.Restoring.{came_to, given_anyway, is_due, kept_on, reading_chain}
-use Rattle.read_command.proofs.Saying.{came_err, came_ok, says_of}
+use Rattle.read_command.proofs.Saying.{Readings, came_err, came_ok, says_of, spared_on}
 use Rattle.read_command.proofs.reading.restore_opened.Goals as goal
 
 pub returns-in-Err-clause-free : goal.returns-in-Err-clause-free
@@ -32,14 +32,15 @@ returns-clause-came g c =
     let e = c.restore_any.ensures in
     let tag : Tag = record { 0 = tag_at r.shape r.path.now } in
     let law = c.law_of_readings.ensures in
+    let readings : Readings clouds = record { later = law.later; fault = law.fault; reading = law.reading; recalled = law.recalled } in
     record {
       opened = λ cloud has told. subst (λ (s : Shape). InItsRooms s cloud (clouds old.shelf.now cloud) (λ (header : Header). IsOpenedToRead header (clouds old.shelf.now cloud))) c.requires.shape ((opened.each cloud has).opened told);
       came_to = came_to clouds named r.shape before between now old mid new c.requires.shape opened r.user tag r.version _
           c.restore_any.result c.args.file.now c.restore_any.new.out c.requires.empty c.requires.fate e.asked e.named e.restored c.law_of_readings.ensures.later c.law_of_readings.ensures.fault
           (record {
-            ok = came_ok clouds named r.shape before between now old mid new c.requires.shape opened r.user tag r.version _ c.args.file.now c.requires.empty law.later law.memory law.said c.restore_any.new.out;
-            err = came_err clouds named r.shape before between now old mid new c.requires.shape opened r.user tag r.version _ c.args.file.now c.requires.empty law.later law.memory law.said;
-            says = says_of clouds named r.shape before between now old mid new c.requires.shape opened r.user tag r.version _ c.args.file.now c.requires.empty law.later law.memory law.said;
+            ok = came_ok clouds named r.shape before between now old mid new c.requires.shape opened r.user tag r.version _ c.args.file.now c.requires.empty readings c.restore_any.new.out;
+            err = came_err clouds named r.shape before between now old mid new c.requires.shape opened r.user tag r.version _ c.args.file.now c.requires.empty readings;
+            says = says_of clouds named r.shape before between now old mid new c.requires.shape opened r.user tag r.version _ c.args.file.now c.requires.empty readings;
           });
       due = is_due clouds named r.shape before between now old mid new c.requires.shape opened r.user tag r.version _
           c.restore_any.result c.args.file.now c.restore_any.new.out c.requires.empty c.requires.fate e.asked e.named e.restored c.law_of_readings.ensures.later c.law_of_readings.ensures.fault;
@@ -65,6 +66,21 @@ returns-clause-kept g c =
     (λ cloud. law.others named went.asks mid new cloud went.passed) c.requires.within
     (λ cloud told. g.met.V.Shelf.reads_image old.shelf.now cloud told)
     (subst (λ (l : List ℕ). KeepsDisks old.servers.shape l (clouds old.shelf.now) (clouds mid.shelf.now)) c.as_slice.ensures c.in-Ok.ensures.kept)
+
+pub returns-clause-spared : goal.returns-clause-spared
+returns-clause-spared g c =
+    let clouds = g.V.Shelf.cloud_at in
+    let named = c.args.wanted.now.clouds.now in
+    let old = c.args.link.now in
+    let mid = c.open_clouds.new.link in
+    let new = c.restore_any.new.link in
+    let before = g.V.Shelf.faults old.shelf.now in
+    let between = g.V.Shelf.faults mid.shelf.now in
+    let opened = subst (AreOpened clouds before between old mid) c.as_slice.ensures c.in-Ok.ensures.opened in
+    let went = c.restore_any.ensures.asked in
+    let law = c.law_of_readings.ensures in
+    let readings : Readings clouds = record { later = law.later; fault = law.fault; reading = law.reading; recalled = law.recalled } in
+    spared_on clouds named before between old mid new opened went.asks went.passed readings (λ cloud. law.others named went.asks mid new cloud went.passed) c.in-Ok.ensures.spared
 
 pub returns-clause-armings : goal.returns-clause-armings
 returns-clause-armings g c = λ cloud.
