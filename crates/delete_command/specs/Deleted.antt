@@ -1,5 +1,5 @@
 -- What a deletion over ports promises.
-use Rattle.std.specs.Prelude.{◌≡◌, ℕ, Bool, true, false, IsTrue, ◌↔◌, List, All, Ok, Err, if◌then◌else◌}
+use Rattle.std.specs.Prelude.{◌≡◌, ◌⊎◌, ℕ, Bool, true, false, IsTrue, ◌↔◌, List, All, Ok, Err, if◌then◌else◌}
 use Rattle.deletions.specs.CdBase.ids.UserId.{UserId}
 use Rattle.deletions.specs.CdBase.ids.Version.{Version}
 use Rattle.deletions.specs.CdBase.shape.Shape.{Shape}
@@ -14,8 +14,10 @@ use Rattle.ports_link.specs.declared.judging.AskedClouds.TheVariants as asked
 use Rattle.ports_link.specs.declared.meeting.MeetErr.{MeetErr}
 use Rattle.ports_link.specs.declared.meeting.MeetErr.TheVariants as unmet
 use Rattle.ports_link.specs.declared.refused.Refused.{Refused}
+use Rattle.ports_link.specs.Hellos.{hello}
 use Rattle.ports_link.specs.Meeting.{MeetsAll}
 use Rattle.ports_link.specs.Refusals.{refused_text}
+use Rattle.ports_link.specs.Sending.{SendsOnly}
 use Rattle.delete_command.specs.Asks.{HasAskedEach}
 use Rattle.delete_command.specs.Lines.{text_of, IsGone}
 use Rattle.delete_command.specs.Writing.{DeleteOutput, IsDeleteSilent, HasWrittenReplies}
@@ -35,6 +37,15 @@ pub record DeleteCall : Type 0 where
 -- the content of the request: a Delete of the version, by the tag that its path has in a store of this shape
 abbrev pub delete_bytes : DeleteCall → Shape → List ℕ
 delete_bytes call shape = request_bytes (requests.Delete call.user (record { 0 = tag shape call.path }) call.version)
+
+-- Hello, or the Delete of this version by the tag that its path has in some shape
+abbrev pub IsAskToDelete : UserId → List ℕ → Version → List ℕ → Type 0
+IsAskToDelete user path version content = (content ≡ hello)
+    ⊎ ((shape : Shape) × (content ≡ request_bytes (requests.Delete user (record { 0 = tag shape path }) version)))
+
+-- On no port anything was sent but such frames, or pieces of them.
+abbrev pub OnlyDeletes : UserId → List ℕ → Version → Telling → Telling → Type 0
+OnlyDeletes user path version = SendsOnly (IsAskToDelete user path version)
 
 -- Each address was dialled, in order, and asked Hello before the next was dialled, and each reply was as asked: they are
 -- the n clouds of a shape, in order. Then each cloud was asked the Delete, in order, and these are the lines of the

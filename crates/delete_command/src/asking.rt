@@ -6,6 +6,7 @@ ghost use Rattle.ports_link.specs.CdEdges.Causes.{HasCause, Rose};
 ghost use Rattle.ports_link.specs.CdEdges.Ports.{OthersStay};
 ghost use Rattle.deletions.specs.Frames.Frames.{IsContent};
 ghost use Rattle.ports_link.specs.Hellos.{ports_of};
+ghost use Rattle.ports_link.specs.Sending.{SendsOnly};
 ghost use Rattle.delete_command.specs.Asks.{Hears};
 ghost use Rattle.delete_command.specs.Steps.{IfLost, OneWent, Went, both as both_of};
 
@@ -44,6 +45,8 @@ fn ask_on<P: Ports>(
     ensures hears { IsTrue (P.tells ports.old).told
         → OnOk result (Hears request.now (P.tells ports.old) (P.tells ports.new) port reply.new) }
     ensures others { IsTrue (P.tells ports.old).told → OthersStay (P.tells ports.old) (P.tells ports.new) port }
+    ensures sends { IsTrue (P.tells ports.old).told
+        → SendsOnly (λ content. content ≡ request.now) (P.tells ports.old) (P.tells ports.new) }
     ensures told { (P.tells ports.new).told ≡ (P.tells ports.old).told }
     ensures cause { HasCause (P.faults ports.old) (P.faults ports.new) result }
 {
@@ -65,6 +68,8 @@ fn ask_one<P: Ports>(
     requires { IsContent request.now }
     ensures went { OneWent request.now (P.tells ports.old) line result text.old text.new (P.tells ports.new) }
     ensures others { IsTrue (P.tells ports.old).told → OthersStay (P.tells ports.old) (P.tells ports.new) line.1 }
+    ensures sends { IsTrue (P.tells ports.old).told
+        → SendsOnly (λ content. content ≡ request.now) (P.tells ports.old) (P.tells ports.new) }
     ensures told { (P.tells ports.new).told ≡ (P.tells ports.old).told }
     ensures later { P.faults ports.old ≤ P.faults ports.new }
     ensures lost { IfLost result (Rose (P.faults ports.old) (P.faults ports.new)) }
@@ -108,6 +113,8 @@ pub fn ask_each<P: Ports>(
     ensures went { Went request.now (P.tells ports.old) lines.now result text.old text.new (P.tells ports.new) }
     ensures others { IsTrue (P.tells ports.old).told → (port : ℕ) → ¬ Contains (ports_of lines.now) port
         → (P.tells ports.new).port port ≡ (P.tells ports.old).port port }
+    ensures sends { IsTrue (P.tells ports.old).told
+        → SendsOnly (λ content. content ≡ request.now) (P.tells ports.old) (P.tells ports.new) }
     ensures told { (P.tells ports.new).told ≡ (P.tells ports.old).told }
     ensures later { P.faults ports.old ≤ P.faults ports.new }
     ensures lost { IfLost result (Rose (P.faults ports.old) (P.faults ports.new)) }

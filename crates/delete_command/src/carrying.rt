@@ -3,6 +3,7 @@
 ghost use Rattle.std.specs.Prelude.{◌≡◌, ◌≤◌, [], length, IsTrue};
 ghost use Rattle.deletions.specs.CdBase.Limits.{IsPath};
 ghost use Rattle.ports_link.specs.Dialled.{OnlyDialled};
+ghost use Rattle.delete_command.specs.Deleted.{OnlyDeletes};
 ghost use Rattle.delete_command.specs.Steps.{Carries, of_asked};
 
 use crate::asking::{AskHalt, ask_each};
@@ -63,6 +64,8 @@ pub fn carry<P: Ports>(
       faults_after = P.faults ports.new;
     }) result text.new }
     ensures others { IsTrue (P.tells ports.old).told → OnlyDialled (P.tells ports.old) (P.tells ports.new) }
+    ensures sends { IsTrue (P.tells ports.old).told
+        → OnlyDeletes user path.now version (P.tells ports.old) (P.tells ports.new) }
     ensures told { (P.tells ports.new).told ≡ (P.tells ports.old).told }
     ensures later { P.faults ports.old ≤ P.faults ports.new }
 {

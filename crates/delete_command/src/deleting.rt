@@ -3,7 +3,7 @@
 ghost use Rattle.std.specs.Prelude.{◌≡◌, ◌≤◌, ◌⊎◌, length, IsTrue, if◌then◌else◌};
 ghost use Rattle.deletions.specs.CdBase.Limits.{IsPath};
 ghost use Rattle.ports_link.specs.Dialled.{OnlyDialled};
-ghost use Rattle.delete_command.specs.Deleted.{IsDeleted};
+ghost use Rattle.delete_command.specs.Deleted.{IsDeleted, OnlyDeletes};
 ghost use Rattle.delete_command.specs.Writing.{output_of};
 
 use crate::carrying::{DeleteErr, carry};
@@ -68,6 +68,10 @@ pub fn delete<K: Sink, P: Ports>(
 
     // Every port but those that were dialled is as it was.
     ensures others { IsTrue (P.tells ports.old).told → OnlyDialled (P.tells ports.old) (P.tells ports.new) }
+
+    // Nothing but Hellos and Deletes of this version was sent, or pieces of them, whatever came, want of memory too.
+    ensures sends { IsTrue (P.tells ports.old).told
+        → OnlyDeletes user path.now version (P.tells ports.old) (P.tells ports.new) }
     ensures told { (P.tells ports.new).told ≡ (P.tells ports.old).told }
     ensures later { P.faults ports.old ≤ P.faults ports.new }
     ensures numbers { (result ≡ 0) ⊎ (result ≡ 4) ⊎ (result ≡ 6) ⊎ (result ≡ 8) ⊎ (result ≡ 9) }

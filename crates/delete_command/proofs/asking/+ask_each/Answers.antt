@@ -1,4 +1,4 @@
-use Rattle.std.proofs.Common.{ℕ, Bool, true, List, Ok, Err, sym, ◌∙◌, IsTrue, subst}
+use Rattle.std.proofs.Common.{◌≡◌, ℕ, Bool, true, List, Ok, Err, sym, ◌∙◌, IsTrue, subst}
 use Rattle.std.specs.Prelude.{Result}
 use Rattle.std.specs.List.{Contains}
 use Rattle.deletions.specs.CdBase.ids.CloudNo.{CloudNo}
@@ -6,6 +6,7 @@ use Rattle.ports_link.specs.Hellos.{ports_of}
 use Rattle.delete_command.specs.declared.asking.AskHalt.{AskHalt}
 use Rattle.delete_command.specs.Steps.{Went, both}
 use Rattle.delete_command.proofs.Going.{went_none, went_stopped, went_more, not_first, not_later}
+use Rattle.ports_link.proofs.Sending.{sends_none, sends_twice}
 use Rattle.delete_command.proofs.asking.+ask_each.Goals as goal
 
 pub returns-in_default-clause-went : goal.returns-in_default-clause-went
@@ -45,3 +46,12 @@ returns-clause-others g t c = λ told port none.
     let away = subst (λ (ls : List (CloudNo × ℕ)). ¬ Contains (ports_of ls) port) c.in-Some.ensures none in
     c.ask_each.ensures.others (subst IsTrue (sym c.in-Ok.ensures.told) told) port (not_later line rest port away)
     ∙ c.in-Ok.ensures.others told port (not_first line rest port away)
+
+pub returns-in_default-clause-sends : goal.returns-in_default-clause-sends
+returns-in_default-clause-sends g t c = λ told. sends_none (λ content. content ≡ c.args.request.now) (g.P.Ports.tells c.args.ports.now)
+
+pub returns-clause-sends : goal.returns-clause-sends
+returns-clause-sends g t c = λ told.
+    let tells = g.P.Ports.tells in
+    sends_twice (λ content. content ≡ c.args.request.now) (tells c.args.ports.now) (tells c.ask_one.new.ports) (tells c.ask_each.new.ports) (c.ask_one.ensures.sends told)
+    (c.ask_each.ensures.sends (subst IsTrue (sym c.ask_one.ensures.told) told))

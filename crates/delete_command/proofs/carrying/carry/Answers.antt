@@ -1,9 +1,11 @@
-use Rattle.std.proofs.Common.{◌≡◌, ℕ, Bool, List, length, sym, ◌∙◌, subst}
+use Rattle.std.proofs.Common.{◌≡◌, ℕ, Bool, List, IsTrue, length, sym, ◌∙◌, subst, inl, inr}
 use Rattle.std.specs.Prelude.{Result}
 use Rattle.deletions.specs.CdBase.ids.CloudNo.{CloudNo}
 use Rattle.ports_link.specs.CdEdges.Causes.{Rose}
 use Rattle.delete_command.specs.declared.carrying.DeleteErr.{DeleteErr}
-use Rattle.delete_command.specs.Deleted.{DeleteCall, delete_bytes}
+use Rattle.delete_command.specs.Deleted.{DeleteCall, IsAskToDelete, delete_bytes}
+use Rattle.ports_link.specs.Hellos.{hello}
+use Rattle.ports_link.proofs.Sending.{sends_none, sends_twice, sends_weaker}
 use Rattle.delete_command.specs.Steps.{Carries, IfLost, Went}
 use Rattle.delete_command.proofs.Ending.{carried}
 use Rattle.delete_command.proofs.carrying.carry.Goals as goal
@@ -37,3 +39,43 @@ returns-clause-carries g c =
     c.requires.empty went
     (subst (λ (n : ℕ). IfLost came (Rose n (faults c.ask_each-came.new.ports))) c.in-Ok-meet_all.ensures.cause
     c.ask_each-came.ensures.lost))
+
+pub returns-in-Err-clause-sends : goal.returns-in-Err-clause-sends
+returns-in-Err-clause-sends g c = λ told. sends_none (IsAskToDelete c.args.user c.args.path.now c.args.version) (g.P.Ports.tells c.args.ports.now)
+
+pub returns-in-Err-Undialled-clause-sends : goal.returns-in-Err-Undialled-clause-sends
+returns-in-Err-Undialled-clause-sends g c = λ told.
+    sends_weaker (λ content. content ≡ hello) (IsAskToDelete c.args.user c.args.path.now c.args.version) (λ content is. inl is)
+    (g.P.Ports.tells c.args.ports.now) (g.P.Ports.tells c.meet_all.new.ports) (c.meet_all.ensures.sends told)
+
+pub returns-in-Err-Refused-clause-sends : goal.returns-in-Err-Refused-clause-sends
+returns-in-Err-Refused-clause-sends g c = λ told.
+    sends_weaker (λ content. content ≡ hello) (IsAskToDelete c.args.user c.args.path.now c.args.version) (λ content is. inl is)
+    (g.P.Ports.tells c.args.ports.now) (g.P.Ports.tells c.meet_all.new.ports) (c.meet_all.ensures.sends told)
+
+pub returns-in-Err-Lost-clause-sends : goal.returns-in-Err-Lost-clause-sends
+returns-in-Err-Lost-clause-sends g c = λ told.
+    sends_weaker (λ content. content ≡ hello) (IsAskToDelete c.args.user c.args.path.now c.args.version) (λ content is. inl is)
+    (g.P.Ports.tells c.args.ports.now) (g.P.Ports.tells c.meet_all.new.ports) (c.meet_all.ensures.sends told)
+
+pub returns-in-Err-NoMemory-clause-sends : goal.returns-in-Err-NoMemory-clause-sends
+returns-in-Err-NoMemory-clause-sends g c = λ told.
+    sends_weaker (λ content. content ≡ hello) (IsAskToDelete c.args.user c.args.path.now c.args.version) (λ content is. inl is)
+    (g.P.Ports.tells c.args.ports.now) (g.P.Ports.tells c.meet_all.new.ports) (c.meet_all.ensures.sends told)
+
+pub returns-in-Err-delete_request-clause-sends : goal.returns-in-Err-delete_request-clause-sends
+returns-in-Err-delete_request-clause-sends g c = λ told.
+    sends_weaker (λ content. content ≡ hello) (IsAskToDelete c.args.user c.args.path.now c.args.version) (λ content is. inl is)
+    (g.P.Ports.tells c.args.ports.now) (g.P.Ports.tells c.meet_all.new.ports) (c.meet_all.ensures.sends told)
+
+pub returns-clause-sends : goal.returns-clause-sends
+returns-clause-sends g c = λ told.
+    let tells = g.P.Ports.tells in
+    let Is = IsAskToDelete c.args.user c.args.path.now c.args.version in
+    let behind = tells c.meet_all.new.ports in
+    let after = tells c.ask_each-came.new.ports in
+    sends_twice Is (tells c.args.ports.now) behind after
+    (sends_weaker (λ content. content ≡ hello) Is (λ content is. inl is) (tells c.args.ports.now) behind (c.meet_all.ensures.sends told))
+    (sends_weaker (λ content. content ≡ c.as_slice.result.now) Is
+    (λ content is. inr (c.in-Ok-meet_all.greeted.shape, is ∙ c.as_slice.ensures ∙ c.in-Ok-delete_request.ensures.asks.spelled))
+    behind after (c.ask_each-came.ensures.sends (subst IsTrue (sym c.meet_all.ensures.told) told)))
