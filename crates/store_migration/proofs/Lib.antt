@@ -4,6 +4,7 @@ pub mod Asking
 pub mod AtGate
 pub mod Cases
 pub mod Lawful
+pub mod Leaving
 pub mod Loaded
 pub mod NextKept
 pub mod OneMigration

@@ -114,7 +114,7 @@ module _ (shape : Shape) (cloud_no : CloudNo) (list : List Command) (image : Ima
 -- ---- a cloud that was read
 
 -- a journal that was read to its end has its chain
-ended_chain : (journal : JournalState) (store : Store) (w : Where) → IsJournalEnded journal store w → HasChain store.read w
+pub ended_chain : (journal : JournalState) (store : Store) (w : Where) → IsJournalEnded journal store w → HasChain store.read w
 ended_chain journal store w e = record {
   current = e.is_current;
   chain_is = subst (λ (h : ℕ). IsJournal (all_bodies w) (half_of h store.read)) e.half e.read.chain_is;

@@ -6,6 +6,7 @@ pub mod Finding
 pub mod JournalStart
 pub mod Judging
 pub mod Kit
+pub mod Left
 pub mod MigrationModel
 pub mod Reading
 pub mod Steps

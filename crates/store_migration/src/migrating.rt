@@ -34,6 +34,7 @@ ghost use Rattle.store_migration.specs.Answers.{MigratedAs, OnFault, IfAnswered,
 ghost use Rattle.store_migration.specs.Exact.{Migrates};
 ghost use Rattle.store_migration.specs.Judging.{JudgedAs, JudgedBy, SettledAs, TakenOverAs, GoesOn};
 ghost use Rattle.store_migration.specs.Kit.{HasFirst, IsKit};
+ghost use Rattle.store_migration.specs.Left.{checkpoint_for, HasEitherPlace, IsLaidFrom, IfLaid, IsLeftBy};
 ghost use Rattle.store_migration.specs.Reading.{IsReadFirst};
 ghost use Rattle.store_migration.specs.declared.errors.MigrateErr.TheVariants as why;
 
@@ -95,6 +96,7 @@ fn judge(memory: &mut CloudMemory, rooms: &UserRooms) -> Result<u64, MigrateErr>
     requires first { HasFirst memory.old }
     requires fit { FitsRecords (memory_of memory.old) }
     ensures judged { JudgedAs rooms.now (memory_of memory.old) result }
+    ensures compacted { OnOk result (IsCompacted memory.old (memory_of memory.new)) }
     ensures by_list { (shape : OfStore) (cloud : ℕ) (list : List Command) (table : List Row) → IsSound shape cloud list
         → Remembers shape list (with_table table (memory_of memory.old)) → JudgedBy shape rooms.now list result }
     ensures next { (shape : OfStore) (cloud : OneCloud) (list : List Command) (journal : journals.JournalState)
@@ -143,6 +145,10 @@ fn settle<V: Shelf>(
     ensures goes_on { IsTrue (V.cloud_at shelf.old cloud.0).told → (w : Where)
         → journals.IsJournalEnded (journals.state_of kit.old.journal) ((V.cloud_at shelf.old cloud.0).now OfJournal) w
         → GoesOn (V.cloud_at shelf.old cloud.0) (V.cloud_at shelf.new cloud.0) }
+    ensures laid { IsTrue (V.cloud_at shelf.old cloud.0).told → (w : Where)
+        → journals.IsJournalEnded (journals.state_of kit.old.journal) ((V.cloud_at shelf.old cloud.0).now OfJournal) w
+        → HasEitherPlace w (checkpoint_for header.now commands kit.old.memory w) (V.cloud_at shelf.old cloud.0)
+        (V.cloud_at shelf.new cloud.0) result }
     ensures call { IsCall (V.cloud_at shelf.old) (V.cloud_at shelf.new) cloud.0 (V.faults shelf.old)
         (V.faults shelf.new) }
     ensures counts { OnFault result
@@ -205,6 +211,10 @@ fn take_over<V: Shelf>(
     ensures goes_on { IsTrue (V.cloud_at shelf.old cloud.0).told → (w : Where)
         → journals.IsJournalEnded (journals.state_of kit.old.journal) ((V.cloud_at shelf.old cloud.0).now OfJournal) w
         → GoesOn (V.cloud_at shelf.old cloud.0) (V.cloud_at shelf.new cloud.0) }
+    ensures laid { IsTrue (V.cloud_at shelf.old cloud.0).told → (w : Where)
+        → journals.IsJournalEnded (journals.state_of kit.old.journal) ((V.cloud_at shelf.old cloud.0).now OfJournal) w
+        → IfLaid result (IsLaidFrom (model.header_two shape cloud rooms.now) kit.old.memory w
+        (V.cloud_at shelf.old cloud.0) (V.cloud_at shelf.new cloud.0) result) }
     ensures spared { IfRefused result (shelf.new ≡ shelf.old) }
     ensures call { IsCall (V.cloud_at shelf.old) (V.cloud_at shelf.new) cloud.0 (V.faults shelf.old)
         (V.faults shelf.new) }
@@ -248,6 +258,8 @@ fn migrate_with<V: Shelf>(
         (AreSynced (V.cloud_at shelf.old cloud.0) (V.cloud_at shelf.new cloud.0)) }
     ensures synced_first { IsTrue (V.cloud_at shelf.old cloud.0).told → IfAnswered result
         (BeginsSynced (V.cloud_at shelf.old cloud.0) (V.cloud_at shelf.new cloud.0)) }
+    ensures left { IsTrue (V.cloud_at shelf.old cloud.0).told
+        → IsLeftBy shape cloud rooms.now (V.cloud_at shelf.old cloud.0) (V.cloud_at shelf.new cloud.0) result }
     ensures memory { IfNoMemory result ⊥ }
     ensures call { IsCall (V.cloud_at shelf.old) (V.cloud_at shelf.new) cloud.0 (V.faults shelf.old)
         (V.faults shelf.new) }
@@ -286,6 +298,10 @@ fn migrate_with<V: Shelf>(
 /// - `Open(RoomsTooSmall)`: a record passes a room that format 1 had.
 /// - `TooLarge`: the least user that keeps more than it may, and its first room of owners, shares, recipes and files.
 ///
+/// Whatever a told cloud stands for, Shares and Recipes are only read and synced: each image since is as before, or the journal
+/// has the chain that was read or, whole, the checkpoint of what its records leave without what no user owns; after Ok it has
+/// the checkpoint (`left`).
+///
 /// After `NoMemory` nothing was done, and after any other of these the three syncs were made and nothing else.
 /// `Fault` comes only where the cloud's count of faults rose: the cloud is as it was, or migrated.
 pub fn migrate<V: Shelf>(
@@ -311,6 +327,8 @@ pub fn migrate<V: Shelf>(
         (AreSynced (V.cloud_at shelf.old cloud.0) (V.cloud_at shelf.new cloud.0)) }
     ensures synced_first { IsTrue (V.cloud_at shelf.old cloud.0).told → IfAnswered result
         (BeginsSynced (V.cloud_at shelf.old cloud.0) (V.cloud_at shelf.new cloud.0)) }
+    ensures left { IsTrue (V.cloud_at shelf.old cloud.0).told
+        → IsLeftBy shape cloud rooms (V.cloud_at shelf.old cloud.0) (V.cloud_at shelf.new cloud.0) result }
     ensures undone { IfNoMemory result (shelf.new ≡ shelf.old) }
     ensures call { IsCall (V.cloud_at shelf.old) (V.cloud_at shelf.new) cloud.0 (V.faults shelf.old)
         (V.faults shelf.new) }

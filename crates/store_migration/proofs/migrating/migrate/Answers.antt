@@ -9,3 +9,6 @@ returns-in-Err-clause-any_moment g c list may =
 
 pub returns-in-Ok-clause-undone : goal.returns-in-Ok-clause-undone
 returns-in-Ok-clause-undone g c = never_no_memory c.migrate_with.result _ c.migrate_with.ensures.memory
+
+pub returns-in-Err-clause-left : goal.returns-in-Err-clause-left
+returns-in-Err-clause-left g c told = started (g.V.Shelf.cloud_at c.args.shelf.now c.args.cloud.0) _ (λ image left. left)

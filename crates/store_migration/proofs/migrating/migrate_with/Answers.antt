@@ -6,6 +6,8 @@ use Rattle.fresh_checkpoints.specs.CloudMemory.Rooms.{memory_of}
 use Rattle.large_users.specs.MigrationModel.Migrating.{IsBetween}
 use Rattle.store_opening.specs.Synced.{AreSynced}
 use Rattle.store_migration.proofs.Answering.{read_as, moves_as, unread_as, refused_map, unread_refused, answered_of, unread_answered, over_no_memory, unread_no_memory, still_goes_on, begins, counted_behind, unread_counts}
+use Rattle.store_opening.specs.HalfJournal.States as journals
+use Rattle.store_migration.proofs.Leaving.{laid_left, unread_left}
 use Rattle.store_migration.proofs.migrating.migrate_with.Goals as goal
 
 pub read_old-requires : goal.read_old-requires
@@ -98,3 +100,21 @@ returns-in-Ok-clause-counts g c =
 
 pub returns-in-Err-clause-counts : goal.returns-in-Err-clause-counts
 returns-in-Err-clause-counts g c = unread_counts c.in-Err.error _ _ c.in-Err.ensures.counts
+
+pub returns-in-Ok-clause-left : goal.returns-in-Ok-clause-left
+returns-in-Ok-clause-left g c told =
+    let number = c.args.cloud.0 in
+    let c0 = g.V.Shelf.cloud_at c.args.shelf.now number in let c1 = g.V.Shelf.cloud_at c.read_old.new.shelf number in let c2 = g.V.Shelf.cloud_at c.take_over.new.shelf number in
+    let told1 = told_on c0 c1 c.read_old.ensures.call.told told in
+    let ended = c.in-Ok.ensures.ended told in
+    laid_left c.args.shape c.args.cloud c.args.rooms.now c.read_old.new.memory (journals.state_of c.read_old.new.journal) ended.0 c0 c1 c2
+    (c.read_old.ensures.any_moment told) (c.in-Ok.ensures.synced told) (c.in-Ok.ensures.exact told) ended.1 c.take_over.result
+    (refused_map c.take_over.result _ _ (λ same. ap (λ s. g.V.Shelf.cloud_at s number) same) c.take_over.ensures.spared)
+    (over_no_memory c.args.rooms.now (memory_of c.read_old.new.memory) c.take_over.result c.take_over.ensures.taken_over)
+    (c.take_over.ensures.laid told1 ended.0 ended.1)
+
+pub returns-in-Err-clause-left : goal.returns-in-Err-clause-left
+returns-in-Err-clause-left g c told =
+    let number = c.args.cloud.0 in
+    unread_left c.args.shape c.args.cloud c.args.rooms.now (g.V.Shelf.cloud_at c.args.shelf.now number) (g.V.Shelf.cloud_at c.read_old.new.shelf number) c.in-Err.error
+    (c.read_old.ensures.any_moment told)

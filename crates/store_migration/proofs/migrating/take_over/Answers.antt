@@ -14,6 +14,8 @@ use Rattle.fresh_checkpoints.specs.Switching.{IsMigrating}
 use Rattle.large_users.specs.MigrationModel.Migrating.{header_one, header_two}
 use Rattle.std.specs.Prelude.{OnOk}
 use Rattle.store_migration.proofs.Answering.{taken_over, judged_over, settled_as, judged_as, refused_of_err, settled_not_refused, still_goes_on, kept_counts, no_call, judged_counts}
+use Rattle.store_migration.proofs.Leaving.{judged_not_laid, settled_laid, settled_number}
+use Rattle.store_migration.specs.Left.{checkpoint_for, HasEitherPlace}
 use Rattle.store_migration.proofs.migrating.take_over.Goals as goal
 
 pub settle-requires : goal.settle-requires
@@ -85,3 +87,18 @@ pub returns-in-Err-clause-counts : goal.returns-in-Err-clause-counts
 returns-in-Err-clause-counts g c =
     judged_counts c.args.rooms.now (memory_of c.args.kit.now.memory) c.in-Err.error _ _ c.in-Err.ensures.judged
     (kept_counts (g.V.Shelf.cloud_at c.args.shelf.now c.args.cloud.0) (g.V.Shelf.faults c.args.shelf.now))
+
+pub returns-in-Ok-clause-laid : goal.returns-in-Ok-clause-laid
+returns-in-Ok-clause-laid g c told w ended =
+    let c0 = g.V.Shelf.cloud_at c.args.shelf.now c.args.cloud.0 in let c1 = g.V.Shelf.cloud_at c.settle.new.shelf c.args.cloud.0 in
+    settled_laid c.in-Ok.commands c.settle.result _ c.settle.ensures.settled (record {
+      commands = c.in-Ok.commands;
+      number = settled_number c.in-Ok.commands c.settle.result c.settle.ensures.settled;
+      kept = c.judge.new.memory;
+      compacted = c.in-Ok.ensures.compacted;
+      either = subst (λ (h : Header). HasEitherPlace w (checkpoint_for h c.in-Ok.commands c.judge.new.memory w) c0 c1 c.settle.result) c.header_two.ensures.value
+          (c.settle.ensures.laid told w ended);
+    })
+
+pub returns-in-Err-clause-laid : goal.returns-in-Err-clause-laid
+returns-in-Err-clause-laid g c told w ended = judged_not_laid c.args.rooms.now (memory_of c.args.kit.now.memory) c.in-Err.error _ c.in-Err.ensures.judged
