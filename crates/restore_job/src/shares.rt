@@ -2,14 +2,18 @@
 
 ghost use Rattle.std.specs.Prelude.{◌≡◌, ◌+◌, ◌≤◌, ◌<◌, ◌^◌, length};
 ghost use Rattle.user_dedup.specs.CdBase.Limits.{secret_limit};
+ghost use Rattle.user_dedup.specs.MessageFields.Fingerprints.{batch_limit};
 ghost use Rattle.user_dedup.specs.MessageFields.Shares.{share_limit};
+ghost use Rattle.sha2.specs.Sha256.{sha256 as sha256_of};
 ghost use Rattle.restore_job.specs.Steps.{AreItemsAt, Checks, IsItem, Takes};
 
 use crate::RestoreErr;
 use crate::rooms::SecretRooms;
-use user_dedup::{CloudNo, Fp, Item, Shape, SharesView, sha256, share_len};
+use share_digests::digests_of;
+use user_dedup::{CloudNo, Fp, Item, Shape, SharesView, share_len};
 
-// Looks at the length and then at the hash of a share of secret number `secret`, which has `secret_len` bytes.
+// Looks at the length and then at the hash, which is at hand, of a share of secret number `secret`, which has `secret_len`
+// bytes.
 fn check_share(
     shape: Shape,
     cloud: CloudNo,
@@ -17,7 +21,9 @@ fn check_share(
     secret_len: u32,
     named: Fp,
     share: &[u8],
+    digest: [u8; 32],
 ) -> Result<(), RestoreErr>
+    requires digest { digest ≡ sha256_of share.now }
     requires some { 1 ≤ secret_len }
     requires few { secret_len ≤ secret_limit }
     requires short { length share.now ≤ share_limit }
@@ -33,7 +39,7 @@ fn check_share(
             wanted,
         });
     }
-    let found = sha256(share);
+    let found = Fp(digest);
     if found != named {
         return Err(RestoreErr::BadShare {
             cloud,
@@ -46,8 +52,7 @@ fn check_share(
 }
 
 /// Looks at the shares of secrets `place` on, in order, and appends each in its room. `firsts` has the lengths of the
-/// secrets, and
-/// `items` the fingerprints of the shares.
+/// secrets, and `items` the fingerprints of the shares. All are hashed before the first is looked at.
 pub fn take_shares(
     shape: Shape,
     cloud: CloudNo,
@@ -59,6 +64,7 @@ pub fn take_shares(
     rooms: &mut SecretRooms,
 ) -> Result<(), RestoreErr>
     requires all { length shares.now ≡ count }
+    requires batch { count ≤ batch_limit }
     requires firsts { place + count ≤ length firsts.now }
     requires items { place + count ≤ length items.now }
     requires lens { AreItemsAt firsts.now }
@@ -67,6 +73,7 @@ pub fn take_shares(
     ensures takes { Takes shape cloud firsts.now items.now place count shares.now rooms.old rooms.new result }
     ensures rooms { length rooms.new ≡ length rooms.old }
 {
+    let digests = digests_of(shares);
     let mut rest = shares.copied();
     for j in 0..count {
         let Some((share, more)) = rest.split_first() else {
@@ -75,7 +82,16 @@ pub fn take_shares(
         let first = firsts[place + j];
         let item = items[place + j];
         let secret = (place + j) as u32;
-        check_share(shape, cloud, secret, first.secret_len, item.fp, share)?;
+        let digest = digests[j];
+        check_share(
+            shape,
+            cloud,
+            secret,
+            first.secret_len,
+            item.fp,
+            share,
+            digest,
+        )?;
         rooms.append(j, share)?;
         rest = more;
     }
