@@ -16,7 +16,8 @@ ghost use Rattle.server_commands.specs.Entering.{new_of};
 ghost use Rattle.server_commands.specs.Picked.{fps_of, with_shares, Picked};
 
 use open_store::OpenStore;
-use server_reads::{CloudMemory, Fp, New, SharesView, UserId, sha256};
+use server_reads::{CloudMemory, Fp, New, SharesView, UserId};
+use share_digests::digests_of;
 
 // The first share and those behind it. It asks for one share at least.
 fn next_share<'a>(shares: &SharesView<'a>) -> (&'a [u8], SharesView<'a>)
@@ -52,8 +53,16 @@ fn has_fp(news: &[New], fp: &Fp) -> bool
     false
 }
 
-// Whether a share is new, beside the first `count` ones that are. It is put behind them then.
-fn pick(memory: &CloudMemory, user: UserId, share: &[u8], news: &mut [New], count: usize) -> bool
+// Whether a share is new, whose fingerprint is at hand, beside the first `count` ones that are. It is put behind them then.
+fn pick(
+    memory: &CloudMemory,
+    user: UserId,
+    share: &[u8],
+    fp: Fp,
+    news: &mut [New],
+    count: usize,
+) -> bool
+    requires fp { fp ≡ fingerprint share.now }
     requires room { count < length news.old }
     requires range { IsShare share.now }
     ensures fresh { IsTrue result → get (memory_of memory.now).owners (owner_of user.0 (fingerprint share.now).0)
@@ -65,7 +74,6 @@ fn pick(memory: &CloudMemory, user: UserId, share: &[u8], news: &mut [New], coun
     ensures put { IsTrue result → news.new ≡ slice_set news.old count (new_of share.now) }
     ensures left { result ≡ false → news.new ≡ news.old }
 {
-    let fp = sha256(share);
     let (before, _) = news.split_at(count);
     if memory.owns(user, &fp) || has_fp(before, &fp) {
         false
@@ -117,11 +125,13 @@ pub(crate) fn collect(
     ensures settled { IsSettled store.new }
     ensures meet { EndsMeet store.new }
 {
+    let digests = digests_of(shares);
     let mut rest = shares.copied();
     let mut count = 0;
-    for _place in 0..shares.len() {
+    for place in 0..shares.len() {
         let (share, others) = next_share(&rest);
-        let is_new = pick(&store.memory, user, share, news, count);
+        let fp = Fp(digests[place]);
+        let is_new = pick(&store.memory, user, share, fp, news, count);
         if is_new {
             stage_one(store, share, &news[count].fp);
             count += 1;
