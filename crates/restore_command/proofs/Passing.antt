@@ -6,12 +6,14 @@ use Rattle.std.proofs.lemmas.Bool.{cases_eq}
 use Rattle.ports_link.specs.CdEdges.Ports.{Telling}
 use Rattle.ports_link.specs.Messages.ReplyReading.{reply_at, reply_left}
 use Rattle.ports_link.specs.Messages.reply.Reply.{Reply}
-use Rattle.ports_link.specs.UserDedup.Link.{Exchange, Passes, ReadsFrom}
+use Rattle.ports_link.specs.UserDedup.Link.{Exchange, IsReading, Passes, ReadsFrom}
 use Rattle.ports_link.specs.declared.link.PortsLink.{PortsLink}
 use Rattle.ports_link.specs.declared.lines.CloudLine.{CloudLine}
 use Rattle.ports_link.specs.Lines.{AsksOn, Hears, Ends, Deaf, line_of}
 use Rattle.ports_link.specs.Tells.{IsHeard, telling}
+use Rattle.ports_link.proofs.Sending.{sends_none, sends_twice, sends_weaker}
 use Rattle.subset_restore.specs.RestoreJob.Asking.{IsReadable}
+use Rattle.restore_command.specs.Calls.{OnlyReads}
 
 -- each of these clouds is reached on one of these ports
 abbrev pub AreOn : List CloudLine → List ℕ → List ℕ → Type 0
@@ -73,6 +75,21 @@ module _ {P : Type 0} (tells : P → Telling) (faults : P → ℕ) where
       others named ports es mid new chain.1.2 (subst IsTrue (sym one.told) told)
       (λ cloud has. let p = on cloud has in (p.0, one.lines cloud ∙ p.1, p.2)) port not
       ∙ (one.bytes told o.0 o.1).others port apart
+
+  -- nothing was sent but what adds nothing
+  pub sends_along : (named : List ℕ) (es : List Exchange) (old new : PortsLink P)
+      → Passes (telling tells faults) (ReadsFrom named) old es new → IsTrue (tells old.ports.now).told
+      → OnlyReads (tells old.ports.now) (tells new.ports.now)
+  sends_along named [] old new same told =
+      subst (λ (l : PortsLink P). OnlyReads (tells old.ports.now) (tells l.ports.now)) (sym same)
+      (sends_none IsReading (tells old.ports.now))
+  sends_along named (e ∷ es) old new chain told =
+      let mid = chain.1.0 in
+      let one = chain.1.1 in
+      sends_twice IsReading (tells old.ports.now) (tells mid.ports.now) (tells new.ports.now)
+      (sends_weaker (λ content. content ≡ e.content) IsReading (λ content is. subst IsReading (sym is) chain.0.1)
+      (tells old.ports.now) (tells mid.ports.now) (one.sends told))
+      (sends_along named es mid new chain.1.2 (subst IsTrue (sym one.told) told))
 
   -- a line goes on as it was where each reply of its cloud can be read
   pub open_on : (Unread : ℕ → Type 0) (es : List Exchange) (old new : PortsLink P)

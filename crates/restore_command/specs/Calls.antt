@@ -11,6 +11,8 @@ use Rattle.ports_link.specs.declared.greeting.Greeted.{Greeted}
 use Rattle.ports_link.specs.declared.judging.AskedClouds.TheVariants as asked
 use Rattle.ports_link.specs.Dialled.{AreDialled}
 use Rattle.ports_link.specs.Meeting.{MeetsAll}
+use Rattle.ports_link.specs.Sending.{SendsOnly}
+use Rattle.ports_link.specs.UserDedup.Link.{IsReading}
 
 -- What is asked for, of how many addresses, what the ports tell before and after it, and how often they have failed.
 pub record RestoreCall : Type 0 where
@@ -39,6 +41,10 @@ ports_of lines = map (λ (line : CloudNo × ℕ). line.1) lines
 -- as many clouds of a shape as give a file back, or more, and they rise.
 abbrev pub Met : RestoreCall → Greeted → Telling → Type 0
 Met call greeted behind = MeetsAll asked.Restore call.addresses call.before behind (Ok greeted)
+
+-- On no port anything was sent but frames of requests that add nothing to any list, or pieces of them.
+abbrev pub OnlyReads : Telling → Telling → Type 0
+OnlyReads = SendsOnly IsReading
 
 -- Some ports were dialled, and every other port is as it was.
 abbrev pub OnlyDialled : Telling → Telling → Type 0

@@ -9,7 +9,7 @@ ghost use Rattle.ports_link.specs.declared.judging.AskedClouds.TheVariants as as
 ghost use Rattle.ports_link.specs.Hellos.{AreReached, HasClouds, HaveTalks, clouds_of};
 ghost use Rattle.subset_restore.specs.RestoreJob.Asking.{is_lost};
 ghost use Rattle.subset_restore.specs.RestoreJob.Refusals.{Names};
-ghost use Rattle.restore_command.specs.Calls.{RestoreCall, ports_of};
+ghost use Rattle.restore_command.specs.Calls.{OnlyReads, RestoreCall, ports_of};
 ghost use Rattle.restore_command.specs.Tried.{CameBy};
 
 use ports_link::{
@@ -64,6 +64,7 @@ pub fn restore_greeted<P: Ports>(
     ensures named { IfErr result (Names (Contains (clouds_of greeted.now.lines.items))) }
     ensures lost { is_lost result ≡ true → Rose (P.faults ports.old) (P.faults ports.new) }
     ensures later { P.faults ports.old ≤ P.faults ports.new }
+    ensures sends { IsTrue (P.tells ports.old).told → OnlyReads (P.tells ports.old) (P.tells ports.new) }
     ensures told { (P.tells ports.new).told ≡ (P.tells ports.old).told }
     ensures others { IsTrue (P.tells ports.old).told → (port : ℕ) → ¬ Contains (ports_of greeted.now.lines.items) port
         → (P.tells ports.new).port port ≡ (P.tells ports.old).port port }

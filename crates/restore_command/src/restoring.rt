@@ -2,7 +2,7 @@
 
 ghost use Rattle.std.specs.Prelude.{◌≡◌, ◌≤◌, ◌⊎◌, length, IsTrue};
 ghost use Rattle.ports_link.specs.CdBase.Limits.{IsPath};
-ghost use Rattle.restore_command.specs.Calls.{OnlyDialled};
+ghost use Rattle.restore_command.specs.Calls.{OnlyDialled, OnlyReads};
 ghost use Rattle.restore_command.specs.Ends.{IsFetched};
 
 use crate::fetching::{FetchErr, fetch};
@@ -61,6 +61,9 @@ pub fn restore<K: Sink, P: Ports>(
 
     // Every port but those that were dialled is as it was.
     ensures others { IsTrue (P.tells ports.old).told → OnlyDialled (P.tells ports.old) (P.tells ports.new) }
+
+    // Nothing but Hellos and requests that add nothing was sent, or pieces of them, whatever came, want of memory too.
+    ensures sends { IsTrue (P.tells ports.old).told → OnlyReads (P.tells ports.old) (P.tells ports.new) }
     ensures told { (P.tells ports.new).told ≡ (P.tells ports.old).told }
     ensures later { P.faults ports.old ≤ P.faults ports.new }
     ensures numbers { (result ≡ 0) ⊎ (result ≡ 4) ⊎ (result ≡ 6) ⊎ (result ≡ 8) ⊎ (result ≡ 9) }

@@ -1,4 +1,11 @@
-use Rattle.std.proofs.Common.{ℕ, length, refl, sym, subst, IsTrue}
+use Rattle.std.proofs.Common.{◌≡◌, ℕ, List, length, refl, sym, subst, IsTrue}
+use Rattle.ports_link.specs.CdEdges.Ports.{Telling}
+use Rattle.ports_link.specs.Hellos.{hello}
+use Rattle.ports_link.specs.Messages.request.Request.TheVariants as requests
+use Rattle.ports_link.specs.Sending.{SendsOnly}
+use Rattle.ports_link.specs.UserDedup.Link.{IsReading}
+use Rattle.ports_link.proofs.Sending.{sends_none, sends_twice, sends_weaker}
+use Rattle.restore_command.specs.Calls.{OnlyReads}
 use Rattle.ports_link.specs.CdEdges.Causes.{Rose}
 use Rattle.restore_command.specs.Calls.{RestoreCall}
 use Rattle.restore_command.proofs.Unfetched.{not_fetched}
@@ -50,3 +57,34 @@ returns-clause-fetches g c =
       subst IsTrue (sym c.in-Ok-meet_all.ensures.told) told,
       c.in-Ok-meet_all.ensures.talks told,
     )))
+
+-- who only meets asks nothing that adds
+met_reads : (t u : Telling) → SendsOnly (λ content. content ≡ hello) t u → OnlyReads t u
+met_reads t u sends = sends_weaker (λ content. content ≡ hello) IsReading (λ content is. (requests.Hello, record { fits = tt; spelled = is }, tt)) t u sends
+
+pub returns-in-Err-clause-sends : goal.returns-in-Err-clause-sends
+returns-in-Err-clause-sends g c = λ told. sends_none IsReading (g.P.Ports.tells c.args.ports.now)
+
+pub returns-in-Err-Undialled-clause-sends : goal.returns-in-Err-Undialled-clause-sends
+returns-in-Err-Undialled-clause-sends g c = λ told. met_reads (g.P.Ports.tells c.args.ports.now) (g.P.Ports.tells c.meet_all.new.ports) (c.meet_all.ensures.sends told)
+
+pub returns-in-Err-Refused-clause-sends : goal.returns-in-Err-Refused-clause-sends
+returns-in-Err-Refused-clause-sends g c = λ told. met_reads (g.P.Ports.tells c.args.ports.now) (g.P.Ports.tells c.meet_all.new.ports) (c.meet_all.ensures.sends told)
+
+pub returns-in-Err-Lost-clause-sends : goal.returns-in-Err-Lost-clause-sends
+returns-in-Err-Lost-clause-sends g c = λ told. met_reads (g.P.Ports.tells c.args.ports.now) (g.P.Ports.tells c.meet_all.new.ports) (c.meet_all.ensures.sends told)
+
+pub returns-in-Err-NoMemory-clause-sends : goal.returns-in-Err-NoMemory-clause-sends
+returns-in-Err-NoMemory-clause-sends g c = λ told. met_reads (g.P.Ports.tells c.args.ports.now) (g.P.Ports.tells c.meet_all.new.ports) (c.meet_all.ensures.sends told)
+
+pub returns-in-Ok-restore_greeted-clause-sends : goal.returns-in-Ok-restore_greeted-clause-sends
+returns-in-Ok-restore_greeted-clause-sends g c = λ told.
+    sends_twice IsReading (g.P.Ports.tells c.args.ports.now) (g.P.Ports.tells c.meet_all.new.ports) (g.P.Ports.tells c.restore_greeted.new.ports)
+    (met_reads (g.P.Ports.tells c.args.ports.now) (g.P.Ports.tells c.meet_all.new.ports) (c.meet_all.ensures.sends told))
+    (c.restore_greeted.ensures.sends (subst IsTrue (sym c.meet_all.ensures.told) told))
+
+pub returns-clause-sends : goal.returns-clause-sends
+returns-clause-sends g c = λ told.
+    sends_twice IsReading (g.P.Ports.tells c.args.ports.now) (g.P.Ports.tells c.meet_all.new.ports) (g.P.Ports.tells c.restore_greeted.new.ports)
+    (met_reads (g.P.Ports.tells c.args.ports.now) (g.P.Ports.tells c.meet_all.new.ports) (c.meet_all.ensures.sends told))
+    (c.restore_greeted.ensures.sends (subst IsTrue (sym c.meet_all.ensures.told) told))

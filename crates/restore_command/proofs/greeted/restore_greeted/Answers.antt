@@ -10,10 +10,12 @@ use Rattle.ports_link.specs.Tells.{HasTalk, telling}
 use Rattle.subset_restore.specs.Ends.{AnyEnds}
 use Rattle.subset_restore.specs.Going.{sought}
 use Rattle.subset_restore.specs.RestoreJob.Refusals.{Names}
-use Rattle.restore_command.specs.Calls.{ports_of}
+use Rattle.restore_command.specs.Calls.{OnlyReads, ports_of}
+use Rattle.ports_link.specs.UserDedup.Link.{IsReading}
+use Rattle.ports_link.proofs.Sending.{sends_none}
 use Rattle.restore_command.specs.Tried.{CameBy}
 use Rattle.restore_command.proofs.Coming.{came_by}
-use Rattle.restore_command.proofs.Passing.{AreOn, kept, others}
+use Rattle.restore_command.proofs.Passing.{AreOn, kept, others, sends_along}
 use Rattle.restore_command.proofs.Lines.{few_clouds, lines_reach, on_ports}
 use Rattle.restore_command.proofs.Saying.{at_call}
 use Rattle.restore_command.proofs.greeted.restore_greeted.Goals as goal
@@ -116,3 +118,23 @@ returns-clause-came g c = λ call user path version after since until speak.
     c.args.file.now file result) call c.args.user c.args.path.now c.args.version user path version
     (subst (λ (l : List ℕ). AnyEnds (telling tells faults) talk (sought greeted.shape c.args.user c.args.path.now
     c.args.version l) old new c.args.file.now file result) named c.restore_any-came.ensures.restored)))
+
+pub returns-clause-sends : goal.returns-clause-sends
+returns-clause-sends g c = λ told.
+    let tells = g.P.Ports.tells in
+    let old = c.of-link.result in
+    let new = c.restore_any-came.new.link in
+    let asked = c.restore_any-came.ensures.asked in
+    let same : new.ports.ghost_name ≡ old.ports.ghost_name =
+    (kept tells g.P.Ports.faults _ asked.asks old new asked.passed).same_reference in
+    let back : new.ports.now ≡ c.ports-1.given.0 = search rules in
+    subst (λ (p : g.row.P.Denot). OnlyReads (tells p) (tells c.ports-1.given.0)) c.of-link.ensures.ports
+    (subst (λ (p : g.row.P.Denot). OnlyReads (tells old.ports.now) (tells p)) back
+    (sends_along tells g.P.Ports.faults _ asked.asks old new asked.passed
+    (subst (λ (p : g.row.P.Denot). IsTrue (tells p).told) (sym c.of-link.ensures.ports) told)))
+
+pub returns-in-Err-clause-sends : goal.returns-in-Err-clause-sends
+returns-in-Err-clause-sends g c = λ told. sends_none IsReading (g.P.Ports.tells c.args.ports.now)
+
+pub returns-in-Err-lines_of-clause-sends : goal.returns-in-Err-lines_of-clause-sends
+returns-in-Err-lines_of-clause-sends g c = λ told. sends_none IsReading (g.P.Ports.tells c.args.ports.now)
