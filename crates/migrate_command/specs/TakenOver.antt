@@ -8,6 +8,7 @@ use Rattle.store_migration.specs.MigrationModel.Migrating.{IsBetween, MayBeMigra
 use Rattle.cloud_opening.specs.ServeCommand.Complete.{IsStill}
 use Rattle.store_migration.specs.Answers.{IfAnswered, IfNoMemory, IfRefused, MigratedAs, OnFault}
 use Rattle.store_migration.specs.Exact.{Migrates}
+use Rattle.store_migration.specs.Left.{IsLeftBy}
 use Rattle.store_migration.specs.declared.errors.MigrateErr.{MigrateErr}
 use Rattle.store_migration.specs.StoreOpening.Synced.{AreSynced, BeginsSynced}
 use Rattle.store_migration.specs.UserDedup.command.Command.{Command}
@@ -18,7 +19,9 @@ use Rattle.migrate_command.specs.Said.{migrate_status, migrate_text}
 -- compact list; Ok says that they stand for the compact list, which has so many commands, and that each user keeps no more than it may; the
 -- answer TooLarge has the least user that does, with its first room; and no other error comes but a failed call and want of memory.
 -- Whatever a told cloud's bytes are: they give the answer, but where a device failed or memory ran out. The three areas are synced first;
--- and where the cloud isn't migrated, nothing else was done to it.
+-- and where the cloud isn't migrated, nothing else was done to it. Where it is, Shares and Recipes aren't written: each image since is as
+-- before, or its journal has the chain that was read or, whole, the checkpoint of what its records leave without what no user owns; and Ok
+-- says that it has the checkpoint.
 -- Whatever is known of the cloud: it is as it was where memory ran out, and `shelf` comes only where its count of faults rose.
 pub record IsMigrationOf (rooms : UserRooms) (call : CloudCall) (result : Result ℕ MigrateErr) : Type 0 where
   pub any_moment : (list : List Command) → MayBeMigrated call.shape call.cloud list call.old
@@ -28,6 +31,7 @@ pub record IsMigrationOf (rooms : UserRooms) (call : CloudCall) (result : Result
   pub exact : IsTrue call.old.told → IfAnswered result (Migrates call.shape call.cloud rooms (reads call.old.now) result)
   pub spared : IsTrue call.old.told → IfRefused result (AreSynced call.old call.new)
   pub synced_first : IsTrue call.old.told → IfAnswered result (BeginsSynced call.old call.new)
+  pub left : IsTrue call.old.told → IsLeftBy call.shape call.cloud rooms call.old call.new result
   pub undone : IfNoMemory result (IsUnchanged call)
   pub counts : OnFault result (CloudFails call) (IsUnfailing call)
 

@@ -17,6 +17,7 @@ returns-clause-migrated g c =
         exact = a.exact;
         spared = a.spared;
         synced_first = a.synced_first;
+        left = a.left;
         undone = if_no_memory c.migrate-came.result _ _ (λ same. record {
           cloud_is = ap (λ s. g.V.Shelf.cloud_at s c.args.cloud.0) same;
           total = ap (λ s. g.V.Shelf.faults s) same;
