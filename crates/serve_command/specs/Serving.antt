@@ -20,9 +20,10 @@ use Rattle.cloud_server.specs.OpenStore.store.OpenStore.{OpenStore}
 use Rattle.cloud_server.specs.OpenStore.Store.{IsOpen, ServesSome}
 use Rattle.cloud_server.specs.ServerCommands.Leaving.{IsFound, LeavesAll}
 use Rattle.cloud_server.specs.Serving.{IsServing, ExecutesAs, number_of, server_serves}
-use Rattle.cloud_server.specs.Serving.{Answered, ChangesBehind, EntersBy, OpensFirst, IsUnopenedReply}
+use Rattle.cloud_server.specs.Serving.{Answered, ChangesBehind, EntersBy, OpensFirst, IsUnopenedReply, RottenLeaves}
 use Rattle.cloud_server.specs.declared.server.Server.{Server}
 use Rattle.cloud_server.specs.ServerRequests.Asking.{IsForMemory}
+use Rattle.cloud_server.specs.ServerRequests.Hashed.{IsHashed}
 
 -- The content asks nothing, and is answered by the first place that is wrong.
 abbrev pub IsMalformed : Shape → List ℕ → List ℕ → Type 0
@@ -75,11 +76,16 @@ pub record RepliesTo (before after : HeldStore) (request : Request) (reply : Lis
   -- that in all, and closes the server; with any other reply no count rose.
   pub answered : Answered before.store.header.shape request after.store before.cloud after.cloud
       before.total after.total reply
-  -- Behind it the server is open, but for Fault and the error of an opening. An open server never answers Damaged.
+  -- Behind it the server is open, but for Fault and the error of an opening. An open server never answers Damaged, and behind
+  -- Damaged it is closed.
   pub refusals : IsOpen after.store
       ⊎ ((reply ≡ reply_bytes replies.Fault) ⊎ IsUnopenedReply before.store before.cloud after.cloud reply)
   pub undamaged : (at byte : ℕ) → IsOpen before.store → IsReply reply (replies.Damaged at byte) → ⊥
-  -- Rotten names what lies where the memory has it.
+  pub damaged : (at byte : ℕ) → IsReply reply (replies.Damaged at byte) → ¬ (IsOpen after.store)
+  -- Shares have the SHA-256 that was asked for, and a recipe has that of the memory's entry. Rotten names what lies where the
+  -- memory has it, and behind it areas and memory are as they were.
+  pub hashed : (answer : Reply) → IsReply reply answer → IsHashed (memory_of after.store.memory) request answer
+  pub rotten_leaves : IsOpen before.store → RottenLeaves before.store after.store before.cloud after.cloud reply
   pub rotten : (named found : Fp) → IsOpen before.store → IsReply reply (replies.Rotten named found)
       → IsFound before.cloud (memory_of before.store.memory) request named found
   pub found : (named found : Fp) → IsReply reply (replies.Rotten named found)
