@@ -7,10 +7,10 @@ use Rattle.delete_command.specs.CdEdges.Shelf.{IsCall}
 use Rattle.command_words.specs.Asked.{AskedFile, AskedServe}
 use Rattle.migrate_command.specs.ServeCommand.Complete.{IsServeUnhindered}
 use Rattle.migrate_command.specs.ServeCommand.Served.{IsServed, ServeOutput}
-use Rattle.restore_command.specs.Calls.{OnlyDialled}
+use Rattle.restore_command.specs.Calls.{OnlyDialled, OnlyReads}
 use Rattle.restore_command.specs.Ends.{IsFetched}
 use Rattle.cd_top.specs.Serve.{HasServedCloud, HasServedOrCause, NoPlace, InPlace, serving}
-use Rattle.delete_command.specs.Deleted.{IsDeleted}
+use Rattle.delete_command.specs.Deleted.{IsDeleted, OnlyDeletes}
 use Rattle.delete_command.specs.Writing as deletions
 use Rattle.delete_command.specs.PortsLink.Dialled.{OnlyDialled as OnlyThose}
 use Rattle.cd_top.specs.Clients.{PortsAround, Deletes, HasRestoredOrCause}
@@ -56,9 +56,9 @@ pub restored_by : (status : ℕ) (f : AskedFile) (l : PortsAround) (many : ℕ) 
       faults_before = l.faults_before;
       faults_after = l.faults_after;
     }) before after faults now
-    → (IsTrue l.before.told → OnlyDialled l.before l.after) → l.after.told ≡ l.before.told
+    → (IsTrue l.before.told → OnlyDialled l.before l.after) → (IsTrue l.before.told → OnlyReads l.before l.after) → l.after.told ≡ l.before.told
     → HasRestoredOrCause status f l before after faults now
-restored_by status f l many before after faults now same fetched others told = record {
+restored_by status f l many before after faults now same fetched others sends told = record {
   fetched = subst (λ (n : ℕ). IsFetched status (record {
     user = f.user;
     path = f.path;
@@ -70,6 +70,7 @@ restored_by status f l many before after faults now same fetched others told = r
     faults_after = l.faults_after;
   }) before after faults now) same fetched;
   others = others;
+  sends = sends;
   told = told;
 }
 
@@ -84,9 +85,10 @@ pub deleted_by : (status : ℕ) (f : AskedFile) (l : PortsAround) (many : ℕ) (
       faults_before = l.faults_before;
       faults_after = l.faults_after;
     }) out
-    → (IsTrue l.before.told → OnlyThose l.before l.after) → l.after.told ≡ l.before.told
+    → (IsTrue l.before.told → OnlyThose l.before l.after) → (IsTrue l.before.told → OnlyDeletes f.user f.path f.version l.before l.after)
+    → l.after.told ≡ l.before.told
     → Deletes status f l out
-deleted_by status f l many out same deleted others told = record {
+deleted_by status f l many out same deleted others sends told = record {
   deleted = subst (λ (n : ℕ). IsDeleted status (record {
     user = f.user;
     path = f.path;
@@ -98,5 +100,6 @@ deleted_by status f l many out same deleted others told = record {
     faults_after = l.faults_after;
   }) out) same deleted;
   others = others;
+  sends = sends;
   told = told;
 }

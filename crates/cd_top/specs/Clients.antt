@@ -58,12 +58,13 @@ restore_of f l = record {
 }
 
 -- A version was restored: what was sent, received and written, by the way it ended. Ports that were open before are as
--- they were.
+-- they were, and whatever the end is, nothing was sent that adds to a list.
 pub record HasRestoredOrCause (status : ℕ) (f : AskedFile) (l : PortsAround) (before after : Option (List ℕ))
     (faults now : ℕ)
     : Type 0 where
   pub fetched : IsFetched status (restore_of f l) before after faults now
   pub others : IsTrue l.before.told → restoring.OnlyDialled l.before l.after
+  pub sends : IsTrue l.before.told → restoring.OnlyReads l.before l.after
   pub told : l.after.told ≡ l.before.told
 
 -- what is asked to be deleted, over these ports
@@ -80,8 +81,9 @@ delete_of f l = record {
 }
 
 -- A version was deleted at each cloud: what was sent, received and written, by the way it ended. Ports that were open
--- before are as they were.
+-- before are as they were, and whatever the end is, nothing was sent but Hellos and Deletes of this version.
 pub record Deletes (status : ℕ) (f : AskedFile) (l : PortsAround) (out : deletions.DeleteOutput) : Type 0 where
   pub deleted : IsDeleted status (delete_of f l) out
   pub others : IsTrue l.before.told → OnlyDialled l.before l.after
+  pub sends : IsTrue l.before.told → deleting.OnlyDeletes f.user f.path f.version l.before l.after
   pub told : l.after.told ≡ l.before.told

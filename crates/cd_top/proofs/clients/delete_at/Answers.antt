@@ -8,4 +8,4 @@ pub returns : goal.returns
 returns g c =
     deleted_by c.delete.result (asked_delete c.args.asked.now) _ _ _
     (sym (length-map c.args.asked.now.addresses.now string_bytes)) c.delete.ensures.deleted
-    c.delete.ensures.others c.delete.ensures.told
+    c.delete.ensures.others c.delete.ensures.sends c.delete.ensures.told

@@ -8,4 +8,4 @@ pub returns : goal.returns
 returns g c =
     restored_by c.restore.result (asked_restore c.args.asked.now) _ _ _ _ _ _
     (sym (length-map c.args.asked.now.addresses.now string_bytes)) c.restore.ensures.fetched
-    c.restore.ensures.others c.restore.ensures.told
+    c.restore.ensures.others c.restore.ensures.sends c.restore.ensures.told
