@@ -103,7 +103,14 @@ fn serve_in<K: Sink, V: Shelf, P: Ports>(
         Err(NoMemory) => return 6,
     };
     serve_at(
-        alloc, &mut desk, served.cloud, address, count, sink, shelf, ports,
+        alloc,
+        &mut desk,
+        served.cloud,
+        address,
+        count,
+        sink,
+        shelf,
+        ports,
     )
 }
 
