@@ -1,6 +1,7 @@
 -- A log with blobs staged.
-use Rattle.std.proofs.Common.{◌≡◌, ◌≢◌, ℕ, ◌+◌, ◌-◌, ◌≤◌, List, [], ◌∷◌, ◌++◌, length, take, sym, ◌∙◌, ap, append_assoc, arith, length-take}
+use Rattle.std.proofs.Common.{◌≡◌, ◌≢◌, ℕ, ◌+◌, ◌-◌, ◌≤◌, List, [], ◌∷◌, ◌++◌, length, take, sym, ◌∙◌, ap, append_assoc, arith, length-append, length-take}
 use Rattle.std.specs.Prelude.{replicate}
+use Rattle.std.proofs.lemmas.List.{length-replicate, length-take-le}
 use Rattle.std.proofs.lemmas.List.Elements.{All-append, All-cons, All-nil}
 use Rattle.cd_edges.specs.declared.area.Area.{Area}
 use Rattle.container_log.specs.Caches.{Kept, Cache, kept_over}
@@ -54,5 +55,11 @@ flushed log area limit end left items cache area_is limit_is end_is none keep_is
 pub some_used : (used inside : ℕ) → used ≡ inside → inside ≢ 0 → 1 ≤ used
 some_used used inside same some = omega (arith, same, some)
 
-pub long_staged : (inside used : ℕ) (staged items : List ℕ) → used ≡ inside → take inside items ≡ staged → length items ≡ 4194304 → inside ≤ 4194304 → used ≡ length staged
-long_staged inside used staged items same is long few = omega (arith, same, ap length is, length-take inside items, long, few)
+pub long_staged : (inside used : ℕ) (staged items : List ℕ) → used ≡ inside → take inside items ≡ staged → inside ≤ length items → used ≡ length staged
+long_staged inside used staged items same is within = omega (arith, same, ap length is, length-take inside items, within)
+
+-- how long a buffer is behind whose front zeros and a blob were put
+pub long_put : (front blob new : List ℕ) (used gap : ℕ) → used ≤ length front → new ≡ take used front ++ replicate gap 0 ++ blob → length new ≡ used + gap + length blob
+long_put front blob new used gap within is =
+    ap length is ∙ length-append (take used front ++ replicate gap 0) blob
+    ∙ ap (λ (n : ℕ). n + length blob) (length-append (take used front) (replicate gap 0) ∙ (λ i. length-take-le used front within i + length-replicate {A = ℕ} gap 0 i))

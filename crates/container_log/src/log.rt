@@ -1,7 +1,7 @@
 //! The log of an area.
 
 ghost use Rattle.std.specs.Prelude.{◌≡◌, ◌≢◌, ◌↔◌, ℕ, ◌+◌, ◌-◌, ◌^◌, ◌<◌, ◌≤◌, List, [], ◌∷◌, ◌++◌, length, take};
-ghost use Rattle.std.specs.Prelude.{replicate, map, All, IsTrue, IsOk, IfOk, OnOk, OnErr, MatchResult};
+ghost use Rattle.std.specs.Prelude.{replicate, map, All, IsTrue, IsOk, IfOk, OnOk, OnErr, MatchResult, vec_len, vec_capacity};
 ghost use Rattle.cd_edges.specs.declared.area.Area.{Area};
 ghost use Rattle.cd_edges.specs.Disk.{LeavesOnly, IsAtArea, MayLeave, moment, overwritten};
 ghost use Rattle.cd_edges.specs.Shelf.{IsCall, HasFailed, KeepsCounts, Stays, ReadsFrom, wrote, stable};
@@ -33,14 +33,14 @@ pub struct Log {
     area: Area,
     limit: u64,
     end: u64,
-    // The bytes that are staged, in front.
+    // The bytes that are staged, in front, in memory that is taken once and written to as it is needed.
     buffer: Vec<u8>,
     used: usize,
     cache: Cache,
 }
 
 impl Model for Log {
-    ghost use Rattle.std.specs.Prelude.{◌≡◌, ◌+◌, ◌^◌, ◌<◌, ◌≤◌, take, vec_len};
+    ghost use Rattle.std.specs.Prelude.{◌+◌, ◌^◌, ◌<◌, ◌≤◌, take, vec_len, vec_capacity};
     ghost use Rattle.container_log.specs.Places.{container_len};
     ghost use Rattle.container_log.specs.States.{State};
 
@@ -55,29 +55,43 @@ impl Model for Log {
       kept = l.cache.kept;
     } };
 
-    ghost invariant = { λ l. (vec_len l.buffer ≡ container_len) × (l.used ≤ container_len) × (l.end + l.used < 2 ^ 64) };
+    ghost invariant = { λ l. (l.used ≤ vec_len l.buffer) × (l.used ≤ container_len) × (l.end + l.used < 2 ^ 64)
+        × (container_len ≤ vec_capacity l.buffer) };
 }
 
-// A buffer of so many bytes.
-fn buffer_of(alloc: Global, len: usize) -> Result<Vec<u8>, NoMemory>
-    ensures { IfOk result (λ v. length v.items ≡ len) }
+// Memory for what is staged, of which none is written to yet.
+fn buffer_of(alloc: Global) -> Result<Vec<u8>, NoMemory>
+    ensures { IfOk result (λ v. (v.items ≡ []) × (container_len ≤ vec_capacity v)) }
 {
-    Ok(vec![in alloc; 0u8; len]?)
+    Ok(Vec::with_capacity(alloc, STAGING)?)
+}
+
+// Appends so many zeros, for which there is room.
+fn put_zeros(bytes: &mut Vec<u8>, count: usize)
+    requires { vec_len bytes.old + count ≤ vec_capacity bytes.old }
+    ensures items { bytes.new.items ≡ bytes.old.items ++ replicate count 0 }
+    ensures capacity { vec_capacity bytes.old ≤ vec_capacity bytes.new }
+{
+    'zeros: for _place in 0..count {
+        let _ = bytes.push(0);
+    }
 }
 
 // Puts zeros and a blob behind what a buffer has in front.
-fn put_behind(buffer: &mut [u8], used: usize, gap: usize, blob: &[u8])
-    requires room { used + gap + length blob.now ≤ length buffer.old }
-    ensures { take (used + gap + length blob.now) buffer.new ≡ take used buffer.old ++ replicate gap 0 ++ blob.now }
+fn put_behind(buffer: &mut Vec<u8>, used: usize, gap: usize, blob: &[u8])
+    requires front { used ≤ vec_len buffer.old }
+    requires room { used + gap + length blob.now ≤ vec_capacity buffer.old }
+    ensures items { buffer.new.items ≡ take used buffer.old.items ++ replicate gap 0 ++ blob.now }
+    ensures capacity { vec_capacity buffer.old ≤ vec_capacity buffer.new }
 {
-    let from = used + gap;
-    buffer[used..from].fill(0);
-    buffer[from..from + blob.len()].copy_from_slice(blob);
+    buffer.truncate(used);
+    put_zeros(buffer, gap);
+    let _ = buffer.extend_from_slice(blob);
 }
 
 impl Log {
     /// The log of this area, which has no blob yet and may end at `limit` at most. It keeps up to `keep` containers that
-    /// were read lately, 16 at most, and none of them yet. It takes a buffer of 4,194,304 bytes here; a read may take as many
+    /// were read lately, 16 at most, and none of them yet. It takes a buffer of 4,194,304 bytes here, and writes to what of it is needed; a read may take as many
     /// for a container that it keeps, and where `keep` of them are kept gives the memory of one back first. No other call
     /// takes memory.
     pub fn make(alloc: Global, area: Area, limit: u64, keep: u32) -> Result<Log, NoMemory>
@@ -91,7 +105,7 @@ impl Log {
             area,
             limit,
             end: 0,
-            buffer: buffer_of(alloc, STAGING)?,
+            buffer: buffer_of(alloc)?,
             used: 0,
             cache: Cache::make(alloc, keep)?,
         })

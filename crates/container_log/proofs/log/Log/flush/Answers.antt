@@ -1,4 +1,4 @@
-use Rattle.std.proofs.Common.{◌≡◌, ◌+◌, ◌-◌, ◌/◌, List, ℕ, length, sym, ap, ◌∙◌, subst, arith, rules, length-take}
+use Rattle.std.proofs.Common.{◌≡◌, ◌+◌, ◌-◌, ◌/◌, ◌≤◌, List, ℕ, length, sym, ap, ◌∙◌, subst, arith, rules, length-take}
 use Rattle.std.specs.List.{filter}
 use Rattle.std.specs.Prelude.{All}
 use Rattle.cd_edges.specs.Disk.{Store, overwritten}
@@ -53,23 +53,23 @@ returns-in-Ok-clause-end g c blobs has =
 pub returns-in-Ok-clause-agrees : goal.returns-in-Ok-clause-agrees
 returns-in-Ok-clause-agrees g c told all =
     let self = c.args.self.now in let inside = c.self.inside in let used = c.take-used.result in
-    let items_long : length inside.buffer.items ≡ 4194304 = omega (arith, c.self.invariant.0) in
+    let within : inside.used ≤ length inside.buffer.items = omega (arith, c.self.invariant.0) in
     let c0 = g.V.Shelf.cloud_at c.args.shelf.now c.args.cloud.0 in let c1 = g.V.Shelf.cloud_at c.write_synced.new.shelf c.args.cloud.0 in
     let old = (c0.now self.area).read in
     let is : c1.now self.area ≡ stable (overwritten old self.end self.staged) = search rules in
     let is_used : used ≡ inside.used = search rules in
     agrees_flushed old (c1.now inside.area).read self.end used self.staged self.kept c.forget_changed.new.self.kept
     (some_used used inside.used is_used c.if-self-eq0.false)
-    (long_staged inside.used used self.staged inside.buffer.items is_used (ap (λ (s : State). s.staged) c.self.view_is) items_long c.self.invariant.1)
+    (long_staged inside.used used self.staged inside.buffer.items is_used (ap (λ (s : State). s.staged) c.self.view_is) within)
     (ap (λ (x : Cache). x.kept) c.forget_changed.ensures ∙ ap (λ (s : State). filter (is_left (s.end / 4194304) ((s.end + (used - 1)) / 4194304)) s.kept) c.self.view_is)
     (ap (λ (s : State). (c1.now s.area).read) c.self.view_is ∙ ap (λ (s : Store). s.read) is) all
 
 pub returns-in-Ok-clause-log : goal.returns-in-Ok-clause-log
 returns-in-Ok-clause-log g c =
     let self = c.args.self.now in let inside = c.self.inside in let used = c.take-used.result in
-    let items_long : length inside.buffer.items ≡ 4194304 = omega (arith, c.self.invariant.0) in
+    let within : inside.used ≤ length inside.buffer.items = omega (arith, c.self.invariant.0) in
     let is_used : used ≡ inside.used = search rules in
-    let long = long_staged inside.used used self.staged inside.buffer.items is_used (ap (λ (s : State). s.staged) c.self.view_is) items_long c.self.invariant.1 in
+    let long = long_staged inside.used used self.staged inside.buffer.items is_used (ap (λ (s : State). s.staged) c.self.view_is) within in
     let none : c.take-used.new.dest ≡ 0 = search rules in
     flushed self inside.area inside.limit (inside.end + used) c.take-used.new.dest inside.buffer.items c.forget_changed.new.self
     (ap (λ (s : State). s.area) c.self.view_is) (ap (λ (s : State). s.limit) c.self.view_is)

@@ -1,10 +1,8 @@
-use Rattle.std.proofs.Common.{◌+◌, List, ℕ, [], ◌∷◌, ◌++◌, length, take, sym, ◌∙◌, ap, subst, arith, length-take}
-use Rattle.std.specs.Prelude.{replicate}
-use Rattle.std.specs.Vec.{with_items}
-use Rattle.std.proofs.lemmas.List.{with_items_is}
+use Rattle.std.proofs.Common.{◌+◌, ℕ, [], ◌∷◌, ◌++◌, length, sym, ◌∙◌, ap, subst, arith, length-take}
+use Rattle.std.proofs.lemmas.List.{take_all}
 use Rattle.container_log.specs.Places.{place_of}
 use Rattle.container_log.specs.States.{State, HasStaged, with_blob}
-use Rattle.container_log.proofs.Staged.{staged_end_of, staged_more, put_more}
+use Rattle.container_log.proofs.Staged.{long_put, staged_end_of, staged_more, put_more}
 use Rattle.container_log.proofs.log.Log.stage.Goals as goal
 
 pub returns-clause-place : goal.returns-clause-place
@@ -17,7 +15,8 @@ returns-clause-place c blobs has =
 pub returns-clause-staged : goal.returns-clause-staged
 returns-clause-staged c blobs has =
     let inside = c.self.inside in let blob = c.args.blob.now in
-    let back = with_items_is inside.buffer c.put_behind.new.buffer (c.put_behind.auto.buffer ∙ c.deref_mut.ensures.len) in
-    let put = ap (take (inside.used + c.gap_behind-gap.result + length blob)) back ∙ c.put_behind.ensures ∙ ap (λ (l : List ℕ). take inside.used l ++ replicate c.gap_behind-gap.result 0 ++ blob) c.deref_mut.ensures.value in
-    let is = put_more inside.area inside.limit inside.end inside.used c.gap_behind-gap.result inside.cache.keep inside.cache.kept inside.buffer.items (with_items inside.buffer c.put_behind.new.buffer).items blob (omega (arith, c.self.invariant.0, c.self.invariant.1)) c.gap_behind-gap.ensures.place put in
+    let all = c.put_behind.ensures.items in
+    let long = long_put inside.buffer.items blob c.put_behind.new.buffer.items inside.used c.gap_behind-gap.result (omega (arith, c.self.invariant.0)) all in
+    let put = take_all (inside.used + c.gap_behind-gap.result + length blob) c.put_behind.new.buffer.items (omega (arith, long)) ∙ all in
+    let is = put_more inside.area inside.limit inside.end inside.used c.gap_behind-gap.result inside.cache.keep inside.cache.kept inside.buffer.items c.put_behind.new.buffer.items blob (omega (arith, c.self.invariant.0)) c.gap_behind-gap.ensures.place put in
     subst (λ (s : State). HasStaged s (blobs ++ blob ∷ [])) (ap (λ (s : State). with_blob s blob) (sym c.self.view_is) ∙ is) (staged_more c.args.self.now blobs blob has c.requires.room)
