@@ -77,8 +77,8 @@ impl Server {
             cloud,
             rooms,
         };
-        let store = OpenStore::make(alloc, header)?;
         let buffer = vec![in alloc; 0u8; RECIPE_LIMIT as usize]?;
+        let store = OpenStore::make(alloc, header)?;
         Ok(Server {
             store,
             buffer,

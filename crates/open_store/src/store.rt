@@ -60,11 +60,11 @@ impl OpenStore {
         ensures header { IfOk result (λ store. store.header ≡ header) }
         ensures shut { IfOk result (λ store. store.disk.journal.stage ≡ Shut) }
     {
-        let memory = CloudMemory::make(alloc, &header.rooms)?;
-        let disk = CloudDisk::make(alloc, &header.rooms)?;
-        let chains = OwnerChains::make(alloc)?;
-        let marks = Marks::make(alloc)?;
         let body = BodyBuf::make(alloc)?;
+        let marks = Marks::make(alloc)?;
+        let chains = OwnerChains::make(alloc)?;
+        let disk = CloudDisk::make(alloc, &header.rooms)?;
+        let memory = CloudMemory::make(alloc, &header.rooms)?;
         Ok(OpenStore {
             header,
             memory,

@@ -1,6 +1,14 @@
-use Rattle.std.proofs.Common.{arith}
+use Rattle.std.proofs.Common.{◌≡◌, refl, inr, arith}
 use Rattle.cloud_server.proofs.Peers.{shut_closed}
 use Rattle.cloud_server.proofs.server.Server.make.Goals as goal
+
+pub make-requires-clause-header : goal.make-requires-clause-header
+make-requires-clause-header c = record {
+  format = inr refl;
+  cloud = c.requires.cloud;
+  rooms = c.requires.rooms;
+  usual = λ e. let no : 2 ≡ 1 = e in absurd (omega (arith, no));
+}
 
 pub invariant_of-result : goal.invariant_of-result
 invariant_of-result c =
