@@ -50,12 +50,12 @@ impl Kit {
         requires { AreRooms rooms.now }
         ensures { IfOk result (IsKit rooms.now) }
     {
-        let memory = make_memory(alloc)?;
-        let journal = Journal::make(alloc, half_limit(rooms))?;
-        let chains = OwnerChains::make(alloc)?;
-        let marks = Marks::make(alloc)?;
-        let body = BodyBuf::make(alloc)?;
         let recipe = make_buffer(alloc, RECIPE_LIMIT as usize)?;
+        let body = BodyBuf::make(alloc)?;
+        let marks = Marks::make(alloc)?;
+        let chains = OwnerChains::make(alloc)?;
+        let journal = Journal::make(alloc, half_limit(rooms))?;
+        let memory = make_memory(alloc)?;
         Ok(Kit {
             memory,
             journal,
