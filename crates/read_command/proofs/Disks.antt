@@ -1,6 +1,6 @@
 -- One cloud opened, and clouds in order.
 use Rattle.std.proofs.Common.{◌≡◌, ℕ, true, false, List, Option, refl, sym, ap, ◌∙◌, subst, inl, inr}
-use Rattle.std.specs.Prelude.{IsTrue, Some, None, Result, Ok, Err, IfOk, OnOk, IsSomeAnd}
+use Rattle.std.specs.Prelude.{IsTrue, Some, None, Result, Ok, Err, IfOk, IsSomeAnd}
 use Rattle.std.specs.List.{Contains}
 use Rattle.half_journal.specs.CdBase.ids.CloudNo.{CloudNo}
 use Rattle.half_journal.specs.JournalStart.rooms.UserRooms.{UserRooms}
