@@ -99,15 +99,7 @@ fn brought(
         reply: ReplyBuf::make(alloc)?,
         told: Vec::new(alloc),
     };
-    Ok(bring(
-        alloc,
-        link,
-        refill,
-        Version(1),
-        path,
-        file,
-        &mut buffers,
-    ))
+    Ok(bring(alloc, link, refill, Version(1), path, file, &mut buffers))
 }
 
 /// A lost ask of the target stops a version, and all is run again; and another file under the version that stands there.
