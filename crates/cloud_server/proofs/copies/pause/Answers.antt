@@ -1,4 +1,4 @@
-use Rattle.std.proofs.Common.{◌≡◌, sym, ap, ◌∙◌, subst}
+use Rattle.std.proofs.Common.{sym, ap, ◌∙◌, subst}
 use Rattle.server_requests.specs.OpenStore.store.OpenStore.{OpenStore}
 use Rattle.blob_copy.specs.Copying.{IsCopying}
 use Rattle.cloud_server.proofs.Copied.{ended, still_copied}

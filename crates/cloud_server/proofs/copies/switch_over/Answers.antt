@@ -1,4 +1,4 @@
-use Rattle.std.proofs.Common.{◌≡◌, [], Err, sym, subst}
+use Rattle.std.proofs.Common.{[], Err, sym, subst}
 use Rattle.server_requests.specs.ContainerLog.States.{State, HasStaged}
 use Rattle.cloud_server.specs.declared.copies.ReclaimErr.{ReclaimErr}
 use Rattle.cloud_server.specs.Copies.{SwitchesOver}
