@@ -1,4 +1,4 @@
-use Rattle.std.proofs.Common.{◌≡◌, ℕ, ◌<◌, List, length, take, slice_index_or, sym, ap, subst, arith}
+use Rattle.std.proofs.Common.{ℕ, ◌<◌, List, length, slice_index_or, subst, arith}
 use Rattle.std.proofs.lemmas.List.{take_all}
 use Rattle.share_digests.specs.Digests.{IsIn}
 use Rattle.share_digests.proofs.Ordered.{has_none, has_more, below_more_set}

@@ -1,4 +1,4 @@
-use Rattle.std.proofs.Common.{◌∙◌, arith, rules}
+use Rattle.std.proofs.Common.{◌∙◌, arith}
 use Rattle.std.proofs.lemmas.List.{length-set}
 use Rattle.share_digests.proofs.Beside.{all_beside, none_left, one_more}
 use Rattle.share_digests.proofs.parts.parts_of.Goals as goal
