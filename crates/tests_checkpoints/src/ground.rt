@@ -54,12 +54,12 @@ impl Ground {
         requires { IsHeader header.now }
     {
         Ok(Ground {
+            recipe: vec![in alloc; 0u8; 1_180_190]?,
+            body: BodyBuf::make(alloc)?,
+            marks: Marks::make(alloc)?,
+            chains: OwnerChains::make(alloc)?,
             shelf: MemShelf::of(alloc, 1, 3_000_000, 20_000, &[])?,
             disk: CloudDisk::make(alloc, &header.rooms)?,
-            chains: OwnerChains::make(alloc)?,
-            marks: Marks::make(alloc)?,
-            body: BodyBuf::make(alloc)?,
-            recipe: vec![in alloc; 0u8; 1_180_190]?,
         })
     }
 

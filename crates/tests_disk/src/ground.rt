@@ -262,10 +262,10 @@ impl Ground {
     pub(crate) fn make(alloc: Global) -> Result<Ground, NoMemory> {
         let rooms = header().rooms;
         Ok(Ground {
+            buffer: BodyBuf::make(alloc)?,
             shelf: MemShelf::of(alloc, 1, 400_000, 20_000, &[])?,
             disk: CloudDisk::make(alloc, &rooms)?,
             other: CloudDisk::make(alloc, &rooms)?,
-            buffer: BodyBuf::make(alloc)?,
         })
     }
 

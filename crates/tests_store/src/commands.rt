@@ -150,8 +150,8 @@ impl Ground {
         ensures { IfOk result (λ ground. IsSettled ground.store) }
     {
         Ok(Ground {
-            store: OpenStore::make(alloc, header())?,
             buffer: vec![in alloc; 0u8; 1_180_190]?,
+            store: OpenStore::make(alloc, header())?,
         })
     }
 

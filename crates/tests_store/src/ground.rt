@@ -240,9 +240,9 @@ pub(crate) struct Ground {
 impl Ground {
     pub(crate) fn make(alloc: Global) -> Result<Ground, NoMemory> {
         Ok(Ground {
-            disk: CloudDisk::make(alloc, &rooms())?,
-            body: BodyBuf::make(alloc)?,
             recipe: Buffer::make(alloc)?,
+            body: BodyBuf::make(alloc)?,
+            disk: CloudDisk::make(alloc, &rooms())?,
         })
     }
 
