@@ -1,6 +1,7 @@
 -- What the replies to a Commit and to a Delete say of the memory.
 use Rattle.std.proofs.Common.{◌≡◌, ℕ, Bool, true, false, cond, List, length, Option, Some, None, Result, Ok, Err, refl, sym, ap, ◌∙◌, subst}
 use Rattle.std.specs.Prelude.{OnOk, IsSome, bytes_eq}
+use Rattle.std.proofs.lemmas.Slice.Eq.{bytes_eq-Decides}
 use Rattle.std.specs.FinMap.{get}
 use Rattle.server_reads.specs.CdBase.ids.Fp.{Fp}
 use Rattle.server_reads.specs.CdBase.ids.Tag.{Tag}
@@ -70,17 +71,18 @@ module _ (rooms : UserRooms) (m new : Memory) (user : UserId) (tag : Tag) (versi
   key = key_of user.0 tag.0 version.0
 
   -- of a version that has an entry
-  pub compared_commits : (fps : List Fp) (recipe bytes content : List ℕ) (entry : Entry) → get m.files (key_of user.0 tag.0 version.0) ≡ Some entry → AreOwned m.owners user fps → new ≡ m → IsReply content (by_recipe bytes recipe)
+  pub compared_commits : (fps : List Fp) (recipe bytes content : List ℕ) (entry : Entry) → get m.files (key_of user.0 tag.0 version.0) ≡ Some entry → AreOwned m.owners user fps → new ≡ m → fingerprint bytes ≡ entry.fp
+      → IsReply content (by_recipe bytes recipe)
       → Replies content (Commits rooms m new user tag version fps recipe)
-  compared_commits fps recipe bytes content entry has owned same is = by (bytes_eq bytes recipe) is
+  compared_commits fps recipe bytes content entry has owned same hashed is = by (bytes_eq bytes recipe) (bytes_eq-Decides bytes recipe).0 is
     where
-      by : (b : Bool) → IsReply content (cond b replies.Committed replies.Exists) → Replies content (Commits rooms m new user tag version fps recipe)
-      by true w = record {
+      by : (b : Bool) → (b ≡ true → bytes ≡ recipe) → IsReply content (cond b replies.Committed replies.Exists) → Replies content (Commits rooms m new user tag version fps recipe)
+      by true one w = record {
         reply = replies.Committed;
         is = w;
-        said = (owned, subst (λ (o : Option Entry). Committed rooms m new user tag version fps recipe o) (sym has) same);
+        said = (owned, subst (λ (o : Option Entry). Committed rooms m new user tag version fps recipe o) (sym has) (same, ap fingerprint (sym (one refl)) ∙ hashed));
       }
-      by false w = record { reply = replies.Exists; is = w; said = (owned, there (get m.files key) entry has, same) }
+      by false one w = record { reply = replies.Exists; is = w; said = (owned, there (get m.files key) entry has, same) }
 
   pub rotten_commits : (fps : List Fp) (recipe content : List ℕ) (entry : Entry) (named found : Fp) → get m.files (key_of user.0 tag.0 version.0) ≡ Some entry → AreOwned m.owners user fps → new ≡ m
       → IsReply content (replies.Rotten named found) → Replies content (Commits rooms m new user tag version fps recipe)

@@ -80,9 +80,9 @@ entering m user tag version fps recipe =
       fp = fingerprint recipe;
     }) m
 
--- the version stands, where there is an entry, or is entered, and passes no room
+-- where there is an entry, the version stands, with a recipe of this one's fingerprint; or it is entered, and passes no room
 abbrev pub Committed : UserRooms → Memory → Memory → UserId → Tag → Version → List Fp → List ℕ → Option Entry → Type 0
-Committed rooms m new user tag version fps recipe (Some entry) = new ≡ m
+Committed rooms m new user tag version fps recipe (Some entry) = (new ≡ m) × (fingerprint recipe ≡ entry.fp)
 Committed rooms m new user tag version fps recipe None =
     (new ≡ entering m user tag version fps recipe) × (full_commit rooms user m (length recipe) ≡ None)
 

@@ -196,7 +196,8 @@ fn enter<V: Shelf>(
 ///   no room: Committed, and the list has one command more.
 ///
 /// Whatever the cloud has, the memory decides on Lacking, on Full of a room and on whether the version has an entry; behind
-/// Committed of one that had none it is the one before with the command's record taken.
+/// Committed of one that had none it is the one before with the command's record taken, and of one that had one the recipe has
+/// the entry's fingerprint.
 ///
 /// Full of the journal comes only over a cloud of which the store serves no list. Failed comes only where the cloud's count
 /// of faults rose. The store is shut then, the cloud stands for the list without the command or with it, and nothing is known
