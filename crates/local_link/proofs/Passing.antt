@@ -28,7 +28,7 @@ use Rattle.cloud_server.specs.OpenStore.store.OpenStore.{OpenStore}
 use Rattle.cloud_server.specs.Serving.{OpensFirst, IsUnopenedReply}
 use Rattle.cloud_server.specs.CloudAreas.Peers.{StandsForSome, ImagesSince, MayBecome}
 use Rattle.local_link.specs.declared.link.LocalLink.{LocalLink}
-use Rattle.local_link.specs.Tells.{server_at, header_at, rooms_at, full_at, is_delivered, IsPeer, LeavesRest, serving_at, StandsAt, IsOpenWith, IsReadAs, ReadsOpen, ReadsTold, PassesOn, telling}
+use Rattle.local_link.specs.Tells.{server_at, header_at, rooms_at, full_at, is_delivered, IsPeer, LeavesRest, serving_at, StandsAt, IsOpenWith, IsRemembered, ReadsOpen, ReadsTold, PassesOn, telling}
 use Rattle.cloud_server.specs.UserDedup.Link.{Exchange, IsReading, exchange_of, AddsNothing, Passes, ReadsFrom, Asks, serves}
 use Rattle.cloud_server.specs.CdBase.Reading.{AreBytes}
 use Rattle.local_link.specs.declared.fate.Fate.{Fate}
@@ -274,7 +274,7 @@ pub passes_by : {V E : Type 0} (clouds : V → ℕ → Cloud) (old new : LocalLi
     → ((m : Memory) (r : Request) → asked_at old.servers.shape content ≡ Ok r → AddsNothing r → IsOpenWith old.servers cloud m
     → ReadsOpen (clouds old.shelf.now cloud) (clouds new.shelf.now cloud) new.servers (exchange_of cloud content result reply) m r)
     → ((m : Memory) (r : Request) → IsTrue (clouds old.shelf.now cloud).told → asked_at old.servers.shape content ≡ Ok r → AddsNothing r
-    → IsReadAs (header_at old.servers cloud) (clouds old.shelf.now cloud) (server_at old.servers cloud) m
+    → IsRemembered (header_at old.servers cloud) (clouds old.shelf.now cloud) (server_at old.servers cloud) m
     → ReadsTold (header_at old.servers cloud) (clouds old.shelf.now cloud) (clouds new.shelf.now cloud) (server_at new.servers cloud) (exchange_of cloud content result reply) m r)
     → ((r : Request) → asked_at old.servers.shape content ≡ Ok r → Asks (telling clouds) cloud old r reply result new)
     → ((p : Peer) (r : Request) → IsTrue (clouds old.shelf.now cloud).told → StandsAt clouds old cloud p → asked_at old.servers.shape content ≡ Ok r

@@ -38,7 +38,7 @@ use Rattle.local_link.specs.declared.fate.Fate.TheVariants.{LoseRequest}
 use Rattle.local_link.specs.declared.link.LocalLink.{LocalLink}
 use Rattle.local_link.specs.declared.servers.Servers.{Servers}
 use Rattle.local_link.specs.Steps.{OpensOrShuts}
-use Rattle.local_link.specs.Tells.{server_at, header_at, IsReadAs, IsSaidBy, LeavesRest, ReadsTold, PassesOn, telling}
+use Rattle.local_link.specs.Tells.{server_at, header_at, IsRemembered, IsSaidBy, LeavesRest, ReadsTold, PassesOn, telling}
 use Rattle.local_link.proofs.ByMemory.{by_stores, is_steady, lost_there, said_there}
 use Rattle.local_link.proofs.Passing.{has_recipe, one_reply}
 use Rattle.local_link.proofs.Standing.{header_is, header_stays}
@@ -77,7 +77,7 @@ pub record Along (old new : Cloud) : Type 0 where
   pub since : LeavesOnly old new (λ (image : Image). image ≡ reads old.now)
   pub same : reads new.now ≡ reads old.now
 
-module _ (header : Header) (m : Memory) (old : Cloud) (server : Option Server) (is : IsReadAs header old server m) where
+module _ (header : Header) (m : Memory) (old : Cloud) (server : Option Server) (is : IsRemembered header old server m) where
   none_yet : Along old old
   none_yet = record { since = started old (λ (image : Image). image ≡ reads old.now) is.alone; same = refl }
 
@@ -100,7 +100,7 @@ module _ (header : Header) (m : Memory) (old : Cloud) (server : Option Server) (
   }
 
   -- it reads as this memory still
-  still : (new : Cloud) (after : Option Server) → Along old new → IsSomeAnd after (λ (a : Server). IsOpen a.store → memory_of a.store.memory ≡ m) → IsReadAs header new after m
+  still : (new : Cloud) (after : Option Server) → Along old new → IsSomeAnd after (λ (a : Server). IsOpen a.store → memory_of a.store.memory ≡ m) → IsRemembered header new after m
   still new after so keeps = record {
     commands = is.commands;
     opens = subst (λ (image : Image). Opens header false image m (Ok is.commands)) (sym so.same) is.opens;
@@ -129,7 +129,7 @@ module _ (header : Header) (m : Memory) (old new : Cloud) (told : IsTrue old.tol
   Finds after content = IsSomeAnd after (λ (a : Server). (named what : Fp) → IsReply content (replies.Rotten named what) → IsFound new (memory_of a.store.memory) r named what)
 
   -- The error of an opening of such a cloud is that of a device, and the reply is Fault.
-  is_fault : (store : OpenStore) (server : Option Server) (content : List ℕ) → store.header ≡ header → IsReadAs header old server m → IsUnopenedReply store old new content
+  is_fault : (store : OpenStore) (server : Option Server) (content : List ℕ) → store.header ≡ header → IsRemembered header old server m → IsUnopenedReply store old new content
       → IsReply content replies.Fault
   is_fault store server content same is u =
       by_error u.error u.refuses (subst (λ (h : Header). OnFault (an_error u.error) (Unit {0}) (OpensTo h true (reads old.now) (an_error u.error))) same (u.unopened.exact told))
@@ -141,7 +141,7 @@ module _ (header : Header) (m : Memory) (old new : Cloud) (told : IsTrue old.tol
       by_error (errors.OtherStore found asked at) refuses opens = absurd (never_fails header (reads old.now) m opens.0 is.commands (errors.OtherStore found asked at) is.opens opens.1)
 
   -- what stands behind it
-  pub left_so : (before after : Option Server) (content : List ℕ) → IsSomeAnd before (λ (b : Server). b.store.header ≡ header) → IsReadAs header old before m → Behind before after
+  pub left_so : (before after : Option Server) (content : List ℕ) → IsSomeAnd before (λ (b : Server). b.store.header ≡ header) → IsRemembered header old before m → Behind before after
       → First before after content → Along old new × Keeps after
   left_so None after content same is behind first = absurd same
   left_so (Some b) None content same is behind first = elim (open_or_shut b.store) [ inl opened ↦ absurd (behind opened) | inr shut ↦ absurd (first shut) ]
@@ -165,7 +165,7 @@ module _ (header : Header) (m : Memory) (old new : Cloud) (told : IsTrue old.tol
       )
 
   -- and what came back
-  pub says_so : (before after : Option Server) (content : List ℕ) → IsSomeAnd before (λ (b : Server). b.store.header ≡ header) → IsReadAs header old before m → new.told ≡ old.told
+  pub says_so : (before after : Option Server) (content : List ℕ) → IsSomeAnd before (λ (b : Server). b.store.header ≡ header) → IsRemembered header old before m → new.told ≡ old.told
       → reads new.now ≡ reads old.now → Behind before after → First before after content → Enter before after content → Finds after content
       → IsReply content replies.Fault ⊎ IsSaidBy old m r content
   says_so None after content same is tells reading behind first enters found = absurd same
@@ -196,7 +196,7 @@ header_there servers cloud P is = by_server (server_at servers cloud) refl is
     by_server (Some s) here is = header_is servers cloud s here
 
 module _ {V : Type 0} (clouds : V → ℕ → Cloud) (old new : LocalLink V) (cloud : ℕ) (m : Memory) (r : Request) (none : AddsNothing r) (told : IsTrue (clouds old.shelf.now cloud).told)
-    (is : IsReadAs (header_at old.servers cloud) (clouds old.shelf.now cloud) (server_at old.servers cloud) m) (rest : LeavesRest clouds cloud old new)
+    (is : IsRemembered (header_at old.servers cloud) (clouds old.shelf.now cloud) (server_at old.servers cloud) m) (rest : LeavesRest clouds cloud old new)
     (unheard : old.fate ≡ LoseRequest → (new.servers ≡ old.servers) × (new.shelf ≡ old.shelf)) where
   abbrev header : Header
   header = header_at old.servers cloud
@@ -260,7 +260,7 @@ module _ {V : Type 0} (clouds : V → ℕ → Cloud) (old new : LocalLink V) (cl
 
 module _ {V : Type 0} (clouds : V → ℕ → Cloud) where
   abbrev Reads : LocalLink V → ℕ → Memory → Type 0
-  Reads a cloud m = IsReadAs (header_at a.servers cloud) (clouds a.shelf.now cloud) (server_at a.servers cloud) m
+  Reads a cloud m = IsRemembered (header_at a.servers cloud) (clouds a.shelf.now cloud) (server_at a.servers cloud) m
 
   -- the cloud of this number reads as this memory, and as it did
   abbrev GoesOn : LocalLink V → LocalLink V → ℕ → Memory → Type 0
@@ -284,7 +284,7 @@ module _ {V : Type 0} (clouds : V → ℕ → Cloud) where
       at_asked : IsTrue (clouds a.shelf.now e.cloud).told → Reads a e.cloud m → GoesOn a b e.cloud m
       at_asked t reads_there =
           let x = one_read e a b m reading.0 reading.1 reading.2 step t reads_there in
-          (subst (λ (h : Header). IsReadAs h (clouds b.shelf.now e.cloud) (server_at b.servers e.cloud) m) (sym (next_header e a b e.cloud step)) x.at_end, x.since, x.same)
+          (subst (λ (h : Header). IsRemembered h (clouds b.shelf.now e.cloud) (server_at b.servers e.cloud) m) (sym (next_header e a b e.cloud step)) x.at_end, x.since, x.same)
 
       by_cloud : (cloud ≡ e.cloud) ⊎ (cloud ≢ e.cloud) → GoesOn a b cloud m
       by_cloud (inl same) =
@@ -292,11 +292,11 @@ module _ {V : Type 0} (clouds : V → ℕ → Cloud) where
       by_cloud (inr ne) =
           let one = clouds a.shelf.now cloud in
           let header = header_at b.servers cloud in
-          let first : IsReadAs header one (server_at a.servers cloud) m × LeavesOnly one one (λ (image : Image). image ≡ reads one.now) × (reads one.now ≡ reads one.now) =
-          (subst (λ (h : Header). IsReadAs h one (server_at a.servers cloud) m) (sym (next_header e a b cloud step)) is, started one (λ (image : Image). image ≡ reads one.now) is.alone, refl) in
-          subst (λ (c : Cloud). IsReadAs header c (server_at b.servers cloud) m × LeavesOnly one c (λ (image : Image). image ≡ reads one.now) × (reads c.now ≡ reads one.now))
+          let first : IsRemembered header one (server_at a.servers cloud) m × LeavesOnly one one (λ (image : Image). image ≡ reads one.now) × (reads one.now ≡ reads one.now) =
+          (subst (λ (h : Header). IsRemembered h one (server_at a.servers cloud) m) (sym (next_header e a b cloud step)) is, started one (λ (image : Image). image ≡ reads one.now) is.alone, refl) in
+          subst (λ (c : Cloud). IsRemembered header c (server_at b.servers cloud) m × LeavesOnly one c (λ (image : Image). image ≡ reads one.now) × (reads c.now ≡ reads one.now))
           (sym (step.rest.clouds_stay cloud ne))
-          (subst (λ (o : Option Server). IsReadAs header one o m × LeavesOnly one one (λ (image : Image). image ≡ reads one.now) × (reads one.now ≡ reads one.now))
+          (subst (λ (o : Option Server). IsRemembered header one o m × LeavesOnly one one (λ (image : Image). image ≡ reads one.now) × (reads one.now ≡ reads one.now))
           (sym (step.rest.servers_stay cloud ne)) first)
 
   abbrev Chain : LocalLink V → List Exchange → LocalLink V → Type 0

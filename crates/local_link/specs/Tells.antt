@@ -107,7 +107,7 @@ pub record ReadsOpen (old new : Cloud) (servers : Servers) (e : Exchange) (m : M
   pub says : (content : List ℕ) → e.reply ≡ Some content → Rose old.faults new.faults ⊎ IsSaidBy old m request content
 
 -- What the areas read opens with this header, to this memory, and a crash leaves nothing else. The server is closed, or has the memory.
-pub record IsReadAs (header : Header) (cloud : Cloud) (server : Option Server) (m : Memory) : Type 0 where
+pub record IsRemembered (header : Header) (cloud : Cloud) (server : Option Server) (m : Memory) : Type 0 where
   pub commands : ℕ
   pub opens : Opens header false (reads cloud.now) m (Ok commands)
   pub begun : ¬ IsUnbegun (reads cloud.now Journal)
@@ -117,7 +117,7 @@ pub record IsReadAs (header : Header) (cloud : Cloud) (server : Option Server) (
 -- Such a told cloud was asked for what adds nothing. It is so still, it reads as it did, and a crash at any moment since leaves nothing else. What
 -- came back is Fault, or by the memory.
 pub record ReadsTold (header : Header) (old new : Cloud) (server : Option Server) (e : Exchange) (m : Memory) (request : Request) : Type 0 where
-  pub at_end : IsReadAs header new server m
+  pub at_end : IsRemembered header new server m
   pub since : LeavesOnly old new (λ (image : Image). image ≡ reads old.now)
   pub same : reads new.now ≡ reads old.now
   pub says : (content : List ℕ) → e.reply ≡ Some content → IsReply content replies.Fault ⊎ IsSaidBy old m request content
@@ -143,7 +143,7 @@ pub record PassesOn {V : Type 0} (clouds : V → ℕ → Cloud) (old : LocalLink
   pub reads : (m : Memory) (r : Request) → asked_at old.servers.shape e.content ≡ Ok r → AddsNothing r → IsOpenWith old.servers e.cloud m
       → ReadsOpen (clouds old.shelf.now e.cloud) (clouds new.shelf.now e.cloud) new.servers e m r
   pub recalls : (m : Memory) (r : Request) → IsTrue (clouds old.shelf.now e.cloud).told → asked_at old.servers.shape e.content ≡ Ok r → AddsNothing r
-      → IsReadAs (header_at old.servers e.cloud) (clouds old.shelf.now e.cloud) (server_at old.servers e.cloud) m
+      → IsRemembered (header_at old.servers e.cloud) (clouds old.shelf.now e.cloud) (server_at old.servers e.cloud) m
       → ReadsTold (header_at old.servers e.cloud) (clouds old.shelf.now e.cloud) (clouds new.shelf.now e.cloud) (server_at new.servers e.cloud) e m r
   pub goes : (p : Peer) (r : Request) → asked_at old.servers.shape e.content ≡ Ok r → StandsAt clouds old e.cloud p
       → (q : Peer) × StandsAt clouds new e.cloud q × ((KeepsPeer p q × CountsOn p q × (e.reply ≡ None))

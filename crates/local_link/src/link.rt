@@ -16,7 +16,7 @@ ghost use Rattle.local_link.specs.declared.servers.Servers.{Servers};
 ghost use Rattle.cloud_server.specs.CloudAreas.Peers.{ImagesSince};
 ghost use Rattle.local_link.specs.declared.link.LocalLink.{LocalLink};
 ghost use Rattle.cloud_server.specs.UserDedup.Link.{AddsNothing, Exchange, IsReading, Passes, ReadsFrom};
-ghost use Rattle.local_link.specs.Tells.{server_at, header_at, telling, StandsAt, IsOpenWith, IsReadAs, IsSaidBy};
+ghost use Rattle.local_link.specs.Tells.{server_at, header_at, telling, StandsAt, IsOpenWith, IsRemembered, IsSaidBy};
 
 use crate::Fate;
 use crate::servers::Servers;
@@ -533,8 +533,8 @@ pub fn law_of_readings<V: Shelf>()
     ensures reading { (asks : List Exchange) (old new : LocalLink V) (cloud : ℕ) (m : Memory)
         → Passes (telling V.cloud_at) (λ ask. IsReading ask.content) old asks new
         → IsTrue (V.cloud_at old.shelf.now cloud).told
-        → IsReadAs (header_at old.servers cloud) (V.cloud_at old.shelf.now cloud) (server_at old.servers cloud) m
-        → IsReadAs (header_at new.servers cloud) (V.cloud_at new.shelf.now cloud) (server_at new.servers cloud) m
+        → IsRemembered (header_at old.servers cloud) (V.cloud_at old.shelf.now cloud) (server_at old.servers cloud) m
+        → IsRemembered (header_at new.servers cloud) (V.cloud_at new.shelf.now cloud) (server_at new.servers cloud) m
         × LeavesOnly (V.cloud_at old.shelf.now cloud) (V.cloud_at new.shelf.now cloud)
         (λ image. image ≡ reads (V.cloud_at old.shelf.now cloud).now)
         × (reads (V.cloud_at new.shelf.now cloud).now ≡ reads (V.cloud_at old.shelf.now cloud).now) }
@@ -543,7 +543,7 @@ pub fn law_of_readings<V: Shelf>()
         (request : Request) → Passes (telling V.cloud_at) (λ ask. IsReading ask.content) old asks new
         → Contains asks ask → ask.reply ≡ Some content → IsRequest ask.content request → AddsNothing request
         → IsTrue (V.cloud_at old.shelf.now ask.cloud).told
-        → IsReadAs (header_at old.servers ask.cloud) (V.cloud_at old.shelf.now ask.cloud)
+        → IsRemembered (header_at old.servers ask.cloud) (V.cloud_at old.shelf.now ask.cloud)
         (server_at old.servers ask.cloud) m
         → IsReply content replies.Fault ⊎ IsSaidBy (V.cloud_at old.shelf.now ask.cloud) m request content }
     // the clouds that aren't named are as they were

@@ -40,7 +40,7 @@ use Rattle.local_link.specs.Tells.{server_at, rooms_at, rooms_of, header_at, Sta
 use Rattle.read_command.specs.declared.end.ReadEnd.{ReadEnd}
 use Rattle.read_command.specs.declared.end.ReadEnd.TheVariants as ends
 use Rattle.read_command.specs.Disks.{IsUnopenedToRead, IsSpared, InItsRooms, NamesRooms, OpensWith, StaysShut, Current, Unbegun, Broken}
-use Rattle.read_command.specs.Opening.{EndsOne, HasRead, IsFree, Opening, end_by}
+use Rattle.read_command.specs.Opening.{EndsOne, IsRememberedAt, IsFree, Opening, end_by}
 
 -- ---- where nothing is begun
 
@@ -132,7 +132,7 @@ synced_alone old new s image left = λ i area. by_area area i
 -- the server that opened has the memory that the opening read, and the areas are read so still
 opens_with : {V : Type 0} (clouds : V → ℕ → Cloud) (header : Header) (old : Cloud) (commands : ℕ) (new : LocalLink V) (cloud : ℕ) → header_at new.servers cloud ≡ header
     → (let answer : Result ℕ OpenErr = Ok commands in IsSomeAnd (server_at new.servers cloud) (λ (s : Server). OnFault answer (Unit {0}) (Opens header false (reads old.now) (memory_of s.store.memory) answer)))
-    → ¬ IsUnbegun (reads old.now Journal) → AreSynced old (clouds new.shelf.now cloud) → OpensWith header old (HasRead clouds new cloud header)
+    → ¬ IsUnbegun (reads old.now Journal) → AreSynced old (clouds new.shelf.now cloud) → OpensWith header old (IsRememberedAt clouds new cloud header)
 opens_with {V} clouds header old commands new cloud header_is exact begun synced = by_server (server_at new.servers cloud) refl exact
   where
     after : Cloud
@@ -143,7 +143,7 @@ opens_with {V} clouds header old commands new cloud header_is exact begun synced
 
     by_server : (at : Option Server) → server_at new.servers cloud ≡ at
         → (let answer : Result ℕ OpenErr = Ok commands in IsSomeAnd at (λ (s : Server). OnFault answer (Unit {0}) (Opens header false (reads old.now) (memory_of s.store.memory) answer)))
-        → OpensWith header old (HasRead clouds new cloud header)
+        → OpensWith header old (IsRememberedAt clouds new cloud header)
     by_server None is opens = absurd opens
     by_server (Some s) is opens = record {
       memory = memory_of s.store.memory;
@@ -278,7 +278,7 @@ module _ {V : Type 0} (clouds : V → ℕ → Cloud) where
         memory = λ told. (
           rooms,
           named told,
-          subst (λ (h : Header). OpensWith h old (HasRead clouds new cloud.0 h)) header
+          subst (λ (h : Header). OpensWith h old (IsRememberedAt clouds new cloud.0 h)) header
               (opens_with clouds (header_at mid.servers cloud.0) old commands new cloud.0 header_new (exact told) (begun_by (reads old.now Journal) (begun told)) ((spares told).unasked refl)),
         );
         same = λ told. synced_same old after ((spares told).unasked refl);

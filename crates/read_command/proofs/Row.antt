@@ -21,12 +21,12 @@ use Rattle.local_link.specs.CloudServer.server.Server.{Server}
 use Rattle.local_link.specs.CloudServer.Serving.{settled_with}
 use Rattle.local_link.specs.declared.link.LocalLink.{LocalLink}
 use Rattle.half_journal.specs.JournalStart.start.Header.{Header}
-use Rattle.local_link.specs.Tells.{server_at, rooms_of, IsPeer, IsReadAs, LeavesRest}
+use Rattle.local_link.specs.Tells.{server_at, rooms_of, IsPeer, IsRemembered, LeavesRest}
 use Rattle.read_command.specs.declared.end.ReadEnd.{ReadEnd}
 use Rattle.read_command.specs.declared.end.ReadEnd.TheVariants as ends
 use Rattle.read_command.specs.Disks.{AreReadable, InItsRooms, IsSpared, IsStoppedAtCloud, KeepsDisks, NamesRooms, OpensWith, StaysShut}
 use Rattle.read_command.proofs.Disks.{images_by, opening_from, spared_still}
-use Rattle.read_command.specs.Opening.{Opening, BecomesOpen, AreOpened, EndsBy, EndsOpening, HasRead, IsFree}
+use Rattle.read_command.specs.Opening.{Opening, BecomesOpen, AreOpened, EndsBy, EndsOpening, IsRememberedAt, IsFree}
 
 -- ---- rising clouds
 
@@ -87,8 +87,8 @@ stands_later number s t k l o p list ts lk po is =
 -- a server that stays has its memory still
 later_memory : {V : Type 0} (clouds : V → ℕ → Cloud) (shape : Shape) (number : ℕ) (cloud : Cloud) (mid new : LocalLink V) → new.servers.shape ≡ mid.servers.shape
     → clouds new.shelf.now number ≡ clouds mid.shelf.now number → server_at new.servers number ≡ server_at mid.servers number
-    → InItsRooms shape number cloud (λ (h : Header). OpensWith h cloud (HasRead clouds mid number h))
-    → InItsRooms shape number cloud (λ (h : Header). OpensWith h cloud (HasRead clouds new number h))
+    → InItsRooms shape number cloud (λ (h : Header). OpensWith h cloud (IsRememberedAt clouds mid number h))
+    → InItsRooms shape number cloud (λ (h : Header). OpensWith h cloud (IsRememberedAt clouds new number h))
 later_memory clouds shape number cloud mid new shapes same server is = (
   is.0,
   is.1,
@@ -98,8 +98,8 @@ later_memory clouds shape number cloud mid new shapes same server is = (
     opens = is.2.opens;
     has = (
       (λ i. header_of (shapes i) (rooms_of (server i)) number) ∙ is.2.has.0,
-      subst (λ (c : Cloud). IsReadAs (header_of shape is.0 number) c (server_at new.servers number) is.2.memory) (sym same)
-          (subst (λ (o : Option Server). IsReadAs (header_of shape is.0 number) (clouds mid.shelf.now number) o is.2.memory) (sym server) is.2.has.1),
+      subst (λ (c : Cloud). IsRemembered (header_of shape is.0 number) c (server_at new.servers number) is.2.memory) (sym same)
+          (subst (λ (o : Option Server). IsRemembered (header_of shape is.0 number) (clouds mid.shelf.now number) o is.2.memory) (sym server) is.2.has.1),
     );
   },
 )

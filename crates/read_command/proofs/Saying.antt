@@ -27,7 +27,7 @@ use Rattle.local_link.specs.Messages.request.Request.TheVariants as requests
 use Rattle.local_link.specs.ServerCommands.Entering.{ReadsBy}
 use Rattle.local_link.specs.ServerCommands.Leaving.{IsFound}
 use Rattle.local_link.specs.declared.link.LocalLink.{LocalLink}
-use Rattle.local_link.specs.Tells.{IsReadAs, IsSaidBy, header_at, server_at, telling}
+use Rattle.local_link.specs.Tells.{IsRemembered, IsSaidBy, header_at, server_at, telling}
 use Rattle.local_link.proofs.ByMemory.{found_is, said_is, said_there}
 use Rattle.local_link.proofs.Passing.{fault_alone}
 use Rattle.messages.proofs.ReplyLaws.{reply_law}
@@ -45,7 +45,7 @@ use Rattle.subset_restore.specs.Tries.{Try}
 use Rattle.subset_restore.proofs.Elements.{contains_back, contains_mapped}
 use Rattle.read_command.specs.Disks.{InItsRooms, IsSpared, OpensWith}
 use Rattle.read_command.specs.Ends.{Outside, ByMemory, CameOf, IsSaid, SaysOf}
-use Rattle.read_command.specs.Opening.{AreOpened, HasRead}
+use Rattle.read_command.specs.Opening.{AreOpened, IsRememberedAt}
 use Rattle.read_command.proofs.Refusing.{HasHeard, of_damaged, of_missing, of_rotten, restore_heard}
 use Rattle.read_command.proofs.Restoring.{named_or_not, reading_chain}
 
@@ -84,7 +84,7 @@ not_fault content answer are read other (inl fault) = absurd (other (fault_alone
 module _ {V : Type 0} (clouds : V → ℕ → Cloud) where
   -- what the cloud of this number reads opens to the memory
   abbrev pub Reads : LocalLink V → ℕ → Memory → Type 0
-  Reads a cloud m = IsReadAs (header_at a.servers cloud) (clouds a.shelf.now cloud) (server_at a.servers cloud) m
+  Reads a cloud m = IsRemembered (header_at a.servers cloud) (clouds a.shelf.now cloud) (server_at a.servers cloud) m
 
   -- it does so still, and reads as it did
   abbrev pub ReadsOn : LocalLink V → LocalLink V → ℕ → Memory → Type 0
@@ -174,9 +174,9 @@ module _ {V : Type 0} (clouds : V → ℕ → Cloud) (named : List ℕ) (shape :
       → ((cloud : ℕ) → (clouds to.shelf.now cloud).faults ≤ (clouds new.shelf.now cloud).faults) → (x : CloudExchange) → Contains log x → Contains named x.cloud → IsSaid around shape x
   said_in tries at to all log chain rest x has is_named told =
       let o = subst
-      (λ (s : Shape). InItsRooms s x.cloud (clouds old.shelf.now x.cloud) (λ (h : Header). OpensWith h (clouds old.shelf.now x.cloud) (HasRead clouds mid x.cloud h)))
+      (λ (s : Shape). InItsRooms s x.cloud (clouds old.shelf.now x.cloud) (λ (h : Header). OpensWith h (clouds old.shelf.now x.cloud) (IsRememberedAt clouds mid x.cloud h)))
       same ((opened.each x.cloud is_named).memory told) in
-      let is = subst (λ (h : Header). IsReadAs h (clouds mid.shelf.now x.cloud) (server_at mid.servers x.cloud) o.2.memory) (sym o.2.has.0) o.2.has.1 in (
+      let is = subst (λ (h : Header). IsRemembered h (clouds mid.shelf.now x.cloud) (server_at mid.servers x.cloud) o.2.memory) (sym o.2.has.0) o.2.has.1 in (
         o.0,
         o.1,
         record {
@@ -322,7 +322,7 @@ spared_on clouds named before between old mid new opened asks passed law others 
     by_name (inr not) = subst (λ (c : Cloud). IsSpared one c) (sym (others cloud not)) first
     by_name (inl has) =
         let o = (opened.each cloud has).memory told in
-        let is = subst (λ (h : Header). IsReadAs h two (server_at mid.servers cloud) o.2.memory) (sym o.2.has.0) o.2.has.1 in
+        let is = subst (λ (h : Header). IsRemembered h two (server_at mid.servers cloud) o.2.memory) (sym o.2.has.0) o.2.has.1 in
         let r = law.reading asks mid new cloud o.2.memory (reading_chain clouds named asks mid new passed) (subst (λ (t : Bool). IsTrue t) (sym (opened.told cloud)) told) is in
         record {
           any_moment = joined one two three (λ (image : Image). IsImage one.now image) first.any_moment

@@ -17,7 +17,7 @@ use Rattle.cloud_areas.specs.Standing.{StandsFor}
 use Rattle.local_link.specs.CloudServer.Serving.{settled_with}
 use Rattle.local_link.specs.declared.link.LocalLink.{LocalLink}
 use Rattle.local_link.specs.CloudMemory.Memory.{Memory}
-use Rattle.local_link.specs.Tells.{IsReadAs, StandsAt, header_at, rooms_at, server_at}
+use Rattle.local_link.specs.Tells.{IsRemembered, StandsAt, header_at, rooms_at, server_at}
 use Rattle.read_command.specs.declared.end.ReadEnd.{ReadEnd}
 use Rattle.read_command.specs.declared.end.ReadEnd.TheVariants as ends
 use Rattle.read_command.specs.Disks.{IsReadable, IsOpenedToRead, IsSpared, IsStoppedAtCloud, InItsRooms, NamesRooms, OpensWith}
@@ -67,9 +67,9 @@ IsFree ends.SinkFault = Unit {0}
 
 -- The cloud's server has this header. What the areas read opens with it, to this memory; a crash leaves nothing else; and
 -- the server has that memory where it is open.
-abbrev pub HasRead : {V : Type 0} → (V → ℕ → Cloud) → LocalLink V → ℕ → Header → Memory → Type 0
-HasRead clouds link cloud header m = (header_at link.servers cloud ≡ header)
-    × IsReadAs header (clouds link.shelf.now cloud) (server_at link.servers cloud) m
+abbrev pub IsRememberedAt : {V : Type 0} → (V → ℕ → Cloud) → LocalLink V → ℕ → Header → Memory → Type 0
+IsRememberedAt clouds link cloud header m = (header_at link.servers cloud ≡ header)
+    × IsRemembered header (clouds link.shelf.now cloud) (server_at link.servers cloud) m
 
 -- A cloud that was so was to be opened. Where it opens, its server has the rooms that its journal names, and it stands for
 -- the list that its areas read as, if there is one within these, and nothing failed; the server has the memory that the
@@ -80,7 +80,7 @@ pub record Opening {V : Type 0} (clouds : V → ℕ → Cloud) (shape : Shape) (
       → OnOk result (InItsRooms shape cloud old (λ (header : Header). IsOpenedToRead header old))
   pub rooms : IsTrue old.told → OnOk result (NamesRooms (reads old.now Journal) (rooms_at new.servers cloud))
   pub memory : IsTrue old.told → OnOk result (InItsRooms shape cloud old
-      (λ (header : Header). OpensWith header old (HasRead clouds new cloud header)))
+      (λ (header : Header). OpensWith header old (IsRememberedAt clouds new cloud header)))
   pub same : IsTrue old.told → OnOk result (reads (clouds new.shelf.now cloud).now ≡ reads old.now)
   pub loaded : IsTrue old.told → (rooms : UserRooms) (list : List Command)
       → StandsFor (reads old.now) (header_of shape rooms cloud) list
@@ -104,7 +104,7 @@ pub record BecomesOpen {V : Type 0} (clouds : V → ℕ → Cloud) (old new : Lo
       → NamesRooms (reads (clouds old.shelf.now cloud).now Journal) (rooms_at new.servers cloud)
   pub memory : IsTrue (clouds old.shelf.now cloud).told
       → InItsRooms old.servers.shape cloud (clouds old.shelf.now cloud)
-      (λ (header : Header). OpensWith header (clouds old.shelf.now cloud) (HasRead clouds new cloud header))
+      (λ (header : Header). OpensWith header (clouds old.shelf.now cloud) (IsRememberedAt clouds new cloud header))
   pub same : IsTrue (clouds old.shelf.now cloud).told
       → reads (clouds new.shelf.now cloud).now ≡ reads (clouds old.shelf.now cloud).now
   pub loaded : IsTrue (clouds old.shelf.now cloud).told → (rooms : UserRooms) (list : List Command)
