@@ -3,7 +3,7 @@
 # records and the one behind a checkpoint, a Commit that brings no checkpoint, and a checkpoint beside the writing of as many bytes
 # with one sync, and beside their SHA-256.
 . "$(dirname "$0")/build.sh"
-build checkpoints cd_base cd_edges cd_fakes cloud_memory journal_start open_store recipe share_index anyhow
+build checkpoints cd_base cd_edges cd_fakes cloud_memory journal_start cloud_store recipe share_index anyhow
 export PYTHONPATH="$top/bench" PYTHONDONTWRITEBYTECODE=1
 python3 - "$program" <<'PY'
 import sys

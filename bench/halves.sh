@@ -2,7 +2,7 @@
 # Times 20,000 appends to a journal beside the writing of as many bytes by as many calls, the opening of what they left beside the reading
 # of as many bytes, and a checkpoint of 10 MB beside the writing of its bytes: over a cloud in memory, and the last over a folder, too.
 . "$(dirname "$0")/build.sh"
-build halves cd_base cd_edges cd_fakes half_journal journal_start real_edges anyhow
+build halves cd_base cd_edges cd_fakes commit_journal journal_start real_edges anyhow
 export PYTHONPATH="$top/bench" PYTHONDONTWRITEBYTECODE=1
 cd "$work"
 python3 - "$program" <<'PY'

@@ -3,7 +3,7 @@
 # full index, beside the SHA-256 of these shares; ten such Puts, the last of which brings a checkpoint of what the ten, or then all twenty
 # brought, beside theirs; and the opening of a journal with 16,384 commits and some 260,000 fingerprints beside SHA-256 of as many bytes.
 . "$(dirname "$0")/build.sh"
-build server cd_base cd_edges cd_fakes cloud_server frames journal_start
+build server cd_base cd_edges cd_fakes share_server frames journal_start
 python3 - "$program" <<'PY'
 import subprocess, sys
 # of three runs the fastest counts, since the machine may have other work

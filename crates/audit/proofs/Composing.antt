@@ -2,19 +2,19 @@
 use Rattle.std.proofs.Common.{◌≡◌, ◌≢◌, ℕ, ◌≤◌, ◌++◌, List, Result, Ok, Err, Option, Some, None, IsTrue, OnOk, is_some, true, refl, sym, ap, ◌∙◌, subst, arith}
 use Rattle.std.proofs.lemmas.Option.{same_Some}
 use Rattle.std.specs.FinMap.{get}
-use Rattle.cloud_server.specs.CdBase.ids.Fp.{Fp}
-use Rattle.cloud_server.specs.CdBase.place.Place.{Place}
-use Rattle.cloud_server.specs.CdEdges.area.Area.TheVariants.{Shares}
-use Rattle.cloud_server.specs.CdEdges.Disk.{Cloud, Image, reads}
-use Rattle.cloud_server.specs.CdEdges.Shelf.{IsCall, HasFailed, KeepsCounts, Stays}
-use Rattle.cloud_server.specs.CdBase.shape.Shape.{Shape}
-use Rattle.cloud_server.specs.UserDedup.command.Command.{Command}
+use Rattle.share_server.specs.CdBase.ids.Fp.{Fp}
+use Rattle.share_server.specs.CdBase.place.Place.{Place}
+use Rattle.share_server.specs.CdEdges.area.Area.TheVariants.{Shares}
+use Rattle.share_server.specs.CdEdges.Disk.{Cloud, Image, reads}
+use Rattle.share_server.specs.CdEdges.Shelf.{IsCall, HasFailed, KeepsCounts, Stays}
+use Rattle.share_server.specs.CdBase.shape.Shape.{Shape}
+use Rattle.share_server.specs.UserDedup.command.Command.{Command}
 use Rattle.cloud_disk.specs.CloudAreas.Standing.{Chain}
 use Rattle.own_certificate.specs.Certificate.Lines.{certificate_text}
 use Rattle.blob_audit.specs.CloudMemory.cloud.CloudMemory.{CloudMemory}
 use Rattle.blob_audit.specs.ShareIndex.Placed.{AreAllPlaced}
-use Rattle.open_store.specs.declared.store.OpenStore.{OpenStore}
-use Rattle.open_store.specs.Store.{Serves}
+use Rattle.cloud_store.specs.declared.store.CloudStore.{CloudStore}
+use Rattle.cloud_store.specs.Store.{Serves}
 use Rattle.blob_audit.specs.declared.errors.ReadErr.{ReadErr}
 use Rattle.blob_audit.specs.declared.errors.ReadErr.TheVariants as reading
 use Rattle.blob_audit.specs.Reading.{AreStored, AreGood, IsUnlike, StoredIs, GoodIs, OnReadFault}
@@ -62,7 +62,7 @@ whole_by shape image t placed good = record {
 
 -- ---- an audit
 
-module _ (store : OpenStore) (old new : ℕ → Cloud) (before now : ℕ) where
+module _ (store : CloudStore) (old new : ℕ → Cloud) (before now : ℕ) where
   abbrev n : ℕ
   n = number_in store
 
@@ -182,7 +182,7 @@ module _ (store : OpenStore) (old new : ℕ → Cloud) (before now : ℕ) where
 abbrev refusal : CheckErr → Result ℕ CheckErr
 refusal e = Err e
 
-module _ (store : OpenStore) (text : List ℕ) (old : ℕ → Cloud) (before : ℕ) where
+module _ (store : CloudStore) (text : List ℕ) (old : ℕ → Cloud) (before : ℕ) where
   no_rotten : (P : Fp → Fp → Type 0) (e : CheckErr) → ((named found : Fp) → refusal e ≢ refusal (checks.Rotten named found)) → IfRotten (Err e) P
   no_rotten P (checks.Malformed line at) never = tt
   no_rotten P checks.OtherCloud never = tt

@@ -3,37 +3,37 @@ use Rattle.std.proofs.Common.{◌≡◌, ℕ, List, [], length, map, take, drop,
 use Rattle.std.specs.Prelude.{All, IsSome, option_map, unwrap_or}
 use Rattle.std.specs.List.{Contains}
 use Rattle.std.specs.FinMap.{get}
-use Rattle.cloud_server.specs.CdBase.ids.Fp.{Fp}
-use Rattle.cloud_server.specs.CdBase.ids.Tag.{Tag}
-use Rattle.cloud_server.specs.CdBase.ids.UserId.{UserId}
-use Rattle.cloud_server.specs.CdBase.ids.Version.{Version}
-use Rattle.cloud_server.specs.CdBase.shape.Shape.{Shape}
-use Rattle.cloud_server.specs.CdEdges.area.Area.TheVariants.{Shares, Recipes}
-use Rattle.cloud_server.specs.CdEdges.Disk.{Cloud, reads}
+use Rattle.share_server.specs.CdBase.ids.Fp.{Fp}
+use Rattle.share_server.specs.CdBase.ids.Tag.{Tag}
+use Rattle.share_server.specs.CdBase.ids.UserId.{UserId}
+use Rattle.share_server.specs.CdBase.ids.Version.{Version}
+use Rattle.share_server.specs.CdBase.shape.Shape.{Shape}
+use Rattle.share_server.specs.CdEdges.area.Area.TheVariants.{Shares, Recipes}
+use Rattle.share_server.specs.CdEdges.Disk.{Cloud, reads}
 use Rattle.blob_audit.specs.FileIndex.key.Entry.{Entry}
 use Rattle.blob_audit.specs.FileIndex.Files.{key_of}
-use Rattle.cloud_server.specs.Recipe.recipe.Recipe.{Recipe}
-use Rattle.cloud_server.specs.Recipe.Spelling.{IsRecipe}
-use Rattle.cloud_server.proofs.Recipe.Written.{again}
-use Rattle.cloud_server.specs.UserDedup.file_list.FileEntry.{FileEntry}
-use Rattle.cloud_server.specs.UserDedup.Cloud.{fingerprint, user_view, strings_in, held_bytes}
-use Rattle.cloud_server.specs.UserDedup.Owning.{fps_in}
-use Rattle.cloud_server.specs.UserDedup.Pages.{entry_at}
-use Rattle.cloud_server.specs.UserDedup.Requests.{fps_of, fps_read}
-use Rattle.cloud_server.proofs.UserDedup.EntryLists.{found_entry}
-use Rattle.cloud_server.proofs.UserDedup.Sound.{entries_owned}
-use Rattle.cloud_server.specs.UserDedup.command.Command.{Command}
-use Rattle.cloud_server.proofs.UserDedup.CompactSound.{files_fit}
-use Rattle.cloud_server.proofs.UserDedup.Views.{held_is, owned_is_held}
+use Rattle.share_server.specs.Recipe.recipe.Recipe.{Recipe}
+use Rattle.share_server.specs.Recipe.Spelling.{IsRecipe}
+use Rattle.share_server.proofs.Recipe.Written.{again}
+use Rattle.share_server.specs.UserDedup.file_list.FileEntry.{FileEntry}
+use Rattle.share_server.specs.UserDedup.Cloud.{fingerprint, user_view, strings_in, held_bytes}
+use Rattle.share_server.specs.UserDedup.Owning.{fps_in}
+use Rattle.share_server.specs.UserDedup.Pages.{entry_at}
+use Rattle.share_server.specs.UserDedup.Requests.{fps_of, fps_read}
+use Rattle.share_server.proofs.UserDedup.EntryLists.{found_entry}
+use Rattle.share_server.proofs.UserDedup.Sound.{entries_owned}
+use Rattle.share_server.specs.UserDedup.command.Command.{Command}
+use Rattle.share_server.proofs.UserDedup.CompactSound.{files_fit}
+use Rattle.share_server.proofs.UserDedup.Views.{held_is, owned_is_held}
 use Rattle.cloud_disk.specs.CloudAreas.Standing.{Chain}
 use Rattle.cloud_disk.specs.Disk.{Disk}
 use Rattle.blob_audit.specs.CloudMemory.cloud.CloudMemory.{CloudMemory}
 use Rattle.blob_audit.specs.CloudMemory.Memory.{summary, summary_of}
-use Rattle.open_store.specs.Checkpoints.Known.{IsKnown}
-use Rattle.open_store.proofs.Checkpoints.Apartness.{in_map}
+use Rattle.cloud_store.specs.Checkpoints.Known.{IsKnown}
+use Rattle.cloud_store.proofs.Checkpoints.Apartness.{in_map}
 use Rattle.cloud_disk.specs.JournalStart.start.Header.{Header}
-use Rattle.open_store.specs.declared.store.OpenStore.{OpenStore}
-use Rattle.open_store.specs.Store.{Serves}
+use Rattle.cloud_store.specs.declared.store.CloudStore.{CloudStore}
+use Rattle.cloud_store.specs.Store.{Serves}
 use Rattle.blob_audit.specs.AuditBase.Served.{ServedTables, Views, IsEntryOf, NamesOwn}
 use Rattle.blob_audit.specs.AuditBase.Whole.{WholeNow, tables_of}
 use Rattle.blob_audit.proofs.AuditBase.Wholeness.{by_serving}
@@ -109,11 +109,11 @@ module _ (header : Header) (list : List Command) (c : Chain) (commands region : 
     entries = lies;
   }
 
-pub served : (list : List Command) (c : Chain) (store : OpenStore) (cloud : Cloud) → Serves list c store cloud
+pub served : (list : List Command) (c : Chain) (store : CloudStore) (cloud : Cloud) → Serves list c store cloud
     → ServedTables store.header.shape (reads cloud.now) (tables_of store.memory) (views_of store.header.shape list)
 served list c store cloud s = is_served store.header list c store.commands store.region store.memory store.disk cloud s.known
 
-pub whole : (list : List Command) (c : Chain) (store : OpenStore) (cloud : Cloud) → Serves list c store cloud
+pub whole : (list : List Command) (c : Chain) (store : CloudStore) (cloud : Cloud) → Serves list c store cloud
     → WholeNow store.header.shape (reads cloud.now) (tables_of store.memory)
 whole list c store cloud s =
     by_serving store.header.shape (reads cloud.now) (tables_of store.memory) (views_of store.header.shape list) (served list c store cloud s)

@@ -1,9 +1,9 @@
 -- What an audit and a check answer.
 use Rattle.std.specs.Prelude.{◌≡◌, ℕ, ◌++◌, List, Result, Ok, Err}
-use Rattle.cloud_server.specs.CdBase.ids.Fp.{Fp}
-use Rattle.cloud_server.specs.CdEdges.Disk.{Image}
+use Rattle.share_server.specs.CdBase.ids.Fp.{Fp}
+use Rattle.share_server.specs.CdEdges.Disk.{Image}
 use Rattle.own_certificate.specs.Certificate.Lines.{Certificate, certificate_text}
-use Rattle.cloud_server.specs.declared.server.Server.{Server}
+use Rattle.share_server.specs.declared.server.Server.{Server}
 use Rattle.blob_audit.specs.AuditBase.errors.CheckErr.{CheckErr}
 use Rattle.blob_audit.specs.AuditBase.errors.CheckErr.TheVariants as checks
 use Rattle.blob_audit.specs.AuditBase.Own.{own}

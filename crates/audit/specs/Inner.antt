@@ -1,12 +1,12 @@
 -- What an audit and a check of a store do. No public clause cites this module.
 use Rattle.std.specs.Prelude.{◌≡◌, ℕ, List, Result, Ok, Err, IsTrue, OnOk}
-use Rattle.cloud_server.specs.CdEdges.Disk.{Cloud, reads}
-use Rattle.cloud_server.specs.CdEdges.Shelf.{IsCall, HasFailed, KeepsCounts, Stays}
-use Rattle.cloud_server.specs.UserDedup.command.Command.{Command}
+use Rattle.share_server.specs.CdEdges.Disk.{Cloud, reads}
+use Rattle.share_server.specs.CdEdges.Shelf.{IsCall, HasFailed, KeepsCounts, Stays}
+use Rattle.share_server.specs.UserDedup.command.Command.{Command}
 use Rattle.cloud_disk.specs.CloudAreas.Standing.{Chain}
 use Rattle.own_certificate.specs.Certificate.Lines.{Certificate, certificate_text}
-use Rattle.open_store.specs.declared.store.OpenStore.{OpenStore}
-use Rattle.open_store.specs.Store.{Serves}
+use Rattle.cloud_store.specs.declared.store.CloudStore.{CloudStore}
+use Rattle.cloud_store.specs.Store.{Serves}
 use Rattle.blob_audit.specs.declared.errors.ReadErr.{ReadErr}
 use Rattle.blob_audit.specs.declared.errors.ReadErr.TheVariants as reading
 use Rattle.blob_audit.specs.AuditBase.errors.CheckErr.{CheckErr}
@@ -18,10 +18,10 @@ use Rattle.audit.specs.declared.errors.AuditErr.{AuditErr}
 use Rattle.audit.specs.declared.errors.AuditErr.TheVariants as audits
 use Rattle.audit.specs.Audits.{Appends, AuditIs, AuditPasses, OnAuditFault, IfRotten, IfUnread, CheckPasses, OnCheckFault}
 
-abbrev pub own_in : OpenStore → Certificate
+abbrev pub own_in : CloudStore → Certificate
 own_in store = own store.header.shape store.header.cloud (tables_of store.memory)
 
-abbrev pub number_in : OpenStore → ℕ
+abbrev pub number_in : CloudStore → ℕ
 number_in store = store.header.cloud.0
 
 abbrev pub audit_error : ReadErr → AuditErr
@@ -35,7 +35,7 @@ check_error (reading.Rotten named found) = checks.Rotten named found
 check_error reading.NoMemory = checks.NoMemory
 
 -- an audit of a store
-pub record IsAudited (store : OpenStore) (old new : ℕ → Cloud) (before now : ℕ) (result : Result ℕ AuditErr) (had has : List ℕ) : Type 0 where
+pub record IsAudited (store : CloudStore) (old new : ℕ → Cloud) (before now : ℕ) (result : Result ℕ AuditErr) (had has : List ℕ) : Type 0 where
   pub appends : Appends (own_in store) result had has
   pub judged : IsTrue (old (number_in store)).told → AuditIs (reads (new (number_in store)).now) (tables_of store.memory) result
   pub passes : (list : List Command) (c : Chain) → Serves list c store (old (number_in store)) → AuditPasses result
@@ -45,7 +45,7 @@ pub record IsAudited (store : OpenStore) (old new : ℕ → Cloud) (before now :
       (KeepsCounts (old (number_in store)) (new (number_in store)) before now)
 
 -- a check of a store by a text
-pub record IsChecked (store : OpenStore) (text : List ℕ) (old new : ℕ → Cloud) (before now : ℕ) (result : Result ℕ CheckErr) : Type 0 where
+pub record IsChecked (store : CloudStore) (text : List ℕ) (old new : ℕ → Cloud) (before now : ℕ) (result : Result ℕ CheckErr) : Type 0 where
   pub judged : JudgedIs (own_in store) text result
   pub whole : IsTrue (old (number_in store)).told → OnOk result (WholeNow store.header.shape (reads (new (number_in store)).now) (tables_of store.memory))
   pub rotten : IsTrue (old (number_in store)).told

@@ -1,10 +1,10 @@
 -- What each user has of a list of commands, as a law of audits speaks of it.
 use Rattle.std.specs.Prelude.{ℕ, List, option_map}
-use Rattle.cloud_server.specs.CdBase.shape.Shape.{Shape}
-use Rattle.cloud_server.specs.UserDedup.command.Command.{Command}
-use Rattle.cloud_server.specs.UserDedup.file_list.FileEntry.{FileEntry}
-use Rattle.cloud_server.specs.UserDedup.Cloud.{user_view, held_bytes}
-use Rattle.cloud_server.specs.UserDedup.Pages.{entry_at}
+use Rattle.share_server.specs.CdBase.shape.Shape.{Shape}
+use Rattle.share_server.specs.UserDedup.command.Command.{Command}
+use Rattle.share_server.specs.UserDedup.file_list.FileEntry.{FileEntry}
+use Rattle.share_server.specs.UserDedup.Cloud.{user_view, held_bytes}
+use Rattle.share_server.specs.UserDedup.Pages.{entry_at}
 use Rattle.blob_audit.specs.CloudMemory.Memory.{uses_of}
 use Rattle.blob_audit.specs.AuditBase.Served.{Views}
 

@@ -1,20 +1,20 @@
 //! An audit.
 
 ghost use Rattle.std.specs.Prelude.{◌≡◌, List, IsTrue};
-ghost use Rattle.cloud_server.specs.CdEdges.Disk.{reads};
-ghost use Rattle.cloud_server.specs.CdEdges.Shelf.{IsCall, HasFailed, KeepsCounts, Stays};
-ghost use Rattle.cloud_server.specs.UserDedup.command.Command.{Command};
+ghost use Rattle.share_server.specs.CdEdges.Disk.{reads};
+ghost use Rattle.share_server.specs.CdEdges.Shelf.{IsCall, HasFailed, KeepsCounts, Stays};
+ghost use Rattle.share_server.specs.UserDedup.command.Command.{Command};
 ghost use Rattle.cloud_disk.specs.CloudAreas.Standing.{Chain};
-ghost use Rattle.open_store.specs.Store.{IsOpen, Serves};
-ghost use Rattle.cloud_server.specs.Serving.{number_of};
+ghost use Rattle.cloud_store.specs.Store.{IsOpen, Serves};
+ghost use Rattle.share_server.specs.Serving.{number_of};
 ghost use Rattle.audit.specs.Inner.{audit_error, IsAudited};
 ghost use Rattle.audit.specs.Audits.{own_of, remembered, Appends, AuditIs, AuditPasses, OnAuditFault};
 
 use crate::AuditErr;
 use blob_audit::{ReadErr, read_stored};
-use cloud_server::{Bytes, NoMemory, Server, Shelf};
-use open_store::OpenStore;
+use cloud_store::CloudStore;
 use own_certificate::write_own;
+use share_server::{Bytes, NoMemory, Server, Shelf};
 use std::alloc::Global;
 
 // The cause by which an audit ends where the reading of blobs ends by this one.
@@ -31,7 +31,7 @@ fn audit_err(error: ReadErr) -> AuditErr
 // An audit of a store.
 fn audit_store<V: Shelf>(
     alloc: Global,
-    store: &OpenStore,
+    store: &CloudStore,
     shelf: &mut V,
     out: &mut Bytes,
 ) -> Result<u32, AuditErr>

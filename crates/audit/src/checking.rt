@@ -1,12 +1,12 @@
 //! A check of a certificate.
 
 ghost use Rattle.std.specs.Prelude.{◌≡◌, List, IsTrue, OnOk};
-ghost use Rattle.cloud_server.specs.CdEdges.Disk.{reads};
-ghost use Rattle.cloud_server.specs.CdEdges.Shelf.{IsCall, HasFailed, KeepsCounts, Stays};
-ghost use Rattle.cloud_server.specs.UserDedup.command.Command.{Command};
+ghost use Rattle.share_server.specs.CdEdges.Disk.{reads};
+ghost use Rattle.share_server.specs.CdEdges.Shelf.{IsCall, HasFailed, KeepsCounts, Stays};
+ghost use Rattle.share_server.specs.UserDedup.command.Command.{Command};
 ghost use Rattle.cloud_disk.specs.CloudAreas.Standing.{Chain};
-ghost use Rattle.open_store.specs.Store.{IsOpen, IsSettled, Serves};
-ghost use Rattle.cloud_server.specs.Serving.{number_of};
+ghost use Rattle.cloud_store.specs.Store.{IsOpen, IsSettled, Serves};
+ghost use Rattle.share_server.specs.Serving.{number_of};
 ghost use Rattle.own_certificate.specs.Certificate.Lines.{certificate_text};
 ghost use Rattle.blob_audit.specs.AuditBase.Judged.{JudgedIs};
 ghost use Rattle.blob_audit.specs.AuditBase.Whole.{IsRottenNow, WholeNow};
@@ -14,9 +14,9 @@ ghost use Rattle.audit.specs.Inner.{check_error, IsChecked};
 ghost use Rattle.audit.specs.Audits.{own_of, remembered, IfRotten, IfUnread, CheckPasses, OnCheckFault};
 
 use blob_audit::{CheckErr, ReadErr, read_good};
-use cloud_server::{Server, Shelf};
-use open_store::OpenStore;
+use cloud_store::CloudStore;
 use own_certificate::judge;
+use share_server::{Server, Shelf};
 use std::alloc::Global;
 
 // The cause by which a check ends where the reading of blobs ends by this one.
@@ -33,7 +33,7 @@ fn check_err(error: ReadErr) -> CheckErr
 // A check of a store.
 fn check_store<V: Shelf>(
     alloc: Global,
-    store: &OpenStore,
+    store: &CloudStore,
     shelf: &mut V,
     certificate: &[u8],
 ) -> Result<u32, CheckErr>

@@ -1,6 +1,6 @@
 //! Why a certificate isn't written.
 
-use cloud_server::Fp;
+use share_server::Fp;
 
 /// Why a certificate isn't written. Nothing was appended.
 #[derive(Clone, Copy, Debug, PartialEq, Eq)]

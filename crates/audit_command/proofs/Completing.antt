@@ -3,10 +3,10 @@ use Rattle.std.proofs.Common.{◌≡◌, ◌⊎◌, inl, inr, ℕ, Result, Ok, E
 use Rattle.audit.specs.Audits.{AuditPasses, OnAuditFault}
 use Rattle.audit.specs.declared.errors.AuditErr.{AuditErr}
 use Rattle.audit.specs.declared.errors.AuditErr.TheVariants as audits
-use Rattle.cloud_opening.specs.BackupCommand.Writing.{Output}
-use Rattle.cloud_opening.specs.Opened.{CloudCall, CloudFails, IsUnfailing}
-use Rattle.cloud_opening.specs.Unhindered.{IsOpeningUnhindered}
-use Rattle.cloud_opening.proofs.Completing.{not_risen, opens, status_of}
+use Rattle.command_cloud.specs.BackupCommand.Writing.{Output}
+use Rattle.command_cloud.specs.Opened.{CloudCall, CloudFails, IsUnfailing}
+use Rattle.command_cloud.specs.Unhindered.{IsOpeningUnhindered}
+use Rattle.command_cloud.proofs.Completing.{not_risen, opens, status_of}
 use Rattle.audit_command.specs.Audited.{IsCloudAudited, Unmade, Unopened, Audited}
 use Rattle.audit_command.specs.Said.{audit_status}
 

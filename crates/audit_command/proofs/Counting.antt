@@ -3,8 +3,8 @@ use Rattle.std.proofs.Common.{◌≡◌, ℕ, zero, suc, ◌+◌, ◌-◌, ◌<�
 use Rattle.std.specs.Prelude.{slice_get}
 use Rattle.std.specs.Io.KnownBytes.{Consumes}
 use Rattle.std.proofs.lemmas.Option.{same_Some}
-use Rattle.cloud_opening.specs.BackupCommand.Reading.{input_of}
-use Rattle.cloud_opening.specs.Transcript.Reading.{line_len}
+use Rattle.command_cloud.specs.BackupCommand.Reading.{input_of}
+use Rattle.command_cloud.specs.Transcript.Reading.{line_len}
 use Rattle.audit_command.specs.Source.{IsCertificateTooLong, behind_lines, certificate_limit, mark_behind}
 
 -- the mark behind two texts, one after the other

@@ -9,31 +9,31 @@ use Rattle.audit.specs.AuditBase.Own.{own}
 use Rattle.audit.specs.AuditBase.Whole.{IsRottenNow, WholeNow, tables_of}
 use Rattle.audit.specs.AuditBase.errors.CheckErr.{CheckErr}
 use Rattle.audit.specs.AuditBase.errors.CheckErr.TheVariants as checks
-use Rattle.cloud_opening.specs.BackupCommand.Reading.{Input}
-use Rattle.cloud_opening.specs.BackupCommand.Writing.{Output, HasWrittenOrCause}
+use Rattle.command_cloud.specs.BackupCommand.Reading.{Input}
+use Rattle.command_cloud.specs.BackupCommand.Writing.{Output, HasWrittenOrCause}
 use Rattle.grammar.specs.CdBase.ids.CloudNo.{CloudNo}
 use Rattle.grammar.specs.CdBase.shape.Shape.{Shape}
-use Rattle.cloud_opening.specs.CdEdges.Disk.{Cloud, reads}
-use Rattle.cloud_opening.specs.CdEdges.Shelf.{HasFailed, KeepsCounts, Stays}
+use Rattle.command_cloud.specs.CdEdges.Disk.{Cloud, reads}
+use Rattle.command_cloud.specs.CdEdges.Shelf.{HasFailed, KeepsCounts, Stays}
 use Rattle.audit.specs.Certificate.Lines.{Certificate, certificate_text}
-use Rattle.cloud_opening.specs.CloudMemory.Rooms.{memory_of}
-use Rattle.cloud_opening.specs.CloudServer.Names.{header_of}
-use Rattle.cloud_opening.specs.CloudServer.Serving.{number_of}
-use Rattle.cloud_opening.specs.CloudServer.server.Server.{Server}
-use Rattle.cloud_opening.specs.JournalStart.rooms.UserRooms.{UserRooms}
-use Rattle.cloud_opening.specs.JournalStart.start.Header.{Header}
+use Rattle.command_cloud.specs.CloudMemory.Rooms.{memory_of}
+use Rattle.command_cloud.specs.ShareServer.Names.{header_of}
+use Rattle.command_cloud.specs.ShareServer.Serving.{number_of}
+use Rattle.command_cloud.specs.ShareServer.server.Server.{Server}
+use Rattle.command_cloud.specs.JournalStart.rooms.UserRooms.{UserRooms}
+use Rattle.command_cloud.specs.JournalStart.start.Header.{Header}
 use Rattle.audit_command.specs.Audited.{IsCloudAudited, Unmade, Unopened, Audited, IsAuditOf}
 use Rattle.audit_command.specs.Checked as ends_of
 use Rattle.audit_command.specs.Checked.{IsCertificateChecked, Checked, ChecksBy, IsCheckOf, Judged, ReadLacked, ReadFailed, ReadTooMuch}
-use Rattle.cloud_opening.specs.Opened.{CloudCall, IsUnchanged, IsUnfailing, cloud_call}
+use Rattle.command_cloud.specs.Opened.{CloudCall, IsUnchanged, IsUnfailing, cloud_call}
 use Rattle.audit_command.specs.Said.{audit_status, audit_text, check_status, check_text}
 use Rattle.audit_command.specs.Steps.{AuditedBy, AnswersFor, CheckedBy, Unread, Answered}
-use Rattle.cloud_opening.specs.declared.opening.Unopened.{Unopened as OpeningErr}
-use Rattle.cloud_opening.specs.declared.opening.Unopened.TheVariants as unopened
+use Rattle.command_cloud.specs.declared.opening.Unopened.{Unopened as OpeningErr}
+use Rattle.command_cloud.specs.declared.opening.Unopened.TheVariants as unopened
 use Rattle.audit_command.specs.declared.reading.CertificateReadErr.TheVariants as readings
-use Rattle.cloud_opening.proofs.Standing.{failed_since, kept_since, opened_still, stands_still, untouched_stays}
-use Rattle.cloud_opening.specs.Opens.{OpenedBy, OpensCloud}
-use Rattle.cloud_opening.specs.Said.{SaysUnopened}
+use Rattle.command_cloud.proofs.Standing.{failed_since, kept_since, opened_still, stands_still, untouched_stays}
+use Rattle.command_cloud.specs.Opens.{OpenedBy, OpensCloud}
+use Rattle.command_cloud.specs.Said.{SaysUnopened}
 
 -- what an audit appended to no text is the certificate
 pub audit_said : (cloud : CloudNo) (certificate : Certificate) (result : Result ℕ AuditErr) (before text : List ℕ) (out : Output) (status : ℕ)

@@ -2,17 +2,17 @@
 use Rattle.std.specs.Prelude.{◌≡◌, ℕ, IsTrue, List, Result}
 use Rattle.audit.specs.Audits.{AuditIs, AuditPasses, OnAuditFault}
 use Rattle.audit.specs.declared.errors.AuditErr.{AuditErr}
-use Rattle.cloud_opening.specs.BackupCommand.Writing.{IsSilent, Output, HasWrittenOrCause}
-use Rattle.cloud_opening.specs.CdEdges.Disk.{reads}
+use Rattle.command_cloud.specs.BackupCommand.Writing.{IsSilent, Output, HasWrittenOrCause}
+use Rattle.command_cloud.specs.CdEdges.Disk.{reads}
 use Rattle.audit.specs.Certificate.Lines.{certificate_text}
-use Rattle.cloud_opening.specs.CloudMemory.Memory.{Memory}
-use Rattle.cloud_opening.specs.HalfJournal.errors.OpenErr.{OpenErr}
-use Rattle.cloud_opening.specs.JournalStart.rooms.UserRooms.{UserRooms}
-use Rattle.cloud_opening.specs.UserDedup.command.Command.{Command}
-use Rattle.cloud_opening.specs.Opened.{CloudCall, CloudFails, IsOpenedIn, IsUnfailing, IsNotOpened, IsUnchanged, StandsWithin}
+use Rattle.command_cloud.specs.CloudMemory.Memory.{Memory}
+use Rattle.command_cloud.specs.CommitJournal.errors.OpenErr.{OpenErr}
+use Rattle.command_cloud.specs.JournalStart.rooms.UserRooms.{UserRooms}
+use Rattle.command_cloud.specs.UserDedup.command.Command.{Command}
+use Rattle.command_cloud.specs.Opened.{CloudCall, CloudFails, IsOpenedIn, IsUnfailing, IsNotOpened, IsUnchanged, StandsWithin}
 use Rattle.audit_command.specs.Said.{audit_status, audit_text}
 use Rattle.audit_command.specs.Tables.{certificate_in, tables_in}
-use Rattle.cloud_opening.specs.Said.{opening_status, opening_text}
+use Rattle.command_cloud.specs.Said.{opening_status, opening_text}
 
 -- What the audit of an opened cloud answers. On a told cloud Ok says that each listed blob lies in the areas as they read at the end,
 -- and Rotten that one doesn't. Where the cloud stands for a list, Rotten never comes.

@@ -4,22 +4,22 @@ use Rattle.audit.specs.Audits.{CheckPasses, IfRotten, OnCheckFault}
 use Rattle.audit.specs.AuditBase.Judged.{JudgedIs}
 use Rattle.audit.specs.AuditBase.Whole.{IsRottenNow, WholeNow}
 use Rattle.audit.specs.AuditBase.errors.CheckErr.{CheckErr}
-use Rattle.cloud_opening.specs.BackupCommand.Reading.{Input}
-use Rattle.cloud_opening.specs.BackupCommand.Writing.{IsSilent, Output, HasWrittenOrCause}
-use Rattle.cloud_opening.specs.CdEdges.Causes.{Rose}
-use Rattle.cloud_opening.specs.CdEdges.Disk.{reads}
+use Rattle.command_cloud.specs.BackupCommand.Reading.{Input}
+use Rattle.command_cloud.specs.BackupCommand.Writing.{IsSilent, Output, HasWrittenOrCause}
+use Rattle.command_cloud.specs.CdEdges.Causes.{Rose}
+use Rattle.command_cloud.specs.CdEdges.Disk.{reads}
 use Rattle.audit.specs.Certificate.Lines.{certificate_text}
-use Rattle.cloud_opening.specs.CloudMemory.Memory.{Memory}
-use Rattle.cloud_opening.specs.HalfJournal.errors.OpenErr.{OpenErr}
-use Rattle.cloud_opening.specs.JournalStart.rooms.UserRooms.{UserRooms}
-use Rattle.cloud_opening.specs.Transcript.ending.Ending.TheVariants as endings
-use Rattle.cloud_opening.specs.Transcript.Endings.{ending_text}
-use Rattle.cloud_opening.specs.UserDedup.command.Command.{Command}
-use Rattle.cloud_opening.specs.Opened.{CloudCall, CloudFails, IsOpenedIn, IsUnfailing, IsNotOpened, IsUnchanged, StandsWithin}
+use Rattle.command_cloud.specs.CloudMemory.Memory.{Memory}
+use Rattle.command_cloud.specs.CommitJournal.errors.OpenErr.{OpenErr}
+use Rattle.command_cloud.specs.JournalStart.rooms.UserRooms.{UserRooms}
+use Rattle.command_cloud.specs.Transcript.ending.Ending.TheVariants as endings
+use Rattle.command_cloud.specs.Transcript.Endings.{ending_text}
+use Rattle.command_cloud.specs.UserDedup.command.Command.{Command}
+use Rattle.command_cloud.specs.Opened.{CloudCall, CloudFails, IsOpenedIn, IsUnfailing, IsNotOpened, IsUnchanged, StandsWithin}
 use Rattle.audit_command.specs.Said.{check_status, check_text}
 use Rattle.audit_command.specs.Source.{IsCertificateRead, IsCertificateTooLong}
 use Rattle.audit_command.specs.Tables.{certificate_in, tables_in}
-use Rattle.cloud_opening.specs.Said.{opening_status, opening_text}
+use Rattle.command_cloud.specs.Said.{opening_status, opening_text}
 
 -- What the check of a text by an opened cloud answers: the order of refusals, each exactly (`judged`). On a told cloud Ok says that the
 -- cloud is whole in the areas as they read at the end, and Rotten that it isn't. Where the cloud stands for a list and the text

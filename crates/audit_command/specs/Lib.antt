@@ -1,6 +1,6 @@
 pub mod Audited
 pub mod Checked
-pub mod CloudOpening
+pub mod CommandCloud
 pub mod Said
 pub mod Source
 pub mod Steps

@@ -6,11 +6,11 @@ use Rattle.audit.specs.AuditBase.errors.CheckErr.{CheckErr}
 use Rattle.audit.specs.AuditBase.errors.CheckErr.TheVariants as checks
 use Rattle.grammar.specs.CdBase.ids.CloudNo.{CloudNo}
 use Rattle.grammar.specs.CdBase.ids.Fp.{Fp}
-use Rattle.cloud_opening.specs.Transcript.ending.Ending.TheVariants as endings
-use Rattle.cloud_opening.specs.Transcript.line.Line.TheVariants as lines
-use Rattle.cloud_opening.specs.Transcript.refusal.Refusal.TheVariants as refusals
-use Rattle.cloud_opening.specs.Transcript.Endings.{ending_text}
-use Rattle.cloud_opening.specs.Transcript.Transcript.{ended, line_text}
+use Rattle.command_cloud.specs.Transcript.ending.Ending.TheVariants as endings
+use Rattle.command_cloud.specs.Transcript.line.Line.TheVariants as lines
+use Rattle.command_cloud.specs.Transcript.refusal.Refusal.TheVariants as refusals
+use Rattle.command_cloud.specs.Transcript.Endings.{ending_text}
+use Rattle.command_cloud.specs.Transcript.Transcript.{ended, line_text}
 use Rattle.audit_command.specs.Source.{byte_in}
 
 -- ---- lines

@@ -1,8 +1,8 @@
 -- A certificate that is read from a source, and the places in it.
 use Rattle.std.specs.Prelude.{◌≡◌, ℕ, zero, suc, ◌+◌, ◌-◌, ◌==◌, ◌≤◌, List, [], ◌∷◌, length, take, drop, Option, Some, Result, Ok, Err, slice_get, if◌then◌else◌}
-use Rattle.cloud_opening.specs.CdEdges.Causes.{Rose}
-use Rattle.cloud_opening.specs.Transcript.Reading.{line_len}
-use Rattle.cloud_opening.specs.BackupCommand.Reading.{Input}
+use Rattle.command_cloud.specs.CdEdges.Causes.{Rose}
+use Rattle.command_cloud.specs.Transcript.Reading.{line_len}
+use Rattle.command_cloud.specs.BackupCommand.Reading.{Input}
 use Rattle.audit_command.specs.declared.reading.CertificateReadErr.{CertificateReadErr}
 use Rattle.audit_command.specs.declared.reading.CertificateReadErr.TheVariants as errors
 

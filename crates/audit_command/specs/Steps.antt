@@ -5,20 +5,20 @@ use Rattle.audit.specs.declared.errors.AuditErr.{AuditErr}
 use Rattle.audit.specs.AuditBase.Judged.{JudgedIs}
 use Rattle.audit.specs.AuditBase.Whole.{IsRottenNow, WholeNow}
 use Rattle.audit.specs.AuditBase.errors.CheckErr.{CheckErr}
-use Rattle.cloud_opening.specs.BackupCommand.Reading.{Input}
-use Rattle.cloud_opening.specs.BackupCommand.Writing.{IsSilent, Output, HasWrittenOrCause}
-use Rattle.cloud_opening.specs.CdEdges.Disk.{reads}
-use Rattle.cloud_opening.specs.CdEdges.Shelf.{Stays}
+use Rattle.command_cloud.specs.BackupCommand.Reading.{Input}
+use Rattle.command_cloud.specs.BackupCommand.Writing.{IsSilent, Output, HasWrittenOrCause}
+use Rattle.command_cloud.specs.CdEdges.Disk.{reads}
+use Rattle.command_cloud.specs.CdEdges.Shelf.{Stays}
 use Rattle.audit.specs.Certificate.Lines.{certificate_text}
-use Rattle.cloud_opening.specs.CloudAreas.Standing.{Chain}
-use Rattle.cloud_opening.specs.OpenStore.Store.{Serves}
-use Rattle.cloud_opening.specs.CloudServer.server.Server.{Server}
-use Rattle.cloud_opening.specs.Transcript.ending.Ending.TheVariants as endings
-use Rattle.cloud_opening.specs.Transcript.Endings.{ending_text}
-use Rattle.cloud_opening.specs.UserDedup.command.Command.{Command}
+use Rattle.command_cloud.specs.CloudAreas.Standing.{Chain}
+use Rattle.command_cloud.specs.CloudStore.Store.{Serves}
+use Rattle.command_cloud.specs.ShareServer.server.Server.{Server}
+use Rattle.command_cloud.specs.Transcript.ending.Ending.TheVariants as endings
+use Rattle.command_cloud.specs.Transcript.Endings.{ending_text}
+use Rattle.command_cloud.specs.UserDedup.command.Command.{Command}
 use Rattle.audit_command.specs.declared.reading.CertificateReadErr.{CertificateReadErr}
 use Rattle.audit_command.specs.declared.reading.CertificateReadErr.TheVariants as readings
-use Rattle.cloud_opening.specs.Opened.{CloudCall, CloudFails, IsUnfailing, IsUnchanged}
+use Rattle.command_cloud.specs.Opened.{CloudCall, CloudFails, IsUnfailing, IsUnchanged}
 use Rattle.audit_command.specs.Said.{audit_status, audit_text, check_status, check_text}
 use Rattle.audit_command.specs.Source.{IsCertificateRead, Reads}
 

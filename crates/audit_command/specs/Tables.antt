@@ -2,8 +2,8 @@
 use Rattle.audit.specs.AuditBase.Own.{own}
 use Rattle.audit.specs.AuditBase.Whole.{Tables}
 use Rattle.audit.specs.Certificate.Lines.{Certificate}
-use Rattle.cloud_opening.specs.CloudMemory.Memory.{Memory}
-use Rattle.cloud_opening.specs.Opened.{CloudCall}
+use Rattle.command_cloud.specs.CloudMemory.Memory.{Memory}
+use Rattle.command_cloud.specs.Opened.{CloudCall}
 
 -- where each share and each recipe lies, and who owns what, by the memory
 abbrev pub tables_in : Memory → Tables

@@ -1,18 +1,18 @@
 //! The audit of a cloud.
 
 ghost use Rattle.std.specs.Prelude.{◌≡◌, ◌⊎◌, ◌<◌};
-ghost use Rattle.cloud_opening.specs.CdEdges.Shelf.{IsCall};
-ghost use Rattle.cloud_opening.specs.BackupCommand.Writing.{output_of};
-ghost use Rattle.cloud_opening.specs.OpenStore.Store.{IsOpen};
-ghost use Rattle.cloud_opening.specs.CloudServer.Serving.{number_of};
+ghost use Rattle.command_cloud.specs.CdEdges.Shelf.{IsCall};
+ghost use Rattle.command_cloud.specs.BackupCommand.Writing.{output_of};
+ghost use Rattle.command_cloud.specs.CloudStore.Store.{IsOpen};
+ghost use Rattle.command_cloud.specs.ShareServer.Serving.{number_of};
 ghost use Rattle.audit_command.specs.Audited.{IsCloudAudited};
-ghost use Rattle.cloud_opening.specs.Opened.{cloud_call};
-ghost use Rattle.cloud_opening.specs.Unhindered.{IsOpeningUnhindered};
+ghost use Rattle.command_cloud.specs.Opened.{cloud_call};
+ghost use Rattle.command_cloud.specs.Unhindered.{IsOpeningUnhindered};
 ghost use Rattle.audit_command.specs.Steps.{AuditedBy};
 
 use crate::lines::write_audited;
 use audit::audit;
-use cloud_opening::{Server, Shelf, Sink, open_cloud, write_unopened};
+use command_cloud::{Server, Shelf, Sink, open_cloud, write_unopened};
 use grammar::{Bytes, CloudNo, Shape};
 use std::alloc::Global;
 

@@ -1,19 +1,19 @@
 //! The check of a certificate.
 
 ghost use Rattle.std.specs.Prelude.{◌≡◌, ◌<◌};
-ghost use Rattle.cloud_opening.specs.CdEdges.Shelf.{IsCall};
-ghost use Rattle.cloud_opening.specs.BackupCommand.Reading.{input_of};
-ghost use Rattle.cloud_opening.specs.BackupCommand.Writing.{output_of};
-ghost use Rattle.cloud_opening.specs.OpenStore.Store.{IsOpen};
-ghost use Rattle.cloud_opening.specs.CloudServer.Serving.{number_of};
+ghost use Rattle.command_cloud.specs.CdEdges.Shelf.{IsCall};
+ghost use Rattle.command_cloud.specs.BackupCommand.Reading.{input_of};
+ghost use Rattle.command_cloud.specs.BackupCommand.Writing.{output_of};
+ghost use Rattle.command_cloud.specs.CloudStore.Store.{IsOpen};
+ghost use Rattle.command_cloud.specs.ShareServer.Serving.{number_of};
 ghost use Rattle.audit_command.specs.Checked.{IsCertificateChecked};
-ghost use Rattle.cloud_opening.specs.Opened.{cloud_call};
+ghost use Rattle.command_cloud.specs.Opened.{cloud_call};
 ghost use Rattle.audit_command.specs.Steps.{AnswersBy, CheckedBy};
 
 use crate::lines::{write_checked, write_unread};
 use crate::reading::read_text;
 use audit::check;
-use cloud_opening::{Server, Shelf, Sink, Source, open_cloud, write_unopened};
+use command_cloud::{Server, Shelf, Sink, Source, open_cloud, write_unopened};
 use grammar::{CloudNo, Shape};
 use std::alloc::Global;
 

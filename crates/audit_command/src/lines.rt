@@ -1,7 +1,7 @@
 //! What is written, with the status.
 
 ghost use Rattle.std.specs.Prelude.{◌≡◌, ◌++◌, [], Err, OnOk};
-ghost use Rattle.cloud_opening.specs.BackupCommand.Writing.{HasWrittenOrCause, output_of};
+ghost use Rattle.command_cloud.specs.BackupCommand.Writing.{HasWrittenOrCause, output_of};
 ghost use Rattle.audit_command.specs.Said.{audit_status, audit_text, check_status, check_text, differs_text};
 ghost use Rattle.audit_command.specs.Said.{other_text, rotten_text, whole_text};
 ghost use Rattle.audit_command.specs.Steps.{SaysUnread};
@@ -9,8 +9,8 @@ ghost use Rattle.audit_command.specs.Steps.{SaysUnread};
 use crate::marks::byte_at;
 use crate::reading::CertificateReadErr;
 use audit::{AuditErr, CheckErr};
-use cloud_opening::Word::Number;
-use cloud_opening::{
+use command_cloud::Word::Number;
+use command_cloud::{
     Ending, Line, Refusal, Sink, put_first, write_ending, write_last, write_line, write_text,
 };
 use grammar::{Bytes, CloudNo, Fp, NoMemory};

@@ -2,7 +2,7 @@
 
 ghost use Rattle.std.specs.Prelude.{◌≡◌, ◌<◌, ◌≤◌, ◌+◌, ◌==◌, ◌^◌, ◌∷◌, [], length, drop, MatchOption};
 ghost use Rattle.std.specs.Prelude.{if◌then◌else◌};
-ghost use Rattle.cloud_opening.specs.Transcript.Reading.{line_len};
+ghost use Rattle.command_cloud.specs.Transcript.Reading.{line_len};
 ghost use Rattle.audit_command.specs.Source.{behind_lines, byte_in, first_line, mark_behind};
 
 use grammar::{after, before, len_to};

@@ -1,11 +1,11 @@
 //! A certificate from a source.
 
 ghost use Rattle.std.specs.Prelude.{◌≡◌, ◌≤◌, ◌+◌, ◌++◌, length};
-ghost use Rattle.cloud_opening.specs.BackupCommand.Reading.{input_of};
+ghost use Rattle.command_cloud.specs.BackupCommand.Reading.{input_of};
 ghost use Rattle.audit_command.specs.Source.{Reads, certificate_limit, mark_behind};
 
 use crate::marks::mark_after;
-use cloud_opening::{Failed, Source};
+use command_cloud::{Failed, Source};
 use grammar::{Bytes, NoMemory};
 use std::alloc::Global;
 

@@ -6,24 +6,24 @@ use Rattle.fresh_checkpoints.specs.CdEdges.Disk.{Cloud}
 use Rattle.record_laws.specs.ContainerLog.Caches.{Kept, container_of}
 use Rattle.record_laws.specs.ContainerLog.Laying.{IsAt}
 use Rattle.record_laws.specs.ContainerLog.States as logs
-use Rattle.open_store.specs.HalfJournal.States as journals
+use Rattle.cloud_store.specs.CommitJournal.States as journals
 use Rattle.compact_lists.specs.UserDedup.command.Command.{Command}
 use Rattle.compact_lists.proofs.UserDedup.Owned.{contains_nothing}
 use Rattle.fresh_checkpoints.specs.CloudAreas.Placing.{region_start, greatest_end, shares_in, recipes_in, places_of}
 use Rattle.fresh_checkpoints.specs.CloudAreas.Standing.{Chain, region_in}
 use Rattle.fresh_checkpoints.specs.CloudDisk.Disk.{Disk, IsRead, AreEnds, IsOn, ended_at}
-use Rattle.open_store.specs.declared.store.OpenStore.{OpenStore}
-use Rattle.open_store.specs.Store.{Serves}
+use Rattle.cloud_store.specs.declared.store.CloudStore.{CloudStore}
+use Rattle.cloud_store.specs.Store.{Serves}
 use Rattle.blob_copy.specs.declared.copying.Copying.{Copying}
 use Rattle.blob_copy.specs.Copying.{copies_start, IsCopyLaid, IsCopying}
 
 abbrev pub none_copied : Copying
 none_copied = record { place_slot = 0; file_slot = 0 }
 
-abbrev pub with_disk : OpenStore → Disk → OpenStore
+abbrev pub with_disk : CloudStore → Disk → CloudStore
 with_disk store disk = record store { disk = disk }
 
-module _ (store : OpenStore) (n : ℕ) (start : n ≡ copies_start store) (disk : Disk)
+module _ (store : CloudStore) (n : ℕ) (start : n ≡ copies_start store) (disk : Disk)
     (shares : disk.shares ≡ ended_at n store.disk.shares) (recipes : disk.recipes ≡ ended_at n store.disk.recipes)
     (shares_none : logs.HasStaged disk.shares []) (recipes_none : logs.HasStaged disk.recipes []) where
   pub begun_laid : IsCopyLaid (with_disk store disk) none_copied
@@ -57,7 +57,7 @@ module _ (store : OpenStore) (n : ℕ) (start : n ≡ copies_start store) (disk 
   }
 
 -- the memory's ends lie behind all that the chain places
-pub are_ends : (list : List Command) (c : Chain) (store : OpenStore) (copying : Copying) (cloud : Cloud) → IsCopying list c store copying cloud
+pub are_ends : (list : List Command) (c : Chain) (store : CloudStore) (copying : Copying) (cloud : Cloud) → IsCopying list c store copying cloud
     → AreEnds store.header list c store.disk store.memory.shares_end store.memory.recipes_end cloud
 are_ends list c store copying cloud is = record {
   read = is.knows.read;
@@ -67,7 +67,7 @@ are_ends list c store copying cloud is = record {
   recipes = subst (λ (r : ℕ). greatest_end (region_start r) (recipes_in c.records) ≤ store.memory.recipes_end) (sym is.knows.region_is) is.knows.ends.recipes;
 }
 
-module _ (list : List Command) (c : Chain) (store : OpenStore) (copying : Copying) (cloud : Cloud) (is : IsCopying list c store copying cloud)
+module _ (list : List Command) (c : Chain) (store : CloudStore) (copying : Copying) (cloud : Cloud) (is : IsCopying list c store copying cloud)
     (s r : ℕ) (s_is : s ≡ store.memory.shares_end) (r_is : r ≡ store.memory.recipes_end) (disk : Disk)
     (shares : disk.shares ≡ ended_at s store.disk.shares) (recipes : disk.recipes ≡ ended_at r store.disk.recipes)
     (on : AreEnds store.header list c store.disk s r cloud → IsOn store.header list c disk cloud) where

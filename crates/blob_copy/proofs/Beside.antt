@@ -10,7 +10,7 @@ use Rattle.fresh_checkpoints.proofs.CdEdges.Moments.{weaker}
 use Rattle.fresh_checkpoints.proofs.CdEdges.Overwritten.{length-overwritten, overwritten_before, overwritten_after}
 use Rattle.record_laws.specs.ContainerLog.Laying.{Placed, IsAt}
 use Rattle.record_laws.specs.ContainerLog.States.{State, IsTorn, in_area, area_flushed}
-use Rattle.open_store.specs.HalfJournal.States as journals
+use Rattle.cloud_store.specs.CommitJournal.States as journals
 use Rattle.fresh_checkpoints.specs.JournalHalves.Halves.{half_limit}
 use Rattle.compact_lists.specs.JournalStart.start.Header.{Header}
 use Rattle.compact_lists.specs.UserDedup.command.Command.{Command}

@@ -24,8 +24,8 @@ use Rattle.fresh_checkpoints.proofs.Checkpoints.Sought.{from_picked}
 use Rattle.fresh_checkpoints.specs.CompactMemories.Kept.{live_at, live_places, live_entries}
 use Rattle.fresh_checkpoints.specs.CompactMemories.Moved.{lens_of, entry_lens}
 use Rattle.fresh_checkpoints.proofs.CompactMemories.Live.{live_gives}
-use Rattle.open_store.specs.declared.store.OpenStore.{OpenStore}
-use Rattle.open_store.specs.Store.{IsOpen, IsSettled}
+use Rattle.cloud_store.specs.declared.store.CloudStore.{CloudStore}
+use Rattle.cloud_store.specs.Store.{IsOpen, IsSettled}
 use Rattle.blob_copy.specs.Copies.{Blob, share_blob, entry_blob}
 use Rattle.blob_copy.specs.Runs.{blob_lens, all_end}
 use Rattle.blob_copy.proofs.Gathered.{laid_append, lens_blobs}
@@ -114,7 +114,7 @@ recipes_reach q end (a ∷ b ∷ d ∷ bs) small le =
 
 -- ---- what is alive of a memory
 
-module _ (store : OpenStore) (settled : IsSettled store) (open_now : IsOpen store) where
+module _ (store : CloudStore) (settled : IsSettled store) (open_now : IsOpen store) where
   pub live_share_at : IsEachLive store.memory.shares → (x : Fp × Place) → Contains (live_places store.memory) x → get store.memory.shares.places x.0.0 ≡ Some x.1
   live_share_at each x c =
       let owners = store.memory.shares.owners in

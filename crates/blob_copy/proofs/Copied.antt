@@ -9,7 +9,7 @@ use Rattle.record_laws.specs.ContainerLog.Laying.{Placed, IsAt, lengths, laid}
 use Rattle.record_laws.specs.ContainerLog.Places.{end_of_laid}
 use Rattle.record_laws.specs.ContainerLog.States.{State, in_area}
 use Rattle.record_laws.proofs.ContainerLog.Laid.{end_laid}
-use Rattle.open_store.specs.HalfJournal.States as journals
+use Rattle.cloud_store.specs.CommitJournal.States as journals
 use Rattle.fresh_checkpoints.specs.JournalHalves.Halves.{half_limit}
 use Rattle.compact_lists.specs.JournalStart.start.Header.{Header}
 use Rattle.compact_lists.specs.UserDedup.command.Command.{Command}

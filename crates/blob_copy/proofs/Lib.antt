@@ -15,4 +15,4 @@ pub mod Rows
 pub mod Serving
 pub mod Settled
 pub mod Switched
-pub mod StoreOpening
+pub mod CloudOpening

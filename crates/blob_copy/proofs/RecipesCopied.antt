@@ -20,7 +20,7 @@ use Rattle.record_laws.specs.ContainerLog.States as logs
 use Rattle.record_laws.specs.FileIndex.key.Entry.{Entry}
 use Rattle.record_laws.specs.FileIndex.key.FileKey.{FileKey}
 use Rattle.record_laws.specs.FileIndex.Files.{key_of}
-use Rattle.open_store.specs.HalfJournal.States as journals
+use Rattle.cloud_store.specs.CommitJournal.States as journals
 use Rattle.record_laws.specs.PoolMap.Slots.{IsListed}
 use Rattle.compact_lists.specs.UserDedup.command.Command.{Command}
 use Rattle.compact_lists.specs.UserDedup.file_list.FileEntry.{FileEntry}
@@ -37,8 +37,8 @@ use Rattle.fresh_checkpoints.specs.CloudDisk.Held.{LieIn}
 use Rattle.fresh_checkpoints.proofs.CloudDiskLaws.Ends.{recipes_said, place_at}
 use Rattle.fresh_checkpoints.specs.CompactMemories.Kept.{live_entries}
 use Rattle.fresh_checkpoints.specs.CompactMemories.Moved.{new_places, new_entries, entry_lens, other_region}
-use Rattle.open_store.specs.declared.store.OpenStore.{OpenStore}
-use Rattle.open_store.specs.Store.{IsOpen, IsSettled}
+use Rattle.cloud_store.specs.declared.store.CloudStore.{CloudStore}
+use Rattle.cloud_store.specs.Store.{IsOpen, IsSettled}
 use Rattle.blob_copy.specs.Answers.{MatchCopy}
 use Rattle.blob_copy.specs.Apart.{IsApart}
 use Rattle.blob_copy.specs.Copies.{HasCopied, KeepsBeside, entry_blob, found_in, copies_end, copies_at, IsRight}
@@ -54,7 +54,7 @@ use Rattle.blob_copy.proofs.Gathered.{laid_append}
 use Rattle.blob_copy.proofs.Rightly.{recipe_long, recipe_found, recipe_sound, entries_append, was_moved}
 use Rattle.blob_copy.proofs.Stopped.{on_disk, settled_by, chain_recipes_apart, recipes_list, recipes_images, fault, rotten_stops}
 
-module _ (store : OpenStore) (settled : IsSettled store) (open_now : IsOpen store) (each : IsListed store.memory.files.files store.memory.files.slots) (from : Copying) (laid_now : IsCopyLaid store from) where
+module _ (store : CloudStore) (settled : IsSettled store) (open_now : IsOpen store) (each : IsListed store.memory.files.files store.memory.files.slots) (from : Copying) (laid_now : IsCopyLaid store from) where
   abbrev All_end : ℕ
   All_end = all_end (λ (e : Option (FileKey × Entry)). e) entry_blob store.memory.files.slots from.file_slot store.disk.recipes.end
 

@@ -6,7 +6,7 @@ use Rattle.compact_lists.specs.CdBase.ids.Fp.{Fp}
 use Rattle.compact_lists.specs.CdBase.place.Place.{Place}
 use Rattle.fresh_checkpoints.specs.CdEdges.Disk.{Cloud}
 use Rattle.record_laws.specs.ContainerLog.Laying.{Placed}
-use Rattle.open_store.specs.HalfJournal.States as journals
+use Rattle.cloud_store.specs.CommitJournal.States as journals
 use Rattle.compact_lists.specs.JournalStart.start.Header.{Header}
 use Rattle.compact_lists.specs.UserDedup.Cloud.{held_bytes}
 use Rattle.compact_lists.specs.UserDedup.command.Command.{Command}

@@ -25,7 +25,7 @@ use Rattle.fresh_checkpoints.proofs.CloudAreas.Lists.{from_map}
 use Rattle.fresh_checkpoints.specs.CloudMemory.Memory.{summary, summary_of}
 use Rattle.fresh_checkpoints.specs.CompactMemories.Moved.{new_places, lens_of, new_entries, entry_lens}
 use Rattle.fresh_checkpoints.proofs.CompactMemories.Relaying.{laid_grows}
-use Rattle.open_store.specs.declared.store.OpenStore.{OpenStore}
+use Rattle.cloud_store.specs.declared.store.CloudStore.{CloudStore}
 use Rattle.blob_copy.specs.Answers.{IsRotten}
 use Rattle.blob_copy.specs.Copies.{Blob, share_blob, entry_blob, found_in, IsRight, copies_at}
 use Rattle.blob_copy.specs.Copying.{IsCopying}
@@ -55,7 +55,7 @@ are_copies told area end (b ∷ bs) (s ∷ ss) read t =
 
 -- ---- shares
 
-module _ (list : List Command) (c : Chain) (store : OpenStore) (copying : Copying) (cloud : Cloud) (is : IsCopying list c store copying cloud) where
+module _ (list : List Command) (c : Chain) (store : CloudStore) (copying : Copying) (cloud : Cloud) (is : IsCopying list c store copying cloud) where
   abbrev Area : List ℕ
   Area = (cloud.now Shares).read
 

@@ -9,7 +9,7 @@ use Rattle.record_laws.specs.SpentTable.Spent.{Spent}
 use Rattle.record_laws.specs.SpentTable.Spending.{nothing, spent_by}
 use Rattle.compact_lists.specs.UserDedup.Spending as limits
 use Rattle.compact_lists.specs.UserDedup.Spending.{limits_of}
-use Rattle.open_store.specs.StoreOpening.Roomy.{SpendWithin}
+use Rattle.cloud_store.specs.CloudOpening.Roomy.{SpendWithin}
 use Rattle.blob_copy.specs.Switched.{IsRowWithin}
 
 abbrev most : UserRooms → limits.SpentByUser

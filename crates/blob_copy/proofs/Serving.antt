@@ -9,7 +9,7 @@ use Rattle.fresh_checkpoints.specs.CdEdges.Disk.{Cloud, Store, Image, reads}
 use Rattle.fresh_checkpoints.proofs.CdEdges.Moments.{started}
 use Rattle.record_laws.specs.ContainerLog.Places.{end_of_laid}
 use Rattle.record_laws.specs.ContainerLog.States as logs
-use Rattle.open_store.specs.HalfJournal.States as journals
+use Rattle.cloud_store.specs.CommitJournal.States as journals
 use Rattle.fresh_checkpoints.specs.JournalHalves.Halves.{half_limit}
 use Rattle.compact_lists.specs.JournalStart.start.Header.{Header}
 use Rattle.compact_lists.specs.UserDedup.command.Command.{Command}
@@ -34,9 +34,9 @@ use Rattle.fresh_checkpoints.specs.CompactMemories.Moved.{other_region, lens_of,
 use Rattle.fresh_checkpoints.specs.Fresh.{IsNextMemory}
 use Rattle.fresh_checkpoints.proofs.Fresh.{placed}
 use Rattle.record_laws.proofs.Sums.{shares_in_rows, recipes_in_rows}
-use Rattle.open_store.specs.StoreOpening.Roomy.{IsRoomy}
-use Rattle.open_store.specs.declared.store.OpenStore.{OpenStore}
-use Rattle.open_store.specs.Store.{ServesBy, ServesSome}
+use Rattle.cloud_store.specs.CloudOpening.Roomy.{IsRoomy}
+use Rattle.cloud_store.specs.declared.store.CloudStore.{CloudStore}
+use Rattle.cloud_store.specs.Store.{ServesBy, ServesSome}
 use Rattle.blob_copy.specs.declared.copying.Copying.{Copying}
 use Rattle.blob_copy.specs.Copying.{copies_start, IsCopyLaid, AreAllCopied, IsCopying}
 use Rattle.blob_copy.proofs.Switched as switched
@@ -52,7 +52,7 @@ as_it_was header list c journal cloud r =
     (subst (LieIn c.recipes) (sym (as_read (cloud.now Recipes) (image Recipes) (r.on_disk Recipes) (left Recipes))) r.holds.recipes)))
 
 -- both logs end where the moved memory says
-module _ (store : OpenStore) (copying : Copying) (laid : IsCopyLaid store copying) (all : AreAllCopied store copying)
+module _ (store : CloudStore) (copying : Copying) (laid : IsCopyLaid store copying) (all : AreAllCopied store copying)
     (new : CloudMemory) (moved : IsMoved (other_region store.region) store.memory (memory_of new)) where
   pub shares_meet : store.disk.shares.end ≡ new.shares_end
   shares_meet = laid.shares_end ∙ ap (λ xs. end_of_laid (copies_start store) (lens_of xs)) all.places ∙ sym moved.shares_end
@@ -60,7 +60,7 @@ module _ (store : OpenStore) (copying : Copying) (laid : IsCopyLaid store copyin
   pub recipes_meet : store.disk.recipes.end ≡ new.recipes_end
   recipes_meet = laid.recipes_end ∙ ap (λ xs. end_of_laid (copies_start store) (entry_lens xs)) all.entries ∙ sym moved.recipes_end
 
-module _ (list : List Command) (c : Chain) (store : OpenStore) (copying : Copying) (cloud : Cloud) (is : IsCopying list c store copying cloud)
+module _ (list : List Command) (c : Chain) (store : CloudStore) (copying : Copying) (cloud : Cloud) (is : IsCopying list c store copying cloud)
     (all : AreAllCopied store copying) (fit : FitsRecords (memory_of store.memory)) (l : AreListed store.memory)
     (new : CloudMemory) (moved : IsMoved (other_region store.region) store.memory (memory_of new)) (k : AreListed new) where
   abbrev kept : List Command
@@ -141,7 +141,7 @@ module _ (list : List Command) (c : Chain) (store : OpenStore) (copying : Copyin
           recipes_end = ap (λ (s : logs.State). s.end) recipes ∙ recipes_meet store copying is.laid all new moved;
         }
 
-  pub served_on : {T E : Type 0} (commands : ℕ) → IsNextMemory store.header kept commands other new cloud → (r : Result T E) (after : OpenStore) (c1 : Cloud)
+  pub served_on : {T E : Type 0} (commands : ℕ) → IsNextMemory store.header kept commands other new cloud → (r : Result T E) (after : CloudStore) (c1 : Cloud)
       → OnOk r (IsRead store.header kept (checkpoint_in store.header kept c commands other new) after.disk.journal c1)
       → OnOk r ((after.commands ≡ commands) × (after.region ≡ other)) → OnOk r ((area : Area) → area ≢ Journal → c1.now area ≡ cloud.now area)
       → after.header ≡ store.header → after.memory ≡ new → after.disk.shares ≡ store.disk.shares → after.disk.recipes ≡ store.disk.recipes

@@ -1,8 +1,8 @@
 -- A store behind a switch, or one whose journal was shut by it.
 use Rattle.std.proofs.Common.{◌≡◌, ℕ, ◌≤◌, Result, Ok, Err, refl, sym, ap, ◌∙◌, subst}
 use Rattle.std.specs.Prelude.{OnOk}
-use Rattle.open_store.specs.HalfJournal.journal.Stage.{Stage}
-use Rattle.open_store.specs.HalfJournal.journal.Stage.TheVariants.{AtEnd, Shut}
+use Rattle.cloud_store.specs.CommitJournal.journal.Stage.{Stage}
+use Rattle.cloud_store.specs.CommitJournal.journal.Stage.TheVariants.{AtEnd, Shut}
 use Rattle.compact_lists.specs.JournalStart.Ranges.{IsHeader}
 use Rattle.compact_lists.specs.JournalStart.start.Header.{Header}
 use Rattle.fresh_checkpoints.specs.CloudDisk.Disk.{Disk}
@@ -13,10 +13,10 @@ use Rattle.fresh_checkpoints.specs.Checkpoints.Known.{IfLong, IfFailed, stage_be
 use Rattle.fresh_checkpoints.specs.Checkpoints.whole.Unsettled.{Unsettled}
 use Rattle.fresh_checkpoints.specs.Checkpoints.whole.Unsettled.TheVariants.{Long, Failed}
 use Rattle.record_laws.specs.ContainerLog.States as logs
-use Rattle.open_store.specs.StoreOpening.Roomy.{IsRoomy}
-use Rattle.open_store.specs.StoreOpening.Spared.{IsFor}
-use Rattle.open_store.specs.declared.store.OpenStore.{OpenStore}
-use Rattle.open_store.specs.Store.{IsSettled}
+use Rattle.cloud_store.specs.CloudOpening.Roomy.{IsRoomy}
+use Rattle.cloud_store.specs.CloudOpening.Spared.{IsFor}
+use Rattle.cloud_store.specs.declared.store.CloudStore.{CloudStore}
+use Rattle.cloud_store.specs.Store.{IsSettled}
 use Rattle.blob_copy.specs.declared.copying.CopyErr.{CopyErr}
 use Rattle.blob_copy.specs.declared.copying.CopyErr.TheVariants as why
 use Rattle.blob_copy.specs.Answers.{IfRotten, NeverWrong}
@@ -61,7 +61,7 @@ shut_only {A} r e s is short stage = shut_of A e s (subst (λ (x : Result A Unse
 
 -- ---- a store that was left with its journal shut, and one that was switched
 
-module _ (region : ℕ) (s new : OpenStore) (m : IsMovedTo region s) (header : new.header ≡ s.header) (memory : new.memory ≡ s.memory)
+module _ (region : ℕ) (s new : CloudStore) (m : IsMovedTo region s) (header : new.header ≡ s.header) (memory : new.memory ≡ s.memory)
     (limit : new.disk.journal.limit ≡ s.disk.journal.limit) (shares : new.disk.shares ≡ s.disk.shares) (recipes : new.disk.recipes ≡ s.disk.recipes) where
   rooms_are : HasRooms new.header.rooms new.memory
   rooms_are = subst (λ (h : Header). HasRooms h.rooms new.memory) (sym header) (subst (HasRooms s.header.rooms) (sym memory) m.rooms)
@@ -103,6 +103,6 @@ module _ (region : ℕ) (s new : OpenStore) (m : IsMovedTo region s) (header : n
   }
 
 -- a store whose journal was shut at once
-pub shut_at_once : (other : ℕ) (s : OpenStore) (disk : Disk) → IsMovedTo other s → disk ≡ record s.disk { journal = record s.disk.journal { stage = Shut } } → IsSettled (record s { disk = disk })
+pub shut_at_once : (other : ℕ) (s : CloudStore) (disk : Disk) → IsMovedTo other s → disk ≡ record s.disk { journal = record s.disk.journal { stage = Shut } } → IsSettled (record s { disk = disk })
 shut_at_once other s disk m is =
     left_shut other s (record s { disk = disk }) m refl refl (ap (λ (d : Disk). d.journal.limit) is) (ap (λ (d : Disk). d.shares) is) (ap (λ (d : Disk). d.recipes) is) refl (ap (λ (d : Disk). d.journal.stage) is)

@@ -15,7 +15,7 @@ use Rattle.fresh_checkpoints.proofs.CdEdges.Moments.{told_on}
 use Rattle.record_laws.specs.ContainerLog.Laying.{Placed, IsAt, laid}
 use Rattle.record_laws.specs.ContainerLog.Places.{end_of_laid}
 use Rattle.record_laws.specs.ContainerLog.States as logs
-use Rattle.open_store.specs.HalfJournal.States as journals
+use Rattle.cloud_store.specs.CommitJournal.States as journals
 use Rattle.compact_lists.specs.UserDedup.Cloud.{held_bytes}
 use Rattle.compact_lists.specs.UserDedup.command.Command.{Command}
 use Rattle.fresh_checkpoints.specs.CloudAreas.Chains.{laid_shares}
@@ -27,8 +27,8 @@ use Rattle.fresh_checkpoints.specs.CloudDisk.Held.{LieIn}
 use Rattle.fresh_checkpoints.specs.CloudMemory.Live.{IsEachLive}
 use Rattle.fresh_checkpoints.specs.CompactMemories.Kept.{live_at, live_places}
 use Rattle.fresh_checkpoints.specs.CompactMemories.Moved.{new_places, lens_of, new_entries, other_region}
-use Rattle.open_store.specs.declared.store.OpenStore.{OpenStore}
-use Rattle.open_store.specs.Store.{IsOpen, IsSettled}
+use Rattle.cloud_store.specs.declared.store.CloudStore.{CloudStore}
+use Rattle.cloud_store.specs.Store.{IsOpen, IsSettled}
 use Rattle.blob_copy.specs.Answers.{MatchCopy}
 use Rattle.blob_copy.specs.Apart.{IsApart}
 use Rattle.blob_copy.specs.Copies.{HasCopied, KeepsBeside, share_blob, copies_end, copies_at, IsRight}
@@ -44,7 +44,7 @@ use Rattle.blob_copy.proofs.Gathered.{laid_append}
 use Rattle.blob_copy.proofs.Rightly.{share_copies, shares_below, share_sound, new_append}
 use Rattle.blob_copy.proofs.Stopped.{on_disk, settled_by, chain_shares_apart, shares_list, shares_images, fault, rotten_stops}
 
-module _ (store : OpenStore) (settled : IsSettled store) (open_now : IsOpen store) (each : IsEachLive store.memory.shares) (from : Copying) (laid_now : IsCopyLaid store from) where
+module _ (store : CloudStore) (settled : IsSettled store) (open_now : IsOpen store) (each : IsEachLive store.memory.shares) (from : Copying) (laid_now : IsCopyLaid store from) where
   abbrev All_end : ℕ
   All_end = all_end (live_at store.memory.shares.owners) share_blob store.memory.shares.place_slots from.place_slot store.disk.shares.end
 

@@ -9,7 +9,7 @@ use Rattle.fresh_checkpoints.specs.CdEdges.Shelf.{Stays, wrote}
 use Rattle.fresh_checkpoints.proofs.CdEdges.Moments.{weaker, started}
 use Rattle.record_laws.specs.ContainerLog.Laying.{IsAt}
 use Rattle.record_laws.specs.ContainerLog.States.{IsTorn}
-use Rattle.open_store.specs.HalfJournal.journal.Stage.TheVariants.{Shut}
+use Rattle.cloud_store.specs.CommitJournal.journal.Stage.TheVariants.{Shut}
 use Rattle.compact_lists.specs.UserDedup.command.Command.{Command}
 use Rattle.fresh_checkpoints.specs.CloudAreas.Chains.{laid_shares}
 use Rattle.fresh_checkpoints.specs.CloudAreas.Placing.{region_start, greatest_end, shares_in, recipes_in, places_of}
@@ -21,10 +21,10 @@ use Rattle.fresh_checkpoints.specs.CloudMemory.Memory.{Memory}
 use Rattle.fresh_checkpoints.specs.CloudMemory.Rooms.{memory_of}
 use Rattle.fresh_checkpoints.specs.CompactMemories.Moved.{lens_of, entry_lens}
 use Rattle.fresh_checkpoints.proofs.CompactMemories.Relaying.{laid_grows}
-use Rattle.open_store.specs.StoreOpening.Roomy.{IsRoomy}
-use Rattle.open_store.proofs.StoreOpening.Spends.{ends_far}
-use Rattle.open_store.specs.declared.store.OpenStore.{OpenStore}
-use Rattle.open_store.specs.Store.{IsOpen, IsSettled}
+use Rattle.cloud_store.specs.CloudOpening.Roomy.{IsRoomy}
+use Rattle.cloud_store.proofs.CloudOpening.Spends.{ends_far}
+use Rattle.cloud_store.specs.declared.store.CloudStore.{CloudStore}
+use Rattle.cloud_store.specs.Store.{IsOpen, IsSettled}
 use Rattle.blob_copy.specs.Answers.{SomeRotten, MatchStep}
 use Rattle.blob_copy.specs.Apart.{IsApart}
 use Rattle.blob_copy.specs.Copies.{KeepsOutside, IsBeside, copies_end}
@@ -37,10 +37,10 @@ use Rattle.blob_copy.specs.declared.copying.Copying.{Copying}
 use Rattle.blob_copy.proofs.Beside.{shares_torn, recipes_torn}
 use Rattle.blob_copy.proofs.Regions.{shares_apart, recipes_apart}
 
-abbrev pub on_disk : OpenStore → Disk → OpenStore
+abbrev pub on_disk : CloudStore → Disk → CloudStore
 on_disk store disk = record store { disk = disk }
 
-module _ (store : OpenStore) (settled : IsSettled store) (open_now : IsOpen store) where
+module _ (store : CloudStore) (settled : IsSettled store) (open_now : IsOpen store) where
   pub settled_by : (disk : Disk) → SameRooms store.disk disk → IsSettled (on_disk store disk)
   settled_by disk same = record {
     header = settled.header;

@@ -51,7 +51,7 @@ use Rattle.fresh_checkpoints.proofs.CompactMemories.Lying.{places_lie}
 use Rattle.fresh_checkpoints.proofs.CompactMemories.Moving.{moved_like}
 use Rattle.fresh_checkpoints.proofs.CompactMemories.Sums.{shares_few, recipes_few}
 use Rattle.fresh_checkpoints.specs.Fresh.{IsNextMemory}
-use Rattle.open_store.specs.declared.store.OpenStore.{OpenStore}
+use Rattle.cloud_store.specs.declared.store.CloudStore.{CloudStore}
 use Rattle.blob_copy.specs.declared.copying.Copying.{Copying}
 use Rattle.blob_copy.specs.Copying.{copies_start, AreAllCopied, EntriesLie, IsCopying}
 
@@ -152,7 +152,7 @@ module _ (region : ℕ) (old new : CloudMemory) (moved : IsMoved region old (mem
 
 -- ---- the memory of the compact list
 
-module _ (list : List Command) (c : Chain) (store : OpenStore) (copying : Copying) (cloud : Cloud) (is : IsCopying list c store copying cloud)
+module _ (list : List Command) (c : Chain) (store : CloudStore) (copying : Copying) (cloud : Cloud) (is : IsCopying list c store copying cloud)
     (all : AreAllCopied store copying) (fit : FitsRecords (memory_of store.memory)) (l : AreListed store.memory)
     (new : CloudMemory) (moved : IsMoved (other_region store.region) store.memory (memory_of new)) (k : AreListed new) where
   abbrev kept : List Command

@@ -7,8 +7,8 @@ use Rattle.fresh_checkpoints.specs.CdEdges.area.Area.TheVariants.{Shares, Recipe
 use Rattle.fresh_checkpoints.specs.CdEdges.Disk.{Image}
 use Rattle.record_laws.specs.FileIndex.key.Entry.{Entry}
 use Rattle.record_laws.specs.FileIndex.key.FileKey.{FileKey}
-use Rattle.open_store.specs.HalfJournal.journal.Stage.{Stage}
-use Rattle.open_store.specs.HalfJournal.journal.Stage.TheVariants.{AtEnd, Shut}
+use Rattle.cloud_store.specs.CommitJournal.journal.Stage.{Stage}
+use Rattle.cloud_store.specs.CommitJournal.journal.Stage.TheVariants.{AtEnd, Shut}
 use Rattle.compact_lists.specs.UserDedup.Strings.{fingerprint}
 use Rattle.fresh_checkpoints.specs.CloudMemory.cloud.CloudMemory.{CloudMemory}
 use Rattle.fresh_checkpoints.specs.CompactMemories.Kept.{live_places, live_entries}

@@ -9,7 +9,7 @@ use Rattle.record_laws.specs.ContainerLog.Places.{place_of, end_after}
 use Rattle.record_laws.specs.FileIndex.key.Entry.{Entry}
 use Rattle.record_laws.specs.FileIndex.key.FileKey.{FileKey}
 use Rattle.compact_lists.specs.UserDedup.Strings.{fingerprint}
-use Rattle.open_store.specs.declared.store.OpenStore.{OpenStore}
+use Rattle.cloud_store.specs.declared.store.CloudStore.{CloudStore}
 use Rattle.blob_copy.specs.Answers.{bytes_at}
 use Rattle.blob_copy.specs.Copying.{copies_start, shares_so_far, entries_so_far}
 use Rattle.blob_copy.specs.declared.copying.Copying.{Copying}
@@ -46,7 +46,7 @@ copies_at area end (b ∷ bs) = record { place = place_of end b.len; blob = foun
 
 -- The slots between two points have these shares and entries alive. Each reads right in the areas as they were; and its bytes there lie at
 -- its new place in the new areas, behind the copies so far.
-pub record HasCopied (store : OpenStore) (from to : Copying) (old new : Image) : Type 0 where
+pub record HasCopied (store : CloudStore) (from to : Copying) (old new : Image) : Type 0 where
   pub shares : List (Fp × Place)
   pub entries : List (FileKey × Entry)
   pub shares_more : shares_so_far store to ≡ shares_so_far store from ++ shares
@@ -63,12 +63,12 @@ abbrev pub region_len : ℕ
 region_len = 34359738368
 
 -- where the region of the copies ends
-abbrev pub copies_end : OpenStore → ℕ
+abbrev pub copies_end : CloudStore → ℕ
 copies_end store = copies_start store + region_len
 
 -- What lies in front of both logs' ends, as do the copies so far and all in front of their region, and what lies behind that region: it lies
 -- there still. So does the journal.
-pub record KeepsBeside (store : OpenStore) (old new : Cloud) : Type 0 where
+pub record KeepsBeside (store : CloudStore) (old new : Cloud) : Type 0 where
   pub journal : new.now Journal ≡ old.now Journal
   pub shares : (b : Placed) → (b.place + length b.blob ≤ store.disk.shares.end) ⊎ (copies_end store ≤ b.place)
       → IsAt (old.now Shares).read b → IsAt (new.now Shares).read b
@@ -82,7 +82,7 @@ pub record KeepsOutside (front behind : ℕ) (store : Store) (image : List ℕ) 
       → slice_index image place ≡ slice_index store.synced place
 
 -- The same of what a crash leaves; the journal is left as it might have been before.
-pub record IsBeside (store : OpenStore) (old : Cloud) (image : Image) : Type 0 where
+pub record IsBeside (store : CloudStore) (old : Cloud) (image : Image) : Type 0 where
   pub journal : MayLeave (old.now Journal) (image Journal)
   pub shares : KeepsOutside store.disk.shares.end (copies_end store) (old.now Shares) (image Shares)
   pub recipes : KeepsOutside store.disk.recipes.end (copies_end store) (old.now Recipes) (image Recipes)

@@ -25,13 +25,13 @@ use Rattle.fresh_checkpoints.specs.CloudMemory.Memory.{Remembers, IsPlacedBy, Ha
 use Rattle.fresh_checkpoints.specs.CloudMemory.Rooms.{memory_of}
 use Rattle.fresh_checkpoints.specs.CompactMemories.Kept.{live_in, live_places, entries_in, live_entries}
 use Rattle.fresh_checkpoints.specs.CompactMemories.Moved.{other_region, new_places, lens_of, new_entries, entry_lens}
-use Rattle.open_store.specs.declared.store.OpenStore.{OpenStore}
+use Rattle.cloud_store.specs.declared.store.CloudStore.{CloudStore}
 use Rattle.blob_copy.specs.declared.copying.Copying.{Copying}
 
 -- ---- what is known of the memory while the logs end elsewhere
 
 -- All that a store serves a list by, but where its logs end.
-pub record Knows (list : List Command) (c : Chain) (store : OpenStore) (cloud : Cloud) : Type 0 where
+pub record Knows (list : List Command) (c : Chain) (store : CloudStore) (cloud : Cloud) : Type 0 where
   pub read : IsRead store.header list c store.disk.journal cloud
   pub remembers : Remembers store.header.shape list (memory_of store.memory)
   pub placed : IsPlacedBy c.records (memory_of store.memory)
@@ -44,25 +44,25 @@ pub record Knows (list : List Command) (c : Chain) (store : OpenStore) (cloud : 
 -- ---- how far it is
 
 -- what the slots so far have that is alive
-abbrev pub shares_so_far : OpenStore → Copying → List (Fp × Place)
+abbrev pub shares_so_far : CloudStore → Copying → List (Fp × Place)
 shares_so_far store copying = live_in store.memory.shares.owners (take copying.place_slot store.memory.shares.place_slots)
 
-abbrev pub entries_so_far : OpenStore → Copying → List (FileKey × Entry)
+abbrev pub entries_so_far : CloudStore → Copying → List (FileKey × Entry)
 entries_so_far store copying = entries_in (take copying.file_slot store.memory.files.slots)
 
 -- where the copies begin
-abbrev pub copies_start : OpenStore → ℕ
+abbrev pub copies_start : CloudStore → ℕ
 copies_start store = region_start (other_region store.region)
 
 -- Both logs end behind the copies so far, in the other region, and nothing is staged.
-pub record IsCopyLaid (store : OpenStore) (copying : Copying) : Type 0 where
+pub record IsCopyLaid (store : CloudStore) (copying : Copying) : Type 0 where
   pub shares_end : store.disk.shares.end ≡ end_of_laid (copies_start store) (lens_of (shares_so_far store copying))
   pub recipes_end : store.disk.recipes.end ≡ end_of_laid (copies_start store) (entry_lens (entries_so_far store copying))
   pub shares_none : HasStaged store.disk.shares []
   pub recipes_none : HasStaged store.disk.recipes []
 
 -- All that is alive was gone over.
-pub record AreAllCopied (store : OpenStore) (copying : Copying) : Type 0 where
+pub record AreAllCopied (store : CloudStore) (copying : Copying) : Type 0 where
   pub places : shares_so_far store copying ≡ live_places store.memory
   pub entries : entries_so_far store copying ≡ live_entries store.memory
 
@@ -73,7 +73,7 @@ EntriesLie header list area entries = (key : FileKey) (e : Entry) (entry : FileE
     → IsAt area (record { place = e.at; blob = entry.recipe })
 
 -- The store knows the list, and copies what is alive of it: the copies so far lie in the other region, where both logs end behind them.
-pub record IsCopying (list : List Command) (c : Chain) (store : OpenStore) (copying : Copying) (cloud : Cloud) : Type 0 where
+pub record IsCopying (list : List Command) (c : Chain) (store : CloudStore) (copying : Copying) (cloud : Cloud) : Type 0 where
   pub knows : Knows list c store cloud
   pub laid : IsCopyLaid store copying
   pub shares_area : store.disk.shares.area ≡ Shares

@@ -11,5 +11,5 @@ pub mod PoolMap
 pub mod Runs
 pub mod ShareIndex
 pub mod Steps
-pub mod StoreOpening
+pub mod CloudOpening
 pub mod Switched

@@ -9,7 +9,7 @@ use Rattle.fresh_checkpoints.specs.CloudDisk.Disk.{Disk}
 use Rattle.record_laws.specs.ContainerLog.Laying.{Placed, IsAt, laid, placed}
 use Rattle.record_laws.specs.ContainerLog.Places.{end_of_laid}
 use Rattle.record_laws.specs.ContainerLog.States.{State, HasStaged, Agrees, IsTorn, staged_end, in_area}
-use Rattle.open_store.specs.HalfJournal.journal.Stage.TheVariants.{Shut}
+use Rattle.cloud_store.specs.CommitJournal.journal.Stage.TheVariants.{Shut}
 use Rattle.compact_lists.specs.UserDedup.Strings.{fingerprint}
 use Rattle.fresh_checkpoints.specs.Checkpoints.Picking.{picked}
 use Rattle.blob_copy.specs.Answers.{IsRotten}

@@ -5,15 +5,15 @@ use Rattle.fresh_checkpoints.specs.CdEdges.Shelf.{Stays}
 use Rattle.compact_lists.specs.UserDedup.command.Command.{Command}
 use Rattle.fresh_checkpoints.specs.CloudAreas.Standing.{Chain}
 use Rattle.fresh_checkpoints.specs.Checkpoints.Settling.{KeepsList}
-use Rattle.open_store.specs.declared.store.OpenStore.{OpenStore}
-use Rattle.open_store.specs.Store.{IsSettled}
+use Rattle.cloud_store.specs.declared.store.CloudStore.{CloudStore}
+use Rattle.cloud_store.specs.Store.{IsSettled}
 use Rattle.blob_copy.specs.Answers.{MatchStep, MatchFault, IfRotten, NeverLong, NeverWrong, SomeRotten, stage_after}
 use Rattle.blob_copy.specs.Copies.{HasCopied, KeepsBeside, IsBeside}
 use Rattle.blob_copy.specs.Copying.{IsCopyLaid, IsCopying, shares_so_far, entries_so_far}
 use Rattle.blob_copy.specs.declared.copying.CopyErr.{CopyErr}
 use Rattle.blob_copy.specs.declared.copying.Copying.{Copying}
 
-pub record IsStep (store after : OpenStore) (from to : Copying) (old new : Cloud) (result : Result Bool CopyErr) : Type 0 where
+pub record IsStep (store after : CloudStore) (from to : Copying) (old new : Cloud) (result : Result Bool CopyErr) : Type 0 where
   -- for each list that the store knows
   pub any_moment : (list : List Command) (c : Chain) → IsCopying list c store from old → KeepsList store.header list old new
   pub copying : (list : List Command) (c : Chain) → IsCopying list c store from old → MatchFault result (Unit {0}) (IsCopying list c after to new)

@@ -1,14 +1,14 @@
 -- What a switch to copies needs, and rows within the rooms.
 use Rattle.std.specs.Prelude.{◌≡◌, ℕ, ◌≤◌, Result, Ok, Err}
-use Rattle.open_store.specs.HalfJournal.journal.Stage.TheVariants.{AtEnd}
+use Rattle.cloud_store.specs.CommitJournal.journal.Stage.TheVariants.{AtEnd}
 use Rattle.compact_lists.specs.JournalStart.Ranges.{IsHeader}
 use Rattle.compact_lists.specs.JournalStart.rooms.UserRooms.{UserRooms}
 use Rattle.record_laws.specs.SpentTable.Spent.{Spent}
 use Rattle.fresh_checkpoints.specs.CloudMemory.Fitting.{FitsRecords}
 use Rattle.fresh_checkpoints.specs.CloudMemory.Rooms.{memory_of, HasRooms}
 use Rattle.fresh_checkpoints.specs.Checkpoints.CloudDisk.Disk.{regions_end}
-use Rattle.open_store.specs.StoreOpening.Spared.{IsFor}
-use Rattle.open_store.specs.declared.store.OpenStore.{OpenStore}
+use Rattle.cloud_store.specs.CloudOpening.Spared.{IsFor}
+use Rattle.cloud_store.specs.declared.store.CloudStore.{CloudStore}
 use Rattle.blob_copy.specs.declared.copying.CopyErr.{CopyErr}
 use Rattle.blob_copy.specs.declared.copying.CopyErr.TheVariants as why
 
@@ -24,7 +24,7 @@ abbrev pub IsRowWithin : UserRooms → Spent → Type 0
 IsRowWithin rooms row = (row.owners ≤ rooms.owners) × (row.shares ≤ rooms.shares) × (row.recipes ≤ rooms.recipes)
 
 -- The memory of an open store was moved to this region, and nothing else of it has changed.
-pub record IsMovedTo (other : ℕ) (s : OpenStore) : Type 0 where
+pub record IsMovedTo (other : ℕ) (s : CloudStore) : Type 0 where
   pub header : IsHeader s.header
   pub format : s.header.format ≡ 2
   pub at_end : s.disk.journal.stage ≡ AtEnd

@@ -6,7 +6,7 @@ ghost use Rattle.fresh_checkpoints.specs.CdEdges.Disk.{Cloud, Image, LeavesOnly}
 ghost use Rattle.fresh_checkpoints.specs.CdEdges.Shelf.{stable};
 ghost use Rattle.record_laws.specs.ContainerLog.Laying.{Placed, IsAt};
 ghost use Rattle.record_laws.specs.ContainerLog.States.{State, IsTorn, in_area, area_flushed};
-ghost use Rattle.open_store.specs.HalfJournal.States as journals;
+ghost use Rattle.cloud_store.specs.CommitJournal.States as journals;
 ghost use Rattle.compact_lists.specs.JournalStart.start.Header.{Header};
 ghost use Rattle.compact_lists.specs.UserDedup.command.Command.{Command};
 ghost use Rattle.fresh_checkpoints.specs.CloudAreas.Chains.{laid_shares};

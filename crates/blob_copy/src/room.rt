@@ -6,7 +6,7 @@ ghost use Rattle.record_laws.specs.SpentTable.Spent.{Spent as Row};
 ghost use Rattle.fresh_checkpoints.specs.CloudAreas.Chains.{least_shares, least_recipes};
 ghost use Rattle.fresh_checkpoints.specs.CloudAreas.Placing.{region_start};
 ghost use Rattle.fresh_checkpoints.specs.CloudMemory.Rooms.{memory_of};
-ghost use Rattle.open_store.specs.StoreOpening.Roomy.{SpendWithin, IsRoomy};
+ghost use Rattle.cloud_store.specs.CloudOpening.Roomy.{SpendWithin, IsRoomy};
 ghost use Rattle.blob_copy.specs.Switched.{IsRowWithin};
 
 use compact_lists::{UserId, UserRooms};

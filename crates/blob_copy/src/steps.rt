@@ -14,8 +14,8 @@ ghost use Rattle.fresh_checkpoints.specs.CloudMemory.Fitting.{AreShares, AreShor
 ghost use Rattle.fresh_checkpoints.specs.CloudMemory.Live.{IsEachLive};
 ghost use Rattle.record_laws.specs.PoolMap.Slots.{IsListed};
 ghost use Rattle.fresh_checkpoints.specs.CompactMemories.Kept.{live_sum, live_at, live_in, live_places, entries_in, live_entries};
-ghost use Rattle.open_store.specs.Adding.{NoneStaged};
-ghost use Rattle.open_store.specs.Store.{IsOpen, IsSettled, EndsMeet, Serves};
+ghost use Rattle.cloud_store.specs.Adding.{NoneStaged};
+ghost use Rattle.cloud_store.specs.Store.{IsOpen, IsSettled, EndsMeet, Serves};
 ghost use Rattle.blob_copy.specs.Answers.{MatchStep, MatchCopy, IfRotten, MatchFault, NeverLong, NeverWrong};
 ghost use Rattle.blob_copy.specs.Answers.{EitherWay, SomeRotten, stage_after};
 ghost use Rattle.blob_copy.specs.Copies.{HasCopied, KeepsBeside, IsBeside, share_blob, entry_blob};
@@ -26,16 +26,16 @@ ghost use Rattle.blob_copy.specs.declared.copying.Copying.{Copying as Progress};
 
 use crate::staging::{copy_recipes, copy_shares};
 use crate::{CopyErr, Copying};
+use cloud_store::CloudStore;
 use compact_lists::CloudNo;
 use fresh_checkpoints::{CloudDisk, CloudMemory, Reclaimed, Shelf, live_sum};
-use open_store::OpenStore;
 
 // The bytes of a region of an area of blobs.
 const REGION: u64 = 34_359_738_368;
 
 /// Begins a copy: nothing is copied, and both logs end where the other region begins. What is staged is forgotten. No
 /// command may be added until the copies are switched to or forgotten.
-pub fn start(store: &mut OpenStore) -> Copying
+pub fn start(store: &mut CloudStore) -> Copying
     requires settled { IsSettled store.old }
     requires open { IsOpen store.old }
     ensures copying { (list : List Command) (c : Chain) (cloud : Cloud) → Serves list c store.old cloud
@@ -56,7 +56,7 @@ pub fn start(store: &mut OpenStore) -> Copying
 }
 
 /// The bytes that are alive, each blob once, and how many shares no user owns: what a copy brings over, and what it drops.
-pub fn sum(store: &OpenStore) -> Reclaimed
+pub fn sum(store: &CloudStore) -> Reclaimed
     ensures { result ≡ live_sum store.now.memory }
 {
     live_sum(&store.memory)
@@ -188,7 +188,7 @@ fn copy_recipes_on_disk<V: Shelf>(
 
 // Copies the next container of shares.
 fn step_shares<V: Shelf>(
-    store: &mut OpenStore,
+    store: &mut CloudStore,
     shelf: &mut V,
     copying: &mut Copying,
     buffer: &mut [u8],
@@ -233,7 +233,7 @@ fn step_shares<V: Shelf>(
 
 // Copies the next container of recipes.
 fn step_recipes<V: Shelf>(
-    store: &mut OpenStore,
+    store: &mut CloudStore,
     shelf: &mut V,
     copying: &mut Copying,
     buffer: &mut [u8],
@@ -285,7 +285,7 @@ fn step_recipes<V: Shelf>(
 /// comes. Whenever a crash comes the cloud stands for the list as before, and nothing lies otherwise but in the region of
 /// the copies, behind those that were made before.
 pub fn step<V: Shelf>(
-    store: &mut OpenStore,
+    store: &mut CloudStore,
     shelf: &mut V,
     copying: &mut Copying,
     buffer: &mut [u8],
@@ -357,7 +357,7 @@ pub fn step<V: Shelf>(
 
 /// Forgets the copies: both logs end where the memory says again, and nothing is staged. What lies in the other region
 /// stays there, and nothing names it.
-pub fn forget(store: &mut OpenStore)
+pub fn forget(store: &mut CloudStore)
     requires settled { IsSettled store.old }
     requires open { IsOpen store.old }
     ensures serves { (list : List Command) (c : Chain) (copying : Progress) (cloud : Cloud)

@@ -3,8 +3,8 @@
 ghost use Rattle.std.specs.Prelude.{◌≡◌, List, length, OnOk, OnErr};
 ghost use Rattle.fresh_checkpoints.specs.CdEdges.Disk.{LeavesOnly};
 ghost use Rattle.fresh_checkpoints.specs.CdEdges.Shelf.{IsCall, HasFailed, KeepsCounts};
-ghost use Rattle.open_store.specs.HalfJournal.Leaving.{OthersStay};
-ghost use Rattle.open_store.specs.HalfJournal.journal.Stage.TheVariants.{Shut};
+ghost use Rattle.cloud_store.specs.CommitJournal.Leaving.{OthersStay};
+ghost use Rattle.cloud_store.specs.CommitJournal.journal.Stage.TheVariants.{Shut};
 ghost use Rattle.compact_lists.specs.UserDedup.command.Command.{Command};
 ghost use Rattle.compact_lists.specs.UserDedup.Compact.{compact};
 ghost use Rattle.fresh_checkpoints.specs.CloudAreas.Standing.{Chain};
@@ -17,19 +17,19 @@ ghost use Rattle.fresh_checkpoints.specs.CompactMemories.Kept.{commands_in};
 ghost use Rattle.fresh_checkpoints.specs.CompactMemories.Moved.{IsMoved, other_region};
 ghost use Rattle.fresh_checkpoints.specs.Fresh.{IsNextMemory};
 ghost use Rattle.fresh_checkpoints.specs.Switching.{StandsForOneOf};
-ghost use Rattle.open_store.specs.StoreOpening.Roomy.{IsRoomy};
-ghost use Rattle.open_store.specs.Store.{IsOpen, IsSettled, EndsMeet, ServesSome};
+ghost use Rattle.cloud_store.specs.CloudOpening.Roomy.{IsRoomy};
+ghost use Rattle.cloud_store.specs.Store.{IsOpen, IsSettled, EndsMeet, ServesSome};
 ghost use Rattle.blob_copy.specs.Answers.{IfRotten, MatchFault, NeverWrong};
 ghost use Rattle.blob_copy.specs.Copying.{IsCopyLaid, IsCopying, AreAllCopied, StandsForKept};
 ghost use Rattle.blob_copy.specs.Switched.{OnLong, IsMovedTo};
 
 use crate::room::is_roomy;
 use crate::{CopyErr, Copying};
+use cloud_store::CloudStore;
 use fresh_checkpoints::{
     CheckpointSpace, CloudMemory, NextList, Shelf, commands_of_compact, law_of_moved_fits,
     lay_fresh, make_moved,
 };
-use open_store::OpenStore;
 
 // The slots of a memory's tables list what they have.
 fn slots_list(memory: &CloudMemory)
@@ -41,7 +41,7 @@ fn slots_list(memory: &CloudMemory)
 }
 
 // Puts a checkpoint of a memory that was moved in the place of the journal's chain. After an error the journal is shut.
-fn settle<V: Shelf>(store: &mut OpenStore, shelf: &mut V, next: NextList) -> Result<(), CopyErr>
+fn settle<V: Shelf>(store: &mut CloudStore, shelf: &mut V, next: NextList) -> Result<(), CopyErr>
     requires { IsMovedTo next.region store.old }
 
     ensures any_moment { (list other : List Command) (c : Chain)
@@ -121,7 +121,7 @@ fn settle<V: Shelf>(store: &mut OpenStore, shelf: &mut V, next: NextList) -> Res
 /// journal is shut, since the memory is moved already: an opening reads it anew. No area but the journal is written. It
 /// takes no memory.
 pub fn switch<V: Shelf>(
-    store: &mut OpenStore,
+    store: &mut CloudStore,
     shelf: &mut V,
     copying: &Copying,
 ) -> Result<(), CopyErr>

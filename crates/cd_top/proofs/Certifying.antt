@@ -5,7 +5,7 @@ use Rattle.delete_command.specs.CdEdges.Disk.{Cloud}
 use Rattle.command_words.specs.Asked.{AskedCloud}
 use Rattle.audit_command.specs.Audited.{IsCloudAudited}
 use Rattle.audit_command.specs.Checked.{IsCertificateChecked}
-use Rattle.audit_command.specs.CloudOpening.Unhindered.{IsOpeningUnhindered}
+use Rattle.audit_command.specs.CommandCloud.Unhindered.{IsOpeningUnhindered}
 use Rattle.spool_command.specs.BackupCommand.Reading.{Input}
 use Rattle.spool_command.specs.BackupCommand.Writing.{Output}
 use Rattle.cd_top.specs.Audit.{Audits, InDirectory, Checks, ByCloud, CloudsAround, IsAloneAt, IsUnrooted, call_for, clouds_of}

@@ -3,7 +3,7 @@ use Rattle.std.proofs.Common.{◌≡◌, ◌⊎◌, ℕ, subst₂}
 use Rattle.delete_command.specs.CdEdges.Disk.{Cloud}
 use Rattle.command_words.specs.Asked.{AskedCloud}
 use Rattle.spool_command.specs.BackupCommand.Writing.{Output}
-use Rattle.reclaim_command.specs.CloudOpening.Unhindered.{IsOpeningUnhindered}
+use Rattle.reclaim_command.specs.CommandCloud.Unhindered.{IsOpeningUnhindered}
 use Rattle.reclaim_command.specs.GivenBack.{IsReclaimed}
 use Rattle.cd_top.specs.Audit.{IsAloneAt, call_for, clouds_of}
 use Rattle.cd_top.specs.Reclaim.{InPlace, HasReclaimedOrCause}

@@ -10,7 +10,7 @@ use Rattle.delete_command.specs.CdEdges.Disk.{Cloud, Image, IsImage}
 use Rattle.delete_command.specs.CdEdges.Shelf.{Stays}
 use Rattle.delete_command.proofs.CdEdges.Moments.{left_alone, each_since}
 use Rattle.migrate_command.specs.ServeCommand.CloudAreas.Peers.{StandsForSome}
-use Rattle.migrate_command.proofs.ServeCommand.CloudServer.NoCommands.{empty_stands}
+use Rattle.migrate_command.proofs.ServeCommand.ShareServer.NoCommands.{empty_stands}
 use Rattle.read_command.specs.LocalLink.Calls.{header_of}
 use Rattle.two_worlds.specs.Session.Fault.{Fault}
 use Rattle.two_worlds.specs.Session.Lines.{next_line}

@@ -6,8 +6,8 @@ use Rattle.delete_command.specs.CdEdges.Shelf.{IsCall}
 use Rattle.command_words.specs.Asked.{AskedCloud}
 use Rattle.audit_command.specs.Audited.{IsCloudAudited}
 use Rattle.audit_command.specs.Checked.{IsCertificateChecked}
-use Rattle.audit_command.specs.CloudOpening.Opened.{CloudCall, cloud_call}
-use Rattle.audit_command.specs.CloudOpening.Unhindered.{IsOpeningUnhindered}
+use Rattle.audit_command.specs.CommandCloud.Opened.{CloudCall, cloud_call}
+use Rattle.audit_command.specs.CommandCloud.Unhindered.{IsOpeningUnhindered}
 use Rattle.spool_command.specs.BackupCommand.Reading.{Input}
 use Rattle.spool_command.specs.BackupCommand.Writing.{Output, IsSilent}
 

@@ -2,7 +2,7 @@
 use Rattle.std.specs.Prelude.{◌≡◌, ◌⊎◌, ℕ}
 use Rattle.command_words.specs.Asked.{AskedCloud}
 use Rattle.spool_command.specs.BackupCommand.Writing.{Output}
-use Rattle.reclaim_command.specs.CloudOpening.Unhindered.{IsOpeningUnhindered}
+use Rattle.reclaim_command.specs.CommandCloud.Unhindered.{IsOpeningUnhindered}
 use Rattle.reclaim_command.specs.GivenBack.{IsReclaimed}
 use Rattle.cd_top.specs.Audit.{CloudsAround, IsAloneAt, IsUnrooted, call_for}
 

@@ -10,9 +10,9 @@ use Rattle.cloud_disk.proofs.CdEdges.Calls.{called_twice, failed_after}
 use Rattle.cloud_disk.proofs.CdEdges.Moments.{weaker, joined, told_on}
 use Rattle.cloud_disk.specs.JournalStart.start.Header.{Header}
 use Rattle.cloud_disk.specs.JournalHalves.Journals.{Where, HasChain, IsEither, with_body}
-use Rattle.cloud_disk.specs.HalfJournal.Turning.{used_of}
-use Rattle.cloud_disk.specs.HalfJournal.journal.Stage.TheVariants.{Laying}
-use Rattle.cloud_disk.specs.HalfJournal.States.{JournalState, IsJournalEnded, IsLaying}
+use Rattle.cloud_disk.specs.CommitJournal.Turning.{used_of}
+use Rattle.cloud_disk.specs.CommitJournal.journal.Stage.TheVariants.{Laying}
+use Rattle.cloud_disk.specs.CommitJournal.States.{JournalState, IsJournalEnded, IsLaying}
 use Rattle.cloud_memory.specs.RecordBody.Spelling.{Body, Put, Commit, Delete, Kept, Spent, body_bytes}
 use Rattle.checkpoints.specs.Laying.{records_len, IsNextInBuffer, with_bodies, checkpoint_behind}
 

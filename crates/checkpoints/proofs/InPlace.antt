@@ -13,7 +13,7 @@ use Rattle.cloud_memory.specs.CdBase.place.Place.{Place}
 use Rattle.cloud_disk.specs.JournalStart.start.Header.{Header}
 use Rattle.cloud_disk.specs.JournalHalves.Halves.{half_limit, half_of}
 use Rattle.cloud_disk.specs.JournalHalves.Journals.{Where, all_bodies, HasChain, IsEither}
-use Rattle.cloud_disk.specs.HalfJournal.States as journals
+use Rattle.cloud_disk.specs.CommitJournal.States as journals
 use Rattle.cloud_memory.specs.RecordBody.Spelling.{Body}
 use Rattle.cloud_memory.specs.UserDedup.command.Command.{Command}
 use Rattle.cloud_disk.specs.CloudAreas.Placing.{region_start, greatest_end, shares_in, recipes_in, places_of}

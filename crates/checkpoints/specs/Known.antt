@@ -6,8 +6,8 @@ use Rattle.cloud_disk.specs.CdEdges.Disk.{Cloud, reads}
 use Rattle.cloud_memory.specs.ContainerLog.Laying.{Placed}
 use Rattle.cloud_memory.specs.PoolMap.Slots.{IsListed}
 use Rattle.cloud_disk.specs.JournalStart.start.Header.{Header}
-use Rattle.cloud_disk.specs.HalfJournal.journal.Stage.{Stage}
-use Rattle.cloud_disk.specs.HalfJournal.journal.Stage.TheVariants.{AtEnd, Shut}
+use Rattle.cloud_disk.specs.CommitJournal.journal.Stage.{Stage}
+use Rattle.cloud_disk.specs.CommitJournal.journal.Stage.TheVariants.{AtEnd, Shut}
 use Rattle.cloud_memory.specs.RecordBody.body.CommitBody.{CommitBody}
 use Rattle.cloud_memory.specs.UserDedup.file_list.FileEntry.{FileEntry}
 use Rattle.cloud_memory.specs.UserDedup.Pages.{entry_at}

@@ -4,7 +4,7 @@ use Rattle.cloud_disk.specs.CdEdges.area.Area.TheVariants.{Journal}
 use Rattle.cloud_disk.specs.CdEdges.Disk.{Cloud, LeavesOnly, IsAtArea}
 use Rattle.cloud_disk.specs.JournalStart.start.Header.{Header}
 use Rattle.cloud_disk.specs.JournalHalves.Journals.{Where, IsEither}
-use Rattle.cloud_disk.specs.HalfJournal.States.{JournalState, IsJournalEnded, next_of}
+use Rattle.cloud_disk.specs.CommitJournal.States.{JournalState, IsJournalEnded, next_of}
 use Rattle.cloud_memory.specs.RecordBody.Spelling.{Body, body_bytes, IsBody}
 
 -- the bytes that a record takes with its length and its gate

@@ -5,7 +5,7 @@ pub mod CloudDisk
 pub mod CloudMemory
 pub mod ContainerLog
 pub mod FileIndex
-pub mod HalfJournal
+pub mod CommitJournal
 pub mod JournalHalves
 pub mod JournalStart
 pub mod Known

@@ -6,7 +6,7 @@ use Rattle.cloud_memory.specs.ContainerLog.Laying.{Placed}
 use Rattle.cloud_disk.specs.JournalStart.start.Header.{Header}
 use Rattle.cloud_disk.specs.JournalHalves.Halves.{half_limit}
 use Rattle.cloud_disk.specs.JournalHalves.Journals.{used_by}
-use Rattle.cloud_disk.specs.HalfJournal.States.{next_start}
+use Rattle.cloud_disk.specs.CommitJournal.States.{next_start}
 use Rattle.cloud_memory.specs.RecordBody.Spelling.{Body, FitsBody}
 use Rattle.cloud_memory.specs.UserDedup.command.Command.{Command}
 use Rattle.cloud_disk.specs.CloudAreas.Placing.{region_start, greatest_end, shares_in, recipes_in, places_of}

@@ -4,9 +4,9 @@ ghost use Rattle.std.specs.Prelude.{◌≡◌, ℕ, ◌+◌, ◌≤◌, List, le
 ghost use Rattle.cloud_disk.specs.CdEdges.Shelf.{IsCall, HasFailed, KeepsCounts};
 ghost use Rattle.cloud_memory.specs.ContainerLog.Laying.{Placed};
 ghost use Rattle.cloud_disk.specs.JournalStart.Ranges.{IsHeader};
-ghost use Rattle.cloud_disk.specs.HalfJournal.Leaving.{OthersStay};
-ghost use Rattle.cloud_disk.specs.HalfJournal.journal.Stage.TheVariants.{AtEnd};
-ghost use Rattle.cloud_disk.specs.HalfJournal.Outcomes.{stage_after};
+ghost use Rattle.cloud_disk.specs.CommitJournal.Leaving.{OthersStay};
+ghost use Rattle.cloud_disk.specs.CommitJournal.journal.Stage.TheVariants.{AtEnd};
+ghost use Rattle.cloud_disk.specs.CommitJournal.Outcomes.{stage_after};
 ghost use Rattle.cloud_memory.specs.UserDedup.command.Command.{Command};
 ghost use Rattle.cloud_disk.specs.CloudAreas.Standing.{Chain};
 ghost use Rattle.cloud_disk.specs.Disk.{IsOn};

@@ -3,10 +3,10 @@
 ghost use Rattle.std.specs.Prelude.{◌≡◌, ◌≢◌, ℕ, ◌+◌, ◌≤◌, List, length, IsTrue, OnOk, OnErr};
 ghost use Rattle.cloud_disk.specs.CdEdges.Shelf.{IsCall, HasFailed, KeepsCounts};
 ghost use Rattle.cloud_disk.specs.JournalStart.Ranges.{IsHeader};
-ghost use Rattle.cloud_disk.specs.HalfJournal.Leaving.{OthersStay};
-ghost use Rattle.cloud_disk.specs.HalfJournal.journal.Stage.TheVariants.{AtEnd};
-ghost use Rattle.cloud_disk.specs.HalfJournal.States.{state_of};
-ghost use Rattle.cloud_disk.specs.HalfJournal.Outcomes.{stage_after};
+ghost use Rattle.cloud_disk.specs.CommitJournal.Leaving.{OthersStay};
+ghost use Rattle.cloud_disk.specs.CommitJournal.journal.Stage.TheVariants.{AtEnd};
+ghost use Rattle.cloud_disk.specs.CommitJournal.States.{state_of};
+ghost use Rattle.cloud_disk.specs.CommitJournal.Outcomes.{stage_after};
 ghost use Rattle.checkpoints.specs.Laying.{records_len, KeepsOrSettles, HasSettled};
 
 use crate::CheckpointRecords;

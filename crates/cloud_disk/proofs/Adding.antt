@@ -3,21 +3,21 @@ use Rattle.std.proofs.Common.{◌≡◌, ◌≢◌, ◌⊎◌, inl, inr, ℕ, �
 use Rattle.std.specs.Prelude.{All, OnOk}
 use Rattle.std.proofs.lemmas.Grind.{flat_map-append}
 use Rattle.std.proofs.lemmas.List.{map-append}
-use Rattle.half_journal.specs.CdBase.ids.Fp.{Fp}
-use Rattle.half_journal.specs.CdEdges.area.Area.{Area}
-use Rattle.half_journal.specs.CdEdges.area.Area.TheVariants.{Journal, Shares, Recipes}
-use Rattle.half_journal.specs.CdEdges.Disk.{Store, Areas, Image, Cloud, LeavesOnly, IsAtArea, reads}
-use Rattle.half_journal.specs.CdEdges.Shelf.{stable}
-use Rattle.half_journal.proofs.CdEdges.Moments.{weaker, joined}
-use Rattle.half_journal.specs.JournalHalves.Records.{IsJournal}
-use Rattle.half_journal.proofs.JournalHalves.Chain.{length-chain-push}
+use Rattle.commit_journal.specs.CdBase.ids.Fp.{Fp}
+use Rattle.commit_journal.specs.CdEdges.area.Area.{Area}
+use Rattle.commit_journal.specs.CdEdges.area.Area.TheVariants.{Journal, Shares, Recipes}
+use Rattle.commit_journal.specs.CdEdges.Disk.{Store, Areas, Image, Cloud, LeavesOnly, IsAtArea, reads}
+use Rattle.commit_journal.specs.CdEdges.Shelf.{stable}
+use Rattle.commit_journal.proofs.CdEdges.Moments.{weaker, joined}
+use Rattle.commit_journal.specs.JournalHalves.Records.{IsJournal}
+use Rattle.commit_journal.proofs.JournalHalves.Chain.{length-chain-push}
 use Rattle.cloud_areas.specs.ContainerLog.Laying.{Placed, placed, IsAt}
 use Rattle.cloud_areas.specs.ContainerLog.States as logs
-use Rattle.half_journal.specs.CdBase.place.Place.{Place}
-use Rattle.half_journal.specs.JournalStart.start.Header.{Header}
-use Rattle.half_journal.specs.JournalHalves.Halves.{half_limit, half_of}
-use Rattle.half_journal.specs.JournalHalves.Journals.{Where, all_bodies, with_body, used_by, HasChain, IsEither}
-use Rattle.half_journal.specs.States as journals
+use Rattle.commit_journal.specs.CdBase.place.Place.{Place}
+use Rattle.commit_journal.specs.JournalStart.start.Header.{Header}
+use Rattle.commit_journal.specs.JournalHalves.Halves.{half_limit, half_of}
+use Rattle.commit_journal.specs.JournalHalves.Journals.{Where, all_bodies, with_body, used_by, HasChain, IsEither}
+use Rattle.commit_journal.specs.States as journals
 use Rattle.cloud_areas.specs.RecordBody.Spelling.{Body, body_bytes, FitsBody}
 use Rattle.cloud_areas.specs.UserDedup.command.Command.{Command}
 use Rattle.cloud_areas.specs.Placing.{region_start, greatest_end, shares_placed, shares_in, recipes_in, places_of}

@@ -2,7 +2,7 @@
 use Rattle.std.proofs.Common.{ℕ, ◌+◌, ◌≤◌, List, [], ◌∷◌, ◌++◌, length, arith}
 use Rattle.std.specs.Prelude.{All, slice_index_or}
 use Rattle.std.proofs.lemmas.List.Elements.{All-nil, All-cons, All-append, All-weaker, All-head, All-tail}
-use Rattle.half_journal.specs.CdEdges.Shelf.{stable}
+use Rattle.commit_journal.specs.CdEdges.Shelf.{stable}
 use Rattle.cloud_areas.specs.ContainerLog.Kept.{KeepsBelow}
 use Rattle.cloud_areas.specs.ContainerLog.Places.{place_of, end_after, end_of_laid}
 use Rattle.cloud_areas.specs.ContainerLog.Laying.{Placed, lengths, placed, IsAt}

@@ -1,13 +1,13 @@
 -- Both logs, flushed one after the other.
 use Rattle.std.proofs.Common.{◌≡◌, ◌≢◌, ℕ, ◌+◌, List, Result, Ok, Err, refl, sym, ap, ◌∙◌, subst, arith}
 use Rattle.std.specs.Prelude.{OnOk, OnErr}
-use Rattle.half_journal.specs.CdEdges.area.Area.{Area}
-use Rattle.half_journal.specs.CdEdges.area.Area.TheVariants.{Journal, Shares, Recipes}
-use Rattle.half_journal.specs.CdEdges.Disk.{Store, Areas, Image, Cloud, LeavesOnly, IsAtArea, MayLeave}
-use Rattle.half_journal.specs.CdEdges.Shelf.{stable, IsCall, HasFailed, KeepsCounts}
-use Rattle.half_journal.proofs.CdEdges.Calls.{failed_after}
-use Rattle.half_journal.proofs.CdEdges.Moments.{weaker, joined}
-use Rattle.half_journal.proofs.CdEdges.Torn.{only}
+use Rattle.commit_journal.specs.CdEdges.area.Area.{Area}
+use Rattle.commit_journal.specs.CdEdges.area.Area.TheVariants.{Journal, Shares, Recipes}
+use Rattle.commit_journal.specs.CdEdges.Disk.{Store, Areas, Image, Cloud, LeavesOnly, IsAtArea, MayLeave}
+use Rattle.commit_journal.specs.CdEdges.Shelf.{stable, IsCall, HasFailed, KeepsCounts}
+use Rattle.commit_journal.proofs.CdEdges.Calls.{failed_after}
+use Rattle.commit_journal.proofs.CdEdges.Moments.{weaker, joined}
+use Rattle.commit_journal.proofs.CdEdges.Torn.{only}
 use Rattle.cloud_areas.specs.ContainerLog.Laying.{Placed, placed}
 use Rattle.cloud_areas.specs.ContainerLog.States.{State}
 use Rattle.cloud_disk.specs.Held.{LogHolds, LogsHold, IsHeld, HaveBoth, LieIn, with_staged}

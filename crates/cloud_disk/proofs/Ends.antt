@@ -4,10 +4,10 @@ use Rattle.std.specs.Prelude.{All}
 use Rattle.std.proofs.lemmas.Grind.{flat_map-append}
 use Rattle.std.proofs.lemmas.List.{map-append}
 use Rattle.std.proofs.lemmas.List.Elements.{All-nil, All-cons, All-head, All-tail}
-use Rattle.half_journal.specs.CdBase.ids.Fp.{Fp}
-use Rattle.half_journal.specs.CdBase.shape.Shape.{Shape}
+use Rattle.commit_journal.specs.CdBase.ids.Fp.{Fp}
+use Rattle.commit_journal.specs.CdBase.shape.Shape.{Shape}
 use Rattle.cloud_areas.specs.ContainerLog.Laying.{Placed}
-use Rattle.half_journal.specs.CdBase.place.Place.{Place}
+use Rattle.commit_journal.specs.CdBase.place.Place.{Place}
 use Rattle.cloud_areas.specs.RecordBody.body.CommitBody.{CommitBody}
 use Rattle.cloud_areas.specs.RecordBody.body.KeptItem.{KeptItem}
 use Rattle.cloud_areas.specs.RecordBody.body.SpentBody.{SpentBody}

@@ -2,9 +2,9 @@
 use Rattle.std.proofs.Common.{◌≡◌, ◌≢◌, ℕ, ◌+◌, ◌≤◌, List, [], ◌∷◌, length, Result, Ok, Err, sym, subst}
 use Rattle.std.specs.Prelude.{OnOk}
 use Rattle.std.proofs.lemmas.List.Elements.{All-nil, All-cons, All-head}
-use Rattle.half_journal.specs.CdEdges.area.Area.{Area}
-use Rattle.half_journal.specs.CdEdges.area.Area.TheVariants.{Journal, Shares, Recipes}
-use Rattle.half_journal.specs.CdEdges.Disk.{Store, Cloud}
+use Rattle.commit_journal.specs.CdEdges.area.Area.{Area}
+use Rattle.commit_journal.specs.CdEdges.area.Area.TheVariants.{Journal, Shares, Recipes}
+use Rattle.commit_journal.specs.CdEdges.Disk.{Store, Cloud}
 use Rattle.cloud_areas.specs.ContainerLog.Laying.{Placed, placed, IsAt}
 use Rattle.cloud_areas.specs.ContainerLog.States.{State}
 use Rattle.cloud_disk.specs.Held.{LogHolds, LogsHold, HaveBoth, IsBelow, with_staged}

@@ -1,14 +1,14 @@
 -- What an add leaves of areas whose records may say anything: the chain or one record more, and what lies below the ends of both logs.
 use Rattle.std.proofs.Common.{◌≡◌, ◌≢◌, inl, ℕ, List, Result, Ok, Err, subst, sym, ◌∙◌}
 use Rattle.std.specs.Prelude.{OnOk}
-use Rattle.half_journal.specs.CdEdges.area.Area.{Area}
-use Rattle.half_journal.specs.CdEdges.area.Area.TheVariants.{Journal, Shares, Recipes}
-use Rattle.half_journal.specs.CdEdges.Disk.{Store, Areas, Image, Cloud, IsImage, IsAtArea, MayLeave, LeavesOnly}
-use Rattle.half_journal.proofs.CdEdges.Moments.{weaker, joined, at_end}
+use Rattle.commit_journal.specs.CdEdges.area.Area.{Area}
+use Rattle.commit_journal.specs.CdEdges.area.Area.TheVariants.{Journal, Shares, Recipes}
+use Rattle.commit_journal.specs.CdEdges.Disk.{Store, Areas, Image, Cloud, IsImage, IsAtArea, MayLeave, LeavesOnly}
+use Rattle.commit_journal.proofs.CdEdges.Moments.{weaker, joined, at_end}
 use Rattle.cloud_areas.specs.ContainerLog.Kept.{KeepsBelow}
 use Rattle.cloud_areas.specs.ContainerLog.States.{State}
-use Rattle.half_journal.specs.JournalHalves.Journals.{Where, with_body, HasChain, IsEither}
-use Rattle.half_journal.specs.States as journals
+use Rattle.commit_journal.specs.JournalHalves.Journals.{Where, with_body, HasChain, IsEither}
+use Rattle.commit_journal.specs.States as journals
 use Rattle.cloud_disk.specs.Held.{HasFronts}
 use Rattle.cloud_disk.specs.Disk.{Disk, IsGrown}
 use Rattle.cloud_disk.proofs.Adding.{chain_there}

@@ -1,10 +1,10 @@
 -- One area while its log is flushed.
 use Rattle.std.proofs.Common.{◌≡◌, ◌≢◌, ℕ, ◌+◌, ◌≤◌, List, [], ◌∷◌, ◌++◌, length, Result, Ok, Err, refl, sym, ap, ◌∙◌, subst, arith}
 use Rattle.std.specs.Prelude.{All, OnOk}
-use Rattle.half_journal.specs.CdEdges.area.Area.{Area}
-use Rattle.half_journal.specs.CdEdges.Disk.{Store, Areas, Cloud, LeavesOnly, IsAtArea, moment, overwritten}
-use Rattle.half_journal.specs.CdEdges.Shelf.{stable}
-use Rattle.half_journal.proofs.CdEdges.Moments.{weaker}
+use Rattle.commit_journal.specs.CdEdges.area.Area.{Area}
+use Rattle.commit_journal.specs.CdEdges.Disk.{Store, Areas, Cloud, LeavesOnly, IsAtArea, moment, overwritten}
+use Rattle.commit_journal.specs.CdEdges.Shelf.{stable}
+use Rattle.commit_journal.proofs.CdEdges.Moments.{weaker}
 use Rattle.cloud_areas.specs.ContainerLog.Caches.{Kept, AreOf}
 use Rattle.cloud_areas.specs.ContainerLog.Kept.{KeepsBelow}
 use Rattle.cloud_areas.specs.ContainerLog.Places.{end_of_laid}

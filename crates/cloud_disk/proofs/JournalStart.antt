@@ -1,3 +1,3 @@
 -- What journal_start has proved, for callers.
-pub use Rattle.half_journal.proofs.JournalStart.Lengths
-pub use Rattle.half_journal.proofs.JournalStart.Whole
+pub use Rattle.commit_journal.proofs.JournalStart.Lengths
+pub use Rattle.commit_journal.proofs.JournalStart.Whole

@@ -6,7 +6,7 @@ pub mod Standing
 pub mod Adding
 mod Fronts
 pub mod Grown
-pub mod HalfJournal
+pub mod CommitJournal
 pub mod RecordBody
 pub mod JournalStart
 pub mod CloudAreas

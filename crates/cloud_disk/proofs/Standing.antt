@@ -1,20 +1,20 @@
 -- What a disk that stands for a list knows of its cloud, and calls that leave what it stands for.
 use Rattle.std.proofs.Common.{◌≡◌, inl, ℕ, ◌+◌, ◌≤◌, List, [], ◌∷◌, ◌++◌, length, drop, map, Result, Ok, Err, refl, sym, ap, ◌∙◌, subst, arith, length-take, length-drop}
 use Rattle.std.specs.Prelude.{IfOk, OnOk, OnErr}
-use Rattle.half_journal.specs.CdEdges.area.Area.{Area}
-use Rattle.half_journal.specs.CdEdges.area.Area.TheVariants.{Journal, Shares, Recipes}
-use Rattle.half_journal.specs.CdEdges.Disk.{Areas, Image, IsImage, Cloud, reads}
-use Rattle.half_journal.specs.CdEdges.Shelf.{stable, Stays, ReadsFrom}
-use Rattle.half_journal.proofs.CdEdges.Moments.{told_on}
+use Rattle.commit_journal.specs.CdEdges.area.Area.{Area}
+use Rattle.commit_journal.specs.CdEdges.area.Area.TheVariants.{Journal, Shares, Recipes}
+use Rattle.commit_journal.specs.CdEdges.Disk.{Areas, Image, IsImage, Cloud, reads}
+use Rattle.commit_journal.specs.CdEdges.Shelf.{stable, Stays, ReadsFrom}
+use Rattle.commit_journal.proofs.CdEdges.Moments.{told_on}
 use Rattle.cloud_areas.specs.ContainerLog.Places.{place_of, end_of_laid}
 use Rattle.cloud_areas.specs.ContainerLog.Laying.{Placed, lengths, placed, IsAt}
 use Rattle.cloud_areas.specs.ContainerLog.States as logs
 use Rattle.cloud_areas.proofs.ContainerLog.Laid.{placed_more}
-use Rattle.half_journal.specs.CdBase.place.Place.{Place}
-use Rattle.half_journal.specs.JournalStart.start.Header.{Header}
-use Rattle.half_journal.specs.JournalHalves.Halves.{half_limit}
-use Rattle.half_journal.specs.JournalHalves.Journals.{used_by}
-use Rattle.half_journal.specs.States as journals
+use Rattle.commit_journal.specs.CdBase.place.Place.{Place}
+use Rattle.commit_journal.specs.JournalStart.start.Header.{Header}
+use Rattle.commit_journal.specs.JournalHalves.Halves.{half_limit}
+use Rattle.commit_journal.specs.JournalHalves.Journals.{used_by}
+use Rattle.commit_journal.specs.States as journals
 use Rattle.cloud_areas.specs.UserDedup.command.Command.{Command}
 use Rattle.cloud_areas.specs.UserDedup.Dedup.{IsSound}
 use Rattle.cloud_areas.specs.Placing.{region_start, greatest_end, shares_in, recipes_in, places_of}

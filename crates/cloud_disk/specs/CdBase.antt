@@ -1,6 +1,6 @@
 -- What cd_base says, for callers.
-pub use Rattle.half_journal.specs.CdBase.Limits
-pub use Rattle.half_journal.specs.CdBase.ids
-pub use Rattle.half_journal.specs.CdBase.place
-pub use Rattle.half_journal.specs.CdBase.rooms
-pub use Rattle.half_journal.specs.CdBase.shape
+pub use Rattle.commit_journal.specs.CdBase.Limits
+pub use Rattle.commit_journal.specs.CdBase.ids
+pub use Rattle.commit_journal.specs.CdBase.place
+pub use Rattle.commit_journal.specs.CdBase.rooms
+pub use Rattle.commit_journal.specs.CdBase.shape

@@ -1,4 +1,4 @@
 -- What cd_edges says, for callers.
-pub use Rattle.half_journal.specs.CdEdges.Disk
-pub use Rattle.half_journal.specs.CdEdges.Shelf
-pub use Rattle.half_journal.specs.CdEdges.area
+pub use Rattle.commit_journal.specs.CdEdges.Disk
+pub use Rattle.commit_journal.specs.CdEdges.Shelf
+pub use Rattle.commit_journal.specs.CdEdges.area

@@ -1,17 +1,17 @@
 -- What the disk's half of a server is, and that it stands for a list of commands.
 use Rattle.std.specs.Prelude.{◌≡◌, ◌⊎◌, ℕ, ◌+◌, ◌≤◌, IsTrue, List, [], ◌∷◌, ◌++◌, length}
-use Rattle.half_journal.specs.CdEdges.area.Area.{Area}
-use Rattle.half_journal.specs.CdEdges.area.Area.TheVariants.{Journal, Shares, Recipes}
-use Rattle.half_journal.specs.CdEdges.Disk.{Areas, Image, Cloud, LeavesOnly, reads}
-use Rattle.half_journal.specs.CdEdges.Shelf.{stable, Stays}
+use Rattle.commit_journal.specs.CdEdges.area.Area.{Area}
+use Rattle.commit_journal.specs.CdEdges.area.Area.TheVariants.{Journal, Shares, Recipes}
+use Rattle.commit_journal.specs.CdEdges.Disk.{Areas, Image, Cloud, LeavesOnly, reads}
+use Rattle.commit_journal.specs.CdEdges.Shelf.{stable, Stays}
 use Rattle.cloud_areas.specs.ContainerLog.Laying.{Placed, placed, IsAt}
 use Rattle.cloud_areas.specs.ContainerLog.Kept.{KeepsBelow}
 use Rattle.cloud_areas.specs.ContainerLog.States as logs
-use Rattle.half_journal.specs.CdBase.place.Place.{Place}
-use Rattle.half_journal.specs.JournalStart.start.Header.{Header}
-use Rattle.half_journal.specs.JournalHalves.Halves.{half_limit}
-use Rattle.half_journal.specs.JournalHalves.Journals.{Where, with_body, IsEither}
-use Rattle.half_journal.specs.States as journals
+use Rattle.commit_journal.specs.CdBase.place.Place.{Place}
+use Rattle.commit_journal.specs.JournalStart.start.Header.{Header}
+use Rattle.commit_journal.specs.JournalHalves.Halves.{half_limit}
+use Rattle.commit_journal.specs.JournalHalves.Journals.{Where, with_body, IsEither}
+use Rattle.commit_journal.specs.States as journals
 use Rattle.cloud_areas.specs.RecordBody.Spelling.{Body, IsBody}
 use Rattle.cloud_areas.specs.UserDedup.command.Command.{Command}
 use Rattle.cloud_areas.specs.UserDedup.Dedup.{IsSound}

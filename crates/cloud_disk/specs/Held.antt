@@ -1,9 +1,9 @@
 -- Blobs that lie in an area before its log's end, and what a flush of the log leaves of them.
 use Rattle.std.specs.Prelude.{◌≡◌, ℕ, ◌+◌, ◌≤◌, List, [], ◌∷◌, ◌++◌, length, All, OnOk, Result, IsTrue}
-use Rattle.half_journal.specs.CdEdges.area.Area.{Area}
-use Rattle.half_journal.specs.CdEdges.area.Area.TheVariants.{Journal, Shares, Recipes}
-use Rattle.half_journal.specs.CdEdges.Disk.{Areas, Image, Cloud, LeavesOnly, IsAtArea, MayLeave}
-use Rattle.half_journal.specs.CdEdges.Shelf.{stable}
+use Rattle.commit_journal.specs.CdEdges.area.Area.{Area}
+use Rattle.commit_journal.specs.CdEdges.area.Area.TheVariants.{Journal, Shares, Recipes}
+use Rattle.commit_journal.specs.CdEdges.Disk.{Areas, Image, Cloud, LeavesOnly, IsAtArea, MayLeave}
+use Rattle.commit_journal.specs.CdEdges.Shelf.{stable}
 use Rattle.cloud_areas.specs.ContainerLog.Laying.{Placed, placed, IsAt}
 use Rattle.cloud_areas.specs.ContainerLog.Kept.{KeepsBelow}
 use Rattle.cloud_areas.specs.ContainerLog.States.{State, HasStaged, Agrees}

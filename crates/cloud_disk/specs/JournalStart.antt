@@ -1,7 +1,7 @@
 -- What journal_start says, for callers.
-pub use Rattle.half_journal.specs.JournalStart.Ranges
-pub use Rattle.half_journal.specs.JournalStart.Reading
-pub use Rattle.half_journal.specs.JournalStart.Spelling
-pub use Rattle.half_journal.specs.JournalStart.fault
-pub use Rattle.half_journal.specs.JournalStart.rooms
-pub use Rattle.half_journal.specs.JournalStart.start
+pub use Rattle.commit_journal.specs.JournalStart.Ranges
+pub use Rattle.commit_journal.specs.JournalStart.Reading
+pub use Rattle.commit_journal.specs.JournalStart.Spelling
+pub use Rattle.commit_journal.specs.JournalStart.fault
+pub use Rattle.commit_journal.specs.JournalStart.rooms
+pub use Rattle.commit_journal.specs.JournalStart.start

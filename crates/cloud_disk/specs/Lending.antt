@@ -2,9 +2,9 @@
 use Rattle.std.specs.Borrow.{Lends, MutBor, Fml}
 use Rattle.cloud_disk.specs.contracts.disk.CloudDisk.{the_row}
 use Rattle.cloud_disk.specs.Disk.{Disk}
-use Rattle.half_journal.specs.declared.journal.Journal.{Journal}
-use Rattle.half_journal.specs.contracts.journal.Journal as journal
-use Rattle.half_journal.specs.States as journals
+use Rattle.commit_journal.specs.declared.journal.Journal.{Journal}
+use Rattle.commit_journal.specs.contracts.journal.Journal as journal
+use Rattle.commit_journal.specs.States as journals
 use Rattle.cloud_areas.specs.ContainerLog.log.Log as log
 use Rattle.cloud_areas.specs.ContainerLog.States as logs
 

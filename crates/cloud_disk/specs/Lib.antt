@@ -3,7 +3,7 @@ pub mod CdEdges
 pub mod CloudAreas
 pub mod ContainerLog
 pub mod Disk
-pub mod HalfJournal
+pub mod CommitJournal
 pub mod Held
 pub mod JournalHalves
 pub mod JournalStart

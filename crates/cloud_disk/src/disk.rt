@@ -4,18 +4,18 @@ ghost use Rattle.std.specs.Prelude.{◌≡◌, ◌↔◌, ℕ, ◌+◌, ◌<◌,
 ghost use Rattle.std.specs.Prelude.{OnErr, MatchResult};
 ghost use Rattle.std.specs.List.{Contains};
 ghost use Rattle.std.specs.Borrow.{sem};
-ghost use Rattle.half_journal.specs.CdEdges.area.Area.TheVariants.{Shares, Recipes};
-ghost use Rattle.half_journal.specs.CdEdges.Disk.{Cloud, moment};
-ghost use Rattle.half_journal.specs.CdEdges.Shelf.{IsCall, HasFailed, KeepsCounts, Stays, ReadsFrom};
+ghost use Rattle.commit_journal.specs.CdEdges.area.Area.TheVariants.{Shares, Recipes};
+ghost use Rattle.commit_journal.specs.CdEdges.Disk.{Cloud, moment};
+ghost use Rattle.commit_journal.specs.CdEdges.Shelf.{IsCall, HasFailed, KeepsCounts, Stays, ReadsFrom};
 ghost use Rattle.cloud_areas.specs.ContainerLog.Laying.{Placed};
 ghost use Rattle.cloud_areas.specs.ContainerLog.Places.{container_len, place_of};
 ghost use Rattle.cloud_areas.specs.ContainerLog.States.{HasStaged, staged_end, need_of, with_blob, in_area};
-ghost use Rattle.half_journal.specs.JournalStart.start.Header.{Header};
-ghost use Rattle.half_journal.specs.JournalStart.Ranges.{AreRooms};
-ghost use Rattle.half_journal.specs.JournalHalves.Halves.{half_limit};
-ghost use Rattle.half_journal.specs.declared.journal.Stage.TheVariants.{Shut, AtEnd};
-ghost use Rattle.half_journal.specs.States.{state_of};
-ghost use Rattle.half_journal.specs.Outcomes.{stage_after};
+ghost use Rattle.commit_journal.specs.JournalStart.start.Header.{Header};
+ghost use Rattle.commit_journal.specs.JournalStart.Ranges.{AreRooms};
+ghost use Rattle.commit_journal.specs.JournalHalves.Halves.{half_limit};
+ghost use Rattle.commit_journal.specs.declared.journal.Stage.TheVariants.{Shut, AtEnd};
+ghost use Rattle.commit_journal.specs.States.{state_of};
+ghost use Rattle.commit_journal.specs.Outcomes.{stage_after};
 ghost use Rattle.cloud_areas.specs.RecordBody.Spelling.{Body};
 ghost use Rattle.cloud_areas.specs.UserDedup.command.Command.{Command};
 ghost use Rattle.cloud_areas.specs.Placing.{shares_in};
@@ -30,7 +30,9 @@ ghost use Rattle.cloud_disk.specs.Lending.{LendsJournal, LendsShares, LendsRecip
 use crate::flush::flush_both;
 use cloud_areas::laws::law_of_one_more;
 use cloud_areas::{Log, LogFull};
-use half_journal::{Area, CloudNo, Failed, Journal, NoMemory, Shelf, Stage, UserRooms, half_limit};
+use commit_journal::{
+    Area, CloudNo, Failed, Journal, NoMemory, Shelf, Stage, UserRooms, half_limit,
+};
 use std::alloc::Global;
 use std::marker::Model;
 
@@ -53,7 +55,7 @@ pub struct CloudDisk {
 }
 
 impl Model for CloudDisk {
-    ghost use Rattle.half_journal.specs.States.{state_of};
+    ghost use Rattle.commit_journal.specs.States.{state_of};
     ghost use Rattle.cloud_disk.specs.Disk.{Disk};
 
     ghost Value = { Disk };

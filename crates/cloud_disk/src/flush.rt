@@ -1,14 +1,14 @@
 //! What is staged in the two logs, written.
 
 ghost use Rattle.std.specs.Prelude.{◌≡◌, ◌≢◌, ℕ, ◌+◌, List, [], IsTrue, OnOk, OnErr};
-ghost use Rattle.half_journal.specs.CdEdges.area.Area.{Area};
-ghost use Rattle.half_journal.specs.CdEdges.Disk.{moment, LeavesOnly};
-ghost use Rattle.half_journal.specs.CdEdges.Shelf.{IsCall, HasFailed, KeepsCounts};
+ghost use Rattle.commit_journal.specs.CdEdges.area.Area.{Area};
+ghost use Rattle.commit_journal.specs.CdEdges.Disk.{moment, LeavesOnly};
+ghost use Rattle.commit_journal.specs.CdEdges.Shelf.{IsCall, HasFailed, KeepsCounts};
 ghost use Rattle.cloud_areas.specs.ContainerLog.States.{HasStaged, staged_end, after_flush, KeepsEarlier};
 ghost use Rattle.cloud_disk.specs.Held.{flush_moments, KeepsBlobs, HasFlushed, KeepBoth, HaveFlushed, KeepFronts, KeepsJournal};
 
 use cloud_areas::Log;
-use half_journal::{Area, CloudNo, Failed, Shelf};
+use commit_journal::{Area, CloudNo, Failed, Shelf};
 
 // Writes what is staged in a log.
 fn flush_log<V: Shelf>(log: &mut Log, shelf: &mut V, cloud: CloudNo) -> Result<(), Failed>

@@ -1,10 +1,10 @@
 //! What a disk that stands for a list says of its cloud, for the proofs of callers. The calls do nothing.
 
 ghost use Rattle.std.specs.Prelude.{◌≡◌, ◌+◌, List, []};
-ghost use Rattle.half_journal.specs.CdEdges.Disk.{Cloud, Image, IsImage, reads};
+ghost use Rattle.commit_journal.specs.CdEdges.Disk.{Cloud, Image, IsImage, reads};
 ghost use Rattle.cloud_areas.specs.ContainerLog.States.{State, HasStaged};
-ghost use Rattle.half_journal.specs.JournalStart.start.Header.{Header};
-ghost use Rattle.half_journal.specs.JournalHalves.Journals.{used_by};
+ghost use Rattle.commit_journal.specs.JournalStart.start.Header.{Header};
+ghost use Rattle.commit_journal.specs.JournalHalves.Journals.{used_by};
 ghost use Rattle.cloud_areas.specs.UserDedup.command.Command.{Command};
 ghost use Rattle.cloud_areas.specs.Standing.{Chain, where_of, StandsFor};
 ghost use Rattle.cloud_disk.specs.Disk.{Disk, IsOn, Stages, IsReadThrough};

@@ -13,9 +13,9 @@ pub use cloud_areas::laws::{
 };
 pub use cloud_areas::peers::law_of_peers;
 pub use cloud_areas::{BodyBuf, CommitBody, DeleteBody, Log, LogFull, PutItem};
-pub use disk::CloudDisk;
-pub use half_journal::{
+pub use commit_journal::{
     Area, Bytes, CloudNo, Failed, FindErr, Found, HALF_LEN, Header, Journal, NoMemory, OpenErr,
     Place, RECIPE_LIMIT, RecordErr, Room, Shape, Shelf, Sink, Stage, Start, UserId, UserRooms,
     WINDOW, find, half_limit,
 };
+pub use disk::CloudDisk;

@@ -1,7 +1,23 @@
-pub mod Completing
-mod Reopened
-pub mod Standing
-pub mod Written
-pub mod ServeCommand
-pub mod Transcript
-pub mod CdEdges
+pub mod Along
+pub mod Bounds
+pub mod DiskProofs
+pub mod Current
+pub mod Ended
+pub mod Fit
+pub mod Found
+pub mod Lawful
+pub mod Loaded
+pub mod Looking
+pub mod OneOpening
+pub mod OneStart
+pub mod Opened
+pub mod Reading
+pub mod RecordLaws
+mod Roomy
+pub mod Spends
+pub mod Stated
+pub mod Stepping
+pub mod Synced
+pub mod Traced
+pub mod UserDedup
+pub mod JournalHalves

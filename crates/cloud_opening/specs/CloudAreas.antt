@@ -1,2 +1,2 @@
 -- What cloud_areas says, for callers.
-pub use Rattle.store_opening.specs.CloudAreas.Standing
+pub use Rattle.cloud_disk.specs.CloudAreas.Standing

@@ -1,3 +1,3 @@
 -- What cloud_memory says, for callers.
-pub use Rattle.serve_command.specs.CloudMemory.Memory
-pub use Rattle.serve_command.specs.CloudMemory.Rooms
+pub use Rattle.record_laws.specs.RecordChecks.CloudMemory.Memory
+pub use Rattle.record_laws.specs.RecordChecks.CloudMemory.Rooms

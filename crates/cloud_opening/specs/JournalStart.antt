@@ -1,3 +1,5 @@
 -- What journal_start says, for callers.
-pub use Rattle.store_opening.specs.JournalStart.rooms
-pub use Rattle.store_opening.specs.JournalStart.start
+pub use Rattle.cloud_disk.specs.JournalStart.Ranges
+pub use Rattle.cloud_disk.specs.JournalStart.Spelling
+pub use Rattle.cloud_disk.specs.JournalStart.rooms
+pub use Rattle.cloud_disk.specs.JournalStart.start

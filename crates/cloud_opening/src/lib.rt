@@ -1,13 +1,20 @@
-//! One cloud in a place, opened in the rooms that its journal has, with nothing begun; or why it isn't opened.
+//! The opening of a cloud in the store's format with checkpoints: its areas are made sure of, its journal is read or begun, and
+//! each record is checked and taken into a server's memory.
+//!
+//! No call takes memory.
 #![tactic(auto)]
 
-mod lines;
+mod ends;
+mod journal;
+pub mod laws;
+mod loading;
 mod opening;
+mod records;
+mod syncs;
+mod window;
 
-pub use backup_command::{
-    Ending, Failed, Line, Refusal, Shelf, Sink, Source, Word, put_first, write_ending, write_line,
-    write_text,
+pub use cloud_disk::{
+    BodyBuf, Header, Journal, OpenErr, RecordErr, UserRooms, WINDOW, law_of_headers,
 };
-pub use lines::{write_last, write_unopened};
-pub use opening::{Unopened, open_cloud};
-pub use serve_command::{OpenErr, Server, serve};
+pub use opening::reopen;
+pub use syncs::sync_all;

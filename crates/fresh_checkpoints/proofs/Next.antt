@@ -11,7 +11,7 @@ use Rattle.cloud_disk.specs.JournalHalves.Journals.{Where, used_by, with_body}
 use Rattle.cloud_disk.specs.JournalStart.start.Header.{Header}
 use Rattle.cloud_disk.specs.JournalStart.Spelling.{start_bytes}
 use Rattle.cloud_disk.proofs.JournalStart.Lengths as lengths
-use Rattle.cloud_disk.specs.HalfJournal.States as journals
+use Rattle.cloud_disk.specs.CommitJournal.States as journals
 use Rattle.cloud_disk.specs.RecordBody.Spelling as bodies
 use Rattle.cloud_disk.specs.RecordBody.Spelling.{Body, FitsBody, body_bytes}
 use Rattle.cloud_disk.specs.UserDedup.command.Command.{Command}

@@ -11,7 +11,7 @@ use Rattle.cloud_disk.specs.ContainerLog.Laying.{IsAt}
 use Rattle.cloud_disk.specs.JournalStart.start.Header.{Header}
 use Rattle.cloud_disk.specs.JournalHalves.Halves.{half_limit, half_of}
 use Rattle.cloud_disk.specs.JournalHalves.Journals.{all_bodies, HasChain, IsEither}
-use Rattle.cloud_disk.specs.HalfJournal.States as journals
+use Rattle.cloud_disk.specs.CommitJournal.States as journals
 use Rattle.cloud_disk.specs.UserDedup.command.Command.{Command}
 use Rattle.cloud_disk.specs.UserDedup.Dedup.{IsSound}
 use Rattle.cloud_disk.specs.CloudAreas.Chains.{laid_shares}

@@ -7,7 +7,7 @@ use Rattle.cloud_disk.specs.CdEdges.Shelf.{stable}
 use Rattle.cloud_disk.specs.JournalStart.start.Header.{Header}
 use Rattle.cloud_disk.specs.JournalHalves.Halves.{half_len, half_limit}
 use Rattle.cloud_disk.specs.JournalHalves.Journals.{used_by, IsEither}
-use Rattle.cloud_disk.specs.HalfJournal.States as journals
+use Rattle.cloud_disk.specs.CommitJournal.States as journals
 use Rattle.cloud_disk.specs.RecordBody.Spelling.{FitsBody}
 use Rattle.cloud_disk.specs.UserDedup.command.Command.{Command}
 use Rattle.cloud_disk.specs.UserDedup.Dedup.{IsSound}

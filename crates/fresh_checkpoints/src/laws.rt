@@ -16,7 +16,7 @@ ghost use Rattle.cloud_disk.specs.CdEdges.area.Area.TheVariants.{Journal};
 ghost use Rattle.cloud_disk.specs.JournalHalves.Halves.{half_limit};
 ghost use Rattle.cloud_disk.specs.Disk.{IsRead};
 ghost use Rattle.fresh_checkpoints.specs.Switching.{MaySwitch, MayMigrate, StandsForOneOf, IsMigrating, HasEitherChain};
-ghost use Rattle.cloud_disk.specs.HalfJournal.States as journals;
+ghost use Rattle.cloud_disk.specs.CommitJournal.States as journals;
 
 /// The checkpoint of a memory of a list holds the list, in whatever half and behind whatever chain, and the memory is
 /// placed by its records.

@@ -6,9 +6,9 @@ ghost use Rattle.cloud_disk.specs.CdEdges.Shelf.{IsCall, HasFailed, KeepsCounts}
 ghost use Rattle.cloud_disk.specs.JournalHalves.Halves.{half_limit};
 ghost use Rattle.cloud_disk.specs.JournalStart.Ranges.{IsHeader};
 ghost use Rattle.cloud_disk.specs.JournalStart.start.Header.{Header as OfStore};
-ghost use Rattle.cloud_disk.specs.HalfJournal.Leaving.{OthersStay};
-ghost use Rattle.cloud_disk.specs.HalfJournal.journal.Stage.TheVariants.{AtEnd};
-ghost use Rattle.cloud_disk.specs.HalfJournal.States.{state_of};
+ghost use Rattle.cloud_disk.specs.CommitJournal.Leaving.{OthersStay};
+ghost use Rattle.cloud_disk.specs.CommitJournal.journal.Stage.TheVariants.{AtEnd};
+ghost use Rattle.cloud_disk.specs.CommitJournal.States.{state_of};
 ghost use Rattle.cloud_disk.specs.UserDedup.command.Command.{Command};
 ghost use Rattle.cloud_disk.specs.CloudAreas.Standing.{Chain};
 ghost use Rattle.cloud_disk.specs.Disk.{IsRead};

@@ -3,34 +3,34 @@ use Rattle.std.proofs.Common.{◌≡◌, ℕ, ◌≤◌, Bool, List, [], ◌∷�
 use Rattle.std.specs.Prelude.{◌≢◌, IsOk, IsTrue, OnOk, IsSomeAnd}
 use Rattle.std.specs.List.{Contains}
 use Rattle.std.proofs.lemmas.Bool.{cases_eq}
-use Rattle.cloud_server.specs.CdBase.Reading.{AreBytes}
-use Rattle.cloud_server.specs.CdBase.ids.Fp.{Fp}
-use Rattle.cloud_server.specs.CdBase.shape.Shape.{Shape}
-use Rattle.cloud_server.specs.CdEdges.Causes.{Rose}
-use Rattle.cloud_server.specs.CdEdges.Disk.{Cloud, Image, reads}
-use Rattle.cloud_server.specs.CdEdges.Shelf.{Stays}
-use Rattle.cloud_server.specs.CdEdges.area.Area.TheVariants.{Shares, Recipes}
-use Rattle.cloud_server.specs.CloudMemory.Memory.{Memory}
-use Rattle.cloud_server.specs.CloudMemory.Rooms.{memory_of}
-use Rattle.cloud_server.specs.JournalStart.start.Header.{Header}
-use Rattle.cloud_server.specs.Messages.request.Request.{Request}
-use Rattle.cloud_server.specs.Messages.request.Request.TheVariants as requests
-use Rattle.cloud_server.specs.Messages.Requests.{IsRequest}
-use Rattle.cloud_server.specs.Messages.reply.Reply.{Reply}
-use Rattle.cloud_server.specs.Messages.reply.Reply.TheVariants as replies
-use Rattle.cloud_server.specs.Messages.Replies.{IsReply}
+use Rattle.share_server.specs.CdBase.Reading.{AreBytes}
+use Rattle.share_server.specs.CdBase.ids.Fp.{Fp}
+use Rattle.share_server.specs.CdBase.shape.Shape.{Shape}
+use Rattle.share_server.specs.CdEdges.Causes.{Rose}
+use Rattle.share_server.specs.CdEdges.Disk.{Cloud, Image, reads}
+use Rattle.share_server.specs.CdEdges.Shelf.{Stays}
+use Rattle.share_server.specs.CdEdges.area.Area.TheVariants.{Shares, Recipes}
+use Rattle.share_server.specs.CloudMemory.Memory.{Memory}
+use Rattle.share_server.specs.CloudMemory.Rooms.{memory_of}
+use Rattle.share_server.specs.JournalStart.start.Header.{Header}
+use Rattle.share_server.specs.Messages.request.Request.{Request}
+use Rattle.share_server.specs.Messages.request.Request.TheVariants as requests
+use Rattle.share_server.specs.Messages.Requests.{IsRequest}
+use Rattle.share_server.specs.Messages.reply.Reply.{Reply}
+use Rattle.share_server.specs.Messages.reply.Reply.TheVariants as replies
+use Rattle.share_server.specs.Messages.Replies.{IsReply}
 use Rattle.messages.specs.ReplyReading.{reply_at}
 use Rattle.messages.proofs.ReplyLaws.{reply_law}
-use Rattle.cloud_server.specs.OpenStore.Store.{IsOpen}
-use Rattle.cloud_server.specs.OpenStore.store.OpenStore.{OpenStore}
-use Rattle.cloud_server.specs.ServerCommands.Entering.{Enters, ReadsBy}
-use Rattle.cloud_server.specs.ServerCommands.Leaving.{IsFound, IsSteady}
-use Rattle.cloud_server.specs.ServerCommands.ServerReads.Found.{IsFoundRecipe, IsFoundShare, IsOther}
-use Rattle.cloud_server.specs.Serving.{ChangesBehind, EntersBy}
-use Rattle.cloud_server.specs.UserDedup.Link.{Exchange, IsReading, AddsNothing, Passes, exchange_of}
-use Rattle.cloud_server.specs.declared.server.Server.{Server}
-use Rattle.cloud_server.proofs.UserDedup.Asked.{asked_law}
-use Rattle.cloud_server.proofs.UserDedup.Owned.{contains_cases, contains_nothing}
+use Rattle.share_server.specs.CloudStore.Store.{IsOpen}
+use Rattle.share_server.specs.CloudStore.store.CloudStore.{CloudStore}
+use Rattle.share_server.specs.ServerCommands.Entering.{Enters, ReadsBy}
+use Rattle.share_server.specs.ServerCommands.Leaving.{IsFound, IsSteady}
+use Rattle.share_server.specs.ServerCommands.ServerReads.Found.{IsFoundRecipe, IsFoundShare, IsOther}
+use Rattle.share_server.specs.Serving.{ChangesBehind, EntersBy}
+use Rattle.share_server.specs.UserDedup.Link.{Exchange, IsReading, AddsNothing, Passes, exchange_of}
+use Rattle.share_server.specs.declared.server.Server.{Server}
+use Rattle.share_server.proofs.UserDedup.Asked.{asked_law}
+use Rattle.share_server.proofs.UserDedup.Owned.{contains_cases, contains_nothing}
 use Rattle.local_link.specs.declared.link.LocalLink.{LocalLink}
 use Rattle.local_link.specs.Steps.{Replied}
 use Rattle.local_link.specs.declared.fate.Fate.{Fate}
@@ -119,7 +119,7 @@ by_open (Some b) (Some a) old new m r none is behind =
     by_end same (inr at_end) = inr (at_end, same)
 
 -- What it replies is by its memory, or Fault.
-pub by_stores : (before after : OpenStore) (old new : Cloud) (m : Memory) (r : Request) (content : List ℕ) → AddsNothing r
+pub by_stores : (before after : CloudStore) (old new : Cloud) (m : Memory) (r : Request) (content : List ℕ) → AddsNothing r
     → memory_of before.memory ≡ m → memory_of after.memory ≡ m → reads new.now ≡ reads old.now → new.told ≡ old.told → EntersBy before after r content
     → ((named what : Fp) → IsReply content (replies.Rotten named what) → IsFound new (memory_of after.memory) r named what)
     → IsReply content replies.Fault ⊎ IsSaidBy old m r content

@@ -2,36 +2,36 @@
 use Rattle.std.proofs.Common.{◌≡◌, ℕ, ◌+◌, ◌-◌, ◌<◌, ◌≤◌, ◌^◌, Bool, true, false, List, [], ◌∷◌, ◌++◌, min, Option, Some, None, Result, Ok, Err, refl, sym, ap, ◌∙◌, subst, arith, inl, inr, ◌⊎◌}
 use Rattle.std.specs.Prelude.{IsTrue, IsSomeAnd, IfOk, OnOk, OnErr}
 use Rattle.std.specs.List.{Contains}
-use Rattle.cloud_server.specs.CdBase.shape.Shape.{Shape}
-use Rattle.cloud_server.specs.CdEdges.area.Area.{Area}
-use Rattle.cloud_server.specs.CdEdges.area.Area.TheVariants.{Journal}
-use Rattle.cloud_server.specs.CdEdges.stream.Failed.{Failed}
-use Rattle.cloud_server.specs.CdEdges.Causes.{Rose}
-use Rattle.cloud_server.specs.CdEdges.Disk.{Store, MayLeave, Cloud, Image, IsImage, reads}
-use Rattle.cloud_server.specs.CdEdges.Shelf.{stable, IsCall, HasFailed, KeepsCounts, IsFresh, Refreshes, Arms}
-use Rattle.cloud_server.specs.CdEdges.Shelf as shelves
-use Rattle.cloud_server.proofs.CdEdges.Moments.{moved, stayed}
-use Rattle.cloud_server.proofs.CdEdges.Torn.{only}
-use Rattle.cloud_server.specs.JournalStart.rooms.UserRooms.{UserRooms}
-use Rattle.cloud_server.specs.JournalStart.start.Header.{Header}
-use Rattle.cloud_server.specs.HalfJournal.errors.OpenErr.{OpenErr}
-use Rattle.cloud_server.specs.HalfJournal.errors.OpenErr.TheVariants as errors
-use Rattle.cloud_server.specs.HalfJournal.Openings.{OnFault}
-use Rattle.cloud_server.specs.UserDedup.command.Command.{Command}
-use Rattle.cloud_server.specs.UserDedup.Cloud.{counted as number_in}
-use Rattle.cloud_server.specs.UserDedup.Dedup.{IsSound, Begun}
-use Rattle.cloud_server.specs.UserDedup.Exec.{Peer, MaySettleAs, Settles, KeepsPeer as PeerStays, CountsOn, StandsSound}
-use Rattle.cloud_server.specs.UserDedup.Spending.{IsWithin}
-use Rattle.cloud_server.specs.CloudAreas.Peers.{ImagesNow, ImagesSince}
-use Rattle.cloud_server.specs.CloudAreas.Standing.{StandsFor}
-use Rattle.cloud_server.specs.CloudMemory.Rooms.{memory_of}
-use Rattle.cloud_server.specs.StoreOpening.Exact.{Opens}
-use Rattle.cloud_server.specs.StoreOpening.Spared.{IsOkOrFault, MayBegin, Spares}
-use Rattle.cloud_server.specs.OpenStore.Store.{IsOpen}
-use Rattle.cloud_server.specs.Names.{HasNoJournal}
-use Rattle.cloud_server.specs.Openings.{NotBegunIs, OtherStoreIs}
-use Rattle.cloud_server.specs.declared.server.Server.{Server}
-use Rattle.cloud_server.specs.Serving.{IsServing, ReopensAs, settled_with}
+use Rattle.share_server.specs.CdBase.shape.Shape.{Shape}
+use Rattle.share_server.specs.CdEdges.area.Area.{Area}
+use Rattle.share_server.specs.CdEdges.area.Area.TheVariants.{Journal}
+use Rattle.share_server.specs.CdEdges.stream.Failed.{Failed}
+use Rattle.share_server.specs.CdEdges.Causes.{Rose}
+use Rattle.share_server.specs.CdEdges.Disk.{Store, MayLeave, Cloud, Image, IsImage, reads}
+use Rattle.share_server.specs.CdEdges.Shelf.{stable, IsCall, HasFailed, KeepsCounts, IsFresh, Refreshes, Arms}
+use Rattle.share_server.specs.CdEdges.Shelf as shelves
+use Rattle.share_server.proofs.CdEdges.Moments.{moved, stayed}
+use Rattle.share_server.proofs.CdEdges.Torn.{only}
+use Rattle.share_server.specs.JournalStart.rooms.UserRooms.{UserRooms}
+use Rattle.share_server.specs.JournalStart.start.Header.{Header}
+use Rattle.share_server.specs.CommitJournal.errors.OpenErr.{OpenErr}
+use Rattle.share_server.specs.CommitJournal.errors.OpenErr.TheVariants as errors
+use Rattle.share_server.specs.CommitJournal.Openings.{OnFault}
+use Rattle.share_server.specs.UserDedup.command.Command.{Command}
+use Rattle.share_server.specs.UserDedup.Cloud.{counted as number_in}
+use Rattle.share_server.specs.UserDedup.Dedup.{IsSound, Begun}
+use Rattle.share_server.specs.UserDedup.Exec.{Peer, MaySettleAs, Settles, KeepsPeer as PeerStays, CountsOn, StandsSound}
+use Rattle.share_server.specs.UserDedup.Spending.{IsWithin}
+use Rattle.share_server.specs.CloudAreas.Peers.{ImagesNow, ImagesSince}
+use Rattle.share_server.specs.CloudAreas.Standing.{StandsFor}
+use Rattle.share_server.specs.CloudMemory.Rooms.{memory_of}
+use Rattle.share_server.specs.CloudOpening.Exact.{Opens}
+use Rattle.share_server.specs.CloudOpening.Spared.{IsOkOrFault, MayBegin, Spares}
+use Rattle.share_server.specs.CloudStore.Store.{IsOpen}
+use Rattle.share_server.specs.Names.{HasNoJournal}
+use Rattle.share_server.specs.Openings.{NotBegunIs, OtherStoreIs}
+use Rattle.share_server.specs.declared.server.Server.{Server}
+use Rattle.share_server.specs.Serving.{IsServing, ReopensAs, settled_with}
 use Rattle.local_link.specs.declared.servers.Servers.{Servers}
 use Rattle.local_link.specs.declared.link.LocalLink.{LocalLink}
 use Rattle.local_link.specs.Tells.{server_at, header_at, rooms_at, IsPeer, LeavesRest}

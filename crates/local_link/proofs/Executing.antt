@@ -1,32 +1,32 @@
 -- What executing a request does to the peer that a cloud stands as.
 use Rattle.std.proofs.Common.{◌≡◌, ◌⊎◌, ℕ, ◌<◌, ◌≤◌, Bool, true, false, List, length, Option, Some, Ok, Err, refl, sym, ap, ◌∙◌, subst, arith, inl}
 use Rattle.std.specs.Prelude.{IsTrue, IsSomeAnd}
-use Rattle.cloud_server.specs.CdBase.Reading.{AreBytes}
-use Rattle.cloud_server.specs.CdBase.ids.Fp.{Fp}
-use Rattle.cloud_server.specs.CdBase.shape.Shape.{Shape}
-use Rattle.cloud_server.specs.CdEdges.Causes.{Rose}
-use Rattle.cloud_server.specs.CdEdges.Disk.{Cloud}
-use Rattle.cloud_server.specs.CdEdges.Shelf.{IsCall}
-use Rattle.cloud_server.proofs.CdEdges.Moments.{started}
-use Rattle.cloud_server.specs.JournalStart.rooms.UserRooms.{UserRooms}
-use Rattle.cloud_server.specs.JournalStart.start.Header.{Header}
-use Rattle.cloud_server.specs.Messages.request.Request.{Request}
-use Rattle.cloud_server.specs.Messages.reply.Reply.{Reply}
-use Rattle.cloud_server.specs.Messages.reply.Reply.TheVariants as replies
-use Rattle.cloud_server.specs.Messages.Replies.{IsReply, reply_bytes}
-use Rattle.cloud_server.specs.UserDedup.command.Command.{Command}
-use Rattle.cloud_server.specs.UserDedup.Requests.{asked_at}
-use Rattle.cloud_server.specs.UserDedup.Dedup.{Outcome}
-use Rattle.cloud_server.specs.UserDedup.Exec.{Peer, MaySettleAs, Exec, StandsSound, served}
-use Rattle.cloud_server.specs.UserDedup.Served.{served_by}
-use Rattle.cloud_server.proofs.UserDedup.Asked.{asked_law}
-use Rattle.cloud_server.proofs.UserDedup.Execs.{keeps_sound}
-use Rattle.cloud_server.specs.CloudAreas.Peers.{StandsForSome, ImagesNow, ImagesSince, MayBecome}
-use Rattle.cloud_server.specs.CloudMemory.Rooms.{memory_of}
-use Rattle.cloud_server.specs.OpenStore.Store.{IsOpen}
-use Rattle.cloud_server.specs.ServerCommands.Leaving.{IsFound}
-use Rattle.cloud_server.specs.declared.server.Server.{Server}
-use Rattle.cloud_server.specs.Serving.{IsServing, CanOpen, IsUnopenedReply, ChangesBehind, EntersBy}
+use Rattle.share_server.specs.CdBase.Reading.{AreBytes}
+use Rattle.share_server.specs.CdBase.ids.Fp.{Fp}
+use Rattle.share_server.specs.CdBase.shape.Shape.{Shape}
+use Rattle.share_server.specs.CdEdges.Causes.{Rose}
+use Rattle.share_server.specs.CdEdges.Disk.{Cloud}
+use Rattle.share_server.specs.CdEdges.Shelf.{IsCall}
+use Rattle.share_server.proofs.CdEdges.Moments.{started}
+use Rattle.share_server.specs.JournalStart.rooms.UserRooms.{UserRooms}
+use Rattle.share_server.specs.JournalStart.start.Header.{Header}
+use Rattle.share_server.specs.Messages.request.Request.{Request}
+use Rattle.share_server.specs.Messages.reply.Reply.{Reply}
+use Rattle.share_server.specs.Messages.reply.Reply.TheVariants as replies
+use Rattle.share_server.specs.Messages.Replies.{IsReply, reply_bytes}
+use Rattle.share_server.specs.UserDedup.command.Command.{Command}
+use Rattle.share_server.specs.UserDedup.Requests.{asked_at}
+use Rattle.share_server.specs.UserDedup.Dedup.{Outcome}
+use Rattle.share_server.specs.UserDedup.Exec.{Peer, MaySettleAs, Exec, StandsSound, served}
+use Rattle.share_server.specs.UserDedup.Served.{served_by}
+use Rattle.share_server.proofs.UserDedup.Asked.{asked_law}
+use Rattle.share_server.proofs.UserDedup.Execs.{keeps_sound}
+use Rattle.share_server.specs.CloudAreas.Peers.{StandsForSome, ImagesNow, ImagesSince, MayBecome}
+use Rattle.share_server.specs.CloudMemory.Rooms.{memory_of}
+use Rattle.share_server.specs.CloudStore.Store.{IsOpen}
+use Rattle.share_server.specs.ServerCommands.Leaving.{IsFound}
+use Rattle.share_server.specs.declared.server.Server.{Server}
+use Rattle.share_server.specs.Serving.{IsServing, CanOpen, IsUnopenedReply, ChangesBehind, EntersBy}
 use Rattle.local_link.specs.declared.servers.Servers.{Servers}
 use Rattle.local_link.specs.declared.link.LocalLink.{LocalLink}
 use Rattle.local_link.specs.Tells.{server_at, rooms_at, header_at, full_at, IsPeer}

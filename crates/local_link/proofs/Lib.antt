@@ -1,10 +1,10 @@
 pub mod ByMemory
 pub mod Calling
-pub mod CloudServer
+pub mod ShareServer
 pub mod Executing
 pub mod Malformed
 pub mod Passing
 pub mod Placing
 pub mod Recalling
 pub mod Standing
-pub mod StoreOpening
+pub mod CloudOpening

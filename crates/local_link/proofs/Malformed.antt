@@ -1,18 +1,18 @@
 -- The place at which content is no request fits its field.
 use Rattle.std.proofs.Common.{◌≡◌, ℕ, ◌+◌, ◌-◌, ◌<◌, ◌≤◌, ◌^◌, List, ◌++◌, length, Result, Ok, Err, refl, sym, ap, arith, length-append}
 use Rattle.std.specs.Int.{w32, to_be_bytes}
-use Rattle.cloud_server.specs.CdBase.Reading.{AreBytes}
-use Rattle.cloud_server.specs.CdBase.shape.Shape.{Shape}
-use Rattle.cloud_server.specs.MessageFields.Keys.{key_bytes}
-use Rattle.cloud_server.specs.Recipe.recipe.Recipe.{Recipe}
-use Rattle.cloud_server.specs.Recipe.Reading.{placed as recipe_placed, recipe_left, recipe_at}
-use Rattle.cloud_server.specs.Messages.Parts.{placed}
-use Rattle.cloud_server.specs.Messages.request.Request.{Request}
-use Rattle.cloud_server.specs.Messages.request.Request.TheVariants as requests
-use Rattle.cloud_server.specs.Messages.Requests.{request_bytes}
-use Rattle.cloud_server.specs.Messages.RequestReading.{request_left, request_at}
-use Rattle.cloud_server.proofs.Messages.RequestLaws.{request_law}
-use Rattle.cloud_server.specs.UserDedup.Requests.{recipe_read, whole_read, asked_at}
+use Rattle.share_server.specs.CdBase.Reading.{AreBytes}
+use Rattle.share_server.specs.CdBase.shape.Shape.{Shape}
+use Rattle.share_server.specs.MessageFields.Keys.{key_bytes}
+use Rattle.share_server.specs.Recipe.recipe.Recipe.{Recipe}
+use Rattle.share_server.specs.Recipe.Reading.{placed as recipe_placed, recipe_left, recipe_at}
+use Rattle.share_server.specs.Messages.Parts.{placed}
+use Rattle.share_server.specs.Messages.request.Request.{Request}
+use Rattle.share_server.specs.Messages.request.Request.TheVariants as requests
+use Rattle.share_server.specs.Messages.Requests.{request_bytes}
+use Rattle.share_server.specs.Messages.RequestReading.{request_left, request_at}
+use Rattle.share_server.proofs.Messages.RequestLaws.{request_law}
+use Rattle.share_server.specs.UserDedup.Requests.{recipe_read, whole_read, asked_at}
 
 abbrev bad : {A : Type 0} → ℕ → Result A ℕ
 bad at = Err at

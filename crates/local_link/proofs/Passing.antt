@@ -4,33 +4,33 @@ use Rattle.std.specs.Prelude.{◌≢◌, true, false, IsOk, IfSome, IsTrue, OnOk
 use Rattle.std.specs.Bool.{MatchBool}
 use Rattle.std.specs.List.{Contains}
 use Rattle.std.proofs.lemmas.Bool.{cases_eq}
-use Rattle.cloud_server.specs.CdBase.shape.Shape.{Shape}
-use Rattle.cloud_server.specs.CdEdges.Disk.{Cloud}
-use Rattle.cloud_server.proofs.CdEdges.Moments.{started, joined, weaker, left_alone}
-use Rattle.cloud_server.specs.JournalStart.start.Header.{Header}
-use Rattle.cloud_server.specs.Messages.request.Request.{Request}
-use Rattle.cloud_server.specs.Messages.request.Request.TheVariants as requests
-use Rattle.cloud_server.specs.Messages.reply.Reply.{Reply}
-use Rattle.cloud_server.specs.Messages.reply.Reply.TheVariants as replies
-use Rattle.cloud_server.specs.Messages.Answering.{IsReplyTo}
-use Rattle.cloud_server.specs.Messages.Replies.{IsReply, reply_bytes}
+use Rattle.share_server.specs.CdBase.shape.Shape.{Shape}
+use Rattle.share_server.specs.CdEdges.Disk.{Cloud}
+use Rattle.share_server.proofs.CdEdges.Moments.{started, joined, weaker, left_alone}
+use Rattle.share_server.specs.JournalStart.start.Header.{Header}
+use Rattle.share_server.specs.Messages.request.Request.{Request}
+use Rattle.share_server.specs.Messages.request.Request.TheVariants as requests
+use Rattle.share_server.specs.Messages.reply.Reply.{Reply}
+use Rattle.share_server.specs.Messages.reply.Reply.TheVariants as replies
+use Rattle.share_server.specs.Messages.Answering.{IsReplyTo}
+use Rattle.share_server.specs.Messages.Replies.{IsReply, reply_bytes}
 use Rattle.messages.proofs.ReplyLaws.{reply_law}
-use Rattle.cloud_server.specs.CdEdges.Causes.{Rose}
-use Rattle.cloud_server.proofs.UserDedup.Owned.{contains_cases, contains_nothing}
-use Rattle.cloud_server.specs.UserDedup.command.Command.{Command}
-use Rattle.cloud_server.specs.UserDedup.Dedup.{FullRoom}
-use Rattle.cloud_server.specs.UserDedup.Requests.{asked_at, HasRecipe}
-use Rattle.cloud_server.specs.UserDedup.Exec.{Peer, MaySettleAs, KeepsPeer, CountsOn, Exec, ExecTold, ExecUntold, IsCut, items_of, served}
-use Rattle.cloud_server.proofs.UserDedup.Asked.{asked_law}
-use Rattle.cloud_server.specs.CloudMemory.Memory.{Memory}
-use Rattle.cloud_server.specs.OpenStore.Store.{IsOpen}
-use Rattle.cloud_server.specs.OpenStore.store.OpenStore.{OpenStore}
-use Rattle.cloud_server.specs.Serving.{OpensFirst, IsUnopenedReply}
-use Rattle.cloud_server.specs.CloudAreas.Peers.{StandsForSome, ImagesSince, MayBecome}
+use Rattle.share_server.specs.CdEdges.Causes.{Rose}
+use Rattle.share_server.proofs.UserDedup.Owned.{contains_cases, contains_nothing}
+use Rattle.share_server.specs.UserDedup.command.Command.{Command}
+use Rattle.share_server.specs.UserDedup.Dedup.{FullRoom}
+use Rattle.share_server.specs.UserDedup.Requests.{asked_at, HasRecipe}
+use Rattle.share_server.specs.UserDedup.Exec.{Peer, MaySettleAs, KeepsPeer, CountsOn, Exec, ExecTold, ExecUntold, IsCut, items_of, served}
+use Rattle.share_server.proofs.UserDedup.Asked.{asked_law}
+use Rattle.share_server.specs.CloudMemory.Memory.{Memory}
+use Rattle.share_server.specs.CloudStore.Store.{IsOpen}
+use Rattle.share_server.specs.CloudStore.store.CloudStore.{CloudStore}
+use Rattle.share_server.specs.Serving.{OpensFirst, IsUnopenedReply}
+use Rattle.share_server.specs.CloudAreas.Peers.{StandsForSome, ImagesSince, MayBecome}
 use Rattle.local_link.specs.declared.link.LocalLink.{LocalLink}
 use Rattle.local_link.specs.Tells.{server_at, header_at, rooms_at, full_at, is_delivered, IsPeer, LeavesRest, serving_at, StandsAt, IsOpenWith, IsRemembered, ReadsOpen, ReadsTold, PassesOn, telling}
-use Rattle.cloud_server.specs.UserDedup.Link.{Exchange, IsReading, exchange_of, AddsNothing, Passes, ReadsFrom, Asks, serves}
-use Rattle.cloud_server.specs.CdBase.Reading.{AreBytes}
+use Rattle.share_server.specs.UserDedup.Link.{Exchange, IsReading, exchange_of, AddsNothing, Passes, ReadsFrom, Asks, serves}
+use Rattle.share_server.specs.CdBase.Reading.{AreBytes}
 use Rattle.local_link.specs.declared.fate.Fate.{Fate}
 use Rattle.local_link.specs.declared.fate.Fate.TheVariants.{Deliver, LoseReply, LoseRequest}
 use Rattle.local_link.specs.Steps.{OpensOrShuts, Replied}
@@ -106,7 +106,7 @@ fault_alone content answer is fault =
     one_answer answer replies.Fault (sym ((reply_law content answer are).1 is) ∙ (reply_law content replies.Fault are).1 fault)
 
 -- a server that isn't opened is closed behind Fault
-pub shut_behind : (before after : OpenStore) (old new : Cloud) (r : Request) (content : List ℕ) (answer : Reply) → IsReply content answer → (answer ≡ replies.Fault → ¬ (IsOpen after))
+pub shut_behind : (before after : CloudStore) (old new : Cloud) (r : Request) (content : List ℕ) (answer : Reply) → IsReply content answer → (answer ≡ replies.Fault → ¬ (IsOpen after))
     → OpensFirst before after old new r content ⊎ IsUnopenedReply before old new content → OpensOrShuts before after old new r content
 shut_behind before after old new r content answer is shut (inl x) = inl x
 shut_behind before after old new r content answer is shut (inr x) = inr (x, λ fault. shut (fault_alone content answer is fault))

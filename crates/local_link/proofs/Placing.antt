@@ -4,13 +4,13 @@ use Rattle.std.specs.Prelude.{◌≢◌, slice_get, slice_set}
 use Rattle.std.proofs.lemmas.Bool.{cases_eq}
 use Rattle.std.proofs.lemmas.List.{get_or-set_same, get_or-set_other, length-set, length-append, get_or_append_left, get_or_push}
 use Rattle.std.proofs.lemmas.Option.{slice_get_within, slice_get_cases, slice_get_past, slice_get-get_or, get_or_from_slice_get}
-use Rattle.cloud_server.specs.CdBase.ids.CloudNo.{CloudNo}
-use Rattle.cloud_server.specs.CdBase.shape.Shape.{Shape}
-use Rattle.cloud_server.specs.JournalStart.rooms.UserRooms.{UserRooms}
-use Rattle.cloud_server.specs.JournalStart.start.Header.{Header}
-use Rattle.cloud_server.specs.OpenStore.Store.{IsOpen}
-use Rattle.cloud_server.specs.Names.{header_of}
-use Rattle.cloud_server.specs.declared.server.Server.{Server}
+use Rattle.share_server.specs.CdBase.ids.CloudNo.{CloudNo}
+use Rattle.share_server.specs.CdBase.shape.Shape.{Shape}
+use Rattle.share_server.specs.JournalStart.rooms.UserRooms.{UserRooms}
+use Rattle.share_server.specs.JournalStart.start.Header.{Header}
+use Rattle.share_server.specs.CloudStore.Store.{IsOpen}
+use Rattle.share_server.specs.Names.{header_of}
+use Rattle.share_server.specs.declared.server.Server.{Server}
 use Rattle.local_link.specs.Members.{IsServerOf, AreServers}
 use Rattle.local_link.specs.Steps.{IsClosedIn}
 

@@ -3,37 +3,37 @@ use Rattle.std.proofs.Common.{◌≡◌, ℕ, Bool, true, false, List, [], ◌�
 use Rattle.std.specs.Prelude.{◌≢◌, IsOk, IsTrue, OnOk, IsSomeAnd}
 use Rattle.std.specs.List.{Contains}
 use Rattle.std.proofs.lemmas.Bool.{cases_eq}
-use Rattle.cloud_server.specs.CdBase.ids.Fp.{Fp}
-use Rattle.cloud_server.specs.CdEdges.Disk.{Cloud, Image, LeavesOnly, reads}
-use Rattle.cloud_server.specs.CdEdges.Shelf.{Stays}
-use Rattle.cloud_server.specs.CdEdges.area.Area.TheVariants.{Journal}
-use Rattle.cloud_server.proofs.CdEdges.Moments.{at_end, joined, started, stayed, weaker}
-use Rattle.cloud_server.specs.CloudMemory.Memory.{Memory}
-use Rattle.cloud_server.specs.CloudMemory.Rooms.{memory_of}
-use Rattle.cloud_server.specs.HalfJournal.Openings.{MayBecome, OnFault}
-use Rattle.cloud_server.specs.HalfJournal.errors.OpenErr.{OpenErr}
-use Rattle.cloud_server.specs.HalfJournal.errors.OpenErr.TheVariants as errors
-use Rattle.cloud_server.specs.JournalHalves.Beginnings.{IsUnbegun}
-use Rattle.cloud_server.specs.JournalStart.start.Header.{Header}
-use Rattle.cloud_server.specs.Messages.request.Request.{Request}
-use Rattle.cloud_server.specs.Messages.Requests.{IsRequest}
-use Rattle.cloud_server.specs.Messages.reply.Reply.TheVariants as replies
-use Rattle.cloud_server.specs.Messages.Replies.{IsReply}
-use Rattle.cloud_server.specs.Openings.{OpensTo}
-use Rattle.cloud_server.specs.OpenStore.Store.{IsOpen}
-use Rattle.cloud_server.specs.OpenStore.store.OpenStore.{OpenStore}
-use Rattle.cloud_server.specs.Refusals.{IsErrorReply}
-use Rattle.cloud_server.specs.ServerCommands.Leaving.{IsFound}
-use Rattle.cloud_server.specs.Serving.{ChangesBehind, EntersBy, IsUnopenedReply, an_error, some_commands}
-use Rattle.cloud_server.specs.StoreOpening.Exact.{Opens, New, Read}
-use Rattle.cloud_server.specs.StoreOpening.Spared.{Spares}
-use Rattle.cloud_server.specs.UserDedup.Link.{AddsNothing, Exchange, IsReading, Passes, exchange_of}
-use Rattle.cloud_server.specs.declared.server.Server.{Server}
-use Rattle.cloud_server.proofs.UserDedup.Asked.{asked_law}
-use Rattle.cloud_server.proofs.UserDedup.Owned.{contains_cases, contains_nothing}
-use Rattle.store_opening.specs.HalfJournal.journal.Stage.{Stage}
-use Rattle.store_opening.specs.HalfJournal.journal.Stage.TheVariants as stages
-use Rattle.store_opening.proofs.OneOpening.{one_opening}
+use Rattle.share_server.specs.CdBase.ids.Fp.{Fp}
+use Rattle.share_server.specs.CdEdges.Disk.{Cloud, Image, LeavesOnly, reads}
+use Rattle.share_server.specs.CdEdges.Shelf.{Stays}
+use Rattle.share_server.specs.CdEdges.area.Area.TheVariants.{Journal}
+use Rattle.share_server.proofs.CdEdges.Moments.{at_end, joined, started, stayed, weaker}
+use Rattle.share_server.specs.CloudMemory.Memory.{Memory}
+use Rattle.share_server.specs.CloudMemory.Rooms.{memory_of}
+use Rattle.share_server.specs.CommitJournal.Openings.{MayBecome, OnFault}
+use Rattle.share_server.specs.CommitJournal.errors.OpenErr.{OpenErr}
+use Rattle.share_server.specs.CommitJournal.errors.OpenErr.TheVariants as errors
+use Rattle.share_server.specs.JournalHalves.Beginnings.{IsUnbegun}
+use Rattle.share_server.specs.JournalStart.start.Header.{Header}
+use Rattle.share_server.specs.Messages.request.Request.{Request}
+use Rattle.share_server.specs.Messages.Requests.{IsRequest}
+use Rattle.share_server.specs.Messages.reply.Reply.TheVariants as replies
+use Rattle.share_server.specs.Messages.Replies.{IsReply}
+use Rattle.share_server.specs.Openings.{OpensTo}
+use Rattle.share_server.specs.CloudStore.Store.{IsOpen}
+use Rattle.share_server.specs.CloudStore.store.CloudStore.{CloudStore}
+use Rattle.share_server.specs.Refusals.{IsErrorReply}
+use Rattle.share_server.specs.ServerCommands.Leaving.{IsFound}
+use Rattle.share_server.specs.Serving.{ChangesBehind, EntersBy, IsUnopenedReply, an_error, some_commands}
+use Rattle.share_server.specs.CloudOpening.Exact.{Opens, New, Read}
+use Rattle.share_server.specs.CloudOpening.Spared.{Spares}
+use Rattle.share_server.specs.UserDedup.Link.{AddsNothing, Exchange, IsReading, Passes, exchange_of}
+use Rattle.share_server.specs.declared.server.Server.{Server}
+use Rattle.share_server.proofs.UserDedup.Asked.{asked_law}
+use Rattle.share_server.proofs.UserDedup.Owned.{contains_cases, contains_nothing}
+use Rattle.cloud_opening.specs.CommitJournal.journal.Stage.{Stage}
+use Rattle.cloud_opening.specs.CommitJournal.journal.Stage.TheVariants as stages
+use Rattle.cloud_opening.proofs.OneOpening.{one_opening}
 use Rattle.local_link.specs.declared.fate.Fate.TheVariants.{LoseRequest}
 use Rattle.local_link.specs.declared.link.LocalLink.{LocalLink}
 use Rattle.local_link.specs.declared.servers.Servers.{Servers}
@@ -51,7 +51,7 @@ at_end_or_not stages.Shut = inr (λ e. let never : stages.Shut ≡ stages.AtEnd 
 at_end_or_not stages.Laying = inr (λ e. let never : stages.Laying ≡ stages.AtEnd = e in cc)
 at_end_or_not stages.Reading = inr (λ e. let never : stages.Reading ≡ stages.AtEnd = e in cc)
 
-open_or_shut : (store : OpenStore) → IsOpen store ⊎ ¬ (IsOpen store)
+open_or_shut : (store : CloudStore) → IsOpen store ⊎ ¬ (IsOpen store)
 open_or_shut store = at_end_or_not store.disk.journal.stage
 
 -- ---- one opening of bytes
@@ -129,7 +129,7 @@ module _ (header : Header) (m : Memory) (old new : Cloud) (told : IsTrue old.tol
   Finds after content = IsSomeAnd after (λ (a : Server). (named what : Fp) → IsReply content (replies.Rotten named what) → IsFound new (memory_of a.store.memory) r named what)
 
   -- The error of an opening of such a cloud is that of a device, and the reply is Fault.
-  is_fault : (store : OpenStore) (server : Option Server) (content : List ℕ) → store.header ≡ header → IsRemembered header old server m → IsUnopenedReply store old new content
+  is_fault : (store : CloudStore) (server : Option Server) (content : List ℕ) → store.header ≡ header → IsRemembered header old server m → IsUnopenedReply store old new content
       → IsReply content replies.Fault
   is_fault store server content same is u =
       by_error u.error u.refuses (subst (λ (h : Header). OnFault (an_error u.error) (Unit {0}) (OpensTo h true (reads old.now) (an_error u.error))) same (u.unopened.exact told))

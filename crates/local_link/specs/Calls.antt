@@ -1,16 +1,16 @@
 -- What the calls of the link do to a cloud's peer.
 use Rattle.std.specs.Prelude.{◌≡◌, ◌⊎◌, ℕ, ◌+◌, ◌-◌, ◌^◌, min, IsTrue, List, [], None, Result, Ok, Err}
-use Rattle.cloud_server.specs.JournalStart.rooms.UserRooms.{UserRooms}
-use Rattle.cloud_server.specs.CdBase.shape.Shape.{Shape}
-use Rattle.cloud_server.specs.CdEdges.area.Area.{Area}
-use Rattle.cloud_server.specs.CdEdges.stream.Failed.{Failed}
-use Rattle.cloud_server.specs.CdEdges.Causes.{Rose}
-use Rattle.cloud_server.specs.CdEdges.Disk.{Cloud, Image, IsImage, LeavesOnly}
-use Rattle.cloud_server.specs.UserDedup.command.Command.{Command}
-use Rattle.cloud_server.specs.UserDedup.Exec.{Peer, MaySettleAs, KeepsPeer, StandsSound}
-use Rattle.cloud_server.specs.UserDedup.Spending.{IsWithin}
-use Rattle.cloud_server.specs.CloudAreas.Peers.{ImagesNow}
-pub use Rattle.cloud_server.specs.Names.{header_of}
+use Rattle.share_server.specs.JournalStart.rooms.UserRooms.{UserRooms}
+use Rattle.share_server.specs.CdBase.shape.Shape.{Shape}
+use Rattle.share_server.specs.CdEdges.area.Area.{Area}
+use Rattle.share_server.specs.CdEdges.stream.Failed.{Failed}
+use Rattle.share_server.specs.CdEdges.Causes.{Rose}
+use Rattle.share_server.specs.CdEdges.Disk.{Cloud, Image, IsImage, LeavesOnly}
+use Rattle.share_server.specs.UserDedup.command.Command.{Command}
+use Rattle.share_server.specs.UserDedup.Exec.{Peer, MaySettleAs, KeepsPeer, StandsSound}
+use Rattle.share_server.specs.UserDedup.Spending.{IsWithin}
+use Rattle.share_server.specs.CloudAreas.Peers.{ImagesNow}
+pub use Rattle.share_server.specs.Names.{header_of}
 
 -- A cloud may be served as this peer, in these rooms: its counts are the peer's, and where it is told each image now stands for a list that
 -- the peer may settle as, all of which are sound and within the rooms.

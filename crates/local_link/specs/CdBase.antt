@@ -1,2 +1,2 @@
 -- What cd_base says, for callers.
-pub use Rattle.cloud_server.specs.CdBase.Reading
+pub use Rattle.share_server.specs.CdBase.Reading

@@ -1,3 +1,3 @@
 -- What cloud_areas says, for callers.
-pub use Rattle.cloud_server.specs.CloudAreas.Peers
-pub use Rattle.cloud_server.specs.CloudAreas.Standing
+pub use Rattle.share_server.specs.CloudAreas.Peers
+pub use Rattle.share_server.specs.CloudAreas.Standing

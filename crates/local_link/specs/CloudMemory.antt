@@ -1,3 +1,3 @@
 -- What cloud_memory says, for callers.
-pub use Rattle.cloud_server.specs.CloudMemory.Memory
-pub use Rattle.cloud_server.specs.CloudMemory.Rooms
+pub use Rattle.share_server.specs.CloudMemory.Memory
+pub use Rattle.share_server.specs.CloudMemory.Rooms

@@ -1,2 +1,2 @@
 -- What journal_start says, for callers.
-pub use Rattle.cloud_server.specs.JournalStart.Ranges
+pub use Rattle.share_server.specs.JournalStart.Ranges

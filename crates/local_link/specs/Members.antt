@@ -1,8 +1,8 @@
 -- The servers of all clouds of a store.
 use Rattle.std.specs.Prelude.{◌≡◌, ℕ, List, length, Some, slice_get}
-use Rattle.cloud_server.specs.CdBase.shape.Shape.{Shape}
-use Rattle.cloud_server.specs.Names.{header_of}
-use Rattle.cloud_server.specs.declared.server.Server.{Server}
+use Rattle.share_server.specs.CdBase.shape.Shape.{Shape}
+use Rattle.share_server.specs.Names.{header_of}
+use Rattle.share_server.specs.declared.server.Server.{Server}
 
 -- A server of the cloud of this number in a store of this shape, in some rooms.
 pub record IsServerOf (shape : Shape) (number : ℕ) (server : Server) : Type 0 where

@@ -1,3 +1,3 @@
 -- What server_commands says, for callers.
-pub use Rattle.cloud_server.specs.ServerCommands.Entering
-pub use Rattle.cloud_server.specs.ServerCommands.Leaving
+pub use Rattle.share_server.specs.ServerCommands.Entering
+pub use Rattle.share_server.specs.ServerCommands.Leaving

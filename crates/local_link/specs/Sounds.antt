@@ -1,7 +1,7 @@
 -- A told cloud stands for sound lists alone.
 use Rattle.std.specs.Prelude.{ℕ}
-use Rattle.cloud_server.specs.CdEdges.Disk.{Cloud}
-use Rattle.cloud_server.specs.UserDedup.Link.{TellsSound}
+use Rattle.share_server.specs.CdEdges.Disk.{Cloud}
+use Rattle.share_server.specs.UserDedup.Link.{TellsSound}
 use Rattle.local_link.specs.declared.link.LocalLink.{LocalLink}
 use Rattle.local_link.specs.Tells.{telling}
 

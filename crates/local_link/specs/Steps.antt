@@ -1,35 +1,35 @@
 -- What a call does to one of the servers.
 use Rattle.std.specs.Prelude.{◌≡◌, ◌≢◌, ◌⊎◌, ℕ, Bool, true, IsTrue, List, Some, Result, Ok, Err, IfOk, OnOk, OnErr, slice_set}
 use Rattle.std.specs.List.{Contains}
-use Rattle.cloud_server.specs.CdBase.ids.Fp.{Fp}
-use Rattle.cloud_server.specs.JournalStart.rooms.UserRooms.{UserRooms}
-use Rattle.cloud_server.specs.CdBase.shape.Shape.{Shape}
-use Rattle.cloud_server.specs.CdEdges.area.Area.TheVariants.{Journal}
-use Rattle.cloud_server.specs.CdEdges.Disk.{Cloud, reads}
-use Rattle.cloud_server.specs.CdEdges.Shelf.{IsCall, HasFailed, KeepsCounts}
-use Rattle.cloud_server.specs.HalfJournal.errors.OpenErr.{OpenErr}
-use Rattle.cloud_server.specs.Messages.request.Request.{Request}
-use Rattle.cloud_server.specs.Messages.reply.Reply.{Reply}
-use Rattle.cloud_server.specs.Messages.reply.Reply.TheVariants as replies
-use Rattle.cloud_server.specs.Messages.Answering.{IsReplyTo}
-use Rattle.cloud_server.specs.Messages.Replies.{IsReply, reply_bytes}
-use Rattle.cloud_server.specs.UserDedup.command.Command.{Command}
-use Rattle.cloud_server.specs.UserDedup.Requests.{asked_at}
-use Rattle.cloud_server.specs.UserDedup.Exec.{Peer, Exec, items_of}
-use Rattle.cloud_server.specs.HalfJournal.Openings.{OnFault, HasBegun}
-use Rattle.cloud_server.specs.StoreOpening.Spared.{IsOkOrFault, MayBegin, Spares}
-use Rattle.cloud_server.specs.Openings.{NotBegunIs, OtherStoreIs}
-use Rattle.cloud_server.specs.StoreOpening.Exact.{Opens}
-use Rattle.cloud_server.specs.UserDedup.Spending.{IsWithin}
-use Rattle.cloud_server.specs.OpenStore.Store.{IsOpen}
-use Rattle.cloud_server.specs.OpenStore.store.OpenStore.{OpenStore}
-use Rattle.cloud_server.specs.CloudAreas.Peers.{ImagesNow, ImagesSince, MayBecome}
-use Rattle.cloud_server.specs.CloudAreas.Standing.{StandsFor}
-use Rattle.cloud_server.specs.CloudMemory.Rooms.{memory_of}
-use Rattle.cloud_server.specs.ServerCommands.Leaving.{IsFound, LeavesAll}
-use Rattle.cloud_server.specs.declared.server.Server.{Server}
-use Rattle.cloud_server.specs.UserDedup.Cloud.{counted}
-use Rattle.cloud_server.specs.Serving.{number_of, IsServing, server_serves, settled_with, ReopensAs, CanOpen, IsUnopenedReply, ChangesBehind, EntersBy, OpensFirst}
+use Rattle.share_server.specs.CdBase.ids.Fp.{Fp}
+use Rattle.share_server.specs.JournalStart.rooms.UserRooms.{UserRooms}
+use Rattle.share_server.specs.CdBase.shape.Shape.{Shape}
+use Rattle.share_server.specs.CdEdges.area.Area.TheVariants.{Journal}
+use Rattle.share_server.specs.CdEdges.Disk.{Cloud, reads}
+use Rattle.share_server.specs.CdEdges.Shelf.{IsCall, HasFailed, KeepsCounts}
+use Rattle.share_server.specs.CommitJournal.errors.OpenErr.{OpenErr}
+use Rattle.share_server.specs.Messages.request.Request.{Request}
+use Rattle.share_server.specs.Messages.reply.Reply.{Reply}
+use Rattle.share_server.specs.Messages.reply.Reply.TheVariants as replies
+use Rattle.share_server.specs.Messages.Answering.{IsReplyTo}
+use Rattle.share_server.specs.Messages.Replies.{IsReply, reply_bytes}
+use Rattle.share_server.specs.UserDedup.command.Command.{Command}
+use Rattle.share_server.specs.UserDedup.Requests.{asked_at}
+use Rattle.share_server.specs.UserDedup.Exec.{Peer, Exec, items_of}
+use Rattle.share_server.specs.CommitJournal.Openings.{OnFault, HasBegun}
+use Rattle.share_server.specs.CloudOpening.Spared.{IsOkOrFault, MayBegin, Spares}
+use Rattle.share_server.specs.Openings.{NotBegunIs, OtherStoreIs}
+use Rattle.share_server.specs.CloudOpening.Exact.{Opens}
+use Rattle.share_server.specs.UserDedup.Spending.{IsWithin}
+use Rattle.share_server.specs.CloudStore.Store.{IsOpen}
+use Rattle.share_server.specs.CloudStore.store.CloudStore.{CloudStore}
+use Rattle.share_server.specs.CloudAreas.Peers.{ImagesNow, ImagesSince, MayBecome}
+use Rattle.share_server.specs.CloudAreas.Standing.{StandsFor}
+use Rattle.share_server.specs.CloudMemory.Rooms.{memory_of}
+use Rattle.share_server.specs.ServerCommands.Leaving.{IsFound, LeavesAll}
+use Rattle.share_server.specs.declared.server.Server.{Server}
+use Rattle.share_server.specs.UserDedup.Cloud.{counted}
+use Rattle.share_server.specs.Serving.{number_of, IsServing, server_serves, settled_with, ReopensAs, CanOpen, IsUnopenedReply, ChangesBehind, EntersBy, OpensFirst}
 use Rattle.local_link.specs.declared.servers.Servers.{Servers}
 use Rattle.local_link.specs.Tells.{server_at}
 
@@ -74,7 +74,7 @@ pub record RepliesOpen (old new : ℕ → Cloud) (faults_before faults_after : �
       × (faults_after ≡ faults_before)
 
 -- A closed server was opened first; or its cloud isn't opened, and where that is for a device that failed the server is closed still.
-abbrev pub OpensOrShuts : OpenStore → OpenStore → Cloud → Cloud → Request → List ℕ → Type 0
+abbrev pub OpensOrShuts : CloudStore → CloudStore → Cloud → Cloud → Request → List ℕ → Type 0
 OpensOrShuts old new before after request content = OpensFirst old new before after request content
     ⊎ (IsUnopenedReply old before after content × (IsReply content replies.Fault → ¬ (IsOpen new)))
 

@@ -1,37 +1,37 @@
 -- What the link tells of its clouds.
 use Rattle.std.specs.Prelude.{◌≡◌, ◌≢◌, ◌⊎◌, ℕ, ◌<◌, ◌≤◌, Bool, true, false, IsTrue, List, Option, Some, None, Ok, IfSome, IsSomeAnd, nat_lt, slice_get}
-use Rattle.cloud_server.specs.CdBase.Reading.{AreBytes}
-use Rattle.cloud_server.specs.CdBase.ids.Fp.{Fp}
-use Rattle.cloud_server.specs.CdBase.shape.Shape.{Shape}
-use Rattle.cloud_server.specs.CdEdges.Disk.{Cloud, Image, IsImage, LeavesOnly, reads}
-use Rattle.cloud_server.specs.CdEdges.area.Area.TheVariants.{Journal}
-use Rattle.cloud_server.specs.CdEdges.Shelf.{Stays}
-use Rattle.cloud_server.specs.UserDedup.command.Command.{Command}
-use Rattle.cloud_server.specs.Messages.request.Request.{Request}
-use Rattle.cloud_server.specs.Messages.reply.Reply.{Reply}
-use Rattle.cloud_server.specs.Messages.reply.Reply.TheVariants as replies
-use Rattle.cloud_server.specs.Messages.Answering.{IsReplyTo}
-use Rattle.cloud_server.specs.Messages.Replies.{IsReply}
-use Rattle.cloud_server.specs.CdEdges.Causes.{Rose}
-use Rattle.cloud_server.specs.UserDedup.Dedup.{Outcome, FullRoom}
-use Rattle.cloud_server.specs.UserDedup.Requests.{asked_at}
-use Rattle.cloud_server.specs.UserDedup.Exec.{Peer, KeepsPeer, CountsOn, Exec, StandsSound, items_of, served}
-use Rattle.cloud_server.specs.UserDedup.Link.{LinkTelling, Exchange, AddsNothing}
-use Rattle.cloud_server.specs.CloudAreas.Peers.{ImagesSince, MayBecome}
-use Rattle.cloud_server.specs.JournalHalves.Beginnings.{IsUnbegun}
-use Rattle.cloud_server.specs.StoreOpening.Exact.{Opens}
-use Rattle.cloud_server.specs.JournalStart.rooms.UserRooms.{UserRooms}
-use Rattle.cloud_server.specs.JournalStart.start.Header.{Header}
-use Rattle.cloud_server.specs.JournalStart.Ranges.{usual_rooms}
-use Rattle.cloud_server.specs.Names.{header_of}
-use Rattle.cloud_server.specs.UserDedup.Spending.{full_for}
-use Rattle.cloud_server.specs.declared.server.Server.{Server}
-use Rattle.cloud_server.specs.CloudMemory.Memory.{Memory}
-use Rattle.cloud_server.specs.CloudMemory.Rooms.{memory_of}
-use Rattle.cloud_server.specs.OpenStore.Store.{IsOpen}
-use Rattle.cloud_server.specs.ServerCommands.Entering.{ReadsBy}
-use Rattle.cloud_server.specs.ServerCommands.Leaving.{IsFound}
-use Rattle.cloud_server.specs.Serving.{IsServing}
+use Rattle.share_server.specs.CdBase.Reading.{AreBytes}
+use Rattle.share_server.specs.CdBase.ids.Fp.{Fp}
+use Rattle.share_server.specs.CdBase.shape.Shape.{Shape}
+use Rattle.share_server.specs.CdEdges.Disk.{Cloud, Image, IsImage, LeavesOnly, reads}
+use Rattle.share_server.specs.CdEdges.area.Area.TheVariants.{Journal}
+use Rattle.share_server.specs.CdEdges.Shelf.{Stays}
+use Rattle.share_server.specs.UserDedup.command.Command.{Command}
+use Rattle.share_server.specs.Messages.request.Request.{Request}
+use Rattle.share_server.specs.Messages.reply.Reply.{Reply}
+use Rattle.share_server.specs.Messages.reply.Reply.TheVariants as replies
+use Rattle.share_server.specs.Messages.Answering.{IsReplyTo}
+use Rattle.share_server.specs.Messages.Replies.{IsReply}
+use Rattle.share_server.specs.CdEdges.Causes.{Rose}
+use Rattle.share_server.specs.UserDedup.Dedup.{Outcome, FullRoom}
+use Rattle.share_server.specs.UserDedup.Requests.{asked_at}
+use Rattle.share_server.specs.UserDedup.Exec.{Peer, KeepsPeer, CountsOn, Exec, StandsSound, items_of, served}
+use Rattle.share_server.specs.UserDedup.Link.{LinkTelling, Exchange, AddsNothing}
+use Rattle.share_server.specs.CloudAreas.Peers.{ImagesSince, MayBecome}
+use Rattle.share_server.specs.JournalHalves.Beginnings.{IsUnbegun}
+use Rattle.share_server.specs.CloudOpening.Exact.{Opens}
+use Rattle.share_server.specs.JournalStart.rooms.UserRooms.{UserRooms}
+use Rattle.share_server.specs.JournalStart.start.Header.{Header}
+use Rattle.share_server.specs.JournalStart.Ranges.{usual_rooms}
+use Rattle.share_server.specs.Names.{header_of}
+use Rattle.share_server.specs.UserDedup.Spending.{full_for}
+use Rattle.share_server.specs.declared.server.Server.{Server}
+use Rattle.share_server.specs.CloudMemory.Memory.{Memory}
+use Rattle.share_server.specs.CloudMemory.Rooms.{memory_of}
+use Rattle.share_server.specs.CloudStore.Store.{IsOpen}
+use Rattle.share_server.specs.ServerCommands.Entering.{ReadsBy}
+use Rattle.share_server.specs.ServerCommands.Leaving.{IsFound}
+use Rattle.share_server.specs.Serving.{IsServing}
 use Rattle.local_link.specs.declared.fate.Fate.{Fate}
 use Rattle.local_link.specs.declared.fate.Fate.TheVariants as fates
 use Rattle.local_link.specs.declared.fate.Fate.TheVariants.{Deliver}

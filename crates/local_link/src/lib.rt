@@ -6,7 +6,7 @@ mod fate;
 mod link;
 mod servers;
 
-pub use cloud_server::{OpenErr, UserRooms, damage_of};
 pub use fate::Fate;
 pub use link::{LocalLink, law_of_headers, law_of_readings};
 pub use servers::Servers;
+pub use share_server::{OpenErr, UserRooms, damage_of};

@@ -1,27 +1,27 @@
 //! The link to all clouds of a shelf.
 
 ghost use Rattle.std.specs.Prelude.{◌≡◌, ◌⊎◌, ◌<◌, ◌≤◌, ℕ, List, Some, IsTrue};
-ghost use Rattle.cloud_server.specs.CdEdges.Causes.{Rose};
-ghost use Rattle.cloud_server.specs.CdEdges.Disk.{LeavesOnly, reads};
-ghost use Rattle.cloud_server.specs.CdEdges.Shelf.{Stays};
-ghost use Rattle.cloud_server.specs.CloudMemory.Memory.{Memory};
-ghost use Rattle.cloud_server.specs.Messages.Requests.{IsRequest};
-ghost use Rattle.cloud_server.specs.Messages.request.Request.{Request};
-ghost use Rattle.cloud_server.specs.Messages.Replies.{IsReply};
-ghost use Rattle.cloud_server.specs.Messages.reply.Reply.TheVariants as replies;
+ghost use Rattle.share_server.specs.CdEdges.Causes.{Rose};
+ghost use Rattle.share_server.specs.CdEdges.Disk.{LeavesOnly, reads};
+ghost use Rattle.share_server.specs.CdEdges.Shelf.{Stays};
+ghost use Rattle.share_server.specs.CloudMemory.Memory.{Memory};
+ghost use Rattle.share_server.specs.Messages.Requests.{IsRequest};
+ghost use Rattle.share_server.specs.Messages.request.Request.{Request};
+ghost use Rattle.share_server.specs.Messages.Replies.{IsReply};
+ghost use Rattle.share_server.specs.Messages.reply.Reply.TheVariants as replies;
 ghost use Rattle.std.specs.List.{Contains};
-ghost use Rattle.cloud_server.specs.UserDedup.Exec.{Peer, MaySettleAs};
-ghost use Rattle.cloud_server.specs.declared.server.Server.{Server};
+ghost use Rattle.share_server.specs.UserDedup.Exec.{Peer, MaySettleAs};
+ghost use Rattle.share_server.specs.declared.server.Server.{Server};
 ghost use Rattle.local_link.specs.declared.servers.Servers.{Servers};
-ghost use Rattle.cloud_server.specs.CloudAreas.Peers.{ImagesSince};
+ghost use Rattle.share_server.specs.CloudAreas.Peers.{ImagesSince};
 ghost use Rattle.local_link.specs.declared.link.LocalLink.{LocalLink};
-ghost use Rattle.cloud_server.specs.UserDedup.Link.{AddsNothing, Exchange, IsReading, Passes, ReadsFrom};
+ghost use Rattle.share_server.specs.UserDedup.Link.{AddsNothing, Exchange, IsReading, Passes, ReadsFrom};
 ghost use Rattle.local_link.specs.Tells.{server_at, header_at, telling, StandsAt, IsOpenWith, IsRemembered, IsSaidBy};
 
 use crate::Fate;
 use crate::servers::Servers;
-use cloud_server::laws::{law_of_areas, law_of_no_commands};
-use cloud_server::{
+use share_server::laws::{law_of_areas, law_of_no_commands};
+use share_server::{
     CloudNo, Failed, FindErr, Found, Link, Lost, NoMemory, OpenErr, ReplyBuf, Shape, Shelf,
     UserRooms, find,
 };
@@ -43,36 +43,36 @@ impl<'a, V: Shelf> LocalLink<'a, V> {
     ghost use Rattle.std.specs.Prelude.{◌≡◌, ◌≢◌, ◌⊎◌, ◌↔◌, ℕ, false, ◌+◌, ◌-◌, ◌^◌, ◌<◌, ◌≤◌, List, [], length, min};
     ghost use Rattle.std.specs.Prelude.{IsTrue, IsOk, IfOk, OnOk, OnErr, IsSomeAnd, Some, Ok, Err, if◌then◌else◌};
     ghost use Rattle.std.specs.List.{Contains};
-    ghost use Rattle.cloud_server.specs.CdEdges.Shelf.{IsCall, HasFailed, KeepsCounts, Arms, Refreshes};
-    ghost use Rattle.cloud_server.specs.CdEdges.Shelf as device;
-    ghost use Rattle.cloud_server.specs.JournalHalves.Findings as findings;
-    ghost use Rattle.cloud_server.specs.Frames.Frames.{frame_limit};
-    ghost use Rattle.cloud_server.specs.Messages.request.Request.{Request};
-    ghost use Rattle.cloud_server.specs.Messages.reply.Reply.{Reply};
-    ghost use Rattle.cloud_server.specs.Messages.reply.Reply.TheVariants as replies;
-    ghost use Rattle.cloud_server.specs.Messages.Replies.{IsReply};
-    ghost use Rattle.cloud_server.specs.CdBase.ids.Fp.{Fp};
-    ghost use Rattle.cloud_server.specs.CloudMemory.Rooms.{memory_of};
-    ghost use Rattle.cloud_server.specs.ServerCommands.Leaving.{IsFound};
-    ghost use Rattle.cloud_server.specs.UserDedup.command.Command.{Command};
-    ghost use Rattle.cloud_server.specs.UserDedup.Requests.{asked_at};
-    ghost use Rattle.cloud_server.specs.UserDedup.Exec.{Peer, MaySettleAs, KeepsPeer, CountsOn};
-    ghost use Rattle.cloud_server.specs.UserDedup.Link.{Asks, AsksNothing, LeavesOthers, Does, serves};
-    ghost use Rattle.cloud_server.specs.HalfJournal.Openings.{OnFault, HasBegun};
-    ghost use Rattle.cloud_server.specs.CdEdges.area.Area.TheVariants.{Journal};
-    ghost use Rattle.cloud_server.specs.StoreOpening.Spared.{IsOkOrFault, MayBegin, Spares};
-    ghost use Rattle.cloud_server.specs.Openings.{NotBegunIs, OtherStoreIs};
-    ghost use Rattle.cloud_server.specs.StoreOpening.Exact.{Opens};
-    ghost use Rattle.cloud_server.specs.OpenStore.Store.{IsOpen};
-    ghost use Rattle.cloud_server.specs.JournalStart.Ranges.{AreRooms, IsStart};
-    ghost use Rattle.cloud_server.specs.UserDedup.Spending.{IsWithin};
-    ghost use Rattle.cloud_server.specs.CloudAreas.Peers.{ImagesNow, ImagesSince, MayBecome};
-    ghost use Rattle.cloud_server.specs.declared.server.Server.{Server};
-    ghost use Rattle.cloud_server.specs.JournalStart.rooms.UserRooms.{UserRooms};
-    ghost use Rattle.cloud_server.specs.UserDedup.Cloud.{counted};
-    ghost use Rattle.cloud_server.specs.Serving.{ReopensAs, settled_with, CanOpen, IsUnopenedReply, ChangesBehind, EntersBy};
-    ghost use Rattle.cloud_server.specs.CloudAreas.Standing.{StandsFor};
-    ghost use Rattle.cloud_server.specs.CdEdges.Disk.{reads};
+    ghost use Rattle.share_server.specs.CdEdges.Shelf.{IsCall, HasFailed, KeepsCounts, Arms, Refreshes};
+    ghost use Rattle.share_server.specs.CdEdges.Shelf as device;
+    ghost use Rattle.share_server.specs.JournalHalves.Findings as findings;
+    ghost use Rattle.share_server.specs.Frames.Frames.{frame_limit};
+    ghost use Rattle.share_server.specs.Messages.request.Request.{Request};
+    ghost use Rattle.share_server.specs.Messages.reply.Reply.{Reply};
+    ghost use Rattle.share_server.specs.Messages.reply.Reply.TheVariants as replies;
+    ghost use Rattle.share_server.specs.Messages.Replies.{IsReply};
+    ghost use Rattle.share_server.specs.CdBase.ids.Fp.{Fp};
+    ghost use Rattle.share_server.specs.CloudMemory.Rooms.{memory_of};
+    ghost use Rattle.share_server.specs.ServerCommands.Leaving.{IsFound};
+    ghost use Rattle.share_server.specs.UserDedup.command.Command.{Command};
+    ghost use Rattle.share_server.specs.UserDedup.Requests.{asked_at};
+    ghost use Rattle.share_server.specs.UserDedup.Exec.{Peer, MaySettleAs, KeepsPeer, CountsOn};
+    ghost use Rattle.share_server.specs.UserDedup.Link.{Asks, AsksNothing, LeavesOthers, Does, serves};
+    ghost use Rattle.share_server.specs.CommitJournal.Openings.{OnFault, HasBegun};
+    ghost use Rattle.share_server.specs.CdEdges.area.Area.TheVariants.{Journal};
+    ghost use Rattle.share_server.specs.CloudOpening.Spared.{IsOkOrFault, MayBegin, Spares};
+    ghost use Rattle.share_server.specs.Openings.{NotBegunIs, OtherStoreIs};
+    ghost use Rattle.share_server.specs.CloudOpening.Exact.{Opens};
+    ghost use Rattle.share_server.specs.CloudStore.Store.{IsOpen};
+    ghost use Rattle.share_server.specs.JournalStart.Ranges.{AreRooms, IsStart};
+    ghost use Rattle.share_server.specs.UserDedup.Spending.{IsWithin};
+    ghost use Rattle.share_server.specs.CloudAreas.Peers.{ImagesNow, ImagesSince, MayBecome};
+    ghost use Rattle.share_server.specs.declared.server.Server.{Server};
+    ghost use Rattle.share_server.specs.JournalStart.rooms.UserRooms.{UserRooms};
+    ghost use Rattle.share_server.specs.UserDedup.Cloud.{counted};
+    ghost use Rattle.share_server.specs.Serving.{ReopensAs, settled_with, CanOpen, IsUnopenedReply, ChangesBehind, EntersBy};
+    ghost use Rattle.share_server.specs.CloudAreas.Standing.{StandsFor};
+    ghost use Rattle.share_server.specs.CdEdges.Disk.{reads};
     ghost use Rattle.local_link.specs.declared.fate.Fate.TheVariants.{Deliver, LoseRequest};
     ghost use Rattle.local_link.specs.Tells.{server_at, rooms_at, header_at, is_delivered, telling, LeavesRest};
     ghost use Rattle.local_link.specs.Steps.{IsClosedIn, OpensOrShuts, Replied, RepliesOpen};
@@ -208,7 +208,7 @@ impl<'a, V: Shelf> LocalLink<'a, V> {
         find(self.shelf, cloud, window)
     }
 
-    /// Opens the cloud's server, and answers how many commands the cloud has: `cloud_server::Server::reopen`. After an
+    /// Opens the cloud's server, and answers how many commands the cloud has: `share_server::Server::reopen`. After an
     /// Err the server is closed. Where the cloud's journal isn't begun it is begun, where `begin` is true.
     pub fn reopen(&mut self, cloud: CloudNo, begin: bool) -> Result<u64, OpenErr>
         requires { IsTrue ((telling V.cloud_at).reaches self.old cloud.0) }

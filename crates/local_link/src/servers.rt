@@ -2,7 +2,7 @@
 
 ghost use Rattle.local_link.specs.Members.{AreServers};
 
-use cloud_server::{CloudNo, NoMemory, OpenErr, ReplyBuf, Server, Shape, Shelf, UserRooms};
+use share_server::{CloudNo, NoMemory, OpenErr, ReplyBuf, Server, Shape, Shelf, UserRooms};
 use std::alloc::Global;
 
 /// The servers of all clouds of a store, each at the place of its cloud's number and all of one shape.
@@ -15,9 +15,9 @@ pub struct Servers {
 
 impl Servers {
     ghost use Rattle.std.specs.Prelude.{◌≡◌, ◌<◌, ◌≤◌, ℕ, length, IfOk, OnOk, OnErr, Some};
-    ghost use Rattle.cloud_server.specs.Frames.Frames.{frame_limit};
-    ghost use Rattle.cloud_server.specs.JournalStart.Ranges.{AreRooms};
-    ghost use Rattle.cloud_server.specs.declared.server.Server.{Server};
+    ghost use Rattle.share_server.specs.Frames.Frames.{frame_limit};
+    ghost use Rattle.share_server.specs.JournalStart.Ranges.{AreRooms};
+    ghost use Rattle.share_server.specs.declared.server.Server.{Server};
     ghost use Rattle.local_link.specs.Tells.{server_at};
     ghost use Rattle.local_link.specs.Steps.{HasPutServer, IsClosedIn, IsServerClosed, HasServerExecuted, Reopens};
 

@@ -1,8 +1,8 @@
 -- Where nothing fails and no user keeps too much, a migration answers 0 or runs out of memory: each other status has a cause that isn't there.
 use Rattle.std.proofs.Common.{◌≡◌, ◌⊎◌, inl, inr, ℕ, List, None, Some, Result, Ok, Err, sym, ◌∙◌}
-use Rattle.cloud_opening.specs.BackupCommand.Writing.{Output, HasWrittenOrCause, InFull, InPart, NotAtAll}
-use Rattle.cloud_opening.specs.Opened.{CloudCall}
-use Rattle.cloud_opening.proofs.Completing.{not_risen}
+use Rattle.command_cloud.specs.BackupCommand.Writing.{Output, HasWrittenOrCause, InFull, InPart, NotAtAll}
+use Rattle.command_cloud.specs.Opened.{CloudCall}
+use Rattle.command_cloud.proofs.Completing.{not_risen}
 use Rattle.store_migration.specs.JournalStart.rooms.UserRooms.{UserRooms}
 use Rattle.store_migration.specs.MigrationModel.Migrating.{AreSmallEnough}
 use Rattle.store_migration.specs.Answers.{MigratedAs, OnFault}

@@ -1,2 +1,2 @@
 -- What serve_command has proved, for callers.
-pub use Rattle.cloud_opening.proofs.ServeCommand.CloudServer
+pub use Rattle.command_cloud.proofs.ServeCommand.ShareServer

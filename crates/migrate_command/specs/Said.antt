@@ -7,9 +7,9 @@ use Rattle.store_migration.specs.declared.errors.OldErr.{OldErr}
 use Rattle.store_migration.specs.declared.errors.OldErr.TheVariants.{NotBegun, Damaged, OtherStore, RoomsTooSmall}
 use Rattle.store_migration.specs.declared.errors.MigrateErr.{MigrateErr}
 use Rattle.store_migration.specs.declared.errors.MigrateErr.TheVariants as why
-use Rattle.cloud_opening.specs.Transcript.ending.Ending.TheVariants as endings
-use Rattle.cloud_opening.specs.Transcript.Endings.{ending_text}
-use Rattle.cloud_opening.specs.Transcript.Transcript.{ended, room_word}
+use Rattle.command_cloud.specs.Transcript.ending.Ending.TheVariants as endings
+use Rattle.command_cloud.specs.Transcript.Endings.{ending_text}
+use Rattle.command_cloud.specs.Transcript.Transcript.{ended, room_word}
 
 -- `migrated CLOUD COMMANDS`
 abbrev pub migrated_text : CloudNo → ℕ → List ℕ

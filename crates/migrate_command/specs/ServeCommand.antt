@@ -1,4 +1,4 @@
 -- What serve_command says, for callers.
-pub use Rattle.cloud_opening.specs.ServeCommand.CloudAreas
-pub use Rattle.cloud_opening.specs.ServeCommand.Complete
-pub use Rattle.cloud_opening.specs.ServeCommand.Served
+pub use Rattle.command_cloud.specs.ServeCommand.CloudAreas
+pub use Rattle.command_cloud.specs.ServeCommand.Complete
+pub use Rattle.command_cloud.specs.ServeCommand.Served

@@ -1,16 +1,16 @@
 -- What the migration of a cloud in a place promises.
 use Rattle.std.specs.Prelude.{◌≡◌, ◌<◌, ℕ, IsTrue, List, Result}
-use Rattle.cloud_opening.specs.BackupCommand.Writing.{Output, HasWrittenOrCause}
+use Rattle.command_cloud.specs.BackupCommand.Writing.{Output, HasWrittenOrCause}
 use Rattle.store_migration.specs.CdEdges.Disk.{LeavesOnly, reads}
-use Rattle.cloud_opening.specs.Opened.{CloudCall, CloudFails, IsUnchanged, IsUnfailing}
+use Rattle.command_cloud.specs.Opened.{CloudCall, CloudFails, IsUnchanged, IsUnfailing}
 use Rattle.store_migration.specs.JournalStart.rooms.UserRooms.{UserRooms}
 use Rattle.store_migration.specs.MigrationModel.Migrating.{IsBetween, MayBeMigrated}
-use Rattle.cloud_opening.specs.ServeCommand.Complete.{IsStill}
+use Rattle.command_cloud.specs.ServeCommand.Complete.{IsStill}
 use Rattle.store_migration.specs.Answers.{IfAnswered, IfNoMemory, IfRefused, MigratedAs, OnFault}
 use Rattle.store_migration.specs.Exact.{Migrates}
 use Rattle.store_migration.specs.Left.{IsLeftBy}
 use Rattle.store_migration.specs.declared.errors.MigrateErr.{MigrateErr}
-use Rattle.store_migration.specs.StoreOpening.Synced.{AreSynced, BeginsSynced}
+use Rattle.store_migration.specs.CloudOpening.Synced.{AreSynced, BeginsSynced}
 use Rattle.store_migration.specs.UserDedup.command.Command.{Command}
 use Rattle.migrate_command.specs.Said.{migrate_status, migrate_text}
 

@@ -4,5 +4,5 @@
 mod lines;
 mod migrating;
 
-pub use cloud_opening::{OpenErr, Server, serve};
+pub use command_cloud::{OpenErr, Server, serve};
 pub use migrating::migrate_cloud;

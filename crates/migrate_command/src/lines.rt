@@ -1,13 +1,13 @@
 //! What is written, with the status.
 
 ghost use Rattle.std.specs.Prelude.{◌≡◌, ◌++◌, OnOk};
-ghost use Rattle.cloud_opening.specs.BackupCommand.Writing.{HasWrittenOrCause, output_of};
-ghost use Rattle.cloud_opening.specs.Transcript.Endings.{ending_text};
-ghost use Rattle.cloud_opening.specs.Transcript.Transcript.{room_word};
+ghost use Rattle.command_cloud.specs.BackupCommand.Writing.{HasWrittenOrCause, output_of};
+ghost use Rattle.command_cloud.specs.Transcript.Endings.{ending_text};
+ghost use Rattle.command_cloud.specs.Transcript.Transcript.{room_word};
 ghost use Rattle.migrate_command.specs.Said.{already_text, large_text, migrate_status, migrate_text, migrated_text, old_text};
 
-use cloud_opening::Word::Number;
-use cloud_opening::{Ending, put_first, write_ending, write_text};
+use command_cloud::Word::Number;
+use command_cloud::{Ending, put_first, write_ending, write_text};
 use std::alloc::Global;
 use store_migration::{Bytes, CloudNo, MigrateErr, NoMemory, OldErr, Room, Sink, UserId};
 

@@ -4,8 +4,8 @@ ghost use Rattle.std.specs.Prelude.{◌≡◌, ◌⊎◌, ◌<◌, List};
 ghost use Rattle.store_migration.specs.CdEdges.Shelf.{IsCall};
 ghost use Rattle.store_migration.specs.JournalStart.Ranges.{AreRooms};
 ghost use Rattle.store_migration.specs.UserDedup.command.Command.{Command};
-ghost use Rattle.cloud_opening.specs.BackupCommand.Writing.{output_of};
-ghost use Rattle.cloud_opening.specs.Opened.{cloud_call};
+ghost use Rattle.command_cloud.specs.BackupCommand.Writing.{output_of};
+ghost use Rattle.command_cloud.specs.Opened.{cloud_call};
 ghost use Rattle.store_migration.specs.MigrationModel.Migrating.{AreSmallEnough};
 ghost use Rattle.migrate_command.specs.TakenOver.{IsTakenOver, IsMigrationUnhindered};
 

@@ -2,36 +2,36 @@
 use Rattle.std.proofs.Common.{◌≡◌, ℕ, true, false, List, Option, refl, sym, ap, ◌∙◌, subst, inl, inr}
 use Rattle.std.specs.Prelude.{IsTrue, Some, None, Result, Ok, Err, IfOk, IsSomeAnd}
 use Rattle.std.specs.List.{Contains}
-use Rattle.half_journal.specs.CdBase.ids.CloudNo.{CloudNo}
-use Rattle.half_journal.specs.JournalStart.rooms.UserRooms.{UserRooms}
-use Rattle.half_journal.specs.CdEdges.area.Area.{Area}
-use Rattle.half_journal.specs.CdEdges.area.Area.TheVariants.{Journal, Shares, Recipes}
-use Rattle.half_journal.specs.CdEdges.Disk.{Areas, Cloud, Image, IsImage, MayLeave, Store, reads}
-use Rattle.half_journal.specs.CdEdges.Shelf.{HasFailed, KeepsCounts, Stays, stable}
-use Rattle.half_journal.proofs.CdEdges.Moments.{stayed, weaker}
-use Rattle.half_journal.proofs.CdEdges.Torn.{only}
-use Rattle.half_journal.specs.declared.errors.OpenErr.{OpenErr}
-use Rattle.half_journal.specs.declared.errors.OpenErr.TheVariants as errors
-use Rattle.half_journal.specs.JournalStart.start.Header.{Header}
-use Rattle.half_journal.specs.Openings.{MayBecome, OnFault}
-use Rattle.half_journal.specs.JournalHalves.Beginnings.{IsUnbegun}
-use Rattle.half_journal.specs.JournalHalves.Halves.{IsCurrent}
-use Rattle.half_journal.specs.JournalStart.start.Start.{Start}
-use Rattle.local_link.proofs.StoreOpening.OneStart.{current_whole}
+use Rattle.commit_journal.specs.CdBase.ids.CloudNo.{CloudNo}
+use Rattle.commit_journal.specs.JournalStart.rooms.UserRooms.{UserRooms}
+use Rattle.commit_journal.specs.CdEdges.area.Area.{Area}
+use Rattle.commit_journal.specs.CdEdges.area.Area.TheVariants.{Journal, Shares, Recipes}
+use Rattle.commit_journal.specs.CdEdges.Disk.{Areas, Cloud, Image, IsImage, MayLeave, Store, reads}
+use Rattle.commit_journal.specs.CdEdges.Shelf.{HasFailed, KeepsCounts, Stays, stable}
+use Rattle.commit_journal.proofs.CdEdges.Moments.{stayed, weaker}
+use Rattle.commit_journal.proofs.CdEdges.Torn.{only}
+use Rattle.commit_journal.specs.declared.errors.OpenErr.{OpenErr}
+use Rattle.commit_journal.specs.declared.errors.OpenErr.TheVariants as errors
+use Rattle.commit_journal.specs.JournalStart.start.Header.{Header}
+use Rattle.commit_journal.specs.Openings.{MayBecome, OnFault}
+use Rattle.commit_journal.specs.JournalHalves.Beginnings.{IsUnbegun}
+use Rattle.commit_journal.specs.JournalHalves.Halves.{IsCurrent}
+use Rattle.commit_journal.specs.JournalStart.start.Start.{Start}
+use Rattle.local_link.proofs.CloudOpening.OneStart.{current_whole}
 use Rattle.cloud_areas.specs.UserDedup.command.Command.{Command}
-use Rattle.local_link.specs.StoreOpening.Exact.{Opens}
+use Rattle.local_link.specs.CloudOpening.Exact.{Opens}
 use Rattle.local_link.specs.CloudMemory.Rooms.{memory_of}
-use Rattle.local_link.specs.CloudServer.Openings.{HasNoOther, NotBegunIs, OpensTo, OtherStoreIs}
-use Rattle.local_link.specs.StoreOpening.Spared.{IsOkOrFault, MayBegin, Spares}
-use Rattle.local_link.specs.StoreOpening.Synced.{AreSynced}
-use Rattle.local_link.specs.OpenStore.Store.{IsOpen}
+use Rattle.local_link.specs.ShareServer.Openings.{HasNoOther, NotBegunIs, OpensTo, OtherStoreIs}
+use Rattle.local_link.specs.CloudOpening.Spared.{IsOkOrFault, MayBegin, Spares}
+use Rattle.local_link.specs.CloudOpening.Synced.{AreSynced}
+use Rattle.local_link.specs.CloudStore.Store.{IsOpen}
 use Rattle.cloud_areas.specs.UserDedup.Spending.{IsWithin}
 use Rattle.cloud_areas.specs.Peers.{StandsForSome, ImagesNow, ImagesSince}
 use Rattle.cloud_areas.specs.Standing.{StandsFor}
-use Rattle.half_journal.specs.CdBase.shape.Shape.{Shape}
-use Rattle.local_link.specs.CloudServer.server.Server.{Server}
+use Rattle.commit_journal.specs.CdBase.shape.Shape.{Shape}
+use Rattle.local_link.specs.ShareServer.server.Server.{Server}
 use Rattle.cloud_areas.specs.UserDedup.Cloud.{counted}
-use Rattle.local_link.specs.CloudServer.Serving.{settled_with}
+use Rattle.local_link.specs.ShareServer.Serving.{settled_with}
 use Rattle.local_link.specs.declared.link.LocalLink.{LocalLink}
 use Rattle.local_link.specs.declared.servers.Servers.{Servers}
 use Rattle.local_link.specs.Calls.{header_of}

@@ -1,2 +1,2 @@
 -- What journal_halves has proved, for callers.
-pub use Rattle.half_journal.proofs.JournalHalves.Current
+pub use Rattle.commit_journal.proofs.JournalHalves.Current

@@ -2,14 +2,14 @@
 use Rattle.std.proofs.Common.{◌≡◌, ℕ, ◌⊎◌, List, [], ◌∷◌, ◌++◌, Result, Ok, Err, sym, ap, ◌∙◌, subst, inl, inr}
 use Rattle.std.specs.List.{Contains}
 use Rattle.std.proofs.lemmas.List.Elements.{Contains-append_left, Contains-append_right}
-use Rattle.half_journal.specs.CdBase.Numbers.{numbers_of}
+use Rattle.commit_journal.specs.CdBase.Numbers.{numbers_of}
 use Rattle.local_link.specs.CdBase.Reading.{AreBytes}
-use Rattle.half_journal.specs.CdBase.ids.CloudNo.{CloudNo}
-use Rattle.half_journal.specs.CdBase.ids.Fp.{Fp}
-use Rattle.half_journal.specs.CdBase.ids.Tag.{Tag}
-use Rattle.half_journal.specs.CdBase.ids.UserId.{UserId}
-use Rattle.half_journal.specs.CdBase.ids.Version.{Version}
-use Rattle.half_journal.specs.CdBase.shape.Shape.{Shape}
+use Rattle.commit_journal.specs.CdBase.ids.CloudNo.{CloudNo}
+use Rattle.commit_journal.specs.CdBase.ids.Fp.{Fp}
+use Rattle.commit_journal.specs.CdBase.ids.Tag.{Tag}
+use Rattle.commit_journal.specs.CdBase.ids.UserId.{UserId}
+use Rattle.commit_journal.specs.CdBase.ids.Version.{Version}
+use Rattle.commit_journal.specs.CdBase.shape.Shape.{Shape}
 use Rattle.cloud_areas.proofs.UserDedup.Owned.{contains_here, contains_later}
 use Rattle.local_link.specs.Messages.ReplyReading.{reply_at}
 use Rattle.local_link.specs.Messages.Requests.{IsRequest}

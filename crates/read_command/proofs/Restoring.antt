@@ -3,20 +3,20 @@ use Rattle.std.proofs.Common.{◌≡◌, ℕ, ◌<◌, ◌≤◌, ◌⊎◌, Boo
 use Rattle.std.specs.Prelude.{IsTrue, Some, None, Result, Ok, Err, IfErr, All}
 use Rattle.std.specs.List.{Contains}
 use Rattle.std.proofs.lemmas.Bool.{cases_eq, eq-eqb, ne_eqb}
-use Rattle.half_journal.specs.CdBase.ids.CloudNo.{CloudNo}
-use Rattle.half_journal.specs.CdBase.ids.Tag.{Tag}
-use Rattle.half_journal.specs.CdBase.ids.UserId.{UserId}
-use Rattle.half_journal.specs.CdBase.ids.Version.{Version}
-use Rattle.half_journal.specs.CdBase.shape.Shape.{Shape}
-use Rattle.half_journal.specs.CdEdges.Causes.{Rose}
-use Rattle.half_journal.specs.CdEdges.Disk.{Cloud, IsImage, reads}
-use Rattle.half_journal.proofs.CdEdges.Moments.{joined, weaker}
+use Rattle.commit_journal.specs.CdBase.ids.CloudNo.{CloudNo}
+use Rattle.commit_journal.specs.CdBase.ids.Tag.{Tag}
+use Rattle.commit_journal.specs.CdBase.ids.UserId.{UserId}
+use Rattle.commit_journal.specs.CdBase.ids.Version.{Version}
+use Rattle.commit_journal.specs.CdBase.shape.Shape.{Shape}
+use Rattle.commit_journal.specs.CdEdges.Causes.{Rose}
+use Rattle.commit_journal.specs.CdEdges.Disk.{Cloud, IsImage, reads}
+use Rattle.commit_journal.proofs.CdEdges.Moments.{joined, weaker}
 use Rattle.subset_restore.specs.CaontRs.opening.RecoverErr.TheVariants as opening
 use Rattle.cloud_areas.specs.UserDedup.command.Command.{Command}
 use Rattle.cloud_areas.specs.UserDedup.Exec.{Peer, MaySettleAs}
 use Rattle.cloud_areas.specs.UserDedup.Spending.{IsWithin}
-use Rattle.half_journal.specs.JournalStart.rooms.UserRooms.{UserRooms}
-use Rattle.half_journal.specs.JournalStart.start.Header.{Header}
+use Rattle.commit_journal.specs.JournalStart.rooms.UserRooms.{UserRooms}
+use Rattle.commit_journal.specs.JournalStart.start.Header.{Header}
 use Rattle.cloud_areas.specs.UserDedup.Link.{IsReading, Passes, ReadsFrom, Talk}
 use Rattle.cloud_areas.specs.UserDedup.Link.{Exchange as Asked_one}
 use Rattle.local_link.specs.Messages.Replies.{IsReply}
@@ -27,7 +27,7 @@ use Rattle.subset_restore.proofs.RestoreJob.Leading.{rose_off}
 use Rattle.cloud_areas.proofs.UserDedup.Owned.{contains_here, contains_later, contains_cases, contains_nothing}
 use Rattle.cloud_areas.specs.Peers.{StandsForSome, ImagesSince}
 use Rattle.cloud_areas.specs.Standing.{StandsFor}
-use Rattle.local_link.specs.CloudServer.Serving.{settled_with}
+use Rattle.local_link.specs.ShareServer.Serving.{settled_with}
 use Rattle.local_link.specs.declared.fate.Fate.TheVariants.{Deliver}
 use Rattle.local_link.specs.declared.link.LocalLink.{LocalLink}
 use Rattle.local_link.specs.Calls.{header_of}

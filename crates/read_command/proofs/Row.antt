@@ -7,20 +7,20 @@ use Rattle.std.proofs.lemmas.Bool.{cases_eq}
 use Rattle.std.proofs.lemmas.List.Kept.{AllPairs-from_increasing}
 use Rattle.std.proofs.lemmas.List.{get_or_append_left, get_or_at}
 use Rattle.std.proofs.lemmas.List.Elements.{Contains-append_left, Contains-append_right, Contains-push_cases}
-use Rattle.half_journal.specs.CdBase.shape.Shape.{Shape}
-use Rattle.half_journal.specs.CdEdges.area.Area.TheVariants.{Journal}
-use Rattle.half_journal.specs.CdEdges.Disk.{Cloud, IsImage, reads}
-use Rattle.half_journal.specs.JournalStart.rooms.UserRooms.{UserRooms}
-use Rattle.local_link.specs.CloudServer.Names.{header_of}
-use Rattle.half_journal.specs.CdEdges.Shelf.{HasFailed}
-use Rattle.half_journal.specs.declared.errors.OpenErr.{OpenErr}
-use Rattle.half_journal.specs.declared.errors.OpenErr.TheVariants as errors
+use Rattle.commit_journal.specs.CdBase.shape.Shape.{Shape}
+use Rattle.commit_journal.specs.CdEdges.area.Area.TheVariants.{Journal}
+use Rattle.commit_journal.specs.CdEdges.Disk.{Cloud, IsImage, reads}
+use Rattle.commit_journal.specs.JournalStart.rooms.UserRooms.{UserRooms}
+use Rattle.local_link.specs.ShareServer.Names.{header_of}
+use Rattle.commit_journal.specs.CdEdges.Shelf.{HasFailed}
+use Rattle.commit_journal.specs.declared.errors.OpenErr.{OpenErr}
+use Rattle.commit_journal.specs.declared.errors.OpenErr.TheVariants as errors
 use Rattle.cloud_areas.specs.UserDedup.command.Command.{Command}
 use Rattle.cloud_areas.proofs.UserDedup.Owned.{contains_here, contains_nothing}
-use Rattle.local_link.specs.CloudServer.server.Server.{Server}
-use Rattle.local_link.specs.CloudServer.Serving.{settled_with}
+use Rattle.local_link.specs.ShareServer.server.Server.{Server}
+use Rattle.local_link.specs.ShareServer.Serving.{settled_with}
 use Rattle.local_link.specs.declared.link.LocalLink.{LocalLink}
-use Rattle.half_journal.specs.JournalStart.start.Header.{Header}
+use Rattle.commit_journal.specs.JournalStart.start.Header.{Header}
 use Rattle.local_link.specs.Tells.{server_at, rooms_of, IsPeer, IsRemembered, LeavesRest}
 use Rattle.read_command.specs.declared.end.ReadEnd.{ReadEnd}
 use Rattle.read_command.specs.declared.end.ReadEnd.TheVariants as ends

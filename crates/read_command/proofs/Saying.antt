@@ -2,16 +2,16 @@
 use Rattle.std.proofs.Common.{◌≡◌, ℕ, ◌≤◌, ◌⊎◌, Bool, false, List, [], ◌∷◌, map, arith, refl, sym, ap, ◌∙◌, subst, inl, inr}
 use Rattle.std.specs.Prelude.{◌≢◌, IsTrue, Some, None, Result, Ok, Err}
 use Rattle.std.specs.List.{Contains}
-use Rattle.half_journal.specs.CdBase.ids.CloudNo.{CloudNo}
-use Rattle.half_journal.specs.CdBase.ids.Fp.{Fp}
-use Rattle.half_journal.specs.CdBase.ids.Tag.{Tag}
-use Rattle.half_journal.specs.CdBase.ids.UserId.{UserId}
-use Rattle.half_journal.specs.CdBase.ids.Version.{Version}
-use Rattle.half_journal.specs.CdBase.shape.Shape.{Shape}
-use Rattle.half_journal.specs.CdEdges.Causes.{Rose}
-use Rattle.half_journal.specs.CdEdges.Disk.{Cloud, Image, IsImage, LeavesOnly, reads}
-use Rattle.half_journal.proofs.CdEdges.Moments.{joined, weaker}
-use Rattle.half_journal.specs.JournalStart.start.Header.{Header}
+use Rattle.commit_journal.specs.CdBase.ids.CloudNo.{CloudNo}
+use Rattle.commit_journal.specs.CdBase.ids.Fp.{Fp}
+use Rattle.commit_journal.specs.CdBase.ids.Tag.{Tag}
+use Rattle.commit_journal.specs.CdBase.ids.UserId.{UserId}
+use Rattle.commit_journal.specs.CdBase.ids.Version.{Version}
+use Rattle.commit_journal.specs.CdBase.shape.Shape.{Shape}
+use Rattle.commit_journal.specs.CdEdges.Causes.{Rose}
+use Rattle.commit_journal.specs.CdEdges.Disk.{Cloud, Image, IsImage, LeavesOnly, reads}
+use Rattle.commit_journal.proofs.CdEdges.Moments.{joined, weaker}
+use Rattle.commit_journal.specs.JournalStart.start.Header.{Header}
 use Rattle.cloud_areas.specs.UserDedup.Link.{AddsNothing, IsReading, Passes, ReadsFrom, Talk}
 use Rattle.cloud_areas.specs.UserDedup.Link.{Exchange as Asked_one}
 use Rattle.cloud_areas.proofs.UserDedup.Owned.{contains_here}

@@ -4,10 +4,10 @@ use Rattle.std.specs.Prelude.{Option, Some, None, Result, Ok, Err}
 use Rattle.std.specs.Io.KnownBytes.{Appends}
 use Rattle.std.specs.List.{Contains}
 use Rattle.std.proofs.lemmas.List.Elements.{Contains-append_right}
-use Rattle.half_journal.specs.declared.errors.OpenErr.TheVariants as errors
+use Rattle.commit_journal.specs.declared.errors.OpenErr.TheVariants as errors
 use Rattle.cloud_areas.proofs.UserDedup.Owned.{contains_here}
 use Rattle.cloud_areas.specs.UserDedup.command.Command.{Command}
-use Rattle.half_journal.specs.JournalStart.rooms.UserRooms.{UserRooms}
+use Rattle.commit_journal.specs.JournalStart.rooms.UserRooms.{UserRooms}
 use Rattle.subset_restore.specs.RestoreJob.error.RestoreErr.{RestoreErr}
 use Rattle.read_command.specs.declared.wanted.Wanted.{Wanted}
 use Rattle.read_command.specs.declared.end.ReadEnd.{ReadEnd}

@@ -1,22 +1,22 @@
 -- What the disks of the chosen clouds are, and what an opening finds and leaves there.
 use Rattle.std.specs.Prelude.{◌≡◌, ℕ, false, IsTrue, List, ◌∷◌, ◌++◌, Result, Ok, Err}
 use Rattle.std.specs.List.{Contains}
-use Rattle.half_journal.specs.CdBase.shape.Shape.{Shape}
-use Rattle.half_journal.specs.CdEdges.area.Area.TheVariants.{Journal}
-use Rattle.half_journal.specs.CdEdges.Disk.{Cloud, Image, IsImage, LeavesOnly, reads}
-use Rattle.half_journal.specs.declared.errors.OpenErr.{OpenErr}
-use Rattle.half_journal.specs.JournalStart.start.Header.{Header}
-use Rattle.half_journal.specs.Openings.{OnFault}
-use Rattle.half_journal.specs.JournalHalves.Beginnings.{IsUnbegun}
-use Rattle.half_journal.specs.JournalHalves.Findings.{IsFoundDamage}
-use Rattle.half_journal.specs.JournalHalves.Halves.{IsCurrent}
-use Rattle.half_journal.specs.JournalStart.rooms.UserRooms.{UserRooms}
-use Rattle.half_journal.specs.JournalStart.start.Start.{Start}
-use Rattle.half_journal.specs.JournalStart.Ranges.{usual_rooms}
+use Rattle.commit_journal.specs.CdBase.shape.Shape.{Shape}
+use Rattle.commit_journal.specs.CdEdges.area.Area.TheVariants.{Journal}
+use Rattle.commit_journal.specs.CdEdges.Disk.{Cloud, Image, IsImage, LeavesOnly, reads}
+use Rattle.commit_journal.specs.declared.errors.OpenErr.{OpenErr}
+use Rattle.commit_journal.specs.JournalStart.start.Header.{Header}
+use Rattle.commit_journal.specs.Openings.{OnFault}
+use Rattle.commit_journal.specs.JournalHalves.Beginnings.{IsUnbegun}
+use Rattle.commit_journal.specs.JournalHalves.Findings.{IsFoundDamage}
+use Rattle.commit_journal.specs.JournalHalves.Halves.{IsCurrent}
+use Rattle.commit_journal.specs.JournalStart.rooms.UserRooms.{UserRooms}
+use Rattle.commit_journal.specs.JournalStart.start.Start.{Start}
+use Rattle.commit_journal.specs.JournalStart.Ranges.{usual_rooms}
 use Rattle.cloud_areas.specs.UserDedup.command.Command.{Command}
 use Rattle.local_link.specs.CloudMemory.Memory.{Memory}
-use Rattle.local_link.specs.StoreOpening.Exact.{Opens}
-use Rattle.local_link.specs.CloudServer.Openings.{HasNoOther, NotBegunIs, OpensTo, OtherStoreIs}
+use Rattle.local_link.specs.CloudOpening.Exact.{Opens}
+use Rattle.local_link.specs.ShareServer.Openings.{HasNoOther, NotBegunIs, OpensTo, OtherStoreIs}
 use Rattle.cloud_areas.specs.UserDedup.Spending.{IsWithin}
 use Rattle.cloud_areas.specs.Peers.{ImagesNow, ImagesSince}
 use Rattle.cloud_areas.specs.Standing.{StandsFor}

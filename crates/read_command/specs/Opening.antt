@@ -1,20 +1,20 @@
 -- How the openings of the chosen clouds end.
 use Rattle.std.specs.Prelude.{◌≡◌, ℕ, IsTrue, List, Result, OnOk, IfErr}
 use Rattle.std.specs.List.{Contains}
-use Rattle.half_journal.specs.CdBase.ids.CloudNo.{CloudNo}
-use Rattle.half_journal.specs.CdBase.shape.Shape.{Shape}
-use Rattle.half_journal.specs.CdEdges.area.Area.TheVariants.{Journal}
-use Rattle.half_journal.specs.CdEdges.Disk.{Cloud, reads}
-use Rattle.half_journal.specs.CdEdges.Shelf.{HasFailed, KeepsCounts}
-use Rattle.half_journal.specs.declared.errors.OpenErr.{OpenErr}
-use Rattle.half_journal.specs.declared.errors.OpenErr.TheVariants as errors
-use Rattle.half_journal.specs.JournalStart.start.Header.{Header}
-use Rattle.local_link.specs.CloudServer.Names.{header_of}
-use Rattle.half_journal.specs.JournalStart.rooms.UserRooms.{UserRooms}
+use Rattle.commit_journal.specs.CdBase.ids.CloudNo.{CloudNo}
+use Rattle.commit_journal.specs.CdBase.shape.Shape.{Shape}
+use Rattle.commit_journal.specs.CdEdges.area.Area.TheVariants.{Journal}
+use Rattle.commit_journal.specs.CdEdges.Disk.{Cloud, reads}
+use Rattle.commit_journal.specs.CdEdges.Shelf.{HasFailed, KeepsCounts}
+use Rattle.commit_journal.specs.declared.errors.OpenErr.{OpenErr}
+use Rattle.commit_journal.specs.declared.errors.OpenErr.TheVariants as errors
+use Rattle.commit_journal.specs.JournalStart.start.Header.{Header}
+use Rattle.local_link.specs.ShareServer.Names.{header_of}
+use Rattle.commit_journal.specs.JournalStart.rooms.UserRooms.{UserRooms}
 use Rattle.cloud_areas.specs.UserDedup.command.Command.{Command}
 use Rattle.cloud_areas.specs.UserDedup.Spending.{IsWithin}
 use Rattle.cloud_areas.specs.Standing.{StandsFor}
-use Rattle.local_link.specs.CloudServer.Serving.{settled_with}
+use Rattle.local_link.specs.ShareServer.Serving.{settled_with}
 use Rattle.local_link.specs.declared.link.LocalLink.{LocalLink}
 use Rattle.local_link.specs.CloudMemory.Memory.{Memory}
 use Rattle.local_link.specs.Tells.{IsRemembered, StandsAt, header_at, rooms_at, server_at}

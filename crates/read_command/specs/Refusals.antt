@@ -1,6 +1,6 @@
 -- The lines that say why lists give no file.
 use Rattle.std.specs.Prelude.{ℕ, Option, Some, None}
-use Rattle.half_journal.specs.CdBase.ids.CloudNo.{CloudNo}
+use Rattle.commit_journal.specs.CdBase.ids.CloudNo.{CloudNo}
 use Rattle.subset_restore.specs.CaontRs.opening.RecoverErr.TheVariants as opening
 use Rattle.subset_restore.specs.RestoreJob.Restored
 use Rattle.subset_restore.specs.RestoreJob.Restored.{Unrestored}

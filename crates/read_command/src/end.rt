@@ -3,7 +3,7 @@
 ghost use Rattle.std.specs.Prelude.{◌≡◌};
 ghost use Rattle.read_command.specs.Opening.{end_by};
 
-use half_journal::{CloudNo, Header, OpenErr};
+use commit_journal::{CloudNo, Header, OpenErr};
 
 /// How a read ends.
 #[derive(Clone, Copy, Debug, PartialEq, Eq)]

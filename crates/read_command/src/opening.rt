@@ -1,13 +1,13 @@
 //! Opening the chosen clouds.
 
 ghost use Rattle.std.specs.Prelude.{◌≡◌, ◌<◌, ℕ, List, [], ◌∷◌, length, All, IsTrue, MatchOption, IfOk, IfErr, OnOk};
-ghost use Rattle.half_journal.specs.CdEdges.area.Area.TheVariants.{Journal};
-ghost use Rattle.half_journal.specs.CdEdges.Shelf.{HasFailed, Stays};
-ghost use Rattle.half_journal.specs.JournalStart.rooms.UserRooms.{UserRooms};
-ghost use Rattle.half_journal.specs.JournalStart.Ranges.{AreRooms};
+ghost use Rattle.commit_journal.specs.CdEdges.area.Area.TheVariants.{Journal};
+ghost use Rattle.commit_journal.specs.CdEdges.Shelf.{HasFailed, Stays};
+ghost use Rattle.commit_journal.specs.JournalStart.rooms.UserRooms.{UserRooms};
+ghost use Rattle.commit_journal.specs.JournalStart.Ranges.{AreRooms};
 ghost use Rattle.read_command.specs.declared.end.ReadEnd.TheVariants.{ShelfFault};
 ghost use Rattle.std.specs.List.Sorted.{IsStrictlyIncreasing};
-ghost use Rattle.half_journal.specs.CdBase.Numbers.{numbers_of};
+ghost use Rattle.commit_journal.specs.CdBase.Numbers.{numbers_of};
 ghost use Rattle.cloud_areas.specs.UserDedup.command.Command.{Command};
 ghost use Rattle.local_link.specs.Tells.{LeavesRest};
 ghost use Rattle.read_command.specs.Disks.{AreReadable, IsSpared, KeepsDisks, NamesRooms};
@@ -16,7 +16,7 @@ ghost use Rattle.read_command.specs.Opening.{Opening, EndsOpening, IsFree, AreOp
 use crate::ReadEnd;
 use crate::end::end_of;
 use cloud_areas::laws::law_of_headers;
-use half_journal::{CloudNo, FindErr, NoMemory, Shelf, UserRooms};
+use commit_journal::{CloudNo, FindErr, NoMemory, Shelf, UserRooms};
 use local_link::LocalLink;
 
 // The rooms that a cloud's journal names. Where it names none, they are the usual ones, and an opening says why. Nothing

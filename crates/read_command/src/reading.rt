@@ -1,8 +1,8 @@
 //! Reading a version of a file.
 
 ghost use Rattle.std.specs.Prelude.{◌≡◌, ◌<◌, ◌≤◌, ℕ, List, [], length, All, IsTrue, IfOk, IfErr, vec_len};
-ghost use Rattle.half_journal.specs.JournalStart.rooms.UserRooms.{UserRooms};
-ghost use Rattle.half_journal.specs.CdBase.Limits.{IsPath};
+ghost use Rattle.commit_journal.specs.JournalStart.rooms.UserRooms.{UserRooms};
+ghost use Rattle.commit_journal.specs.CdBase.Limits.{IsPath};
 ghost use Rattle.cloud_areas.specs.UserDedup.command.Command.{Command};
 ghost use Rattle.local_link.specs.declared.fate.Fate.TheVariants.{Deliver};
 ghost use Rattle.read_command.specs.Disks.{AreReadable, IsSpared, KeepsDisks};
@@ -15,7 +15,7 @@ use crate::opening::open_clouds;
 use crate::writing::write_came;
 use crate::{ReadEnd, Wanted};
 use cloud_areas::laws::law_of_headers;
-use half_journal::{Bytes, NoMemory, Shelf, Sink, UserRooms, WINDOW};
+use commit_journal::{Bytes, NoMemory, Shelf, Sink, UserRooms, WINDOW};
 use local_link::{LocalLink, Servers, law_of_readings};
 use std::alloc::Global;
 use subset_restore::{RestoreErr, restore_any};

@@ -1,6 +1,6 @@
 //! What a read is asked for.
 
-use half_journal::{Clouds, Shape, UserId, Version};
+use commit_journal::{Clouds, Shape, UserId, Version};
 
 /// A version of a user's file, and the clouds that are to give it.
 #[derive(Clone, Copy)]

@@ -4,7 +4,7 @@ ghost use Rattle.subset_restore.specs.Refusals.{refusal_text};
 ghost use Rattle.read_command.specs.Ends.{IsWritten, CountsSink, Writes};
 
 use crate::ReadEnd;
-use half_journal::{Bytes, NoMemory, Sink, write_all};
+use commit_journal::{Bytes, NoMemory, Sink, write_all};
 use std::alloc::Global;
 use subset_restore::{Line, Refusal, RestoreErr, as_refusal, write_line};
 

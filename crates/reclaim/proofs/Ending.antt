@@ -2,16 +2,16 @@
 use Rattle.std.proofs.Common.{◌≡◌, ℕ, List, map, Option, Some, None, Result, Ok, Err, refl, sym, ap, ◌∙◌, subst, inl}
 use Rattle.std.specs.Prelude.{IsTrue, IsSome, All, option_map}
 use Rattle.std.specs.FinMap.{get}
-use Rattle.cloud_server.specs.CdBase.ids.Fp.{Fp}
-use Rattle.cloud_server.specs.CdBase.shape.Shape.{Shape}
-use Rattle.cloud_server.specs.CdEdges.area.Area.TheVariants.{Shares, Recipes}
-use Rattle.cloud_server.specs.CdEdges.Disk.{Cloud, Store, Image, LeavesOnly, reads}
-use Rattle.cloud_server.proofs.CdEdges.Calls.{called_twice, failed_after}
-use Rattle.cloud_server.proofs.CdEdges.Moments.{joined, weaker, told_on}
+use Rattle.share_server.specs.CdBase.ids.Fp.{Fp}
+use Rattle.share_server.specs.CdBase.shape.Shape.{Shape}
+use Rattle.share_server.specs.CdEdges.area.Area.TheVariants.{Shares, Recipes}
+use Rattle.share_server.specs.CdEdges.Disk.{Cloud, Store, Image, LeavesOnly, reads}
+use Rattle.share_server.proofs.CdEdges.Calls.{called_twice, failed_after}
+use Rattle.share_server.proofs.CdEdges.Moments.{joined, weaker, told_on}
 use Rattle.compact_memories.proofs.CompactLists.RoomLaws.{strings_kept}
 use Rattle.compact_memories.proofs.CompactLists.Spent.{spent_kept}
 use Rattle.compact_memories.specs.declared.alive.Reclaimed.{Reclaimed}
-use Rattle.cloud_server.specs.JournalStart.start.Header.{Header}
+use Rattle.share_server.specs.JournalStart.start.Header.{Header}
 use Rattle.compact_memories.specs.UserDedup.command.Command.{Command}
 use Rattle.compact_memories.specs.UserDedup.Cloud.{user_view}
 use Rattle.compact_memories.specs.UserDedup.Compact.{compact}
@@ -24,15 +24,15 @@ use Rattle.compact_memories.specs.CloudMemory.Rooms.{memory_of}
 use Rattle.blob_audit.specs.AuditBase.Whole.{tables_of}
 use Rattle.blob_audit.specs.Reading.{AreStored}
 use Rattle.compact_memories.specs.Checkpoints.Known.{AreListed}
-use Rattle.cloud_server.specs.BlobCopy.CompactMemories.Kept.{live_sum}
-use Rattle.cloud_server.specs.BlobCopy.Copies.{share_blob, entry_blob, IsRight}
-use Rattle.cloud_server.specs.BlobCopy.Copying.{AreAllCopied, StandsForKept, copies_start, shares_so_far, entries_so_far}
-use Rattle.cloud_server.specs.OpenStore.store.OpenStore.{OpenStore}
-use Rattle.cloud_server.specs.OpenStore.Store.{Serves, ServesSome}
-use Rattle.cloud_server.specs.declared.copies.Copies.{Copies}
-use Rattle.cloud_server.specs.declared.copies.ReclaimErr.{ReclaimErr}
-use Rattle.cloud_server.specs.declared.copies.ReclaimErr.TheVariants as why
-use Rattle.cloud_server.specs.Copies.{OnReclaimFault, IfRottenThere, KeepsCopies, KeepsAllBut, no_copies}
+use Rattle.share_server.specs.BlobCopy.CompactMemories.Kept.{live_sum}
+use Rattle.share_server.specs.BlobCopy.Copies.{share_blob, entry_blob, IsRight}
+use Rattle.share_server.specs.BlobCopy.Copying.{AreAllCopied, StandsForKept, copies_start, shares_so_far, entries_so_far}
+use Rattle.share_server.specs.CloudStore.store.CloudStore.{CloudStore}
+use Rattle.share_server.specs.CloudStore.Store.{Serves, ServesSome}
+use Rattle.share_server.specs.declared.copies.Copies.{Copies}
+use Rattle.share_server.specs.declared.copies.ReclaimErr.{ReclaimErr}
+use Rattle.share_server.specs.declared.copies.ReclaimErr.TheVariants as why
+use Rattle.share_server.specs.Copies.{OnReclaimFault, IfRottenThere, KeepsCopies, KeepsAllBut, no_copies}
 use Rattle.reclaim.specs.Reclaims.{KeepsLive}
 use Rattle.reclaim.specs.Inner.{CopiesAll, Switches, Reclaims, laid_blobs}
 use Rattle.reclaim.proofs.Going.{fault_too, done_too, kept_twice}
@@ -88,19 +88,19 @@ shut_there A (why.Rotten named found) F is = tt
 shut_there A why.NoMemory F is = tt
 
 -- copies that are left, where all else stays
-pub dropped : (s0 s2 : OpenStore) (a b : ℕ → Cloud) (f0 f1 : ℕ) (result : Result Reclaimed ReclaimErr) (store : OpenStore) (copies : Copies) → store ≡ s2 → copies ≡ no_copies
+pub dropped : (s0 s2 : CloudStore) (a b : ℕ → Cloud) (f0 f1 : ℕ) (result : Result Reclaimed ReclaimErr) (store : CloudStore) (copies : Copies) → store ≡ s2 → copies ≡ no_copies
     → Reclaims s0 s2 no_copies a b f0 f1 result → Reclaims s0 store copies a b f0 f1 result
 dropped s0 s2 a b f0 f1 result store copies same none is =
-    subst (λ (s : OpenStore). Reclaims s0 s copies a b f0 f1 result) (sym same) (subst (λ (k : Copies). Reclaims s0 s2 k a b f0 f1 result) (sym none) is)
+    subst (λ (s : CloudStore). Reclaims s0 s copies a b f0 f1 result) (sym same) (subst (λ (k : Copies). Reclaims s0 s2 k a b f0 f1 result) (sym none) is)
 
 -- ---- the copies
 
-module _ (s0 s1 s2 : OpenStore) (c1 c2 : Copies) (a b : ℕ → Cloud) (f0 f1 : ℕ) (begun : KeepsAllBut s0 s1)
+module _ (s0 s1 s2 : CloudStore) (c1 c2 : Copies) (a b : ℕ → Cloud) (f0 f1 : ℕ) (begun : KeepsAllBut s0 s1)
     (copied : (list : List Command) (c : Chain) (cloud : Cloud) → Serves list c s0 cloud → KeepsCopies list c s1 c1 cloud) where
   abbrev n : ℕ
   n = s0.header.cloud.0
 
-  abbrev started : OpenStore
+  abbrev started : CloudStore
   started = record s0 { disk = s1.disk }
 
   abbrev Stands : List Command → Image → Type 0
@@ -110,10 +110,10 @@ module _ (s0 s1 s2 : OpenStore) (c1 c2 : Copies) (a b : ℕ → Cloud) (f0 f1 : 
   EitherStands list = StandsForKept s0.header list
 
   from_start : (r : Result (Unit {0}) ReclaimErr) → CopiesAll s1 s2 c1 c2 a b f0 f1 r → CopiesAll started s2 c1 c2 a b f0 f1 r
-  from_start r = subst (λ (s : OpenStore). CopiesAll s s2 c1 c2 a b f0 f1 r) begun
+  from_start r = subst (λ (s : CloudStore). CopiesAll s s2 c1 c2 a b f0 f1 r) begun
 
   kept_at_start : (list : List Command) (some : ServesSome list s0 (a n)) → KeepsCopies list some.c started c1 (a n)
-  kept_at_start list some = subst (λ (s : OpenStore). KeepsCopies list some.c s c1 (a n)) begun (copied list some.c (a n) some.serves)
+  kept_at_start list some = subst (λ (s : CloudStore). KeepsCopies list some.c s c1 (a n)) begun (copied list some.c (a n) some.serves)
 
   copies_leave : (r : Result (Unit {0}) ReclaimErr) → CopiesAll started s2 c1 c2 a b f0 f1 r → (list : List Command) → ServesSome list s0 (a n)
       → LeavesOnly (a n) (b n) (EitherStands list)
@@ -141,25 +141,25 @@ module _ (s0 s1 s2 : OpenStore) (c1 c2 : Copies) (a b : ℕ → Cloud) (f0 f1 : 
         still_open = open_there (Unit {0}) Reclaimed e _ _ all.stage;
         closed = fault_too (Unit {0}) Reclaimed e _ _ _ _ all.stage (λ x. x) (λ x. tt);
         none = none;
-        same = ap (λ (s : OpenStore). s.header) all.same;
+        same = ap (λ (s : CloudStore). s.header) all.same;
         call = all.call;
         counts = fault_too (Unit {0}) Reclaimed e _ _ _ _ all.counts (λ x. x) (λ x. x);
       }
 
   -- ---- the switch
 
-  module _ (s3 : OpenStore) (c : ℕ → Cloud) (f2 : ℕ) (is : CopiesAll s1 s2 c1 c2 a b f0 f1 (Ok tt)) where
+  module _ (s3 : CloudStore) (c : ℕ → Cloud) (f2 : ℕ) (is : CopiesAll s1 s2 c1 c2 a b f0 f1 (Ok tt)) where
     abbrev all : CopiesAll started s2 c1 c2 a b f0 f1 (Ok tt)
     all = from_start (Ok tt) is
 
-    abbrev copied_all : OpenStore
+    abbrev copied_all : CloudStore
     copied_all = record s0 { disk = s2.disk }
 
     from_copies : (r : Result (Unit {0}) ReclaimErr) → Switches s2 s3 c2 b c f1 f2 r → Switches copied_all s3 c2 b c f1 f2 r
-    from_copies r = subst (λ (s : OpenStore). Switches s s3 c2 b c f1 f2 r) all.same
+    from_copies r = subst (λ (s : CloudStore). Switches s s3 c2 b c f1 f2 r) all.same
 
     kept_at_end : (list : List Command) (some : ServesSome list s0 (a n)) → KeepsCopies list some.c copied_all c2 (b n)
-    kept_at_end list some = subst (λ (s : OpenStore). KeepsCopies list some.c s c2 (b n)) all.same (all.copied list some.c (kept_at_start list some))
+    kept_at_end list some = subst (λ (s : CloudStore). KeepsCopies list some.c s c2 (b n)) all.same (all.copied list some.c (kept_at_start list some))
 
     all_leave : (r : Result (Unit {0}) ReclaimErr) → Switches copied_all s3 c2 b c f1 f2 r → (list : List Command) → ServesSome list s0 (a n) → LeavesOnly (a n) (c n) (EitherStands list)
     all_leave r switch list some =
@@ -176,7 +176,7 @@ module _ (s0 s1 s2 : OpenStore) (c1 c2 : Copies) (a b : ℕ → Cloud) (f0 f1 : 
         let right = all.right told (none_right started c1 (reads (a n).now) none.0 none.1) in
         let others = switch.others (told_on (a n) (b n) all.call.told told) in
         all_whole copied_all c2 (reads (c n).now) s3.memory
-        (subst (λ (s : OpenStore). AreAllCopied s c2.copying) all.same all.all)
+        (subst (λ (s : CloudStore). AreAllCopied s c2.copying) all.same all.all)
         (record {
           shares = subst (λ (s : Store). All (IsRight s.read) (laid_blobs (copies_start s0) (map share_blob (shares_so_far s0 c2.copying)))) (sym (others Shares (λ e. cc))) right.shares;
           entries = subst (λ (s : Store). All (IsRight s.read) (laid_blobs (copies_start s0) (map entry_blob (entries_so_far s0 c2.copying)))) (sym (others Recipes (λ e. cc))) right.entries;

@@ -1,11 +1,11 @@
 -- Steps of a copy, one behind another, and the switch behind them.
 use Rattle.std.proofs.Common.{◌≡◌, ◌<◌, ◌≤◌, ◌+◌, ◌-◌, ℕ, Bool, true, false, List, [], ◌∷◌, length, take, Option, Some, None, Result, Ok, Err, refl, sym, ◌∙◌, subst, arith, inl, inr, ◌⊎◌, length-take}
 use Rattle.std.specs.Prelude.{IsTrue}
-use Rattle.cloud_server.specs.CdBase.ids.Fp.{Fp}
-use Rattle.cloud_server.specs.CdEdges.Disk.{Cloud, Image, LeavesOnly, reads}
-use Rattle.cloud_server.specs.CdEdges.Shelf.{IsCall, KeepsCounts}
-use Rattle.cloud_server.proofs.CdEdges.Calls.{called_twice, failed_after}
-use Rattle.cloud_server.proofs.CdEdges.Moments.{joined, told_on}
+use Rattle.share_server.specs.CdBase.ids.Fp.{Fp}
+use Rattle.share_server.specs.CdEdges.Disk.{Cloud, Image, LeavesOnly, reads}
+use Rattle.share_server.specs.CdEdges.Shelf.{IsCall, KeepsCounts}
+use Rattle.share_server.proofs.CdEdges.Calls.{called_twice, failed_after}
+use Rattle.share_server.proofs.CdEdges.Moments.{joined, told_on}
 use Rattle.compact_memories.specs.UserDedup.command.Command.{Command}
 use Rattle.compact_memories.specs.CloudAreas.Standing.{Chain, StandsFor}
 use Rattle.compact_memories.specs.FileIndex.key.Entry.{Entry}
@@ -14,16 +14,16 @@ use Rattle.compact_memories.proofs.Relaying.{laid_grows}
 use Rattle.compact_memories.specs.ContainerLog.Laying.{Placed}
 use Rattle.compact_memories.specs.ContainerLog.Places.{end_of_laid}
 use Rattle.compact_memories.specs.Checkpoints.Picking.{onto, picked}
-use Rattle.cloud_server.specs.BlobCopy.CompactMemories.Kept.{live_at}
-use Rattle.cloud_server.specs.BlobCopy.CompactMemories.Moved.{lens_of, entry_lens}
-use Rattle.cloud_server.specs.BlobCopy.Copies.{HasCopied, KeepsBeside, region_len}
-use Rattle.cloud_server.specs.BlobCopy.Copying.{AreAllCopied, copies_start, shares_so_far, entries_so_far}
-use Rattle.cloud_server.specs.OpenStore.store.OpenStore.{OpenStore}
-use Rattle.cloud_server.specs.OpenStore.Store.{IsOpen}
-use Rattle.cloud_server.specs.declared.copies.Copies.{Copies}
-use Rattle.cloud_server.specs.declared.copies.ReclaimErr.{ReclaimErr}
-use Rattle.cloud_server.specs.declared.copies.ReclaimErr.TheVariants as why
-use Rattle.cloud_server.specs.Copies.{OnReclaimFault, IfRottenThere, IsDoneOrFault, at_copies, AreLaid, KeepsCopies, KeepsAllBut, copied_so_far}
+use Rattle.share_server.specs.BlobCopy.CompactMemories.Kept.{live_at}
+use Rattle.share_server.specs.BlobCopy.CompactMemories.Moved.{lens_of, entry_lens}
+use Rattle.share_server.specs.BlobCopy.Copies.{HasCopied, KeepsBeside, region_len}
+use Rattle.share_server.specs.BlobCopy.Copying.{AreAllCopied, copies_start, shares_so_far, entries_so_far}
+use Rattle.share_server.specs.CloudStore.store.CloudStore.{CloudStore}
+use Rattle.share_server.specs.CloudStore.Store.{IsOpen}
+use Rattle.share_server.specs.declared.copies.Copies.{Copies}
+use Rattle.share_server.specs.declared.copies.ReclaimErr.{ReclaimErr}
+use Rattle.share_server.specs.declared.copies.ReclaimErr.TheVariants as why
+use Rattle.share_server.specs.Copies.{OnReclaimFault, IfRottenThere, IsDoneOrFault, at_copies, AreLaid, KeepsCopies, KeepsAllBut, copied_so_far}
 use Rattle.reclaim.specs.Inner.{Steps, CopiesAll, AreRight}
 use Rattle.reclaim.specs.Reclaims.{IsOutOf, KeepsOtherRegion}
 use Rattle.reclaim.proofs.Whole.{more_right}
@@ -42,32 +42,32 @@ first_few : {S X : Type 0} (f : S → Option X) (count : ℕ) (slots : List S) �
 first_few f count slots = omega (arith, picked_few f (take count slots), length-take count slots)
 
 -- how many slots there are
-abbrev pub slots_in : OpenStore → ℕ
+abbrev pub slots_in : CloudStore → ℕ
 slots_in store = length store.memory.shares.place_slots + length store.memory.files.slots
 
 -- how many blobs may be left at most
-abbrev pub left_of : OpenStore → Copies → ℕ
+abbrev pub left_of : CloudStore → Copies → ℕ
 left_of store copies = slots_in store - copied_so_far store copies.copying
 
-shares_few : (store : OpenStore) (copies : Copies) → length (shares_so_far store copies.copying) ≤ length store.memory.shares.place_slots
+shares_few : (store : CloudStore) (copies : Copies) → length (shares_so_far store copies.copying) ≤ length store.memory.shares.place_slots
 shares_few store copies = first_few (live_at store.memory.shares.owners) copies.copying.place_slot store.memory.shares.place_slots
 
-entries_few : (store : OpenStore) (copies : Copies) → length (entries_so_far store copies.copying) ≤ length store.memory.files.slots
+entries_few : (store : CloudStore) (copies : Copies) → length (entries_so_far store copies.copying) ≤ length store.memory.files.slots
 entries_few store copies = first_few (λ (e : Option (FileKey × Entry)). e) copies.copying.file_slot store.memory.files.slots
 
 both_few : (a b c d : ℕ) → a ≤ c → b ≤ d → a + b ≤ c + d
 both_few a b c d one two = omega (arith, one, two)
 
-copied_few : (store : OpenStore) (copies : Copies) → copied_so_far store copies.copying ≤ slots_in store
+copied_few : (store : CloudStore) (copies : Copies) → copied_so_far store copies.copying ≤ slots_in store
 copied_few store copies = both_few (length (shares_so_far store copies.copying)) (length (entries_so_far store copies.copying)) (length store.memory.shares.place_slots) (length store.memory.files.slots)
     (shares_few store copies) (entries_few store copies)
 
 less : (n a b : ℕ) → a < b → b ≤ n → n - b < n - a
 less n a b lt le = omega (arith, lt, le)
 
-pub fewer_left : (old new : OpenStore) (from to : Copies) → KeepsAllBut old new → copied_so_far old from.copying < copied_so_far old to.copying → left_of new to < left_of old from
+pub fewer_left : (old new : CloudStore) (from to : Copies) → KeepsAllBut old new → copied_so_far old from.copying < copied_so_far old to.copying → left_of new to < left_of old from
 fewer_left old new from to same lt =
-    subst (λ (s : OpenStore). left_of s to < left_of old from) (sym same)
+    subst (λ (s : CloudStore). left_of s to < left_of old from) (sym same)
     (less (slots_in old) (copied_so_far old from.copying) (copied_so_far old to.copying) lt (copied_few old to))
 
 -- ---- answers of one type as answers of another
@@ -91,8 +91,8 @@ pub kept_twice : (a b c : Cloud) (before mid now : ℕ) → KeepsCounts a b befo
 kept_twice a b c before mid now first second = record { cloud = second.cloud ∙ first.cloud; total = second.total ∙ first.total }
 
 -- that all is copied goes by the memory
-still_all : (old new : OpenStore) (copies : Copies) → KeepsAllBut old new → AreAllCopied old copies.copying → AreAllCopied new copies.copying
-still_all old new copies same is = subst (λ (s : OpenStore). AreAllCopied s copies.copying) (sym same) (record { places = is.places; entries = is.entries })
+still_all : (old new : CloudStore) (copies : Copies) → KeepsAllBut old new → AreAllCopied old copies.copying → AreAllCopied new copies.copying
+still_all old new copies same is = subst (λ (s : CloudStore). AreAllCopied s copies.copying) (sym same) (record { places = is.places; entries = is.entries })
 
 -- ---- what lies out of the copies' region
 
@@ -108,7 +108,7 @@ out_of start end b le out = elim out [
 laid_behind : (start end : ℕ) (lens : List ℕ) → end ≡ end_of_laid start lens → start ≤ end
 laid_behind start end lens is = subst (λ (n : ℕ). start ≤ n) (sym is) (laid_grows start lens)
 
-spares_beside : (store : OpenStore) (copies : Copies) (old new : Cloud) → AreLaid store copies → KeepsBeside (at_copies store copies) old new → KeepsOtherRegion (copies_start store) old new
+spares_beside : (store : CloudStore) (copies : Copies) (old new : Cloud) → AreLaid store copies → KeepsBeside (at_copies store copies) old new → KeepsOtherRegion (copies_start store) old new
 spares_beside store copies old new laid beside = record {
   journal = beside.journal;
   shares = λ b out at. beside.shares b (out_of (copies_start store) copies.shares_end b (laid_behind (copies_start store) copies.shares_end (lens_of (shares_so_far store copies.copying)) laid.shares_end) out) at;
@@ -125,7 +125,7 @@ spares_twice start a b c first second = record {
 -- ---- the steps so far
 
 -- The steps so far: all but the disk is as it was, and what a later call leaves is what all leave.
-pub record SoFar (first now : OpenStore) (from to : Copies) (before after : ℕ → Cloud) (faults_before faults_after : ℕ) : Type 0 where
+pub record SoFar (first now : CloudStore) (from to : Copies) (before after : ℕ → Cloud) (faults_before faults_after : ℕ) : Type 0 where
   pub opened : IsOpen now
   pub laid : AreLaid now to
   pub same : KeepsAllBut first now
@@ -138,7 +138,7 @@ pub record SoFar (first now : OpenStore) (from to : Copies) (before after : ℕ 
   pub call : IsCall before after first.header.cloud.0 faults_before faults_after
   pub counts : KeepsCounts (before first.header.cloud.0) (after first.header.cloud.0) faults_before faults_after
 
-pub no_steps : (first : OpenStore) (from : Copies) (clouds : ℕ → Cloud) (faults : ℕ) → IsOpen first → AreLaid first from → SoFar first first from from clouds clouds faults faults
+pub no_steps : (first : CloudStore) (from : Copies) (clouds : ℕ → Cloud) (faults : ℕ) → IsOpen first → AreLaid first from → SoFar first first from from clouds clouds faults faults
 no_steps first from clouds faults opened laid = record {
   opened = opened;
   laid = laid;
@@ -151,7 +151,7 @@ no_steps first from clouds faults opened laid = record {
   counts = record { cloud = refl; total = refl };
 }
 
-module _ (Same : Type 0) (first mid new : OpenStore) (from through to : Copies) (a b c : ℕ → Cloud) (f0 f1 f2 : ℕ) (so : SoFar first mid from through a b f0 f1) where
+module _ (Same : Type 0) (first mid new : CloudStore) (from through to : Copies) (a b c : ℕ → Cloud) (f0 f1 f2 : ℕ) (so : SoFar first mid from through a b f0 f1) where
   abbrev n : ℕ
   n = first.header.cloud.0
 
@@ -159,21 +159,21 @@ module _ (Same : Type 0) (first mid new : OpenStore) (from through to : Copies) 
   Stands list = λ image. StandsFor image first.header list
 
   -- the store between, as it is told by the first one
-  abbrev between : OpenStore
+  abbrev between : CloudStore
   between = record first { disk = mid.disk }
 
   step_from : (r : Result Bool ReclaimErr) → Steps Same mid new through to b c f1 f2 r → Steps Same between new through to b c f1 f2 r
-  step_from r = subst (λ (s : OpenStore). Steps Same s new through to b c f1 f2 r) so.same
+  step_from r = subst (λ (s : CloudStore). Steps Same s new through to b c f1 f2 r) so.same
 
   kept_between : (list : List Command) (chain : Chain) → KeepsCopies list chain first from (a n) → KeepsCopies list chain between through (b n)
-  kept_between list chain is = subst (λ (s : OpenStore). KeepsCopies list chain s through (b n)) so.same (so.kept list chain is)
+  kept_between list chain is = subst (λ (s : CloudStore). KeepsCopies list chain s through (b n)) so.same (so.kept list chain is)
 
   all_moments : (r : Result Bool ReclaimErr) → Steps Same between new through to b c f1 f2 r → (list : List Command) (chain : Chain)
       → KeepsCopies list chain first from (a n) → LeavesOnly (a n) (c n) (Stands list)
   all_moments r s list chain is = so.moments list chain is (c n) (s.any_moment list chain (kept_between list chain is))
 
   laid_between : AreLaid between through
-  laid_between = subst (λ (s : OpenStore). AreLaid s through) so.same so.laid
+  laid_between = subst (λ (s : CloudStore). AreLaid s through) so.same so.laid
 
   spared_on : IsTrue (a n).told → KeepsBeside (at_copies between through) (b n) (c n) → KeepsOtherRegion (copies_start first) (a n) (c n)
   spared_on told beside = spares_twice (copies_start first) (a n) (b n) (c n) (so.spared told) (spares_beside between through (b n) (c n) laid_between beside)

@@ -2,10 +2,10 @@
 use Rattle.std.proofs.Common.{◌≡◌, ◌<◌, ℕ, zero, suc, List, Option, Some, refl, sym, ap, ◌∙◌, subst, arith, inl, inr}
 use Rattle.std.specs.FinMap.{get}
 use Rattle.std.specs.List.{Contains}
-use Rattle.cloud_server.specs.CdBase.ids.Fp.{Fp}
-use Rattle.cloud_server.specs.CdBase.place.Place.{Place}
-use Rattle.cloud_server.specs.CdEdges.area.Area.TheVariants.{Shares, Recipes}
-use Rattle.cloud_server.specs.CdEdges.Disk.{Image}
+use Rattle.share_server.specs.CdBase.ids.Fp.{Fp}
+use Rattle.share_server.specs.CdBase.place.Place.{Place}
+use Rattle.share_server.specs.CdEdges.area.Area.TheVariants.{Shares, Recipes}
+use Rattle.share_server.specs.CdEdges.Disk.{Image}
 use Rattle.compact_memories.specs.FileIndex.key.Entry.{Entry}
 use Rattle.compact_memories.specs.FileIndex.key.FileKey.{FileKey}
 use Rattle.compact_memories.specs.ShareIndex.Shares.{owners_of}
@@ -17,7 +17,7 @@ use Rattle.compact_memories.proofs.Live.{live_gives}
 use Rattle.blob_audit.specs.AuditBase.Whole.{IsOwned, IsStored, stored_at, tables_of}
 use Rattle.blob_audit.specs.Reading.{IsUnlike, Share, File}
 use Rattle.blob_audit.proofs.Owners.{owned_by_some}
-use Rattle.cloud_server.specs.BlobCopy.Answers.{IsRotten, SomeRotten}
+use Rattle.share_server.specs.BlobCopy.Answers.{IsRotten, SomeRotten}
 
 above : (n : ℕ) → (n ≡ 0 → ⊥) → 0 < n
 above zero some = absurd (some refl)

@@ -3,10 +3,10 @@ use Rattle.std.proofs.Common.{◌≡◌, ℕ, ◌+◌, ◌≤◌, List, [], ◌�
 use Rattle.std.specs.Prelude.{All}
 use Rattle.std.proofs.lemmas.List.{map-append}
 use Rattle.std.proofs.lemmas.List.Elements.{All-nil, All-cons, All-head, All-tail, All-same, All-append, All-contains}
-use Rattle.cloud_server.specs.CdBase.ids.Fp.{Fp}
-use Rattle.cloud_server.specs.CdBase.place.Place.{Place}
-use Rattle.cloud_server.specs.CdEdges.area.Area.TheVariants.{Shares, Recipes}
-use Rattle.cloud_server.specs.CdEdges.Disk.{Cloud, Image, reads}
+use Rattle.share_server.specs.CdBase.ids.Fp.{Fp}
+use Rattle.share_server.specs.CdBase.place.Place.{Place}
+use Rattle.share_server.specs.CdEdges.area.Area.TheVariants.{Shares, Recipes}
+use Rattle.share_server.specs.CdEdges.Disk.{Cloud, Image, reads}
 use Rattle.compact_memories.specs.ContainerLog.Laying.{Placed, IsAt}
 use Rattle.compact_memories.specs.ContainerLog.Places.{place_of, end_after, end_of_laid}
 use Rattle.compact_memories.specs.FileIndex.key.Entry.{Entry}
@@ -17,13 +17,13 @@ use Rattle.compact_memories.proofs.CloudAreas.Lists.{in_map}
 use Rattle.compact_memories.specs.CloudMemory.cloud.CloudMemory.{CloudMemory}
 use Rattle.compact_memories.specs.CloudMemory.Rooms.{memory_of}
 use Rattle.compact_memories.proofs.Relaying.{laid_grows}
-use Rattle.cloud_server.specs.BlobCopy.CompactMemories.Kept.{live_in, live_places, entries_in, live_entries}
-use Rattle.cloud_server.specs.BlobCopy.CompactMemories.Moved.{IsMoved, other_region, new_places, lens_of, new_entries, entry_lens}
-use Rattle.cloud_server.specs.BlobCopy.Copies.{Blob, share_blob, entry_blob, found_in, IsRight, HasCopied, KeepsBeside, copies_at}
-use Rattle.cloud_server.specs.BlobCopy.Copying.{AreAllCopied, copies_start, shares_so_far, entries_so_far}
-use Rattle.cloud_server.specs.OpenStore.store.OpenStore.{OpenStore}
-use Rattle.cloud_server.specs.declared.copies.Copies.{Copies}
-use Rattle.cloud_server.specs.Copies.{at_copies, AreLaid}
+use Rattle.share_server.specs.BlobCopy.CompactMemories.Kept.{live_in, live_places, entries_in, live_entries}
+use Rattle.share_server.specs.BlobCopy.CompactMemories.Moved.{IsMoved, other_region, new_places, lens_of, new_entries, entry_lens}
+use Rattle.share_server.specs.BlobCopy.Copies.{Blob, share_blob, entry_blob, found_in, IsRight, HasCopied, KeepsBeside, copies_at}
+use Rattle.share_server.specs.BlobCopy.Copying.{AreAllCopied, copies_start, shares_so_far, entries_so_far}
+use Rattle.share_server.specs.CloudStore.store.CloudStore.{CloudStore}
+use Rattle.share_server.specs.declared.copies.Copies.{Copies}
+use Rattle.share_server.specs.Copies.{at_copies, AreLaid}
 use Rattle.reclaim.specs.Inner.{laid_blob, laid_blobs, AreRight}
 use Rattle.blob_audit.specs.AuditBase.Whole.{IsStored, tables_of}
 use Rattle.blob_audit.specs.Reading.{AreStored}
@@ -112,7 +112,7 @@ grown_right {X = X} blob old new start end first more all is end_is stays right 
 -- ---- both areas
 
 -- nothing is copied
-pub none_right : (store : OpenStore) (copies : Copies) (areas : Image) → copies.copying.place_slot ≡ 0 → copies.copying.file_slot ≡ 0 → AreRight store copies areas
+pub none_right : (store : CloudStore) (copies : Copies) (areas : Image) → copies.copying.place_slot ≡ 0 → copies.copying.file_slot ≡ 0 → AreRight store copies areas
 none_right store copies areas places files = record {
   shares = subst (λ (n : ℕ). All (IsRight (areas Shares)) (laid_blobs (copies_start store) (map share_blob (live_in store.memory.shares.owners (take n store.memory.shares.place_slots))))) (sym places)
       (All-nil (IsRight (areas Shares)));
@@ -121,7 +121,7 @@ none_right store copies areas places files = record {
 }
 
 -- a step more
-pub more_right : (store : OpenStore) (from to : Copies) (old new : Cloud) → AreLaid store from → HasCopied (at_copies store from) from.copying to.copying (reads old.now) (reads new.now)
+pub more_right : (store : CloudStore) (from to : Copies) (old new : Cloud) → AreLaid store from → HasCopied (at_copies store from) from.copying to.copying (reads old.now) (reads new.now)
     → KeepsBeside (at_copies store from) old new → AreRight store from (reads old.now) → AreRight store to (reads new.now)
 more_right store from to old new laid has beside right = record {
   shares = grown_right share_blob (old.now Shares).read (new.now Shares).read (copies_start store) from.shares_end (shares_so_far store from.copying) has.shares (shares_so_far store to.copying)
@@ -136,7 +136,7 @@ stored : (area : List ℕ) (b : Blob) → IsRight area b → IsStored area b.at 
 stored area b right = record { full = right.long; hash = right.hashed }
 
 -- all is copied, and the memory is moved
-pub all_whole : (store : OpenStore) (copies : Copies) (areas : Image) (memory : CloudMemory) → AreAllCopied store copies.copying → AreRight store copies areas
+pub all_whole : (store : CloudStore) (copies : Copies) (areas : Image) (memory : CloudMemory) → AreAllCopied store copies.copying → AreRight store copies areas
     → IsMoved (other_region store.region) store.memory (memory_of memory) → AreStored areas (tables_of memory)
 all_whole store copies areas memory all right moved = record {
   shares = λ fp place owned got.

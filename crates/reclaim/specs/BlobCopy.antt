@@ -1,3 +1,3 @@
 -- What blob_copy says, for callers.
-pub use Rattle.cloud_server.specs.BlobCopy.Answers
-pub use Rattle.cloud_server.specs.BlobCopy.Copying
+pub use Rattle.share_server.specs.BlobCopy.Answers
+pub use Rattle.share_server.specs.BlobCopy.Copying

@@ -1,3 +1,3 @@
 -- What cd_base says, for callers.
-pub use Rattle.cloud_server.specs.CdBase.ids
-pub use Rattle.cloud_server.specs.CdBase.shape
+pub use Rattle.share_server.specs.CdBase.ids
+pub use Rattle.share_server.specs.CdBase.shape

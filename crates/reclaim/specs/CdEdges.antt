@@ -1,3 +1,3 @@
 -- What cd_edges says, for callers.
-pub use Rattle.cloud_server.specs.CdEdges.Disk
-pub use Rattle.cloud_server.specs.CdEdges.Shelf
+pub use Rattle.share_server.specs.CdEdges.Disk
+pub use Rattle.share_server.specs.CdEdges.Shelf

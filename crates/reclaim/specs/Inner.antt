@@ -1,26 +1,26 @@
 -- What the steps of a reclaim do. No public clause cites this module.
 use Rattle.std.specs.Prelude.{◌≡◌, ◌≢◌, ◌<◌, ℕ, Bool, List, [], ◌∷◌, map, All, Result, IsTrue, IfOk, OnOk, OnErr}
-use Rattle.cloud_server.specs.CdEdges.area.Area.{Area}
-use Rattle.cloud_server.specs.CdEdges.area.Area.TheVariants.{Journal, Shares, Recipes}
-use Rattle.cloud_server.specs.CdEdges.Disk.{Cloud, Image, LeavesOnly, reads}
-use Rattle.cloud_server.specs.CdEdges.Shelf.{IsCall, HasFailed, KeepsCounts}
+use Rattle.share_server.specs.CdEdges.area.Area.{Area}
+use Rattle.share_server.specs.CdEdges.area.Area.TheVariants.{Journal, Shares, Recipes}
+use Rattle.share_server.specs.CdEdges.Disk.{Cloud, Image, LeavesOnly, reads}
+use Rattle.share_server.specs.CdEdges.Shelf.{IsCall, HasFailed, KeepsCounts}
 use Rattle.compact_memories.specs.ContainerLog.Places.{place_of, end_after}
 use Rattle.compact_memories.specs.UserDedup.command.Command.{Command}
 use Rattle.compact_memories.specs.UserDedup.Compact.{compact}
 use Rattle.compact_memories.specs.CloudAreas.Standing.{Chain, StandsFor}
-use Rattle.cloud_server.specs.BlobCopy.Answers.{SomeRotten}
-use Rattle.cloud_server.specs.BlobCopy.CompactMemories.Kept.{live_sum, commands_in}
-use Rattle.cloud_server.specs.BlobCopy.CompactMemories.Moved.{IsMoved, other_region}
-use Rattle.cloud_server.specs.BlobCopy.Copies.{Blob, share_blob, entry_blob, IsRight, HasCopied, KeepsBeside}
-use Rattle.cloud_server.specs.BlobCopy.Copying.{AreAllCopied, StandsForKept, copies_start, shares_so_far, entries_so_far}
+use Rattle.share_server.specs.BlobCopy.Answers.{SomeRotten}
+use Rattle.share_server.specs.BlobCopy.CompactMemories.Kept.{live_sum, commands_in}
+use Rattle.share_server.specs.BlobCopy.CompactMemories.Moved.{IsMoved, other_region}
+use Rattle.share_server.specs.BlobCopy.Copies.{Blob, share_blob, entry_blob, IsRight, HasCopied, KeepsBeside}
+use Rattle.share_server.specs.BlobCopy.Copying.{AreAllCopied, StandsForKept, copies_start, shares_so_far, entries_so_far}
 use Rattle.compact_memories.specs.declared.alive.Reclaimed.{Reclaimed}
-use Rattle.cloud_server.specs.CloudMemory.Rooms.{memory_of}
-use Rattle.cloud_server.specs.OpenStore.store.OpenStore.{OpenStore}
-use Rattle.cloud_server.specs.OpenStore.Store.{IsOpen, ServesSome}
-use Rattle.cloud_server.specs.Serving.{ServesAs, settled_with}
-use Rattle.cloud_server.specs.declared.copies.Copies.{Copies}
-use Rattle.cloud_server.specs.declared.copies.ReclaimErr.{ReclaimErr}
-use Rattle.cloud_server.specs.Copies.{OnReclaimFault, IfRottenThere, IsDoneOrFault, MatchCopied, at_copies, AreLaid, KeepsCopies, KeepsAllBut, copied_so_far, no_copies}
+use Rattle.share_server.specs.CloudMemory.Rooms.{memory_of}
+use Rattle.share_server.specs.CloudStore.store.CloudStore.{CloudStore}
+use Rattle.share_server.specs.CloudStore.Store.{IsOpen, ServesSome}
+use Rattle.share_server.specs.Serving.{ServesAs, settled_with}
+use Rattle.share_server.specs.declared.copies.Copies.{Copies}
+use Rattle.share_server.specs.declared.copies.ReclaimErr.{ReclaimErr}
+use Rattle.share_server.specs.Copies.{OnReclaimFault, IfRottenThere, IsDoneOrFault, MatchCopied, at_copies, AreLaid, KeepsCopies, KeepsAllBut, copied_so_far, no_copies}
 use Rattle.blob_audit.specs.AuditBase.Whole.{tables_of}
 use Rattle.blob_audit.specs.Reading.{AreStored, IsUnlike}
 use Rattle.reclaim.specs.Reclaims.{KeepsLive, KeepsOtherRegion}
@@ -38,14 +38,14 @@ laid_blobs end [] = []
 laid_blobs end (b ∷ bs) = laid_blob end b ∷ laid_blobs (end_after end b.len) bs
 
 -- The copies so far read right.
-pub record AreRight (store : OpenStore) (copies : Copies) (areas : Image) : Type 0 where
+pub record AreRight (store : CloudStore) (copies : Copies) (areas : Image) : Type 0 where
   pub shares : All (IsRight (areas Shares)) (laid_blobs (copies_start store) (map share_blob (shares_so_far store copies.copying)))
   pub entries : All (IsRight (areas Recipes)) (laid_blobs (copies_start store) (map entry_blob (entries_so_far store copies.copying)))
 
 -- ---- what the parts do
 
 -- what a step does
-pub record Steps (Same : Type 0) (old new : OpenStore) (from to : Copies) (before after : ℕ → Cloud) (faults_before faults_after : ℕ) (result : Result Bool ReclaimErr) : Type 0 where
+pub record Steps (Same : Type 0) (old new : CloudStore) (from to : Copies) (before after : ℕ → Cloud) (faults_before faults_after : ℕ) (result : Result Bool ReclaimErr) : Type 0 where
   pub any_moment : (list : List Command) (c : Chain) → KeepsCopies list c old from (before old.header.cloud.0)
       → LeavesOnly (before old.header.cloud.0) (after old.header.cloud.0) (λ image. StandsFor image old.header list)
   pub copied : (list : List Command) (c : Chain) → KeepsCopies list c old from (before old.header.cloud.0)
@@ -64,7 +64,7 @@ pub record Steps (Same : Type 0) (old new : OpenStore) (from to : Copies) (befor
       (KeepsCounts (before old.header.cloud.0) (after old.header.cloud.0) faults_before faults_after)
 
 -- what all steps do
-pub record CopiesAll (old new : OpenStore) (from to : Copies) (before after : ℕ → Cloud) (faults_before faults_after : ℕ) (result : Result (Unit {0}) ReclaimErr) : Type 0 where
+pub record CopiesAll (old new : CloudStore) (from to : Copies) (before after : ℕ → Cloud) (faults_before faults_after : ℕ) (result : Result (Unit {0}) ReclaimErr) : Type 0 where
   pub any_moment : (list : List Command) (c : Chain) → KeepsCopies list c old from (before old.header.cloud.0)
       → LeavesOnly (before old.header.cloud.0) (after old.header.cloud.0) (λ image. StandsFor image old.header list)
   pub copied : (list : List Command) (c : Chain) → KeepsCopies list c old from (before old.header.cloud.0)
@@ -82,7 +82,7 @@ pub record CopiesAll (old new : OpenStore) (from to : Copies) (before after : �
       (KeepsCounts (before old.header.cloud.0) (after old.header.cloud.0) faults_before faults_after)
 
 -- what the switch does
-pub record Switches (old new : OpenStore) (from : Copies) (before after : ℕ → Cloud) (faults_before faults_after : ℕ) (result : Result (Unit {0}) ReclaimErr) : Type 0 where
+pub record Switches (old new : CloudStore) (from : Copies) (before after : ℕ → Cloud) (faults_before faults_after : ℕ) (result : Result (Unit {0}) ReclaimErr) : Type 0 where
   pub any_moment : (list : List Command) (c : Chain) → KeepsCopies list c old from (before old.header.cloud.0)
       → LeavesOnly (before old.header.cloud.0) (after old.header.cloud.0) (StandsForKept old.header list)
   pub switched : (list : List Command) (c : Chain) → KeepsCopies list c old from (before old.header.cloud.0)
@@ -104,7 +104,7 @@ pub record Switches (old new : OpenStore) (from : Copies) (before after : ℕ �
       (KeepsCounts (before old.header.cloud.0) (after old.header.cloud.0) faults_before faults_after)
 
 -- what a reclaim does
-pub record Reclaims (old new : OpenStore) (copies : Copies) (before after : ℕ → Cloud) (faults_before faults_after : ℕ) (result : Result Reclaimed ReclaimErr) : Type 0 where
+pub record Reclaims (old new : CloudStore) (copies : Copies) (before after : ℕ → Cloud) (faults_before faults_after : ℕ) (result : Result Reclaimed ReclaimErr) : Type 0 where
   pub any_moment : (list : List Command) → ServesSome list old (before old.header.cloud.0)
       → LeavesOnly (before old.header.cloud.0) (after old.header.cloud.0) (StandsForKept old.header list)
   pub reclaimed : (list : List Command) → ServesSome list old (before old.header.cloud.0)

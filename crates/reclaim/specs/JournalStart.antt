@@ -1,3 +1,3 @@
 -- What journal_start says, for callers.
-pub use Rattle.cloud_server.specs.JournalStart.rooms
-pub use Rattle.cloud_server.specs.JournalStart.start
+pub use Rattle.share_server.specs.JournalStart.rooms
+pub use Rattle.share_server.specs.JournalStart.start

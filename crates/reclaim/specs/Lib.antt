@@ -5,7 +5,7 @@ pub mod CdBase
 pub mod CdEdges
 pub mod CloudAreas
 pub mod CloudMemory
-pub mod CloudServer
+pub mod ShareServer
 pub mod CompactMemories
 pub mod Inner
 pub mod JournalStart

@@ -2,16 +2,16 @@
 use Rattle.std.specs.Prelude.{◌≡◌, ◌↔◌, ◌⊎◌, ◌+◌, ◌≤◌, ℕ, List, length, IsSome, Some}
 use Rattle.std.specs.List.{Contains}
 use Rattle.std.specs.FinMap.{get}
-use Rattle.cloud_server.specs.CdBase.ids.Fp.{Fp}
-use Rattle.cloud_server.specs.CdBase.ids.Tag.{Tag}
-use Rattle.cloud_server.specs.CdBase.ids.UserId.{UserId}
-use Rattle.cloud_server.specs.CdBase.ids.Version.{Version}
-use Rattle.cloud_server.specs.CdBase.place.Place.{Place}
-use Rattle.cloud_server.specs.CdBase.shape.Shape.{Shape}
-use Rattle.cloud_server.specs.CdEdges.area.Area.TheVariants.{Journal, Shares, Recipes}
-use Rattle.cloud_server.specs.CdEdges.Disk.{Cloud}
+use Rattle.share_server.specs.CdBase.ids.Fp.{Fp}
+use Rattle.share_server.specs.CdBase.ids.Tag.{Tag}
+use Rattle.share_server.specs.CdBase.ids.UserId.{UserId}
+use Rattle.share_server.specs.CdBase.ids.Version.{Version}
+use Rattle.share_server.specs.CdBase.place.Place.{Place}
+use Rattle.share_server.specs.CdBase.shape.Shape.{Shape}
+use Rattle.share_server.specs.CdEdges.area.Area.TheVariants.{Journal, Shares, Recipes}
+use Rattle.share_server.specs.CdEdges.Disk.{Cloud}
 use Rattle.compact_memories.specs.ContainerLog.Laying.{Placed, IsAt}
-use Rattle.cloud_server.specs.BlobCopy.Copies.{region_len}
+use Rattle.share_server.specs.BlobCopy.Copies.{region_len}
 use Rattle.compact_memories.specs.FileIndex.key.Entry.{Entry}
 use Rattle.compact_memories.specs.FileIndex.Files.{key_of}
 use Rattle.compact_memories.specs.UserDedup.command.Command.{Command}

@@ -1,8 +1,8 @@
 -- The numbers of a reclaim, by the list.
 use Rattle.std.specs.Prelude.{◌≡◌, ℕ, List, length, map, Option, IsSome}
 use Rattle.std.specs.List.{Contains, sum_by}
-use Rattle.cloud_server.specs.CdBase.ids.Fp.{Fp}
-use Rattle.cloud_server.specs.CdBase.shape.Shape.{Shape}
+use Rattle.share_server.specs.CdBase.ids.Fp.{Fp}
+use Rattle.share_server.specs.CdBase.shape.Shape.{Shape}
 use Rattle.compact_memories.specs.FileIndex.key.FileKey.{FileKey}
 use Rattle.compact_memories.specs.UserDedup.command.Command.{Command}
 use Rattle.compact_memories.specs.UserDedup.file_list.FileEntry.{FileEntry}

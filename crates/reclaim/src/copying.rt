@@ -1,26 +1,26 @@
 //! Copies, step by step, and the switch to them.
 
 ghost use Rattle.std.specs.Prelude.{◌≡◌, List, IsTrue, IfOk, OnOk, OnErr};
-ghost use Rattle.cloud_server.specs.CdEdges.Disk.{LeavesOnly, reads};
-ghost use Rattle.cloud_server.specs.CdEdges.Shelf.{IsCall, HasFailed, KeepsCounts};
+ghost use Rattle.share_server.specs.CdEdges.Disk.{LeavesOnly, reads};
+ghost use Rattle.share_server.specs.CdEdges.Shelf.{IsCall, HasFailed, KeepsCounts};
 ghost use Rattle.compact_memories.specs.UserDedup.command.Command.{Command};
 ghost use Rattle.compact_memories.specs.UserDedup.Compact.{compact};
 ghost use Rattle.compact_memories.specs.Checkpoints.Known.{AreListed};
 ghost use Rattle.blob_audit.specs.AuditBase.Whole.{tables_of};
 ghost use Rattle.blob_audit.specs.Reading.{AreStored, IsUnlike};
-ghost use Rattle.cloud_server.specs.BlobCopy.CompactMemories.Kept.{live_sum, commands_in};
-ghost use Rattle.cloud_server.specs.BlobCopy.CompactMemories.Moved.{IsMoved, other_region};
-ghost use Rattle.cloud_server.specs.BlobCopy.Copying.{StandsForKept, copies_start};
-ghost use Rattle.cloud_server.specs.CloudMemory.Rooms.{memory_of};
-ghost use Rattle.cloud_server.specs.Copies.{OnReclaimFault, IfRottenThere, IsDoneOrFault, KeepsAllBut};
-ghost use Rattle.cloud_server.specs.Copies.{no_copies, AreLaid};
-ghost use Rattle.cloud_server.specs.OpenStore.Store.{IsOpen, ServesSome};
-ghost use Rattle.cloud_server.specs.Serving.{IsServing, number_of, settled_with};
+ghost use Rattle.share_server.specs.BlobCopy.CompactMemories.Kept.{live_sum, commands_in};
+ghost use Rattle.share_server.specs.BlobCopy.CompactMemories.Moved.{IsMoved, other_region};
+ghost use Rattle.share_server.specs.BlobCopy.Copying.{StandsForKept, copies_start};
+ghost use Rattle.share_server.specs.CloudMemory.Rooms.{memory_of};
+ghost use Rattle.share_server.specs.Copies.{OnReclaimFault, IfRottenThere, IsDoneOrFault, KeepsAllBut};
+ghost use Rattle.share_server.specs.Copies.{no_copies, AreLaid};
+ghost use Rattle.share_server.specs.CloudStore.Store.{IsOpen, ServesSome};
+ghost use Rattle.share_server.specs.Serving.{IsServing, number_of, settled_with};
 ghost use Rattle.reclaim.specs.Inner.{CopiesAll, Reclaims};
 ghost use Rattle.reclaim.specs.Reclaims.{KeepsLive, KeepsOtherRegion};
 ghost use Rattle.reclaim.specs.Sums.{IsSumOf};
 
-use cloud_server::{ReclaimErr, Reclaimed, Server, Shelf};
+use share_server::{ReclaimErr, Reclaimed, Server, Shelf};
 
 // Copies all that is alive, step by step.
 fn copy_all<V: Shelf>(server: &mut Server, shelf: &mut V) -> Result<(), ReclaimErr>

@@ -4,5 +4,5 @@
 
 mod copying;
 
-pub use cloud_server::{Bytes, CloudNo, Fp, NoMemory, ReclaimErr, Reclaimed, Shape, Shelf, Sink};
 pub use copying::reclaim;
+pub use share_server::{Bytes, CloudNo, Fp, NoMemory, ReclaimErr, Reclaimed, Shape, Shelf, Sink};

@@ -1,12 +1,12 @@
 -- Where nothing fails, a reclaim answers 0 or runs out of memory: each other status has a cause that isn't there.
 use Rattle.std.proofs.Common.{◌≡◌, ◌⊎◌, inl, inr, ℕ, Result, Ok, Err}
-use Rattle.cloud_opening.specs.BackupCommand.Writing.{Output}
-use Rattle.cloud_opening.specs.Opened.{CloudCall, CloudFails, IsUnfailing}
-use Rattle.cloud_opening.specs.Unhindered.{IsOpeningUnhindered}
-use Rattle.cloud_opening.proofs.Completing.{not_risen, opens, status_of}
-use Rattle.reclaim.specs.CloudServer.Copies.{IsDoneOrFault, OnReclaimFault}
-use Rattle.reclaim.specs.CloudServer.copies.ReclaimErr.{ReclaimErr}
-use Rattle.reclaim.specs.CloudServer.copies.ReclaimErr.TheVariants as errors
+use Rattle.command_cloud.specs.BackupCommand.Writing.{Output}
+use Rattle.command_cloud.specs.Opened.{CloudCall, CloudFails, IsUnfailing}
+use Rattle.command_cloud.specs.Unhindered.{IsOpeningUnhindered}
+use Rattle.command_cloud.proofs.Completing.{not_risen, opens, status_of}
+use Rattle.reclaim.specs.ShareServer.Copies.{IsDoneOrFault, OnReclaimFault}
+use Rattle.reclaim.specs.ShareServer.copies.ReclaimErr.{ReclaimErr}
+use Rattle.reclaim.specs.ShareServer.copies.ReclaimErr.TheVariants as errors
 use Rattle.reclaim.specs.CompactMemories.alive.Reclaimed.{Reclaimed}
 use Rattle.reclaim_command.specs.GivenBack.{IsReclaimed, Opened, Unmade, Unopened}
 use Rattle.reclaim_command.specs.Said.{reclaim_status}

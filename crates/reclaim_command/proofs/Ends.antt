@@ -1,7 +1,7 @@
 -- A reclaim by an open server, behind the opening.
 use Rattle.std.proofs.Common.{◌≡◌, ◌⊎◌, inl, inr, false, true, ℕ, IsTrue, List, Result, Ok, Err, refl, sym, ap, ◌∙◌, subst}
 use Rattle.std.specs.Prelude.{IfOk, OnOk}
-use Rattle.cloud_opening.specs.BackupCommand.Writing.{Output, HasWrittenOrCause}
+use Rattle.command_cloud.specs.BackupCommand.Writing.{Output, HasWrittenOrCause}
 use Rattle.reclaim.specs.CdBase.ids.CloudNo.{CloudNo}
 use Rattle.reclaim.specs.CdBase.shape.Shape.{Shape}
 use Rattle.reclaim.specs.CdEdges.Disk.{Cloud, Image, IsImage, LeavesOnly}
@@ -9,23 +9,23 @@ use Rattle.reclaim.specs.CdEdges.Shelf.{HasFailed, KeepsCounts}
 use Rattle.reclaim.proofs.CdEdges.Moments.{joined, weaker}
 use Rattle.reclaim.specs.CloudAreas.Standing.{StandsFor}
 use Rattle.reclaim.specs.CloudMemory.Rooms.{memory_of}
-use Rattle.cloud_opening.specs.CloudServer.Names.{header_of}
-use Rattle.cloud_opening.specs.CloudServer.Serving.{IsServing, number_of, settled_with}
-use Rattle.cloud_opening.specs.CloudServer.server.Server.{Server}
-use Rattle.cloud_opening.specs.OpenStore.Store.{ServesSome}
-use Rattle.cloud_opening.specs.Opened.{CloudCall, StandsWithin, cloud_call, header_within}
-use Rattle.cloud_opening.specs.Opens.{OpenedBy, OpensCloud}
-use Rattle.cloud_opening.specs.Said.{SaysUnopened}
-use Rattle.cloud_opening.specs.declared.opening.Unopened.{Unopened as OpeningErr}
-use Rattle.cloud_opening.specs.declared.opening.Unopened.TheVariants as unopened
-use Rattle.cloud_opening.proofs.Standing.{failed_since, kept_since, stands_still}
-use Rattle.cloud_opening.specs.HalfJournal.Openings.{MayBecome}
+use Rattle.command_cloud.specs.ShareServer.Names.{header_of}
+use Rattle.command_cloud.specs.ShareServer.Serving.{IsServing, number_of, settled_with}
+use Rattle.command_cloud.specs.ShareServer.server.Server.{Server}
+use Rattle.command_cloud.specs.CloudStore.Store.{ServesSome}
+use Rattle.command_cloud.specs.Opened.{CloudCall, StandsWithin, cloud_call, header_within}
+use Rattle.command_cloud.specs.Opens.{OpenedBy, OpensCloud}
+use Rattle.command_cloud.specs.Said.{SaysUnopened}
+use Rattle.command_cloud.specs.declared.opening.Unopened.{Unopened as OpeningErr}
+use Rattle.command_cloud.specs.declared.opening.Unopened.TheVariants as unopened
+use Rattle.command_cloud.proofs.Standing.{failed_since, kept_since, stands_still}
+use Rattle.command_cloud.specs.CommitJournal.Openings.{MayBecome}
 use Rattle.reclaim.specs.JournalStart.rooms.UserRooms.{UserRooms}
 use Rattle.reclaim.specs.JournalStart.start.Header.{Header}
 use Rattle.reclaim.specs.BlobCopy.Copying.{StandsForKept}
-use Rattle.reclaim.specs.CloudServer.Copies.{OnReclaimFault}
-use Rattle.reclaim.specs.CloudServer.copies.ReclaimErr.{ReclaimErr}
-use Rattle.reclaim.specs.CloudServer.copies.ReclaimErr.TheVariants as errors
+use Rattle.reclaim.specs.ShareServer.Copies.{OnReclaimFault}
+use Rattle.reclaim.specs.ShareServer.copies.ReclaimErr.{ReclaimErr}
+use Rattle.reclaim.specs.ShareServer.copies.ReclaimErr.TheVariants as errors
 use Rattle.reclaim.specs.CompactMemories.alive.Reclaimed.{Reclaimed}
 use Rattle.reclaim.specs.Reclaims.{KeepsLive}
 use Rattle.reclaim.specs.Sums.{IsSumOf}

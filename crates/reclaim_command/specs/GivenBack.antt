@@ -1,21 +1,21 @@
 -- What the reclaim of a cloud in a place promises.
 use Rattle.std.specs.Prelude.{◌≡◌, ◌⊎◌, ℕ, IsTrue, List, Result, IfOk, OnOk}
-use Rattle.cloud_opening.specs.BackupCommand.Writing.{IsSilent, Output, HasWrittenOrCause}
+use Rattle.command_cloud.specs.BackupCommand.Writing.{IsSilent, Output, HasWrittenOrCause}
 use Rattle.reclaim.specs.CdEdges.Disk.{Cloud, Image, IsImage, LeavesOnly, reads}
 use Rattle.reclaim.specs.CloudAreas.Placing.{region_start}
 use Rattle.reclaim.specs.CloudAreas.Standing.{StandsFor}
 use Rattle.reclaim.specs.CloudMemory.Rooms.{memory_of}
 use Rattle.reclaim.specs.CloudMemory.cloud.CloudMemory.{CloudMemory}
-use Rattle.cloud_opening.specs.Opened.{CloudCall, CloudFails, IsNotOpened, IsOpenedIn, IsUnchanged, IsUnfailing, StandsWithin, cloud_call, header_within}
-use Rattle.cloud_opening.specs.Said.{opening_status, opening_text}
-use Rattle.cloud_opening.specs.HalfJournal.errors.OpenErr.{OpenErr}
+use Rattle.command_cloud.specs.Opened.{CloudCall, CloudFails, IsNotOpened, IsOpenedIn, IsUnchanged, IsUnfailing, StandsWithin, cloud_call, header_within}
+use Rattle.command_cloud.specs.Said.{opening_status, opening_text}
+use Rattle.command_cloud.specs.CommitJournal.errors.OpenErr.{OpenErr}
 use Rattle.reclaim.specs.JournalStart.rooms.UserRooms.{UserRooms}
 use Rattle.reclaim.specs.JournalStart.start.Header.{Header}
 use Rattle.reclaim.specs.AuditBase.Whole.{tables_of}
 use Rattle.reclaim.specs.BlobAudit.Reading.{AreStored, IsUnlike}
 use Rattle.reclaim.specs.BlobCopy.Copying.{StandsForKept}
-use Rattle.reclaim.specs.CloudServer.Copies.{IfRottenThere, IsDoneOrFault, OnReclaimFault}
-use Rattle.reclaim.specs.CloudServer.copies.ReclaimErr.{ReclaimErr}
+use Rattle.reclaim.specs.ShareServer.Copies.{IfRottenThere, IsDoneOrFault, OnReclaimFault}
+use Rattle.reclaim.specs.ShareServer.copies.ReclaimErr.{ReclaimErr}
 use Rattle.reclaim.specs.CompactMemories.Kept.{live_sum}
 use Rattle.reclaim.specs.CompactMemories.Moved.{IsMoved, other_region}
 use Rattle.reclaim.specs.CompactMemories.alive.Reclaimed.{Reclaimed}

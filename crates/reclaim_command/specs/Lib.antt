@@ -1,4 +1,4 @@
-pub mod CloudOpening
+pub mod CommandCloud
 pub mod GivenBack
 pub mod Said
 pub mod Steps

@@ -3,13 +3,13 @@ use Rattle.std.specs.Prelude.{ℕ, List, [], ◌∷◌, Result, Ok, Err, codes, 
 use Rattle.reclaim.specs.CdBase.ids.CloudNo.{CloudNo}
 use Rattle.reclaim.specs.CdBase.ids.Fp.{Fp}
 use Rattle.reclaim.specs.CompactMemories.alive.Reclaimed.{Reclaimed}
-use Rattle.reclaim.specs.CloudServer.copies.ReclaimErr.{ReclaimErr}
-use Rattle.reclaim.specs.CloudServer.copies.ReclaimErr.TheVariants as errors
-use Rattle.cloud_opening.specs.Transcript.ending.Ending.TheVariants as endings
-use Rattle.cloud_opening.specs.Transcript.line.Line.TheVariants as lines
-use Rattle.cloud_opening.specs.Transcript.refusal.Refusal.TheVariants as refusals
-use Rattle.cloud_opening.specs.Transcript.Endings.{ending_text}
-use Rattle.cloud_opening.specs.Transcript.Transcript.{ended, line_text}
+use Rattle.reclaim.specs.ShareServer.copies.ReclaimErr.{ReclaimErr}
+use Rattle.reclaim.specs.ShareServer.copies.ReclaimErr.TheVariants as errors
+use Rattle.command_cloud.specs.Transcript.ending.Ending.TheVariants as endings
+use Rattle.command_cloud.specs.Transcript.line.Line.TheVariants as lines
+use Rattle.command_cloud.specs.Transcript.refusal.Refusal.TheVariants as refusals
+use Rattle.command_cloud.specs.Transcript.Endings.{ending_text}
+use Rattle.command_cloud.specs.Transcript.Transcript.{ended, line_text}
 
 -- `reclaimed CLOUD SHARES RECIPES DROPPED`
 abbrev pub reclaimed_text : CloudNo → Reclaimed → List ℕ

@@ -1,18 +1,18 @@
 -- What a reclaim comes to, by the server that was opened. No public clause cites this module.
 use Rattle.std.specs.Prelude.{◌≡◌, ℕ, IsTrue, List, Result, IfOk, OnOk}
-use Rattle.cloud_opening.specs.BackupCommand.Writing.{Output, HasWrittenOrCause}
+use Rattle.command_cloud.specs.BackupCommand.Writing.{Output, HasWrittenOrCause}
 use Rattle.reclaim.specs.CdEdges.Disk.{LeavesOnly, reads}
 use Rattle.reclaim.specs.CloudAreas.Placing.{region_start}
 use Rattle.reclaim.specs.CloudMemory.Rooms.{memory_of}
-use Rattle.cloud_opening.specs.CloudServer.Serving.{IsServing, settled_with}
-use Rattle.cloud_opening.specs.CloudServer.server.Server.{Server}
-use Rattle.cloud_opening.specs.OpenStore.Store.{ServesSome}
-use Rattle.cloud_opening.specs.Opened.{CloudCall, CloudFails, IsUnfailing}
+use Rattle.command_cloud.specs.ShareServer.Serving.{IsServing, settled_with}
+use Rattle.command_cloud.specs.ShareServer.server.Server.{Server}
+use Rattle.command_cloud.specs.CloudStore.Store.{ServesSome}
+use Rattle.command_cloud.specs.Opened.{CloudCall, CloudFails, IsUnfailing}
 use Rattle.reclaim.specs.AuditBase.Whole.{tables_of}
 use Rattle.reclaim.specs.BlobAudit.Reading.{AreStored, IsUnlike}
 use Rattle.reclaim.specs.BlobCopy.Copying.{StandsForKept}
-use Rattle.reclaim.specs.CloudServer.Copies.{IfRottenThere, IsDoneOrFault, OnReclaimFault}
-use Rattle.reclaim.specs.CloudServer.copies.ReclaimErr.{ReclaimErr}
+use Rattle.reclaim.specs.ShareServer.Copies.{IfRottenThere, IsDoneOrFault, OnReclaimFault}
+use Rattle.reclaim.specs.ShareServer.copies.ReclaimErr.{ReclaimErr}
 use Rattle.reclaim.specs.CompactMemories.Kept.{live_sum}
 use Rattle.reclaim.specs.CompactMemories.Moved.{IsMoved, other_region}
 use Rattle.reclaim.specs.CompactMemories.alive.Reclaimed.{Reclaimed}

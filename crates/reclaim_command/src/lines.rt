@@ -1,11 +1,11 @@
 //! What is written, with the status.
 
 ghost use Rattle.std.specs.Prelude.{◌≡◌, ◌++◌, OnOk};
-ghost use Rattle.cloud_opening.specs.BackupCommand.Writing.{HasWrittenOrCause, output_of};
+ghost use Rattle.command_cloud.specs.BackupCommand.Writing.{HasWrittenOrCause, output_of};
 ghost use Rattle.reclaim_command.specs.Said.{reclaim_status, reclaim_text, reclaimed_text, rotten_text};
 
-use cloud_opening::Word::Number;
-use cloud_opening::{Ending, Line, Refusal, put_first, write_ending, write_line, write_text};
+use command_cloud::Word::Number;
+use command_cloud::{Ending, Line, Refusal, put_first, write_ending, write_line, write_text};
 use reclaim::{Bytes, CloudNo, Fp, NoMemory, ReclaimErr, Reclaimed, Sink};
 use std::alloc::Global;
 

@@ -2,16 +2,16 @@
 
 ghost use Rattle.std.specs.Prelude.{◌≡◌, ◌⊎◌, ◌<◌};
 ghost use Rattle.reclaim.specs.CdEdges.Shelf.{IsCall};
-ghost use Rattle.cloud_opening.specs.BackupCommand.Writing.{output_of};
-ghost use Rattle.cloud_opening.specs.CloudServer.Serving.{number_of};
-ghost use Rattle.cloud_opening.specs.OpenStore.Store.{IsOpen};
-ghost use Rattle.cloud_opening.specs.Opened.{cloud_call};
-ghost use Rattle.cloud_opening.specs.Unhindered.{IsOpeningUnhindered};
+ghost use Rattle.command_cloud.specs.BackupCommand.Writing.{output_of};
+ghost use Rattle.command_cloud.specs.ShareServer.Serving.{number_of};
+ghost use Rattle.command_cloud.specs.CloudStore.Store.{IsOpen};
+ghost use Rattle.command_cloud.specs.Opened.{cloud_call};
+ghost use Rattle.command_cloud.specs.Unhindered.{IsOpeningUnhindered};
 ghost use Rattle.reclaim_command.specs.GivenBack.{IsReclaimed};
 ghost use Rattle.reclaim_command.specs.Steps.{ReclaimedBy};
 
 use crate::lines::write_reclaimed;
-use cloud_opening::{Server, open_cloud, write_unopened};
+use command_cloud::{Server, open_cloud, write_unopened};
 use reclaim::{CloudNo, Shape, Shelf, Sink, reclaim};
 use std::alloc::Global;
 

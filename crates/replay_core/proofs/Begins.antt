@@ -3,17 +3,17 @@ use Rattle.std.proofs.Common.{◌≡◌, ℕ, ◌<◌, ◌≤◌, true, false, L
 use Rattle.std.specs.Prelude.{Option, Some, None, Result, Ok, Err, IfSome, IsTrue}
 use Rattle.std.specs.Io.KnownBytes.{Appends}
 use Rattle.std.proofs.lemmas.Bool.{cases_lt}
-use Rattle.cloud_server.specs.JournalStart.rooms.UserRooms.{UserRooms}
-use Rattle.cloud_server.specs.CdBase.shape.Shape.{Shape}
-use Rattle.cloud_server.specs.JournalStart.Ranges.{usual_rooms}
-use Rattle.cloud_server.specs.JournalStart.start.Header.{Header}
-use Rattle.cloud_server.specs.CdEdges.Causes.{Rose}
-use Rattle.cloud_server.specs.CdEdges.Disk.{Cloud, IsImage, reads}
-use Rattle.cloud_server.proofs.CdEdges.Moments.{weaker, at_end, each_since}
-use Rattle.cloud_server.specs.CloudAreas.Peers.{StandsForSome}
+use Rattle.share_server.specs.JournalStart.rooms.UserRooms.{UserRooms}
+use Rattle.share_server.specs.CdBase.shape.Shape.{Shape}
+use Rattle.share_server.specs.JournalStart.Ranges.{usual_rooms}
+use Rattle.share_server.specs.JournalStart.start.Header.{Header}
+use Rattle.share_server.specs.CdEdges.Causes.{Rose}
+use Rattle.share_server.specs.CdEdges.Disk.{Cloud, IsImage, reads}
+use Rattle.share_server.proofs.CdEdges.Moments.{weaker, at_end, each_since}
+use Rattle.share_server.specs.CloudAreas.Peers.{StandsForSome}
 use Rattle.script_lines.specs.LocalLink.link.LocalLink.{LocalLink}
 use Rattle.script_lines.specs.LocalLink.Calls.{no_commands}
-use Rattle.cloud_server.specs.declared.server.Server.{Server}
+use Rattle.share_server.specs.declared.server.Server.{Server}
 use Rattle.script_lines.specs.LocalLink.fate.Fate.TheVariants.{Deliver}
 use Rattle.script_lines.specs.LocalLink.servers.Servers.{Servers}
 use Rattle.script_lines.specs.LocalLink.Steps.{IsClosedIn}

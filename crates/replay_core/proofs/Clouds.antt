@@ -2,22 +2,22 @@
 use Rattle.std.proofs.Common.{◌≡◌, ℕ, ◌+◌, ◌<◌, ◌≤◌, Bool, true, false, [], refl, sym, ap, ◌∙◌, subst, inl, inr, arith}
 use Rattle.std.specs.Prelude.{◌≢◌, IsTrue, Result, Err, OnErr, IfErr}
 use Rattle.std.proofs.lemmas.Bool.{cases_eq}
-use Rattle.cloud_server.specs.CdBase.ids.CloudNo.{CloudNo}
-use Rattle.cloud_server.specs.CdBase.shape.Shape.{Shape}
-use Rattle.cloud_server.specs.CdEdges.Causes.{Rose}
-use Rattle.cloud_server.specs.CdEdges.area.Area.{Area}
-use Rattle.cloud_server.specs.CdEdges.Disk.{Cloud, Image, IsImage}
-use Rattle.cloud_server.specs.CdEdges.Shelf.{IsCall, Stays, HasFailed, KeepsCounts}
-use Rattle.cloud_server.proofs.CdEdges.Moments.{stayed, left_alone}
-use Rattle.cloud_server.specs.HalfJournal.errors.OpenErr.{OpenErr}
-use Rattle.cloud_server.specs.HalfJournal.errors.OpenErr.TheVariants as errors
-use Rattle.cloud_server.specs.JournalStart.start.Header.{Header}
-use Rattle.cloud_server.specs.HalfJournal.Openings.{OnFault}
-use Rattle.cloud_server.specs.StoreOpening.Spared.{IsOkOrFault}
-use Rattle.cloud_server.specs.CloudAreas.Peers.{StandsForSome}
-use Rattle.cloud_server.specs.CloudAreas.Standing.{StandsFor}
-use Rattle.cloud_server.specs.Names.{HasNoJournal}
-use Rattle.cloud_server.specs.Refusals.{IsDamage}
+use Rattle.share_server.specs.CdBase.ids.CloudNo.{CloudNo}
+use Rattle.share_server.specs.CdBase.shape.Shape.{Shape}
+use Rattle.share_server.specs.CdEdges.Causes.{Rose}
+use Rattle.share_server.specs.CdEdges.area.Area.{Area}
+use Rattle.share_server.specs.CdEdges.Disk.{Cloud, Image, IsImage}
+use Rattle.share_server.specs.CdEdges.Shelf.{IsCall, Stays, HasFailed, KeepsCounts}
+use Rattle.share_server.proofs.CdEdges.Moments.{stayed, left_alone}
+use Rattle.share_server.specs.CommitJournal.errors.OpenErr.{OpenErr}
+use Rattle.share_server.specs.CommitJournal.errors.OpenErr.TheVariants as errors
+use Rattle.share_server.specs.JournalStart.start.Header.{Header}
+use Rattle.share_server.specs.CommitJournal.Openings.{OnFault}
+use Rattle.share_server.specs.CloudOpening.Spared.{IsOkOrFault}
+use Rattle.share_server.specs.CloudAreas.Peers.{StandsForSome}
+use Rattle.share_server.specs.CloudAreas.Standing.{StandsFor}
+use Rattle.share_server.specs.Names.{HasNoJournal}
+use Rattle.share_server.specs.Refusals.{IsDamage}
 use Rattle.replay_core.specs.declared.end.ReplayEnd.{ReplayEnd}
 use Rattle.replay_core.specs.declared.end.ReplayEnd.TheVariants as ends
 use Rattle.replay_core.specs.Endings.{AreEmptyBelow, AreSpared, IsFirstFilled}

@@ -1,9 +1,9 @@
 -- The first line.
 use Rattle.std.proofs.Common.{◌≡◌, ℕ, ◌+◌, ◌≤◌, Bool, true, false, List, [], length, refl, sym, ap, ◌∙◌, subst, inl, inr, arith}
 use Rattle.std.specs.Prelude.{Option, Some, None, Result, Ok, Err, IfSome, IfOk, IfErr, nat_lt, ◌==◌, if◌then◌else◌, take}
-use Rattle.cloud_server.specs.JournalStart.rooms.UserRooms.{UserRooms}
-use Rattle.cloud_server.specs.CdBase.shape.Shape.{Shape}
-use Rattle.cloud_server.specs.CdEdges.Causes.{Rose}
+use Rattle.share_server.specs.JournalStart.rooms.UserRooms.{UserRooms}
+use Rattle.share_server.specs.CdBase.shape.Shape.{Shape}
+use Rattle.share_server.specs.CdEdges.Causes.{Rose}
 use Rattle.two_worlds.specs.Session.Fault.{Fault}
 use Rattle.two_worlds.specs.Session.Lines.{ReaderState, NextLine, TakesLine, next_line, after_line, line_length, room_after, script_limit, fault_at}
 use Rattle.two_worlds.specs.Session.Reading.{header_at}

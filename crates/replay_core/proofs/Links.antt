@@ -3,23 +3,23 @@ use Rattle.std.proofs.Common.{◌≡◌, ℕ, ◌+◌, ◌<◌, ◌≤◌, true,
 use Rattle.std.specs.Prelude.{◌≢◌, IsTrue, Option, None, Result}
 use Rattle.std.specs.List.{Contains}
 use Rattle.std.proofs.lemmas.Bool.{cases_eq, cases_lt}
-use Rattle.cloud_server.specs.CdBase.shape.Shape.{Shape}
-use Rattle.cloud_server.specs.CdEdges.area.Area.TheVariants.{Journal}
-use Rattle.cloud_server.specs.CdEdges.Disk.{Cloud, reads}
-use Rattle.cloud_server.specs.CdEdges.Shelf.{IsCall}
-use Rattle.cloud_server.proofs.CdEdges.Moments.{weaker}
-use Rattle.cloud_server.specs.HalfJournal.errors.OpenErr.{OpenErr}
-use Rattle.cloud_server.specs.JournalStart.start.Header.{Header}
-use Rattle.cloud_server.specs.StoreOpening.Spared.{IsOkOrFault, MayBegin}
-use Rattle.cloud_server.specs.JournalStart.rooms.UserRooms.{UserRooms}
-use Rattle.cloud_server.specs.UserDedup.Spending.{IsWithin}
-use Rattle.cloud_server.specs.CloudAreas.Peers.{StandsForSome, ImagesNow, ImagesSince}
-use Rattle.cloud_server.specs.CloudAreas.Standing.{StandsFor}
-use Rattle.cloud_server.specs.declared.server.Server.{Server}
-use Rattle.cloud_server.specs.Names.{header_of}
-use Rattle.cloud_server.specs.Serving.{settled_with}
-use Rattle.cloud_server.specs.UserDedup.command.Command.{Command}
-use Rattle.cloud_server.proofs.UserDedup.Owned.{contains_here, contains_cases, contains_nothing}
+use Rattle.share_server.specs.CdBase.shape.Shape.{Shape}
+use Rattle.share_server.specs.CdEdges.area.Area.TheVariants.{Journal}
+use Rattle.share_server.specs.CdEdges.Disk.{Cloud, reads}
+use Rattle.share_server.specs.CdEdges.Shelf.{IsCall}
+use Rattle.share_server.proofs.CdEdges.Moments.{weaker}
+use Rattle.share_server.specs.CommitJournal.errors.OpenErr.{OpenErr}
+use Rattle.share_server.specs.JournalStart.start.Header.{Header}
+use Rattle.share_server.specs.CloudOpening.Spared.{IsOkOrFault, MayBegin}
+use Rattle.share_server.specs.JournalStart.rooms.UserRooms.{UserRooms}
+use Rattle.share_server.specs.UserDedup.Spending.{IsWithin}
+use Rattle.share_server.specs.CloudAreas.Peers.{StandsForSome, ImagesNow, ImagesSince}
+use Rattle.share_server.specs.CloudAreas.Standing.{StandsFor}
+use Rattle.share_server.specs.declared.server.Server.{Server}
+use Rattle.share_server.specs.Names.{header_of}
+use Rattle.share_server.specs.Serving.{settled_with}
+use Rattle.share_server.specs.UserDedup.command.Command.{Command}
+use Rattle.share_server.proofs.UserDedup.Owned.{contains_here, contains_cases, contains_nothing}
 use Rattle.script_lines.specs.LocalLink.link.LocalLink.{LocalLink}
 use Rattle.script_lines.specs.LocalLink.Calls.{no_commands}
 use Rattle.script_lines.specs.LocalLink.Tells.{server_at, rooms_at, header_at, IsPeer, StandsAt, LeavesRest}

@@ -3,12 +3,12 @@ use Rattle.std.proofs.Common.{◌≡◌, ℕ, ◌+◌, ◌<◌, ◌≤◌, List,
 use Rattle.std.specs.Prelude.{Option, Some, None, IfSome, IsTrue, MatchOption}
 use Rattle.std.specs.Io.KnownBytes.{Appends}
 use Rattle.std.proofs.lemmas.List.Concat.{flat_map-append}
-use Rattle.cloud_server.specs.CdBase.shape.Shape.{Shape}
-use Rattle.cloud_server.specs.CdEdges.Disk.{Cloud}
-use Rattle.cloud_server.proofs.CdEdges.Moments.{joined, weaker}
-use Rattle.cloud_server.specs.CloudAreas.Peers.{StandsForSome, ImagesNow, ImagesSince}
-use Rattle.cloud_server.specs.UserDedup.command.Command.{Command}
-use Rattle.cloud_server.specs.UserDedup.Exec.{Peer, MaySettleAs}
+use Rattle.share_server.specs.CdBase.shape.Shape.{Shape}
+use Rattle.share_server.specs.CdEdges.Disk.{Cloud}
+use Rattle.share_server.proofs.CdEdges.Moments.{joined, weaker}
+use Rattle.share_server.specs.CloudAreas.Peers.{StandsForSome, ImagesNow, ImagesSince}
+use Rattle.share_server.specs.UserDedup.command.Command.{Command}
+use Rattle.share_server.specs.UserDedup.Exec.{Peer, MaySettleAs}
 use Rattle.two_worlds.specs.UploadJob.Lanes.{LaneView}
 use Rattle.script_lines.specs.LocalLink.link.LocalLink.{LocalLink}
 use Rattle.two_worlds.specs.Session.Lines.{ReaderState}

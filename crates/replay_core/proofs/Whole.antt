@@ -3,12 +3,12 @@ use Rattle.std.proofs.Common.{◌≡◌, ℕ, ◌+◌, ◌<◌, ◌≤◌, true,
 use Rattle.std.specs.Prelude.{Option, Some, None, Ok, IfSome, IsTrue}
 use Rattle.std.specs.Io.KnownBytes.{Appends}
 use Rattle.std.proofs.lemmas.Bool.{cases_lt}
-use Rattle.cloud_server.specs.JournalStart.rooms.UserRooms.{UserRooms}
-use Rattle.cloud_server.specs.CdBase.shape.Shape.{Shape}
-use Rattle.cloud_server.specs.CdEdges.Causes.{Rose}
-use Rattle.cloud_server.specs.CdEdges.Disk.{Cloud, IsImage, reads}
-use Rattle.cloud_server.proofs.CdEdges.Moments.{each_since}
-use Rattle.cloud_server.specs.UserDedup.Exec.{Peer}
+use Rattle.share_server.specs.JournalStart.rooms.UserRooms.{UserRooms}
+use Rattle.share_server.specs.CdBase.shape.Shape.{Shape}
+use Rattle.share_server.specs.CdEdges.Causes.{Rose}
+use Rattle.share_server.specs.CdEdges.Disk.{Cloud, IsImage, reads}
+use Rattle.share_server.proofs.CdEdges.Moments.{each_since}
+use Rattle.share_server.specs.UserDedup.Exec.{Peer}
 use Rattle.two_worlds.specs.UploadJob.Lanes.{LaneView}
 use Rattle.script_lines.specs.LocalLink.link.LocalLink.{LocalLink}
 use Rattle.two_worlds.specs.Session.Fault.{Fault}

@@ -1,13 +1,13 @@
 -- Why a replay ends, by the status that is answered, and which last line is due then.
 use Rattle.std.specs.Prelude.{◌≡◌, ◌≢◌, ℕ, ◌+◌, ◌<◌, ◌≤◌, ◌⊎◌, false, IsTrue, List, [], length, Option, Some, None, IfSome, if◌then◌else◌}
-use Rattle.cloud_server.specs.CdEdges.area.Area.{Area}
-use Rattle.cloud_server.specs.CdEdges.area.Area.TheVariants as areas
-use Rattle.cloud_server.specs.CdEdges.Causes.{Rose}
-use Rattle.cloud_server.specs.CdEdges.Disk.{Cloud, reads}
-use Rattle.cloud_server.specs.CdEdges.Shelf.{Stays}
+use Rattle.share_server.specs.CdEdges.area.Area.{Area}
+use Rattle.share_server.specs.CdEdges.area.Area.TheVariants as areas
+use Rattle.share_server.specs.CdEdges.Causes.{Rose}
+use Rattle.share_server.specs.CdEdges.Disk.{Cloud, reads}
+use Rattle.share_server.specs.CdEdges.Shelf.{Stays}
 use Rattle.two_worlds.specs.Session.Fault.{Fault}
-use Rattle.cloud_server.specs.CdBase.shape.Shape.{Shape}
-use Rattle.cloud_server.specs.JournalStart.rooms.UserRooms.{UserRooms}
+use Rattle.share_server.specs.CdBase.shape.Shape.{Shape}
+use Rattle.share_server.specs.JournalStart.rooms.UserRooms.{UserRooms}
 use Rattle.two_worlds.specs.Session.event.Event.TheVariants as events
 use Rattle.two_worlds.specs.Session.Scripts.{ScriptPlace, Begins, Reaches, IsEnd, IsWrong, IsWrongFirst}
 use Rattle.script_lines.specs.SessionModel.Steps.{cloud_no}

@@ -1,10 +1,10 @@
 -- How far a replay has come behind its openings, and how each part of a line ends.
 use Rattle.std.specs.Prelude.{◌≡◌, ℕ, ◌+◌, ◌<◌, ◌≤◌, ◌++◌, IsTrue, List, [], ◌∷◌, length, Option, Some, None, Result, Ok, Err, IfSome}
 use Rattle.std.specs.Io.KnownBytes.{Appends}
-use Rattle.cloud_server.specs.CdBase.shape.Shape.{Shape}
-use Rattle.cloud_server.specs.CdEdges.Causes.{Rose}
-use Rattle.cloud_server.specs.CdEdges.Disk.{Cloud}
-use Rattle.cloud_server.specs.CloudAreas.Peers.{ImagesSince}
+use Rattle.share_server.specs.CdBase.shape.Shape.{Shape}
+use Rattle.share_server.specs.CdEdges.Causes.{Rose}
+use Rattle.share_server.specs.CdEdges.Disk.{Cloud}
+use Rattle.share_server.specs.CloudAreas.Peers.{ImagesSince}
 use Rattle.two_worlds.specs.UploadJob.Lanes.{LaneView}
 use Rattle.script_lines.specs.LocalLink.fate.Fate.TheVariants.{Deliver}
 use Rattle.script_lines.specs.LocalLink.link.LocalLink.{LocalLink}

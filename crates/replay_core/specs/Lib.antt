@@ -1,4 +1,4 @@
-pub mod CloudServer
+pub mod ShareServer
 pub mod Endings
 pub mod Going
 pub mod JournalStart

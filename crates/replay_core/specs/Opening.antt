@@ -1,16 +1,16 @@
 -- What the first steps of a replay come to: its first line, the areas that are to be empty, and the first openings.
 use Rattle.std.specs.Prelude.{◌≡◌, ◌≢◌, ℕ, ◌<◌, ◌≤◌, ◌++◌, false, IsTrue, List, [], length, Option, Some, Result, Ok, Err, IfSome}
-use Rattle.cloud_server.specs.CdBase.ids.CloudNo.{CloudNo}
-use Rattle.cloud_server.specs.JournalStart.rooms.UserRooms.{UserRooms}
-use Rattle.cloud_server.specs.CdBase.shape.Shape.{Shape}
-use Rattle.cloud_server.specs.CdEdges.area.Area.{Area}
-use Rattle.cloud_server.specs.CdEdges.Causes.{Rose}
-use Rattle.cloud_server.specs.CdEdges.Disk.{Cloud, Image, IsImage, reads}
-use Rattle.cloud_server.specs.CdEdges.Shelf.{Stays}
-use Rattle.cloud_server.specs.JournalStart.start.Header.{Header}
-use Rattle.cloud_server.specs.HalfJournal.errors.OpenErr.{OpenErr}
-use Rattle.cloud_server.specs.HalfJournal.errors.OpenErr.TheVariants as open_errors
-use Rattle.cloud_server.specs.CloudAreas.Peers.{ImagesSince}
+use Rattle.share_server.specs.CdBase.ids.CloudNo.{CloudNo}
+use Rattle.share_server.specs.JournalStart.rooms.UserRooms.{UserRooms}
+use Rattle.share_server.specs.CdBase.shape.Shape.{Shape}
+use Rattle.share_server.specs.CdEdges.area.Area.{Area}
+use Rattle.share_server.specs.CdEdges.Causes.{Rose}
+use Rattle.share_server.specs.CdEdges.Disk.{Cloud, Image, IsImage, reads}
+use Rattle.share_server.specs.CdEdges.Shelf.{Stays}
+use Rattle.share_server.specs.JournalStart.start.Header.{Header}
+use Rattle.share_server.specs.CommitJournal.errors.OpenErr.{OpenErr}
+use Rattle.share_server.specs.CommitJournal.errors.OpenErr.TheVariants as open_errors
+use Rattle.share_server.specs.CloudAreas.Peers.{ImagesSince}
 use Rattle.script_lines.specs.LocalLink.link.LocalLink.{LocalLink}
 use Rattle.script_lines.specs.LocalLink.Calls.{no_commands}
 use Rattle.script_lines.specs.LocalLink.Tells.{server_at, rooms_at, header_at, StandsAt}
@@ -21,7 +21,7 @@ use Rattle.two_worlds.specs.Session.lines.LineErr.TheVariants as line_errors
 use Rattle.two_worlds.specs.Session.reading.ScriptErr.{ScriptErr}
 use Rattle.two_worlds.specs.Session.reading.ScriptErr.TheVariants as script_errors
 use Rattle.two_worlds.specs.Session.Scripts.{ScriptPlace, Begins, IsWrongFirst}
-use Rattle.cloud_server.specs.Refusals.{IsDamage}
+use Rattle.share_server.specs.Refusals.{IsDamage}
 use Rattle.replay_core.specs.declared.end.ReplayEnd.{ReplayEnd}
 use Rattle.replay_core.specs.declared.end.ReplayEnd.TheVariants as ends
 use Rattle.replay_core.specs.Endings.{IsEmptyAt, AreEmptyBefore, AreEmptyBelow, AreSpared, IsFirstFilled}

@@ -2,11 +2,11 @@
 use Rattle.std.specs.Prelude.{◌≡◌, ℕ, ◌<◌, ◌≤◌, ◌⊎◌, List, [], ◌++◌, length, Option, IsTrue}
 use Rattle.std.specs.List.{Contains}
 use Rattle.std.specs.Io.KnownBytes.{Appends}
-use Rattle.cloud_server.specs.CdEdges.area.Area.{Area}
-use Rattle.cloud_server.specs.CdEdges.Disk.{Cloud, Image, IsImage, reads}
-use Rattle.cloud_server.specs.UserDedup.command.Command.{Command}
-use Rattle.cloud_server.specs.UserDedup.Exec.{MaySettleAs}
-use Rattle.cloud_server.specs.CloudAreas.Standing.{StandsFor}
+use Rattle.share_server.specs.CdEdges.area.Area.{Area}
+use Rattle.share_server.specs.CdEdges.Disk.{Cloud, Image, IsImage, reads}
+use Rattle.share_server.specs.UserDedup.command.Command.{Command}
+use Rattle.share_server.specs.UserDedup.Exec.{MaySettleAs}
+use Rattle.share_server.specs.CloudAreas.Standing.{StandsFor}
 use Rattle.two_worlds.specs.Transcript.line.Line.TheVariants as lines
 use Rattle.two_worlds.specs.Session.Texts.{text_of}
 use Rattle.two_worlds.specs.Session.event.Event.TheVariants as events

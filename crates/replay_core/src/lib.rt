@@ -7,8 +7,6 @@ mod opening;
 mod script;
 mod writing;
 
-pub use cloud_server::UserRooms;
-pub use cloud_server::laws::law_of_no_commands;
 pub use end::ReplayEnd;
 pub use opening::{empty_clouds, open_clouds};
 pub use script::replay;
@@ -16,4 +14,6 @@ pub use script_lines::{
     Buffers, Jobs, LocalLink, Servers, carry_out, law_of_acknowledged, law_of_moments,
     law_of_own_replies, law_of_parts,
 };
+pub use share_server::UserRooms;
+pub use share_server::laws::law_of_no_commands;
 pub use two_worlds::read_line;

@@ -13,8 +13,8 @@ ghost use Rattle.replay_core.specs.Going.{CanBe, SaysNext, SaysEvent, EndsReadin
 
 use crate::ReplayEnd;
 use crate::writing::write_text;
-use cloud_server::{Shape, Shelf, Sink, Source};
 use script_lines::{Buffers, CarryErr, Jobs, LocalLink, carry_out};
+use share_server::{Shape, Shelf, Sink, Source};
 use std::alloc::Global;
 use two_worlds::{Answer, Event, LineErr, LineReader, ScriptErr};
 

@@ -1,9 +1,9 @@
 //! The first steps of a replay: its first line, the clouds' areas, which are to be empty, and the first openings.
 
 ghost use Rattle.std.specs.Prelude.{◌≡◌, ◌≢◌, ◌<◌, ◌≤◌, ℕ, Ok, IsTrue, IfOk, IfErr, OnOk, OnErr};
-ghost use Rattle.cloud_server.specs.CdEdges.area.Area.{Area};
-ghost use Rattle.cloud_server.specs.JournalStart.start.Header.{Header};
-ghost use Rattle.cloud_server.specs.JournalStart.Ranges.{AreRooms};
+ghost use Rattle.share_server.specs.CdEdges.area.Area.{Area};
+ghost use Rattle.share_server.specs.JournalStart.start.Header.{Header};
+ghost use Rattle.share_server.specs.JournalStart.Ranges.{AreRooms};
 ghost use Rattle.two_worlds.specs.Session.Reading as reading;
 ghost use Rattle.two_worlds.specs.Session.Lines.{script_limit};
 ghost use Rattle.script_lines.specs.LocalLink.Calls.{no_commands};
@@ -13,9 +13,9 @@ ghost use Rattle.replay_core.specs.Opening.{before_first, IsHead, EndsFirst, Pre
 
 use crate::ReplayEnd;
 use crate::lines::{end_of_line, end_of_reader};
-use cloud_server::laws::law_of_no_commands;
-use cloud_server::{Area, CloudNo, Failed, OpenErr, Shape, Shelf, Source, UserRooms, damage_of};
 use script_lines::LocalLink;
+use share_server::laws::law_of_no_commands;
+use share_server::{Area, CloudNo, Failed, OpenErr, Shape, Shelf, Source, UserRooms, damage_of};
 use two_worlds::LineReader;
 
 // What the first line says, or how the replay ends there.

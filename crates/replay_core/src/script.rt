@@ -1,7 +1,7 @@
 //! A session from its script's first byte to its end.
 
 ghost use Rattle.std.specs.Prelude.{◌≡◌, ◌<◌, ◌≤◌, ℕ, [], IsTrue, length};
-ghost use Rattle.cloud_server.specs.CdBase.shape.Shape.{Shape};
+ghost use Rattle.share_server.specs.CdBase.shape.Shape.{Shape};
 ghost use Rattle.two_worlds.specs.Session.Lines.{script_limit};
 ghost use Rattle.script_lines.specs.SessionModel.Vault.{Setting};
 ghost use Rattle.script_lines.specs.Jobs.{AreReached};
@@ -14,11 +14,11 @@ use crate::ReplayEnd;
 use crate::lines::{answer_line, next_event};
 use crate::opening::{empty_clouds, first_line, open_clouds};
 use crate::writing::write_one;
-use cloud_server::laws::law_of_no_commands;
-use cloud_server::{Shelf, Sink, Source};
 use script_lines::{
     Buffers, Jobs, LocalLink, Servers, law_of_acknowledged, law_of_moments, law_of_own_replies,
 };
+use share_server::laws::law_of_no_commands;
+use share_server::{Shelf, Sink, Source};
 use std::alloc::Global;
 use two_worlds::{Answer, Line, LineReader};
 

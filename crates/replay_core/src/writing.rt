@@ -6,7 +6,7 @@ ghost use Rattle.two_worlds.specs.Transcript.Transcript.{line_text};
 ghost use Rattle.replay_core.specs.Going.{EndsSink, EndsWriting};
 
 use crate::ReplayEnd;
-use cloud_server::{Failed, Sink};
+use share_server::{Failed, Sink};
 use std::alloc::Global;
 use two_worlds::{Answer, Line};
 

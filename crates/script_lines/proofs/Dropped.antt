@@ -9,7 +9,7 @@ use Rattle.session_model.specs.UserDedup.Requests.{asked_at}
 use Rattle.session_model.specs.UserDedup.Exec.{Peer}
 use Rattle.session_model.specs.UserDedup.Link.{LeavesOthers, Does, serves}
 use Rattle.session_model.specs.CloudAreas.Peers.{ImagesSince, MayBecome}
-use Rattle.session_model.specs.CloudServer.server.Server.{Server}
+use Rattle.session_model.specs.ShareServer.server.Server.{Server}
 use Rattle.session_model.specs.LocalLink.fate.Fate.TheVariants as fates
 use Rattle.session_model.specs.LocalLink.fate.Fate.TheVariants.{Deliver}
 use Rattle.session_model.specs.LocalLink.link.LocalLink.{LocalLink}

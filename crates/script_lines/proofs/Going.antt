@@ -6,7 +6,7 @@ use Rattle.recipe.specs.CdBase.shape.Shape.{Shape}
 use Rattle.session_model.specs.CdEdges.Disk.{Cloud}
 use Rattle.session_model.proofs.CdEdges.Moments.{weaker, left_alone, started, at_end}
 use Rattle.session_model.specs.JournalStart.start.Header.{Header}
-use Rattle.session_model.specs.CloudServer.Names.{header_of}
+use Rattle.session_model.specs.ShareServer.Names.{header_of}
 use Rattle.deletions.specs.Messages.request.Request.{Request}
 use Rattle.deletions.specs.Messages.reply.Reply.{Reply}
 use Rattle.session_model.specs.UserDedup.command.Command.{Command}

@@ -13,10 +13,10 @@ use Rattle.session_model.specs.CdEdges.Causes.{Rose}
 use Rattle.session_model.specs.CdEdges.Disk.{Areas, Cloud, Image, IsImage, LeavesOnly}
 use Rattle.session_model.specs.CdEdges.Shelf.{Arms, HasFailed, KeepsCounts}
 use Rattle.session_model.proofs.CdEdges.Moments.{at_end}
-use Rattle.session_model.specs.HalfJournal.errors.OpenErr.{OpenErr}
-use Rattle.session_model.specs.HalfJournal.errors.OpenErr.TheVariants as errors
+use Rattle.session_model.specs.CommitJournal.errors.OpenErr.{OpenErr}
+use Rattle.session_model.specs.CommitJournal.errors.OpenErr.TheVariants as errors
 use Rattle.session_model.specs.JournalStart.start.Header.{Header}
-use Rattle.session_model.specs.HalfJournal.Openings.{OnFault}
+use Rattle.session_model.specs.CommitJournal.Openings.{OnFault}
 use Rattle.deletions.specs.Messages.request.Request.{Request}
 use Rattle.deletions.specs.Messages.Requests.{request_bytes}
 use Rattle.session_model.specs.UserDedup.command.Command.{Command}
@@ -31,8 +31,8 @@ use Rattle.session_model.specs.RestoreJob.error.RestoreErr.{RestoreErr}
 use Rattle.session_model.specs.RestoreJob.error.RestoreErr.TheVariants as restore_errors
 use Rattle.session_model.specs.SubsetRestore.Ends.{AnyEnds}
 use Rattle.session_model.specs.SubsetRestore.Going.{sought}
-use Rattle.session_model.specs.CloudServer.server.Server.{Server}
-use Rattle.session_model.specs.CloudServer.Serving.{ReopensAs}
+use Rattle.session_model.specs.ShareServer.server.Server.{Server}
+use Rattle.session_model.specs.ShareServer.Serving.{ReopensAs}
 use Rattle.session_model.specs.UploadJob.Lanes.{LaneView, lanes_begun, request_at, IsAsked}
 use Rattle.session_jobs.specs.LaneSteps.Reached.{IsReached}
 use Rattle.session_model.specs.Rebuild.KeptFiles.Kept.{key_of}
@@ -60,7 +60,7 @@ use Rattle.script_lines.specs.Jobs.{job_lanes}
 use Rattle.script_lines.specs.Dropping.{IsReplyDropped, Drops}
 use Rattle.script_lines.proofs.Getting.{GetsIf, got_by}
 use Rattle.script_lines.proofs.Walking.{views_are}
-use Rattle.session_model.specs.CloudServer.Refusals.{IsDamage}
+use Rattle.session_model.specs.ShareServer.Refusals.{IsDamage}
 use Rattle.script_lines.specs.Stepping.{IsOpening}
 use Rattle.script_lines.proofs.Going.{put, put_here, put_other, before_exec, now_by, moves, executes, listed, images_weaker, images_still, images_one, images_executed, header_is, asks_rooms}
 

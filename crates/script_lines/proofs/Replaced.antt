@@ -12,18 +12,18 @@ use Rattle.session_model.specs.CdEdges.Disk.{Cloud, Image, IsImage}
 use Rattle.session_model.specs.CdEdges.Shelf.{IsCall, HasFailed, KeepsCounts, Refreshes}
 use Rattle.session_model.specs.CdEdges.Shelf as shelves
 use Rattle.session_model.proofs.CdEdges.Moments.{weaker, joined, stayed, left_alone, at_end}
-use Rattle.session_model.specs.HalfJournal.errors.OpenErr.{OpenErr}
-use Rattle.session_model.specs.HalfJournal.errors.OpenErr.TheVariants as errors
+use Rattle.session_model.specs.CommitJournal.errors.OpenErr.{OpenErr}
+use Rattle.session_model.specs.CommitJournal.errors.OpenErr.TheVariants as errors
 use Rattle.session_model.specs.JournalStart.start.Header.{Header}
-use Rattle.session_model.specs.HalfJournal.Openings.{OnFault}
+use Rattle.session_model.specs.CommitJournal.Openings.{OnFault}
 use Rattle.session_model.specs.UserDedup.command.Command.{Command}
 use Rattle.session_model.specs.UserDedup.Exec.{Peer, MaySettleAs}
 use Rattle.session_model.specs.UserDedup.Link.{LeavesOthers}
 use Rattle.session_model.proofs.UserDedup.Owned.{contains_here, contains_cases, contains_nothing}
 use Rattle.session_model.specs.CloudAreas.Peers.{StandsForSome, ImagesNow, ImagesSince}
-use Rattle.session_model.specs.CloudServer.server.Server.{Server}
-use Rattle.session_model.specs.CloudServer.Serving.{ReopensAs}
-use Rattle.session_model.proofs.CloudServer.NoCommands.{empty_stands}
+use Rattle.session_model.specs.ShareServer.server.Server.{Server}
+use Rattle.session_model.specs.ShareServer.Serving.{ReopensAs}
+use Rattle.session_model.proofs.ShareServer.NoCommands.{empty_stands}
 use Rattle.session_model.specs.UploadJob.Lanes.{LaneView}
 use Rattle.session_model.specs.LocalLink.link.LocalLink.{LocalLink}
 use Rattle.session_model.specs.LocalLink.Tells.{rooms_at, header_at, telling, StandsAt, LeavesRest}

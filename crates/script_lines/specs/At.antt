@@ -7,7 +7,7 @@ use Rattle.session_model.specs.UploadJob.Lanes.{LaneView}
 use Rattle.session_model.specs.LocalLink.fate.Fate.TheVariants.{Deliver}
 use Rattle.session_model.specs.LocalLink.link.LocalLink.{LocalLink}
 use Rattle.session_model.specs.LocalLink.Tells.{rooms_at, StandsAt}
-use Rattle.session_model.specs.CloudServer.Names.{header_of}
+use Rattle.session_model.specs.ShareServer.Names.{header_of}
 use Rattle.session_model.specs.Vault.{Setting, JobState, Vault}
 
 -- the header of a cloud of the session's store

@@ -3,7 +3,7 @@ use Rattle.std.specs.Prelude.{◌≡◌, ℕ, List, [], Result, Ok, Err}
 use Rattle.recipe.specs.CdBase.ids.CloudNo.{CloudNo}
 use Rattle.session_model.specs.CdEdges.Causes.{Rose}
 use Rattle.session_model.specs.CdEdges.Disk.{Cloud}
-use Rattle.session_model.specs.HalfJournal.errors.OpenErr.{OpenErr}
+use Rattle.session_model.specs.CommitJournal.errors.OpenErr.{OpenErr}
 use Rattle.session_model.specs.UploadJob.Lanes.{LaneView}
 use Rattle.session_model.specs.LocalLink.link.LocalLink.{LocalLink}
 use Rattle.session_model.specs.Session.event.Event.{Event}

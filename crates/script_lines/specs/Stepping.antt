@@ -1,8 +1,8 @@
 -- What one line says of what came of it.
 use Rattle.std.specs.Prelude.{◌≡◌, ℕ, Bool, List, [], ◌∷◌, Option, Some, None, Result, Ok, Err, if◌then◌else◌}
-use Rattle.session_model.specs.HalfJournal.errors.OpenErr.{OpenErr}
-use Rattle.session_model.specs.HalfJournal.errors.OpenErr.TheVariants as errors
-use Rattle.session_model.specs.CloudServer.Refusals.{IsDamage}
+use Rattle.session_model.specs.CommitJournal.errors.OpenErr.{OpenErr}
+use Rattle.session_model.specs.CommitJournal.errors.OpenErr.TheVariants as errors
+use Rattle.session_model.specs.ShareServer.Refusals.{IsDamage}
 use Rattle.session_model.specs.UploadJob.news.LaneNews.{LaneNews}
 use Rattle.session_jobs.specs.LaneSteps.error.StepErr.{StepErr}
 use Rattle.session_jobs.specs.LaneSteps.error.StepErr.TheVariants as step_errors

@@ -6,7 +6,7 @@ ghost use Rattle.script_lines.specs.At.{KeepsOtherClouds};
 ghost use Rattle.script_lines.specs.Does.{CarriesOut, IsCutOff};
 ghost use Rattle.script_lines.specs.Replacing.{IsNewStore, IsShelfFault};
 ghost use Rattle.script_lines.specs.Stepping.{IsOpening};
-ghost use Rattle.session_model.specs.CloudServer.Serving.{an_error};
+ghost use Rattle.session_model.specs.ShareServer.Serving.{an_error};
 
 use crate::news::put_line;
 use crate::{CarryErr, Jobs};

@@ -1,16 +1,16 @@
 -- Connections and their lines so far, and how the serving ends behind them.
 use Rattle.std.proofs.Common.{◌≡◌, ◌⊎◌, inl, inr, ℕ, ◌+◌, ◌<◌, ◌≤◌, List, [], ◌∷◌, ◌++◌, length, Option, Err, refl, sym}
 use Rattle.std.proofs.Common.{ap, subst, arith, length-append}
-use Rattle.cloud_server.specs.CdEdges.Causes.{Rose}
-use Rattle.cloud_server.specs.CdEdges.Disk.{Cloud}
-use Rattle.cloud_server.specs.CdEdges.Ports.{Telling}
-use Rattle.cloud_server.specs.JournalStart.start.Header.{Header}
+use Rattle.share_server.specs.CdEdges.Causes.{Rose}
+use Rattle.share_server.specs.CdEdges.Disk.{Cloud}
+use Rattle.share_server.specs.CdEdges.Ports.{Telling}
+use Rattle.share_server.specs.JournalStart.start.Header.{Header}
 use Rattle.serve_command.specs.declared.served.Served.{Served}
 use Rattle.serve_command.specs.Connection.{EndsWithCause}
 use Rattle.serve_command.specs.Lines.{ready_text, connection_text, serving_text}
 use Rattle.serve_command.specs.Served.{ServeOutput, output_of, IsTextWhole, IsSinkCut, IsLeftOut}
 use Rattle.serve_command.specs.Steps.{ServingMoment, HasServedConnection, HasServedConnections, Writes, ServesAll, moment_of, status_by}
-use Rattle.cloud_server.specs.declared.server.Server.{Server}
+use Rattle.share_server.specs.declared.server.Server.{Server}
 use Rattle.serve_command.specs.declared.stop.ServingStop.{ServingStop}
 use Rattle.serve_command.specs.declared.stop.ServingStop.TheVariants as stops
 use Rattle.serve_command.proofs.Running.{went_none, went_more}

@@ -1,27 +1,27 @@
 -- Where nothing fails, all connections are served or memory runs out: each other status has a cause that isn't there.
 use Rattle.std.proofs.Common.{◌≡◌, ◌⊎◌, ⊎_elim, inl, inr, ℕ, ◌-◌, ◌^◌, ◌≤◌, min, List, [], refl, sym, ◌∙◌, ap, subst, arith}
-use Rattle.cloud_server.specs.CdEdges.Causes.{Rose}
-use Rattle.cloud_server.specs.CdEdges.area.Area.TheVariants.{Journal}
-use Rattle.cloud_server.specs.CdEdges.Disk.{Image, reads}
-use Rattle.cloud_server.specs.CdEdges.Shelf.{HasFailed, KeepsCounts}
-use Rattle.cloud_server.specs.HalfJournal.errors.OpenErr.{OpenErr}
-use Rattle.cloud_server.specs.HalfJournal.errors.OpenErr.TheVariants as errors
-use Rattle.cloud_server.specs.HalfJournal.Openings.{OnFault}
-use Rattle.cloud_server.specs.JournalStart.rooms.UserRooms.{UserRooms}
-use Rattle.cloud_server.specs.JournalStart.start.Header.{Header}
-use Rattle.cloud_server.specs.JournalStart.start.Start.{Start}
-use Rattle.cloud_server.specs.JournalHalves.Beginnings.{IsUnbegun}
-use Rattle.cloud_server.specs.JournalHalves.Findings.{IsFoundDamage}
-use Rattle.cloud_server.specs.JournalHalves.Halves.{IsCurrent}
-use Rattle.cloud_server.specs.StoreOpening.Spared.{IsOkOrFault}
-use Rattle.cloud_server.proofs.StoreOpening.Current.{not_unbegun}
-use Rattle.cloud_server.proofs.StoreOpening.OneStart.{current_whole, unbegun_whole}
-use Rattle.cloud_server.specs.UserDedup.command.Command.{Command}
-use Rattle.cloud_server.specs.UserDedup.Spending.{IsWithin}
-use Rattle.cloud_server.proofs.UserDedup.Spending.{none_within}
-use Rattle.cloud_server.specs.CloudAreas.Standing.{StandsFor}
-use Rattle.cloud_server.specs.Names.{HasNoJournal}
-use Rattle.cloud_server.specs.Serving.{an_error}
+use Rattle.share_server.specs.CdEdges.Causes.{Rose}
+use Rattle.share_server.specs.CdEdges.area.Area.TheVariants.{Journal}
+use Rattle.share_server.specs.CdEdges.Disk.{Image, reads}
+use Rattle.share_server.specs.CdEdges.Shelf.{HasFailed, KeepsCounts}
+use Rattle.share_server.specs.CommitJournal.errors.OpenErr.{OpenErr}
+use Rattle.share_server.specs.CommitJournal.errors.OpenErr.TheVariants as errors
+use Rattle.share_server.specs.CommitJournal.Openings.{OnFault}
+use Rattle.share_server.specs.JournalStart.rooms.UserRooms.{UserRooms}
+use Rattle.share_server.specs.JournalStart.start.Header.{Header}
+use Rattle.share_server.specs.JournalStart.start.Start.{Start}
+use Rattle.share_server.specs.JournalHalves.Beginnings.{IsUnbegun}
+use Rattle.share_server.specs.JournalHalves.Findings.{IsFoundDamage}
+use Rattle.share_server.specs.JournalHalves.Halves.{IsCurrent}
+use Rattle.share_server.specs.CloudOpening.Spared.{IsOkOrFault}
+use Rattle.share_server.proofs.CloudOpening.Current.{not_unbegun}
+use Rattle.share_server.proofs.CloudOpening.OneStart.{current_whole, unbegun_whole}
+use Rattle.share_server.specs.UserDedup.command.Command.{Command}
+use Rattle.share_server.specs.UserDedup.Spending.{IsWithin}
+use Rattle.share_server.proofs.UserDedup.Spending.{none_within}
+use Rattle.share_server.specs.CloudAreas.Standing.{StandsFor}
+use Rattle.share_server.specs.Names.{HasNoJournal}
+use Rattle.share_server.specs.Serving.{an_error}
 use Rattle.serve_command.specs.Serving.{RepliesOne}
 use Rattle.serve_command.specs.Complete.{IsStill, HasList, IsNew, IsServeUnhindered}
 use Rattle.serve_command.specs.Served.{ServeCall, old_cloud, own_header, IsOpeningRefused, HasRooms, IsUnreadable, IsUnfound, IsUnopenedToServe, IsOpenedToServe, Ends, IsServed}

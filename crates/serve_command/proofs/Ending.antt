@@ -3,7 +3,7 @@ use Rattle.std.proofs.Common.{◌≡◌, ℕ, ◌+◌, ◌^◌, ◌<◌, ◌≤�
 use Rattle.ports_link.specs.Frames.Frames.{IsFrame, IsRefused, stream}
 use Rattle.ports_link.specs.Frames.Steps.{Begun}
 use Rattle.ports_link.proofs.Frames.StreamLaws.{all_shown}
-use Rattle.cloud_server.specs.CdEdges.Ports.{Telling, Receives}
+use Rattle.share_server.specs.CdEdges.Ports.{Telling, Receives}
 use Rattle.serve_command.specs.declared.served.ConnectionStop.{ConnectionStop}
 use Rattle.serve_command.specs.declared.served.ConnectionStop.TheVariants as stops
 use Rattle.serve_command.specs.declared.served.Served.TheVariants as ends

@@ -2,14 +2,14 @@
 use Rattle.std.proofs.Common.{◌≡◌, inl, inr, ℕ, IsTrue, Result, Err, sym, subst}
 use Rattle.std.proofs.lemmas.Bool.Decides.{eqb_tells}
 use Rattle.ports_link.specs.CdBase.ids.CloudNo.{CloudNo}
-use Rattle.cloud_server.specs.CdEdges.area.Area.TheVariants.{Journal}
-use Rattle.cloud_server.specs.CdEdges.Disk.{Cloud}
-use Rattle.cloud_server.specs.CdEdges.Shelf.{IsCall, HasFailed, KeepsCounts, Stays}
-use Rattle.cloud_server.specs.JournalStart.rooms.UserRooms.{UserRooms}
-use Rattle.cloud_server.specs.JournalStart.Ranges.{AreRooms}
-use Rattle.cloud_server.specs.HalfJournal.errors.OpenErr.{OpenErr}
-use Rattle.cloud_server.specs.HalfJournal.errors.OpenErr.TheVariants as errors
-use Rattle.cloud_server.specs.Serving.{an_error}
+use Rattle.share_server.specs.CdEdges.area.Area.TheVariants.{Journal}
+use Rattle.share_server.specs.CdEdges.Disk.{Cloud}
+use Rattle.share_server.specs.CdEdges.Shelf.{IsCall, HasFailed, KeepsCounts, Stays}
+use Rattle.share_server.specs.JournalStart.rooms.UserRooms.{UserRooms}
+use Rattle.share_server.specs.JournalStart.Ranges.{AreRooms}
+use Rattle.share_server.specs.CommitJournal.errors.OpenErr.{OpenErr}
+use Rattle.share_server.specs.CommitJournal.errors.OpenErr.TheVariants as errors
+use Rattle.share_server.specs.Serving.{an_error}
 use Rattle.serve_command.specs.Served.{ServeCall, old_cloud, HasRooms, IsUnreadable, IsUnfound, IsUnmade, IsUnopenedOrServed, IsInRooms, IsServed}
 use Rattle.serve_command.specs.Steps.{IsClosedUnopened, Counts, IsUnmadeOrServed}
 use Rattle.serve_command.proofs.Openings.{reported_by}

@@ -1,6 +1,6 @@
 pub mod Along
 pub mod Carrying
-pub mod CloudServer
+pub mod ShareServer
 pub mod Completing
 pub mod Ending
 mod InRooms
@@ -10,5 +10,5 @@ pub mod PassingOn
 pub mod Replied
 pub mod Rows
 pub mod Running
-pub mod StoreOpening
+pub mod CloudOpening
 pub mod Texts

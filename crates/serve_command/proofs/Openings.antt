@@ -2,31 +2,31 @@
 use Rattle.std.proofs.Common.{◌≡◌, ℕ, Bool, true, IsTrue, List, Result, Ok, Err, IfOk, OnOk, None, refl, sym, ◌∙◌, subst}
 use Rattle.std.specs.List.{Contains}
 use Rattle.ports_link.specs.CdBase.ids.CloudNo.{CloudNo}
-use Rattle.cloud_server.specs.JournalStart.rooms.UserRooms.{UserRooms}
+use Rattle.share_server.specs.JournalStart.rooms.UserRooms.{UserRooms}
 use Rattle.ports_link.specs.CdBase.shape.Shape.{Shape}
-use Rattle.cloud_server.specs.CdEdges.area.Area.TheVariants.{Journal}
-use Rattle.cloud_server.specs.CdEdges.Disk.{Cloud, Image, reads}
-use Rattle.cloud_server.specs.CdEdges.Shelf.{IsCall, HasFailed, KeepsCounts}
-use Rattle.cloud_server.specs.HalfJournal.errors.OpenErr.{OpenErr}
-use Rattle.cloud_server.specs.HalfJournal.errors.OpenErr.TheVariants as errors
-use Rattle.cloud_server.specs.JournalStart.start.Header.{Header}
-use Rattle.cloud_server.specs.HalfJournal.Openings.{OnFault}
-use Rattle.cloud_server.specs.UserDedup.command.Command.{Command}
-use Rattle.cloud_server.specs.UserDedup.Exec.{Peer}
-use Rattle.cloud_server.specs.StoreOpening.Exact.{Opens}
-use Rattle.cloud_server.specs.StoreOpening.Spared.{IsOkOrFault, MayBegin, Spares}
-use Rattle.cloud_server.specs.CloudMemory.Memory.{Memory}
-use Rattle.cloud_server.specs.CloudMemory.Rooms.{memory_of}
-use Rattle.cloud_server.specs.Openings.{OpensTo, OtherStoreIs}
-use Rattle.cloud_server.specs.UserDedup.Spending.{IsWithin}
-use Rattle.cloud_server.specs.CloudAreas.Peers.{ImagesNow, ImagesSince, StandsAs}
-use Rattle.cloud_server.specs.CloudAreas.Standing.{StandsFor}
+use Rattle.share_server.specs.CdEdges.area.Area.TheVariants.{Journal}
+use Rattle.share_server.specs.CdEdges.Disk.{Cloud, Image, reads}
+use Rattle.share_server.specs.CdEdges.Shelf.{IsCall, HasFailed, KeepsCounts}
+use Rattle.share_server.specs.CommitJournal.errors.OpenErr.{OpenErr}
+use Rattle.share_server.specs.CommitJournal.errors.OpenErr.TheVariants as errors
+use Rattle.share_server.specs.JournalStart.start.Header.{Header}
+use Rattle.share_server.specs.CommitJournal.Openings.{OnFault}
+use Rattle.share_server.specs.UserDedup.command.Command.{Command}
+use Rattle.share_server.specs.UserDedup.Exec.{Peer}
+use Rattle.share_server.specs.CloudOpening.Exact.{Opens}
+use Rattle.share_server.specs.CloudOpening.Spared.{IsOkOrFault, MayBegin, Spares}
+use Rattle.share_server.specs.CloudMemory.Memory.{Memory}
+use Rattle.share_server.specs.CloudMemory.Rooms.{memory_of}
+use Rattle.share_server.specs.Openings.{OpensTo, OtherStoreIs}
+use Rattle.share_server.specs.UserDedup.Spending.{IsWithin}
+use Rattle.share_server.specs.CloudAreas.Peers.{ImagesNow, ImagesSince, StandsAs}
+use Rattle.share_server.specs.CloudAreas.Standing.{StandsFor}
 use Rattle.serve_command.specs.Serving.{ServesOne, standing}
-use Rattle.cloud_server.specs.UserDedup.Cloud.{counted}
-use Rattle.cloud_server.specs.Names.{header_of}
-use Rattle.cloud_server.specs.OpenStore.Store.{IsOpen}
-use Rattle.cloud_server.specs.Serving.{IsServing, an_error, settled_with}
-use Rattle.cloud_server.specs.declared.server.Server.{Server}
+use Rattle.share_server.specs.UserDedup.Cloud.{counted}
+use Rattle.share_server.specs.Names.{header_of}
+use Rattle.share_server.specs.CloudStore.Store.{IsOpen}
+use Rattle.share_server.specs.Serving.{IsServing, an_error, settled_with}
+use Rattle.share_server.specs.declared.server.Server.{Server}
 use Rattle.serve_command.specs.Runs.{ServeRun}
 use Rattle.serve_command.specs.Served.{ServeCall, ServeOutput, own_header, IsOpeningRefused, HasServed, IsLeftOpen, IsReported, IsUnopenedToServe, IsOpenedToServe}
 use Rattle.serve_command.specs.Served.{IsUnopenedOrServed}

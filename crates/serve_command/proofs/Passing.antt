@@ -1,7 +1,7 @@
 -- The bytes of connections, one after another.
 use Rattle.std.proofs.Common.{◌≡◌, ◌≢◌, ◌⊎◌, inl, inr, ℕ, ◌+◌, ◌<◌, ◌≤◌, List, [], ◌∷◌, ◌++◌, length, IsTrue, refl, sym}
 use Rattle.std.proofs.Common.{ap, ◌∙◌, subst, arith, length-append}
-use Rattle.cloud_server.specs.CdEdges.Ports.{Port, Telling, HasOpenedPort}
+use Rattle.share_server.specs.CdEdges.Ports.{Port, Telling, HasOpenedPort}
 use Rattle.serve_command.specs.declared.served.Served.{Served}
 use Rattle.serve_command.specs.Connection as connections
 use Rattle.serve_command.specs.Connection.{EndsBy, HasPassedBytes, Serves}

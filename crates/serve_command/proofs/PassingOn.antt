@@ -6,7 +6,7 @@ use Rattle.ports_link.specs.Frames.Frames.{IsContent, IsFrameOf, IsFrame, IsRefu
 use Rattle.ports_link.specs.Frames.Steps.{Took, Dropped, Takes, Refuses}
 use Rattle.ports_link.proofs.Frames.FrameLaws.{length_in-append}
 use Rattle.ports_link.proofs.Frames.StreamLaws.{all_shown}
-use Rattle.cloud_server.specs.CdEdges.Ports.{Telling, Sent, SentPart, Received}
+use Rattle.share_server.specs.CdEdges.Ports.{Telling, Sent, SentPart, Received}
 use Rattle.serve_command.specs.Connection.{More, HasPassedBytes}
 use Rattle.serve_command.specs.Framing.{IsAlongFrames, Broken, IsLengthRefused}
 

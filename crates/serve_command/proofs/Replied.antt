@@ -1,14 +1,14 @@
 -- What one answer of a server says.
 use Rattle.std.proofs.Common.{◌≡◌, inl, inr, ℕ, ◌≤◌, List, length, Result, Ok, Err, refl, sym, subst, arith}
 use Rattle.ports_link.specs.CdBase.shape.Shape.{Shape}
-use Rattle.cloud_server.specs.CdEdges.Disk.{Cloud}
-use Rattle.cloud_server.specs.Messages.request.Request.{Request}
-use Rattle.cloud_server.specs.Messages.reply.Reply.{Reply}
-use Rattle.cloud_server.specs.Messages.reply.Reply.TheVariants as replies
-use Rattle.cloud_server.specs.Messages.Replies.{reply_bytes}
-use Rattle.cloud_server.specs.UserDedup.Requests.{asked_at}
-use Rattle.cloud_server.specs.OpenStore.store.OpenStore.{OpenStore}
-use Rattle.cloud_server.specs.Serving.{Answered}
+use Rattle.share_server.specs.CdEdges.Disk.{Cloud}
+use Rattle.share_server.specs.Messages.request.Request.{Request}
+use Rattle.share_server.specs.Messages.reply.Reply.{Reply}
+use Rattle.share_server.specs.Messages.reply.Reply.TheVariants as replies
+use Rattle.share_server.specs.Messages.Replies.{reply_bytes}
+use Rattle.share_server.specs.UserDedup.Requests.{asked_at}
+use Rattle.share_server.specs.CloudStore.store.CloudStore.{CloudStore}
+use Rattle.share_server.specs.Serving.{Answered}
 use Rattle.serve_command.specs.Serving.{HeldStore, RepliesOne, RepliesTo, held_of}
 
 -- each reply has its kind in front
@@ -46,7 +46,7 @@ module _ (before after : HeldStore) (content reply : List ℕ) where
       by_read (Err at) e = let m = malformed at e in inr ((at, e, m.0), m.1)
 
 -- each reply has some bytes
-pub some_content : (shape : Shape) (content reply : List ℕ) (store : OpenStore) (old new : Cloud) (before now : ℕ)
+pub some_content : (shape : Shape) (content reply : List ℕ) (store : CloudStore) (old new : Cloud) (before now : ℕ)
     → ((r : Request) → asked_at shape content ≡ Ok r → Answered shape r store old new before now reply)
     → ((at : ℕ) → asked_at shape content ≡ Err at → reply ≡ reply_bytes (replies.Malformed at)) → 1 ≤ length reply
 some_content shape content reply store old new before now answered malformed = by_read (asked_at shape content) refl
@@ -56,5 +56,5 @@ some_content shape content reply store old new before now answered malformed = b
     by_read (Err at) e = subst (λ (l : List ℕ). 1 ≤ length l) (sym (malformed at e)) (some_bytes (replies.Malformed at))
 
 -- the parts of what is held are the same
-pub same_held : (s t : OpenStore) (c d : Cloud) (m n : ℕ) → t ≡ s → d ≡ c → n ≡ m → held_of t d n ≡ held_of s c m
+pub same_held : (s t : CloudStore) (c d : Cloud) (m n : ℕ) → t ≡ s → d ≡ c → n ≡ m → held_of t d n ≡ held_of s c m
 same_held s t c d m n stores clouds totals = λ i. record { store = stores i; cloud = clouds i; total = totals i }

@@ -1,16 +1,16 @@
 -- A row of a server's answers: as replies, as calls on its shelf, and as what becomes of a peer.
 use Rattle.std.proofs.Common.{◌≡◌, inl, inr, ℕ, List, [], ◌∷◌, Result, Ok, Err, IsTrue, refl, sym, ◌∙◌, ap, subst, arith}
-use Rattle.cloud_server.specs.JournalStart.start.Header.{Header}
-use Rattle.cloud_server.specs.CdEdges.Disk.{Cloud}
-use Rattle.cloud_server.specs.CdEdges.Ports.{Telling}
-use Rattle.cloud_server.specs.CdEdges.Shelf.{IsCall}
-use Rattle.cloud_server.proofs.CdEdges.Calls.{called_twice}
-use Rattle.cloud_server.specs.Messages.request.Request.{Request}
-use Rattle.cloud_server.specs.UserDedup.Exec.{Peer}
-use Rattle.cloud_server.specs.UserDedup.Requests.{asked_at}
-use Rattle.cloud_server.specs.CloudAreas.Peers as peers
-use Rattle.cloud_server.specs.Serving.{IsServing, number_of}
-use Rattle.cloud_server.specs.declared.server.Server.{Server}
+use Rattle.share_server.specs.JournalStart.start.Header.{Header}
+use Rattle.share_server.specs.CdEdges.Disk.{Cloud}
+use Rattle.share_server.specs.CdEdges.Ports.{Telling}
+use Rattle.share_server.specs.CdEdges.Shelf.{IsCall}
+use Rattle.share_server.proofs.CdEdges.Calls.{called_twice}
+use Rattle.share_server.specs.Messages.request.Request.{Request}
+use Rattle.share_server.specs.UserDedup.Exec.{Peer}
+use Rattle.share_server.specs.UserDedup.Requests.{asked_at}
+use Rattle.share_server.specs.CloudAreas.Peers as peers
+use Rattle.share_server.specs.Serving.{IsServing, number_of}
+use Rattle.share_server.specs.declared.server.Server.{Server}
 use Rattle.serve_command.specs.declared.served.Served.{Served}
 use Rattle.serve_command.specs.Connection.{Responds, Serves}
 use Rattle.serve_command.proofs.Carrying.{carried, mapped}

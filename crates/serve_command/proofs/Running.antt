@@ -1,9 +1,9 @@
 -- A run of connections, by one more.
 use Rattle.std.proofs.Common.{◌≡◌, ℕ, ◌-◌, ◌^◌, ◌≤◌, min, List, [], ◌∷◌, ◌++◌, IsTrue, refl, ap, ◌∙◌, subst, arith}
 use Rattle.std.proofs.lemmas.List.{map-append}
-use Rattle.cloud_server.specs.CdEdges.Ports.{Telling}
-use Rattle.cloud_server.proofs.CdEdges.Calls.{called_twice}
-use Rattle.cloud_server.specs.JournalStart.start.Header.{Header}
+use Rattle.share_server.specs.CdEdges.Ports.{Telling}
+use Rattle.share_server.proofs.CdEdges.Calls.{called_twice}
+use Rattle.share_server.specs.JournalStart.start.Header.{Header}
 use Rattle.serve_command.specs.Serving.{RepliesOne, ServesOne, standing}
 use Rattle.serve_command.specs.declared.served.Served.{Served}
 use Rattle.serve_command.specs.declared.served.Served.TheVariants as ends

@@ -3,7 +3,7 @@ use Rattle.std.proofs.Common.{◌≡◌, ℕ, ◌+◌, List, [], ◌∷◌, ◌+
 use Rattle.std.proofs.Common.{◌∙◌, subst, append_assoc, append-nil, arith}
 use Rattle.std.specs.Io.KnownBytes.{Appends}
 use Rattle.std.proofs.lemmas.List.{take-append-drop}
-use Rattle.cloud_server.specs.CdEdges.Causes.{Rose}
+use Rattle.share_server.specs.CdEdges.Causes.{Rose}
 use Rattle.serve_command.specs.declared.served.Served.{Served}
 use Rattle.serve_command.specs.Lines.{ready_text, connection_text, connection_texts, serving_text}
 use Rattle.serve_command.specs.Served.{IsTextWhole, IsSinkCut, IsLeftOut, output_of}

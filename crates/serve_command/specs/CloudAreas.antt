@@ -1,2 +1,2 @@
 -- What cloud_areas says, for callers.
-pub use Rattle.cloud_server.specs.CloudAreas.Peers
+pub use Rattle.share_server.specs.CloudAreas.Peers

@@ -1,12 +1,12 @@
 -- When all connections are served, or memory runs out: a told cloud that stands for a list within the rooms or isn't
 -- begun, and nothing that fails.
 use Rattle.std.specs.Prelude.{◌≡◌, ◌⊎◌, ℕ, ◌-◌, ◌^◌, ◌<◌, IsTrue, List}
-use Rattle.cloud_server.specs.CdEdges.Disk.{reads}
-use Rattle.cloud_server.specs.JournalStart.rooms.UserRooms.{UserRooms}
-use Rattle.cloud_server.specs.UserDedup.command.Command.{Command}
-use Rattle.cloud_server.specs.UserDedup.Spending.{IsWithin}
-use Rattle.cloud_server.specs.CloudAreas.Standing.{StandsFor}
-use Rattle.cloud_server.specs.Names.{HasNoJournal}
+use Rattle.share_server.specs.CdEdges.Disk.{reads}
+use Rattle.share_server.specs.JournalStart.rooms.UserRooms.{UserRooms}
+use Rattle.share_server.specs.UserDedup.command.Command.{Command}
+use Rattle.share_server.specs.UserDedup.Spending.{IsWithin}
+use Rattle.share_server.specs.CloudAreas.Standing.{StandsFor}
+use Rattle.share_server.specs.Names.{HasNoJournal}
 use Rattle.serve_command.specs.Served.{ServeCall, old_cloud, new_cloud, own_header}
 
 -- the count didn't rise, and isn't at its last value

@@ -1,8 +1,8 @@
 -- One connection that is served: request frames come, and the frames of the replies go out.
 use Rattle.std.specs.Prelude.{◌≡◌, ◌≢◌, ◌⊎◌, ℕ, ◌^◌, ◌<◌, List, [], ◌∷◌, ◌++◌, length, IsTrue}
-use Rattle.cloud_server.specs.CdEdges.Causes.{Rose}
+use Rattle.share_server.specs.CdEdges.Causes.{Rose}
 use Rattle.ports_link.specs.Frames.Frames.{IsContent, NoneWithin, IsFrame, IsRefused, frame, stream, length_in}
-use Rattle.cloud_server.specs.CdEdges.Ports.{Telling, OthersStay}
+use Rattle.share_server.specs.CdEdges.Ports.{Telling, OthersStay}
 use Rattle.serve_command.specs.declared.served.Served.{Served}
 use Rattle.serve_command.specs.declared.served.Served.TheVariants as ends
 

@@ -1,9 +1,9 @@
 -- A connection so far.
 use Rattle.std.specs.Prelude.{◌≡◌, ℕ, zero, suc, List, ◌++◌, length, IsTrue, Result, Ok, Err}
-use Rattle.cloud_server.specs.CdEdges.Causes.{Rose}
+use Rattle.share_server.specs.CdEdges.Causes.{Rose}
 use Rattle.ports_link.specs.Frames.Frames.{IsRefused, stream, length_in}
 use Rattle.ports_link.specs.Frames.Steps.{Run}
-use Rattle.cloud_server.specs.CdEdges.Ports.{Telling}
+use Rattle.share_server.specs.CdEdges.Ports.{Telling}
 use Rattle.serve_command.specs.Connection.{Responds, HasPassedBytes, SentFront}
 use Rattle.serve_command.specs.declared.served.Served.{Served}
 use Rattle.serve_command.specs.declared.served.Served.TheVariants as ends

@@ -1,13 +1,13 @@
 pub mod CloudAreas
 pub mod CloudMemory
-pub mod CloudServer
+pub mod ShareServer
 pub mod Complete
 pub mod Connection
 pub mod Framing
 pub mod Lines
-pub mod OpenStore
+pub mod CloudStore
 pub mod Runs
 pub mod Served
 pub mod Serving
 pub mod Steps
-pub mod StoreOpening
+pub mod CloudOpening

@@ -1,6 +1,6 @@
 -- Connections that are served one after another.
 use Rattle.std.specs.Prelude.{◌≡◌, ◌⊎◌, ℕ, ◌+◌, ◌<◌, ◌≤◌, List, [], ◌∷◌, ◌++◌, length, map, IsTrue}
-use Rattle.cloud_server.specs.CdEdges.Ports.{Port, Telling}
+use Rattle.share_server.specs.CdEdges.Ports.{Port, Telling}
 use Rattle.serve_command.specs.declared.served.Served.{Served}
 use Rattle.serve_command.specs.Connection.{Responds, EndsBy, EndsWithCause}
 

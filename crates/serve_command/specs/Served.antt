@@ -4,35 +4,35 @@ use Rattle.std.specs.Io.KnownBytes.{Appends}
 use Rattle.std.specs.List.{Contains}
 use Rattle.ports_link.specs.CdBase.ids.CloudNo.{CloudNo}
 use Rattle.ports_link.specs.CdBase.shape.Shape.{Shape}
-use Rattle.cloud_server.specs.CdEdges.Causes.{Rose}
-use Rattle.cloud_server.specs.CdEdges.area.Area.TheVariants.{Journal}
-use Rattle.cloud_server.specs.CdEdges.Disk.{Cloud, reads}
-use Rattle.cloud_server.specs.CdEdges.Ports.{Telling}
-use Rattle.cloud_server.specs.CdEdges.Shelf.{HasFailed, KeepsCounts, Stays}
-use Rattle.cloud_server.specs.HalfJournal.errors.OpenErr.{OpenErr}
-use Rattle.cloud_server.specs.HalfJournal.errors.OpenErr.TheVariants as errors
-use Rattle.cloud_server.specs.JournalStart.rooms.UserRooms.{UserRooms}
-use Rattle.cloud_server.specs.JournalStart.start.Header.{Header}
-use Rattle.cloud_server.specs.JournalStart.start.Start.{Start}
-use Rattle.cloud_server.specs.JournalStart.Ranges.{AreRooms, usual_rooms}
-use Rattle.cloud_server.specs.JournalHalves.Beginnings.{IsUnbegun}
-use Rattle.cloud_server.specs.JournalHalves.Findings.{IsFoundDamage}
-use Rattle.cloud_server.specs.JournalHalves.Halves.{IsCurrent}
-use Rattle.cloud_server.specs.HalfJournal.Openings.{OnFault}
-use Rattle.cloud_server.specs.UserDedup.command.Command.{Command}
-use Rattle.cloud_server.specs.UserDedup.Exec.{Peer, MaySettleAs}
-use Rattle.cloud_server.specs.CloudMemory.Rooms.{memory_of}
-use Rattle.cloud_server.specs.StoreOpening.Exact.{Opens}
-use Rattle.cloud_server.specs.StoreOpening.Spared.{IsOkOrFault, Spares}
-use Rattle.cloud_server.specs.Openings.{OpensTo, OtherStoreIs}
-use Rattle.cloud_server.specs.UserDedup.Spending.{IsWithin}
-use Rattle.cloud_server.specs.CloudAreas.Peers.{ImagesNow, ImagesSince, StandsAs}
-use Rattle.cloud_server.specs.CloudAreas.Standing.{StandsFor}
+use Rattle.share_server.specs.CdEdges.Causes.{Rose}
+use Rattle.share_server.specs.CdEdges.area.Area.TheVariants.{Journal}
+use Rattle.share_server.specs.CdEdges.Disk.{Cloud, reads}
+use Rattle.share_server.specs.CdEdges.Ports.{Telling}
+use Rattle.share_server.specs.CdEdges.Shelf.{HasFailed, KeepsCounts, Stays}
+use Rattle.share_server.specs.CommitJournal.errors.OpenErr.{OpenErr}
+use Rattle.share_server.specs.CommitJournal.errors.OpenErr.TheVariants as errors
+use Rattle.share_server.specs.JournalStart.rooms.UserRooms.{UserRooms}
+use Rattle.share_server.specs.JournalStart.start.Header.{Header}
+use Rattle.share_server.specs.JournalStart.start.Start.{Start}
+use Rattle.share_server.specs.JournalStart.Ranges.{AreRooms, usual_rooms}
+use Rattle.share_server.specs.JournalHalves.Beginnings.{IsUnbegun}
+use Rattle.share_server.specs.JournalHalves.Findings.{IsFoundDamage}
+use Rattle.share_server.specs.JournalHalves.Halves.{IsCurrent}
+use Rattle.share_server.specs.CommitJournal.Openings.{OnFault}
+use Rattle.share_server.specs.UserDedup.command.Command.{Command}
+use Rattle.share_server.specs.UserDedup.Exec.{Peer, MaySettleAs}
+use Rattle.share_server.specs.CloudMemory.Rooms.{memory_of}
+use Rattle.share_server.specs.CloudOpening.Exact.{Opens}
+use Rattle.share_server.specs.CloudOpening.Spared.{IsOkOrFault, Spares}
+use Rattle.share_server.specs.Openings.{OpensTo, OtherStoreIs}
+use Rattle.share_server.specs.UserDedup.Spending.{IsWithin}
+use Rattle.share_server.specs.CloudAreas.Peers.{ImagesNow, ImagesSince, StandsAs}
+use Rattle.share_server.specs.CloudAreas.Standing.{StandsFor}
 use Rattle.serve_command.specs.Serving.{HeldStore, RepliesOne, ServesOne, standing}
 use Rattle.serve_command.specs.declared.served.Served.{Served}
-use Rattle.cloud_server.specs.Names.{header_of}
-use Rattle.cloud_server.specs.OpenStore.Store.{IsOpen}
-use Rattle.cloud_server.specs.Serving.{an_error, settled_with, some_commands}
+use Rattle.share_server.specs.Names.{header_of}
+use Rattle.share_server.specs.CloudStore.Store.{IsOpen}
+use Rattle.share_server.specs.Serving.{an_error, settled_with, some_commands}
 use Rattle.ports_link.specs.Transcript.Endings.{ending_text}
 use Rattle.ports_link.specs.Transcript.ending.Ending.TheVariants as endings
 use Rattle.serve_command.specs.Lines.{ready_text, connection_text, serving_text}

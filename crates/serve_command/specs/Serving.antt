@@ -2,28 +2,28 @@
 use Rattle.std.specs.Prelude.{◌≡◌, ◌⊎◌, ℕ, List, None, Ok, Err, true, IsTrue}
 use Rattle.ports_link.specs.CdBase.ids.Fp.{Fp}
 use Rattle.ports_link.specs.CdBase.shape.Shape.{Shape}
-use Rattle.cloud_server.specs.CdEdges.Disk.{Cloud}
-use Rattle.cloud_server.specs.CdEdges.Shelf.{IsCall}
-use Rattle.cloud_server.specs.CdEdges.Shelf.{Stays as StaysIn}
-use Rattle.cloud_server.specs.JournalStart.start.Header.{Header}
-use Rattle.cloud_server.specs.Messages.request.Request.{Request}
-use Rattle.cloud_server.specs.Messages.reply.Reply.{Reply}
-use Rattle.cloud_server.specs.Messages.reply.Reply.TheVariants as replies
-use Rattle.cloud_server.specs.Messages.Replies.{IsReply, reply_bytes}
-use Rattle.cloud_server.specs.UserDedup.command.Command.{Command}
-use Rattle.cloud_server.specs.UserDedup.Exec.{Peer, Exec}
-use Rattle.cloud_server.specs.UserDedup.Requests.{asked_at}
-use Rattle.cloud_server.specs.UserDedup.Served.{served_by}
-use Rattle.cloud_server.specs.CloudAreas.Peers.{ImagesSince, MayBecome, StandsAs}
-use Rattle.cloud_server.specs.CloudMemory.Rooms.{memory_of}
-use Rattle.cloud_server.specs.OpenStore.store.OpenStore.{OpenStore}
-use Rattle.cloud_server.specs.OpenStore.Store.{IsOpen, ServesSome}
-use Rattle.cloud_server.specs.ServerCommands.Leaving.{IsFound, LeavesAll}
-use Rattle.cloud_server.specs.Serving.{IsServing, ExecutesAs, number_of, server_serves}
-use Rattle.cloud_server.specs.Serving.{Answered, ChangesBehind, EntersBy, OpensFirst, IsUnopenedReply, RottenLeaves}
-use Rattle.cloud_server.specs.declared.server.Server.{Server}
-use Rattle.cloud_server.specs.ServerRequests.Asking.{IsForMemory}
-use Rattle.cloud_server.specs.ServerRequests.Hashed.{IsHashed}
+use Rattle.share_server.specs.CdEdges.Disk.{Cloud}
+use Rattle.share_server.specs.CdEdges.Shelf.{IsCall}
+use Rattle.share_server.specs.CdEdges.Shelf.{Stays as StaysIn}
+use Rattle.share_server.specs.JournalStart.start.Header.{Header}
+use Rattle.share_server.specs.Messages.request.Request.{Request}
+use Rattle.share_server.specs.Messages.reply.Reply.{Reply}
+use Rattle.share_server.specs.Messages.reply.Reply.TheVariants as replies
+use Rattle.share_server.specs.Messages.Replies.{IsReply, reply_bytes}
+use Rattle.share_server.specs.UserDedup.command.Command.{Command}
+use Rattle.share_server.specs.UserDedup.Exec.{Peer, Exec}
+use Rattle.share_server.specs.UserDedup.Requests.{asked_at}
+use Rattle.share_server.specs.UserDedup.Served.{served_by}
+use Rattle.share_server.specs.CloudAreas.Peers.{ImagesSince, MayBecome, StandsAs}
+use Rattle.share_server.specs.CloudMemory.Rooms.{memory_of}
+use Rattle.share_server.specs.CloudStore.store.CloudStore.{CloudStore}
+use Rattle.share_server.specs.CloudStore.Store.{IsOpen, ServesSome}
+use Rattle.share_server.specs.ServerCommands.Leaving.{IsFound, LeavesAll}
+use Rattle.share_server.specs.Serving.{IsServing, ExecutesAs, number_of, server_serves}
+use Rattle.share_server.specs.Serving.{Answered, ChangesBehind, EntersBy, OpensFirst, IsUnopenedReply, RottenLeaves}
+use Rattle.share_server.specs.declared.server.Server.{Server}
+use Rattle.share_server.specs.ServerRequests.Asking.{IsForMemory}
+use Rattle.share_server.specs.ServerRequests.Hashed.{IsHashed}
 
 -- The content asks nothing, and is answered by the first place that is wrong.
 abbrev pub IsMalformed : Shape → List ℕ → List ℕ → Type 0
@@ -61,11 +61,11 @@ ServesOne header p content reply q =
 
 -- a server's store, its cloud, and the shelf's count of faults in all
 pub record HeldStore : Type 0 where
-  pub store : OpenStore
+  pub store : CloudStore
   pub cloud : Cloud
   pub total : ℕ
 
-abbrev pub held_of : OpenStore → Cloud → ℕ → HeldStore
+abbrev pub held_of : CloudStore → Cloud → ℕ → HeldStore
 held_of store cloud total = record { store = store; cloud = cloud; total = total }
 
 -- What a request whose reply has this content does, whatever the cloud holds.

@@ -1,20 +1,20 @@
 -- What connections do, one after another. No public clause cites this module.
 use Rattle.std.specs.Prelude.{◌≡◌, ◌⊎◌, ℕ, ◌+◌, List, [], IsTrue, Result, Ok, Err}
 use Rattle.ports_link.specs.CdBase.ids.CloudNo.{CloudNo}
-use Rattle.cloud_server.specs.CdEdges.Disk.{Cloud}
-use Rattle.cloud_server.specs.CdEdges.Ports.{Telling, OthersStay}
-use Rattle.cloud_server.specs.CdEdges.Shelf.{IsCall, HasFailed, KeepsCounts}
-use Rattle.cloud_server.specs.HalfJournal.errors.OpenErr.{OpenErr}
-use Rattle.cloud_server.specs.HalfJournal.Openings.{OnFault}
-use Rattle.cloud_server.specs.JournalStart.start.Header.{Header}
-use Rattle.cloud_server.specs.UserDedup.Exec.{Peer}
+use Rattle.share_server.specs.CdEdges.Disk.{Cloud}
+use Rattle.share_server.specs.CdEdges.Ports.{Telling, OthersStay}
+use Rattle.share_server.specs.CdEdges.Shelf.{IsCall, HasFailed, KeepsCounts}
+use Rattle.share_server.specs.CommitJournal.errors.OpenErr.{OpenErr}
+use Rattle.share_server.specs.CommitJournal.Openings.{OnFault}
+use Rattle.share_server.specs.JournalStart.start.Header.{Header}
+use Rattle.share_server.specs.UserDedup.Exec.{Peer}
 use Rattle.serve_command.specs.Serving.{HeldStore, RepliesOne, ServesOne, held_of, standing}
 use Rattle.serve_command.specs.declared.served.Served.{Served}
 use Rattle.serve_command.specs.Connection.{Responds}
-use Rattle.cloud_server.specs.Serving.{IsServing}
-use Rattle.cloud_server.specs.declared.server.Server.{Server}
+use Rattle.share_server.specs.Serving.{IsServing}
+use Rattle.share_server.specs.declared.server.Server.{Server}
 use Rattle.serve_command.specs.Runs.{Connection, HasConnectionBytes, ServeRun}
-use Rattle.cloud_server.specs.JournalStart.rooms.UserRooms.{UserRooms}
+use Rattle.share_server.specs.JournalStart.rooms.UserRooms.{UserRooms}
 use Rattle.serve_command.specs.Served.{ServeCall, IsUnmade, IsUnopenedOrServed, ServeOutput, Ends, IsTextWhole, IsSinkCut, IsLeftOut, Reports}
 use Rattle.serve_command.specs.declared.stop.ServingStop.{ServingStop}
 use Rattle.serve_command.specs.declared.stop.ServingStop.TheVariants as stops

@@ -1,21 +1,21 @@
 //! Serving a cloud.
 
 ghost use Rattle.std.specs.Prelude.{◌≡◌, ◌⊎◌, ◌<◌};
-ghost use Rattle.cloud_server.specs.CdEdges.Shelf.{IsCall};
-ghost use Rattle.cloud_server.specs.Names.{header_of};
+ghost use Rattle.share_server.specs.CdEdges.Shelf.{IsCall};
+ghost use Rattle.share_server.specs.Names.{header_of};
 ghost use Rattle.serve_command.specs.Complete.{IsServeUnhindered};
 ghost use Rattle.serve_command.specs.Served.{IsServed, IsUnmade, IsUnopenedOrServed, output_of};
 ghost use Rattle.serve_command.specs.Steps.{IsUnmadeOrServed};
-ghost use Rattle.cloud_server.specs.JournalStart.Ranges.{AreRooms};
+ghost use Rattle.share_server.specs.JournalStart.Ranges.{AreRooms};
 
 use crate::connections::serve_all;
 use crate::desk::Desk;
 use crate::finding::rooms_of;
 use crate::refusal::refuse;
 use crate::stop::status_of;
-use cloud_server::laws::law_of_no_commands;
-use cloud_server::{Ports, Shelf, Sink, UserRooms, WINDOW, law_of_headers};
 use ports_link::{CloudNo, NoMemory, Shape};
+use share_server::laws::law_of_no_commands;
+use share_server::{Ports, Shelf, Sink, UserRooms, WINDOW, law_of_headers};
 use std::alloc::{AllocError, Global};
 
 // Which cloud of a store is served, and in which rooms.

@@ -1,16 +1,16 @@
 //! One connection to a cloud's server.
 
 ghost use Rattle.std.specs.Prelude.{◌≡◌, IsTrue};
-ghost use Rattle.cloud_server.specs.CdEdges.Shelf.{IsCall};
-ghost use Rattle.cloud_server.specs.UserDedup.Exec.{Peer};
-ghost use Rattle.cloud_server.specs.Serving.{IsServing, number_of};
+ghost use Rattle.share_server.specs.CdEdges.Shelf.{IsCall};
+ghost use Rattle.share_server.specs.UserDedup.Exec.{Peer};
+ghost use Rattle.share_server.specs.Serving.{IsServing, number_of};
 ghost use Rattle.serve_command.specs.Connection.{EndsWithCause, Serves};
 ghost use Rattle.serve_command.specs.Serving.{RepliesOne, ServesOne, held_of, place_of, standing};
 
 use crate::responder::CloudResponder;
 use crate::{Served, serve_frames};
-use cloud_server::{Ports, Server, Shelf};
 use ports_link::{Framer, ReplyBuf};
+use share_server::{Ports, Server, Shelf};
 
 // Serves the connection, and says what the server and its shelf did as the responder that they are.
 fn serve_responder<V: Shelf, P: Ports>(

@@ -1,7 +1,7 @@
 //! Connections, one after another.
 
 ghost use Rattle.std.specs.Prelude.{◌≡◌, ◌<◌, IfOk, OnErr};
-ghost use Rattle.cloud_server.specs.CdEdges.Causes.{Rose};
+ghost use Rattle.share_server.specs.CdEdges.Causes.{Rose};
 ghost use Rattle.serve_command.specs.Connection.{EndsWithCause};
 ghost use Rattle.serve_command.specs.Served.{output_of};
 ghost use Rattle.serve_command.specs.Steps.{HasServedConnection, ServesAll, moment_of, status_by};
@@ -10,7 +10,7 @@ use crate::desk::Desk;
 use crate::lines::{write_connection, write_ready};
 use crate::stop::ServingStop;
 use crate::{Served, serve_connection};
-use cloud_server::{Failed, Ports, Shelf, Sink};
+use share_server::{Failed, Ports, Shelf, Sink};
 use std::alloc::Global;
 
 // Waits for the next connection, serves it, and ends it. It says how the connection ended.

@@ -1,12 +1,12 @@
 //! What serves connections.
 
 ghost use Rattle.std.specs.Prelude.{◌≡◌, ◌<◌, IfOk};
-ghost use Rattle.cloud_server.specs.Names.{header_of};
-ghost use Rattle.cloud_server.specs.JournalStart.Ranges.{AreRooms};
-ghost use Rattle.cloud_server.specs.OpenStore.Store.{IsOpen};
+ghost use Rattle.share_server.specs.Names.{header_of};
+ghost use Rattle.share_server.specs.JournalStart.Ranges.{AreRooms};
+ghost use Rattle.share_server.specs.CloudStore.Store.{IsOpen};
 
-use cloud_server::{Server, UserRooms};
 use ports_link::{CloudNo, Framer, NoMemory, ReplyBuf, Shape};
+use share_server::{Server, UserRooms};
 use std::alloc::Global;
 
 /// A server and its buffers. They are made before the cloud is opened, so that no connection waits for memory.

@@ -1,15 +1,15 @@
 //! The rooms of a cloud.
 
 ghost use Rattle.std.specs.Prelude.{◌≡◌, length, IsTrue, IsErr, IfOk, IfErr, Ok, Err};
-ghost use Rattle.cloud_server.specs.CdEdges.area.Area.{Area};
-ghost use Rattle.cloud_server.specs.CdEdges.Shelf.{IsCall, HasFailed, KeepsCounts, Stays};
-ghost use Rattle.cloud_server.specs.HalfJournal.Openings.{OnFault};
-ghost use Rattle.cloud_server.specs.JournalStart.Ranges.{AreRooms};
-ghost use Rattle.cloud_server.specs.Refusals.{MayCome};
+ghost use Rattle.share_server.specs.CdEdges.area.Area.{Area};
+ghost use Rattle.share_server.specs.CdEdges.Shelf.{IsCall, HasFailed, KeepsCounts, Stays};
+ghost use Rattle.share_server.specs.CommitJournal.Openings.{OnFault};
+ghost use Rattle.share_server.specs.JournalStart.Ranges.{AreRooms};
+ghost use Rattle.share_server.specs.Refusals.{MayCome};
 ghost use Rattle.serve_command.specs.Served.{HasRooms, IsUnreadable};
 
-use cloud_server::{FindErr, OpenErr, Shelf, UserRooms, find};
 use ports_link::CloudNo;
+use share_server::{FindErr, OpenErr, Shelf, UserRooms, find};
 
 /// The rooms that a cloud's journal has, read through a window of 65,541 bytes; the usual ones where no half of it is
 /// begun. The error is Fault where the cloud's count of faults rose, and Damaged where the starts of the halves are

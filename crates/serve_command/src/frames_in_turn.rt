@@ -1,18 +1,18 @@
 //! A connection, from its first byte to its end.
 
 ghost use Rattle.std.specs.Prelude.{◌≡◌, ◌+◌, ◌-◌, ◌≤◌, ◌<◌, [], ◌++◌, length, take, drop, IsTrue, IsFalse, IfOk, IfErr, OnErr, ℕ, List};
-ghost use Rattle.cloud_server.specs.CdEdges.Causes.{HasCause};
+ghost use Rattle.share_server.specs.CdEdges.Causes.{HasCause};
 ghost use Rattle.ports_link.specs.Frames.Frames.{IsContent, IsFrame, IsRefused};
 ghost use Rattle.ports_link.specs.Frames.Found.{found_of};
-ghost use Rattle.cloud_server.specs.CdEdges.Ports.{Telling};
+ghost use Rattle.share_server.specs.CdEdges.Ports.{Telling};
 ghost use Rattle.serve_command.specs.declared.served.ConnectionStop.TheVariants.{BadLength};
 ghost use Rattle.serve_command.specs.Connection.{EndsWithCause, Serves};
 ghost use Rattle.serve_command.specs.Framing.{IsAlongFrames, Broken, Stops, StopsWithCause, ended_with, stopped_by};
 
 use crate::frame_responder::Responder;
 use crate::served::{ConnectionStop, Served};
-use cloud_server::{Failed, Ports};
 use ports_link::{FrameErr, Framer, ReplyBuf, send_frame};
+use share_server::{Failed, Ports};
 
 // How many bytes are received at a time, at most.
 const PIECE: usize = 65_536;

@@ -14,7 +14,6 @@ mod responder;
 mod served;
 mod stop;
 
-pub use cloud_server::{OpenErr, Server, UserRooms};
 pub use command::serve;
 pub use connection::serve_connection;
 pub use finding::rooms_of;
@@ -22,3 +21,4 @@ pub use frame_responder::Responder;
 pub use frames_in_turn::serve_frames;
 pub use ports_link::PortsLink;
 pub use served::Served;
+pub use share_server::{OpenErr, Server, UserRooms};

@@ -8,7 +8,7 @@ ghost use Rattle.serve_command.specs.Steps.{Writes};
 
 use crate::Served;
 use crate::stop::ServingStop;
-use cloud_server::{Sink, write_all};
+use share_server::{Sink, write_all};
 use std::alloc::{AllocError, Global};
 
 // `ready ADDRESS`, with its newline.

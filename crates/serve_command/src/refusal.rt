@@ -1,14 +1,14 @@
 //! A cloud that isn't opened.
 
-ghost use Rattle.cloud_server.specs.Refusals.{MayCome};
+ghost use Rattle.share_server.specs.Refusals.{MayCome};
 ghost use Rattle.ports_link.specs.Transcript.Endings.{ending_text};
 ghost use Rattle.serve_command.specs.Served.{Reports, output_of};
 ghost use Rattle.serve_command.specs.Steps.{IsClosedUnopened};
 
 use crate::lines::write_line;
 use crate::stop::ServingStop;
-use cloud_server::{OpenErr, Sink};
 use ports_link::{Bytes, CloudNo, Ending, NoMemory, write_ending};
+use share_server::{OpenErr, Sink};
 use std::alloc::Global;
 
 // The status of a cloud that isn't opened for this error, and its last line.

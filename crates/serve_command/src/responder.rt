@@ -5,8 +5,8 @@ ghost use Rattle.ports_link.specs.Frames.Frames.{IsContent};
 ghost use Rattle.serve_command.specs.Serving.{HasAnsweredContent, place_of};
 
 use crate::Responder;
-use cloud_server::{Server, Shelf};
 use ports_link::ReplyBuf;
+use share_server::{Server, Shelf};
 
 /// A server over its shelf.
 #[derive(Drop)]

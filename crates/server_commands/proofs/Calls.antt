@@ -7,10 +7,10 @@ use Rattle.server_reads.specs.CdEdges.Disk.{Areas, Cloud, Image, LeavesOnly}
 use Rattle.server_reads.specs.CdEdges.Causes.{Rose}
 use Rattle.server_reads.specs.CdEdges.Shelf.{IsCall, HasFailed, KeepsCounts, Stays}
 use Rattle.server_reads.proofs.CdEdges.Moments.{weaker, told_on}
-use Rattle.open_store.specs.HalfJournal.States as journals
-use Rattle.open_store.specs.JournalHalves.Journals.{Where}
-use Rattle.open_store.specs.declared.store.OpenStore.{OpenStore}
-use Rattle.open_store.specs.Adding.{IsLeftOf}
+use Rattle.cloud_store.specs.CommitJournal.States as journals
+use Rattle.cloud_store.specs.JournalHalves.Journals.{Where}
+use Rattle.cloud_store.specs.declared.store.CloudStore.{CloudStore}
+use Rattle.cloud_store.specs.Adding.{IsLeftOf}
 use Rattle.server_reads.specs.Reading.{HasReadCloud}
 use Rattle.server_reads.specs.declared.blobs.BlobStop.{BlobStop}
 use Rattle.server_reads.specs.declared.blobs.BlobStop.TheVariants as stops
@@ -83,7 +83,7 @@ pub stays_still : (a : Cloud) → Stays a a
 stays_still a = record { armed = refl; past = refl; now = refl }
 
 -- what a store adds behind what it has, where only a read was made before
-pub grows_read : (s mid : OpenStore) (a b c : Cloud) → mid.disk.journal ≡ s.disk.journal → ((w : Where) (body : List ℕ) (image : Image) → IsLeftOf mid b w body image → IsLeftOf s a w body image)
+pub grows_read : (s mid : CloudStore) (a b c : Cloud) → mid.disk.journal ≡ s.disk.journal → ((w : Where) (body : List ℕ) (image : Image) → IsLeftOf mid b w body image → IsLeftOf s a w body image)
     → Stays a b → b.told ≡ a.told → GrowsBehind mid b c → GrowsBehind s a c
 grows_read s mid a b c journal left stays told grows = record {
   body = grows.body;

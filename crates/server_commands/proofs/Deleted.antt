@@ -18,10 +18,10 @@ use Rattle.server_reads.specs.UserDedup.command.Command.{Command}
 use Rattle.server_reads.specs.UserDedup.file_list.FileEntry.{FileEntry}
 use Rattle.server_reads.specs.UserDedup.Cloud.{user_view}
 use Rattle.server_reads.specs.UserDedup.Pages.{entry_at}
-use Rattle.open_store.specs.CloudAreas.Standing.{Chain}
+use Rattle.cloud_store.specs.CloudAreas.Standing.{Chain}
 use Rattle.server_reads.specs.CloudMemory.Rooms.{memory_of}
-use Rattle.open_store.specs.declared.store.OpenStore.{OpenStore}
-use Rattle.open_store.specs.Store.{IsSettled, IsOpen, Serves, closed}
+use Rattle.cloud_store.specs.declared.store.CloudStore.{CloudStore}
+use Rattle.cloud_store.specs.Store.{IsSettled, IsOpen, Serves, closed}
 use Rattle.server_reads.specs.declared.blobs.BlobStop.{BlobStop}
 use Rattle.server_reads.specs.declared.blobs.BlobStop.TheVariants as stops
 use Rattle.server_reads.specs.Allowed.{Replies}
@@ -46,7 +46,7 @@ module _ (user : UserId) (tag : Tag) (version : Version) where
   key = key_of user.0 tag.0 version.0
 
   -- what adding the Delete of this recipe leaves of a store
-  pub record Forgets {T E : Type 0} (x new : OpenStore) (b c : ℕ → Cloud) (f1 f2 : ℕ) (recipe content : List ℕ) (r : Result T E) : Type 0 where
+  pub record Forgets {T E : Type 0} (x new : CloudStore) (b c : ℕ → Cloud) (f1 f2 : ℕ) (recipe content : List ℕ) (r : Result T E) : Type 0 where
     pub leaves : IsLeftSettled x new r
     pub does : (list : List Command) (chain : Chain) (file : FileEntry) → Serves list chain x (b x.header.cloud.0)
         → entry_at (user_view x.header.shape list user).files (tag, version) ≡ Some file → file.recipe ≡ recipe
@@ -56,22 +56,22 @@ module _ (user : UserId) (tag : Tag) (version : Version) where
     pub calls : Calls b c x.header.cloud.0 f1 f2 r
 
   -- what a list says of the bytes that were read
-  abbrev pub ByLists : OpenStore → Cloud → List ℕ → Answer → Type 0
+  abbrev pub ByLists : CloudStore → Cloud → List ℕ → Answer → Type 0
   ByLists old cloud bytes read = (list : List Command) (chain : Chain) → Serves list chain old cloud → ReadsFile (user_view old.header.shape list user).files (tag, version) bytes read
 
-  module _ (Same : Type 0) (old mid new : OpenStore) (a b c : ℕ → Cloud) (f0 f1 f2 : ℕ) (bytes content : List ℕ) where
+  module _ (Same : Type 0) (old mid new : CloudStore) (a b c : ℕ → Cloud) (f0 f1 f2 : ℕ) (bytes content : List ℕ) where
     pub deleted : {T E : Type 0} (r : Result T E) (recipe : List ℕ) (entry : Entry) → get (memory_of old.memory).files key ≡ Some entry → HasOnlyReadRecipes old mid (a old.header.cloud.0) (b old.header.cloud.0) → HasReadCloud a b old.header.cloud.0 f0 f1 ok_read
         → ByLists old (a old.header.cloud.0) bytes ok_read → recipe ≡ bytes → Forgets mid new b c f1 f2 recipe content r
         → Executes Same old new a c f0 f2 (requests.Delete user tag version) content r
     deleted r recipe entry has o read there front forgets =
         let n = old.header.cloud.0 in
         let kept = mid.disk.recipes.kept in
-        let f = subst (λ (x : OpenStore). Forgets x new b c f1 f2 recipe content r) o.same forgets in
+        let f = subst (λ (x : CloudStore). Forgets x new b c f1 f2 recipe content r) o.same forgets in
         adds_executes r Same old new a c f0 f2 request content
         (record { ready = f.leaves.ready; settled = f.leaves.settled; none = f.leaves.none; shut = f.leaves.shut; header = f.leaves.header })
         (λ list some.
         let file = there list some.c some.serves in
-        let serves = subst (λ (x : OpenStore). Serves list some.c x (b n)) o.same (o.serves list some.c some.serves) in
+        let serves = subst (λ (x : CloudStore). Serves list some.c x (b n)) o.same (o.serves list some.c some.serves) in
         does_read old kept new (a n) (b n) (c n) read.stays r list request content (f.does list some.c file.file serves file.here (sym file.given ∙ sym front)))
         (behind_read old kept new (a n) (b n) (c n) read.stays read.call.told f.behind)
         (calls_then r a b c n f0 f1 f2 read f.calls)
@@ -80,8 +80,8 @@ module _ (user : UserId) (tag : Tag) (version : Version) where
         (delete_adds content r (Same × (new ≡ old)) f.some)
         (delete_gives content r old.header.shape user tag version f.some)
 
-  module _ (Same : Type 0) (old mid : OpenStore) (a b : ℕ → Cloud) (f0 f1 : ℕ) (content : List ℕ) (o : HasOnlyReadRecipes old mid (a old.header.cloud.0) (b old.header.cloud.0)) (ready : IsStoreReady old) where
-    pub failed : (new : OpenStore) → HasReadCloud a b old.header.cloud.0 f0 f1 failed_read → new ≡ closed mid → IsSettled new → ¬ (IsOpen new)
+  module _ (Same : Type 0) (old mid : CloudStore) (a b : ℕ → Cloud) (f0 f1 : ℕ) (content : List ℕ) (o : HasOnlyReadRecipes old mid (a old.header.cloud.0) (b old.header.cloud.0)) (ready : IsStoreReady old) where
+    pub failed : (new : CloudStore) → HasReadCloud a b old.header.cloud.0 f0 f1 failed_read → new ≡ closed mid → IsSettled new → ¬ (IsOpen new)
         → Executes Same old new a b f0 f1 (requests.Delete user tag version) content failed_result
     failed new read is settled shut =
         let n = old.header.cloud.0 in
@@ -106,7 +106,7 @@ module _ (user : UserId) (tag : Tag) (version : Version) where
         (λ answer leaves other. rotten_leaves content named found (Same × (mid ≡ old)) content_is answer leaves other)
         (record { reply = replies.Rotten named found; is = content_is; given = rotten_of_delete old.header.shape user tag version named found })
 
-  pub missing : (Same : Type 0) (old : OpenStore) (a : ℕ → Cloud) (f : ℕ) (content : List ℕ) → Same → IsStoreReady old → HasNone (memory_of old.memory) (key_of user.0 tag.0 version.0)
+  pub missing : (Same : Type 0) (old : CloudStore) (a : ℕ → Cloud) (f : ℕ) (content : List ℕ) → Same → IsStoreReady old → HasNone (memory_of old.memory) (key_of user.0 tag.0 version.0)
       → IsReply content replies.Missing → Executes Same old old a a f f (requests.Delete user tag version) content ok_result
   missing Same old a f content same ready none content_is =
       let n = old.header.cloud.0 in

@@ -5,7 +5,7 @@ use Rattle.server_reads.specs.CdBase.ids.UserId.{UserId}
 use Rattle.server_reads.specs.CdBase.ids.Version.{Version}
 use Rattle.server_reads.specs.CdBase.shape.Shape.{Shape}
 use Rattle.server_reads.specs.CdEdges.Disk.{Cloud}
-use Rattle.open_store.specs.JournalStart.rooms.UserRooms.{UserRooms}
+use Rattle.cloud_store.specs.JournalStart.rooms.UserRooms.{UserRooms}
 use Rattle.server_reads.specs.Messages.request.Request.TheVariants as requests
 use Rattle.server_reads.specs.Messages.reply.Reply.TheVariants as replies
 use Rattle.server_reads.specs.Messages.Requests.{FitsRequest}
@@ -16,11 +16,11 @@ use Rattle.server_reads.specs.UserDedup.Cloud.{user_view}
 use Rattle.server_reads.specs.UserDedup.Dedup.{Outcome, only, delete_outcome, answer_over, Added}
 use Rattle.server_reads.specs.UserDedup.Pages.{entry_at}
 use Rattle.server_reads.specs.UserDedup.Spending.{full_for}
-use Rattle.open_store.specs.CloudAreas.Standing.{Chain}
-use Rattle.open_store.proofs.DiskProofs.Standing.{none_staged}
-use Rattle.open_store.specs.declared.store.OpenStore.{OpenStore}
-use Rattle.open_store.specs.Store.{Serves}
-use Rattle.open_store.specs.Adding.{NoneStaged, IsDelete}
+use Rattle.cloud_store.specs.CloudAreas.Standing.{Chain}
+use Rattle.cloud_store.proofs.DiskProofs.Standing.{none_staged}
+use Rattle.cloud_store.specs.declared.store.CloudStore.{CloudStore}
+use Rattle.cloud_store.specs.Store.{Serves}
+use Rattle.cloud_store.specs.Adding.{NoneStaged, IsDelete}
 use Rattle.server_commands.specs.Serving.{serves}
 use Rattle.server_commands.proofs.Doing.{served_only, served_added, adding}
 
@@ -30,7 +30,7 @@ no_room : (shape : Shape) (rooms : UserRooms) (list : List Command) (user : User
 unfolding full_for
 no_room shape rooms list user tag version = refl
 
-module _ (s : OpenStore) (list : List Command) (user : UserId) (tag : Tag) (version : Version) where
+module _ (s : CloudStore) (list : List Command) (user : UserId) (tag : Tag) (version : Version) where
   abbrev command : Command
   command = commands.Delete user tag version
 

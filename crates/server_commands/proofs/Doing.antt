@@ -15,14 +15,14 @@ use Rattle.server_reads.specs.Messages.reply.Reply.TheVariants as replies
 use Rattle.server_reads.specs.Messages.Replies.{IsReply, reply_bytes}
 use Rattle.server_reads.specs.UserDedup.command.Command.{Command}
 use Rattle.server_reads.specs.UserDedup.Dedup.{Outcome, only, FullRoom, unless_full, by_room}
-use Rattle.open_store.specs.CloudAreas.Peers.{StandsForSome}
-use Rattle.open_store.specs.CloudAreas.Standing.{StandsFor}
-use Rattle.open_store.specs.CloudDisk.Disk.{KeepsOrAdds, StandsForEither}
-use Rattle.open_store.proofs.DiskProofs.Standing.{images_on}
+use Rattle.cloud_store.specs.CloudAreas.Peers.{StandsForSome}
+use Rattle.cloud_store.specs.CloudAreas.Standing.{StandsFor}
+use Rattle.cloud_store.specs.CloudDisk.Disk.{KeepsOrAdds, StandsForEither}
+use Rattle.cloud_store.proofs.DiskProofs.Standing.{images_on}
 use Rattle.server_reads.specs.CloudMemory.Memory.{Memory}
 use Rattle.server_reads.specs.CloudMemory.Rooms.{memory_of}
-use Rattle.open_store.specs.declared.store.OpenStore.{OpenStore}
-use Rattle.open_store.specs.Store.{ServesSome}
+use Rattle.cloud_store.specs.declared.store.CloudStore.{CloudStore}
+use Rattle.cloud_store.specs.Store.{ServesSome}
 use Rattle.server_reads.specs.Found.{IsOther, IsFoundRecipe, IsFoundShare}
 use Rattle.server_commands.specs.Executing.{Executes, ForServed, GrowsBehind, LeavesBoth}
 use Rattle.server_commands.specs.Leaving.{LeavesAll, IsSteady, IsFound}
@@ -51,10 +51,10 @@ served_added full outcome reply command e is = ap (λ (o : Outcome). unless_full
 
 -- ---- nothing is added
 
-images_served : (s : OpenStore) (cloud : Cloud) (list : List Command) → ServesSome list s cloud → (image : Image) → IsImage cloud.now image → StandsFor image s.header list
+images_served : (s : CloudStore) (cloud : Cloud) (list : List Command) → ServesSome list s cloud → (image : Image) → IsImage cloud.now image → StandsFor image s.header list
 images_served s cloud list some image left = images_on s.header list some.c s.disk cloud some.serves.known.on image left
 
-pub served_still : (old new : OpenStore) (after : Cloud) (list : List Command) (request : Request) (content : List ℕ) (reply : Reply) → serves old list request ≡ only reply
+pub served_still : (old new : CloudStore) (after : Cloud) (list : List Command) (request : Request) (content : List ℕ) (reply : Reply) → serves old list request ≡ only reply
     → content ≡ reply_bytes reply → ServesSome list new after → IsServedByList old new after list request content
 served_still old new after list request content reply is content_is some = record {
   reply = content_is ∙ ap (λ (o : Outcome). reply_bytes o.reply) (sym is);
@@ -63,7 +63,7 @@ served_still old new after list request content reply is content_is some = recor
 }
 
 -- a request that adds nothing does what its list says
-pub stays_does : {T E : Type 0} (old new : OpenStore) (before after : Cloud) (list : List Command) (request : Request) (content : List ℕ) (reply : Reply) (r : Result T E)
+pub stays_does : {T E : Type 0} (old new : CloudStore) (before after : Cloud) (list : List Command) (request : Request) (content : List ℕ) (reply : Reply) (r : Result T E)
     → serves old list request ≡ only reply → OnOk r (content ≡ reply_bytes reply) → ServesSome list old before → LeavesBoth old new before after → OnOk r (ServesSome list new after)
     → Does old new before after list request content r
 stays_does old new before after list request content reply r is content_is some both next = record {
@@ -78,7 +78,7 @@ stays_does old new before after list request content reply r is content_is some 
 
 -- ---- a command is added
 
-module _ (old new : OpenStore) (before after : Cloud) (list : List Command) (request : Request) (reply : Reply) (command : Command) (is : serves old list request ≡ adding reply command) where
+module _ (old new : CloudStore) (before after : Cloud) (list : List Command) (request : Request) (reply : Reply) (command : Command) (is : serves old list request ≡ adding reply command) where
   adds : (serves old list request).adds ≡ Some command
   adds = ap (λ (o : Outcome). o.adds) is
 
@@ -149,7 +149,7 @@ module _ {T E : Type 0} (r : Result T E) where
       by (Err e) = tt
       by (Ok v) = q
 
-  module _ (Same : Type 0) (old new : OpenStore) (before after : ℕ → Cloud) (f0 f1 : ℕ) (request : Request) (content : List ℕ) where
+  module _ (Same : Type 0) (old new : CloudStore) (before after : ℕ → Cloud) (f0 f1 : ℕ) (request : Request) (content : List ℕ) where
     -- a request that adds nothing
     pub stays_executes : IsLeftSettled old new r → LeavesBoth old new (before old.header.cloud.0) (after old.header.cloud.0) → Calls before after old.header.cloud.0 f0 f1 r
         → ForServed old (before old.header.cloud.0) (λ list. OnOk r (IsServedByList old new (after old.header.cloud.0) list request content))

@@ -29,14 +29,14 @@ use Rattle.server_reads.specs.UserDedup.command.Command.TheVariants as commands
 use Rattle.server_reads.specs.UserDedup.Cloud.{fingerprint, user_view}
 use Rattle.server_reads.specs.UserDedup.Owning.{fps_in, first_lacking}
 use Rattle.server_reads.specs.UserDedup.Dedup.{Outcome, Added}
-use Rattle.open_store.specs.CloudAreas.Standing.{Chain}
-use Rattle.open_store.proofs.DiskProofs.Standing.{none_staged}
+use Rattle.cloud_store.specs.CloudAreas.Standing.{Chain}
+use Rattle.cloud_store.proofs.DiskProofs.Standing.{none_staged}
 use Rattle.server_reads.specs.CloudMemory.Memory.{Remembers}
 use Rattle.server_reads.specs.CloudMemory.Rooms.{memory_of}
-use Rattle.open_store.specs.declared.store.OpenStore.{OpenStore}
-use Rattle.open_store.specs.Store.{EndsMeet, Serves}
-use Rattle.open_store.specs.Adding.{NoneStaged, IsCommit, EndBehind, unstaged}
-use Rattle.open_store.proofs.Held.{recipe_staged}
+use Rattle.cloud_store.specs.declared.store.CloudStore.{CloudStore}
+use Rattle.cloud_store.specs.Store.{EndsMeet, Serves}
+use Rattle.cloud_store.specs.Adding.{NoneStaged, IsCommit, EndBehind, unstaged}
+use Rattle.cloud_store.proofs.Held.{recipe_staged}
 use Rattle.server_reads.specs.Allowed.{Replies}
 use Rattle.server_reads.specs.Found.{HasNone}
 use Rattle.server_reads.proofs.Held.{none_there}
@@ -51,12 +51,12 @@ use Rattle.server_commands.proofs.Doing.{adds_executes}
 pub recipe_room : (log : State) (recipe : List ℕ) → HasStaged log [] → length recipe ≤ recipe_limit → need_of log (length recipe) ≤ 4194304
 recipe_room log recipe none few = room_staged log [] recipe recipe_limit none (All-nil (λ (b : List ℕ). length b ≤ recipe_limit)) few (omega (arith, few))
 
-pub recipe_has : (s : OpenStore) (recipe : List ℕ) → IsStoreReady s → length recipe ≤ recipe_limit → HasStaged (staging s recipe).disk.recipes (recipe ∷ [])
+pub recipe_has : (s : CloudStore) (recipe : List ℕ) → IsStoreReady s → length recipe ≤ recipe_limit → HasStaged (staging s recipe).disk.recipes (recipe ∷ [])
 recipe_has s recipe ready few = staged_more s.disk.recipes [] recipe ready.none.recipes (recipe_room s.disk.recipes recipe ready.none.recipes few)
 
 -- ---- the ends of both logs
 
-pub ends_met : (old new : OpenStore) (recipe : List ℕ) (len : ℕ) → HasRecipeStaged old recipe → length recipe ≡ len → EndBehind old new → new.memory.shares_end ≡ old.memory.shares_end
+pub ends_met : (old new : CloudStore) (recipe : List ℕ) (len : ℕ) → HasRecipeStaged old recipe → length recipe ≡ len → EndBehind old new → new.memory.shares_end ≡ old.memory.shares_end
     → new.memory.recipes_end ≡ max old.memory.recipes_end (place_of old.memory.recipes_end len + len) → EndsMeet new
 ends_met old new recipe len has long ends shares recipes = record {
   shares = ends.shares ∙ staged_end_of old.disk.shares [] has.shares ∙ has.meet.shares ∙ sym shares;
@@ -68,7 +68,7 @@ ends_met old new recipe len has long ends shares recipes = record {
 
 -- ---- by a list
 
-pub is_commit : (s : OpenStore) (list : List Command) (c : Chain) (cloud : Cloud) (user : UserId) (tag : Tag) (version : Version) (fp : Fp) (len : ℕ) (r : Recipe) → Serves list c s cloud
+pub is_commit : (s : CloudStore) (list : List Command) (c : Chain) (cloud : Cloud) (user : UserId) (tag : Tag) (version : Version) (fp : Fp) (len : ℕ) (r : Recipe) → Serves list c s cloud
     → FitsRequest (requests.Commit user tag version (spelling r)) → IsAnsweredNew s.header list user tag version (spelling r) → IsRecipe s.header.shape (spelling r) r
     → fingerprint (spelling r) ≡ fp → length (spelling r) ≡ len → HasRecipeStaged s (spelling r) → IsCommit list c s user tag version fp len (fps_in r.items) (spelling r) cloud
 is_commit s list c cloud user tag version fp len r serves fits answered is fp_is len_is has = record {
@@ -85,7 +85,7 @@ is_commit s list c cloud user tag version fp len r serves fits answered is fp_is
 
 module _ (user : UserId) (tag : Tag) (version : Version) where
   -- what adding the Commit leaves of a store that has its recipe staged
-  pub record Enters {T E : Type 0} (Same : Type 0) (x new : OpenStore) (b c : ℕ → Cloud) (f1 f2 : ℕ) (recipe content : List ℕ) (r : Result T E) : Type 0 where
+  pub record Enters {T E : Type 0} (Same : Type 0) (x new : CloudStore) (b c : ℕ → Cloud) (f1 f2 : ℕ) (recipe content : List ℕ) (r : Result T E) : Type 0 where
     pub leaves : IsLeftSettled x new r
     pub does : (list : List Command) (chain : Chain) → Serves list chain x (b x.header.cloud.0) → IsAnsweredNew x.header list user tag version recipe
         → Does x new (b x.header.cloud.0) (c x.header.cloud.0) list (requests.Commit user tag version recipe) content r
@@ -97,15 +97,15 @@ module _ (user : UserId) (tag : Tag) (version : Version) where
   none_has : (o : Option Entry) → o ≡ None → IsSome o → ⊥
   none_has o none has = let no = subst (λ (x : Option Entry). IsSome x) none has in cc
 
-  unstaged_is : (s : OpenStore) (recipe : List ℕ) → NoneStaged s → unstaged (staging s recipe) ≡ s
+  unstaged_is : (s : CloudStore) (recipe : List ℕ) → NoneStaged s → unstaged (staging s recipe) ≡ s
   unstaged_is s recipe none = λ i. record s { disk = record s.disk { shares = record s.disk.shares { staged = sym none.shares.bytes i }; recipes = record s.disk.recipes { staged = sym none.recipes.bytes i } } }
 
-  served_staged : {T E : Type 0} (old new : OpenStore) (c : Cloud) (recipe : List ℕ) (list : List Command) (request : Request) (content : List ℕ) (r : Result T E)
+  served_staged : {T E : Type 0} (old new : CloudStore) (c : Cloud) (recipe : List ℕ) (list : List Command) (request : Request) (content : List ℕ) (r : Result T E)
       → OnOk r (IsServedByList (staging old recipe) new c list request content) → OnOk r (IsServedByList old new c list request content)
   served_staged old new c recipe list request content (Err e) s = tt
   served_staged old new c recipe list request content (Ok v) s = record { reply = s.reply; next = s.next }
 
-  does_staged : {T E : Type 0} (old new : OpenStore) (a c : Cloud) (recipe : List ℕ) (list : List Command) (request : Request) (content : List ℕ) (r : Result T E)
+  does_staged : {T E : Type 0} (old new : CloudStore) (a c : Cloud) (recipe : List ℕ) (list : List Command) (request : Request) (content : List ℕ) (r : Result T E)
       → Does (staging old recipe) new a c list request content r → Does old new a c list request content r
   does_staged old new a c recipe list request content r d = record {
     any_moment = d.any_moment;
@@ -113,11 +113,11 @@ module _ (user : UserId) (tag : Tag) (version : Version) where
     stays = λ none. let l = d.stays none in record { cloud = l.cloud; memory = l.memory };
   }
 
-  full_then : {T E : Type 0} (r : Result T E) (P Same : Type 0) (old new : OpenStore) (recipe : List ℕ) → NoneStaged old → OnOk r (P → Same × (new ≡ unstaged (staging old recipe))) → OnOk r (P → Same × (new ≡ old))
+  full_then : {T E : Type 0} (r : Result T E) (P Same : Type 0) (old new : CloudStore) (recipe : List ℕ) → NoneStaged old → OnOk r (P → Same × (new ≡ unstaged (staging old recipe))) → OnOk r (P → Same × (new ≡ old))
   full_then (Err e) P Same old new recipe none f = tt
   full_then (Ok v) P Same old new recipe none f = λ p. let u = f p in (u.0, u.1 ∙ unstaged_is old recipe none)
 
-  pub entered : {T E : Type 0} (rs : Result T E) (Same : Type 0) (old x new : OpenStore) (a c : ℕ → Cloud) (f0 f2 : ℕ) (r : Recipe) (content : List ℕ) → x ≡ staging old (spelling r)
+  pub entered : {T E : Type 0} (rs : Result T E) (Same : Type 0) (old x new : CloudStore) (a c : ℕ → Cloud) (f0 f2 : ℕ) (r : Recipe) (content : List ℕ) → x ≡ staging old (spelling r)
       → IsStoreReady old → IsRecipe old.header.shape (spelling r) r → HasNone (memory_of old.memory) (key_of user.0 tag.0 version.0)
       → ((list : List Command) → Remembers old.header.shape list (memory_of old.memory) → first_lacking (user_view old.header.shape list user).own (fps_in r.items) ≡ None)
       → ((list : List Command) (chain : Chain) (cloud : Cloud) → Serves list chain old cloud → Serves list chain x cloud)
@@ -125,11 +125,11 @@ module _ (user : UserId) (tag : Tag) (version : Version) where
       → Executes Same old new a c f0 f2 (requests.Commit user tag version (spelling r)) content rs
   entered rs Same old x new a c f0 f2 r content staged ready is none lacks serves enters =
       let n = old.header.cloud.0 in let shape = old.header.shape in
-      let e = subst (λ (s : OpenStore). Enters Same s new a c f0 f2 (spelling r) content rs) staged enters in
+      let e = subst (λ (s : CloudStore). Enters Same s new a c f0 f2 (spelling r) content rs) staged enters in
       adds_executes rs Same old new a c f0 f2 (requests.Commit user tag version (spelling r)) content
       (record { ready = e.leaves.ready; settled = e.leaves.settled; none = e.leaves.none; shut = e.leaves.shut; header = e.leaves.header })
       (λ list some.
-      let d = e.does list some.c (subst (λ (s : OpenStore). Serves list some.c s (a n)) staged (serves list some.c (a n) some.serves))
+      let d = e.does list some.c (subst (λ (s : CloudStore). Serves list some.c s (a n)) staged (serves list some.c (a n) some.serves))
       (record {
         has_recipe = (r, is);
         answer = answers_commit shape n list user tag version (spelling r) None None

@@ -13,8 +13,8 @@ use Rattle.server_reads.specs.ContainerLog.Places.{place_of}
 use Rattle.server_reads.specs.FileIndex.key.Entry.{Entry}
 use Rattle.server_reads.specs.FileIndex.key.FileKey.{FileKey}
 use Rattle.server_reads.specs.FileIndex.Files.{key_of}
-use Rattle.open_store.specs.JournalStart.rooms.UserRooms.{UserRooms}
-use Rattle.open_store.specs.JournalStart.start.Header.{Header}
+use Rattle.cloud_store.specs.JournalStart.rooms.UserRooms.{UserRooms}
+use Rattle.cloud_store.specs.JournalStart.start.Header.{Header}
 use Rattle.server_reads.specs.Messages.reply.Reply.{Reply}
 use Rattle.server_reads.specs.Messages.reply.Reply.TheVariants as replies
 use Rattle.server_reads.specs.Messages.Replies.{IsReply}
@@ -28,7 +28,7 @@ use Rattle.server_reads.specs.CloudMemory.Memory.{Memory}
 use Rattle.server_reads.specs.CloudMemory.Rooms.{memory_of, full_commit}
 use Rattle.server_reads.specs.CloudMemory.Sharing.{AreOwned, IsFirstUnowned}
 use Rattle.server_reads.specs.CloudMemory.Steps.{with_commit}
-use Rattle.open_store.specs.declared.store.OpenStore.{OpenStore}
+use Rattle.cloud_store.specs.declared.store.CloudStore.{CloudStore}
 use Rattle.server_reads.specs.Allowed.{Replies}
 use Rattle.server_commands.specs.Entering.{entering, Committed, Commits, Deletes}
 use Rattle.server_commands.specs.Steps.{Forgets, by_recipe}
@@ -56,7 +56,7 @@ deletes_by (Err e) shape m new user key recipe content entry has long named s = 
 deletes_by (Ok v) shape m new user key recipe content entry has long named s = record { reply = s.reply; is = s.is; said = forgotten_said shape m new user key recipe entry has long named s.reply s.said }
 
 -- behind the read, whose memory is the one before
-pub forgotten : {T E : Type 0} (r : Result T E) (old mid : OpenStore) (new : Memory) (user : UserId) (key : FileKey) (recipe content : List ℕ) (entry : Entry) → mid.header ≡ old.header → memory_of mid.memory ≡ memory_of old.memory
+pub forgotten : {T E : Type 0} (r : Result T E) (old mid : CloudStore) (new : Memory) (user : UserId) (key : FileKey) (recipe content : List ℕ) (entry : Entry) → mid.header ≡ old.header → memory_of mid.memory ≡ memory_of old.memory
     → get (memory_of old.memory).files key ≡ Some entry → length recipe ≡ entry.len → fingerprint recipe ≡ entry.fp
     → OnOk r (Replies content (Forgets mid.header.shape (memory_of mid.memory) new user key recipe)) → OnOk r (Replies content (Deletes old.header.shape (memory_of old.memory) new user key))
 forgotten r old mid new user key recipe content entry header memory has long named s =
@@ -129,7 +129,7 @@ lacking_commits rooms shape m user tag version r content place is first reply = 
 }
 
 -- behind the staging of the recipe, whose memory is the one before
-pub staged_commits : {T E : Type 0} (q : Result T E) (old mid : OpenStore) (new : Memory) (user : UserId) (tag : Tag) (version : Version) (r : Recipe) (content : List ℕ) → IsRecipe old.header.shape (spelling r) r
+pub staged_commits : {T E : Type 0} (q : Result T E) (old mid : CloudStore) (new : Memory) (user : UserId) (tag : Tag) (version : Version) (r : Recipe) (content : List ℕ) → IsRecipe old.header.shape (spelling r) r
     → mid.header ≡ old.header → memory_of mid.memory ≡ memory_of old.memory → OnOk q (Replies content (Commits mid.header.rooms (memory_of mid.memory) new user tag version (fps_in r.items) (spelling r)))
     → OnOk q (Replies content (Commits old.header.rooms (memory_of old.memory) new user tag version (fps_of old.header.shape (spelling r)) (spelling r)))
 staged_commits q old mid new user tag version r content is header memory s =

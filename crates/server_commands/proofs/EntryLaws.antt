@@ -18,13 +18,13 @@ use Rattle.server_reads.specs.FileIndex.key.FileKey.{FileKey}
 use Rattle.server_reads.specs.FileIndex.Files.{key_of}
 use Rattle.server_reads.specs.UserDedup.command.Command.{Command}
 use Rattle.server_reads.specs.UserDedup.Cloud.{fingerprint, user_view}
-use Rattle.open_store.specs.CloudAreas.Standing.{Chain}
-use Rattle.open_store.specs.CloudDisk.Disk.{Disk, IsReadThrough}
+use Rattle.cloud_store.specs.CloudAreas.Standing.{Chain}
+use Rattle.cloud_store.specs.CloudDisk.Disk.{Disk, IsReadThrough}
 use Rattle.server_reads.specs.CloudMemory.Memory.{Memory}
 use Rattle.server_reads.specs.CloudMemory.Rooms.{memory_of}
-use Rattle.open_store.specs.declared.store.OpenStore.{OpenStore}
-use Rattle.open_store.specs.Store.{Serves}
-use Rattle.open_store.proofs.Keeping.{reads_serve, reads_settled}
+use Rattle.cloud_store.specs.declared.store.CloudStore.{CloudStore}
+use Rattle.cloud_store.specs.Store.{Serves}
+use Rattle.cloud_store.proofs.Keeping.{reads_serve, reads_settled}
 use Rattle.server_reads.specs.declared.blobs.BlobStop.{BlobStop}
 use Rattle.server_reads.specs.declared.blobs.BlobStop.TheVariants as stops
 use Rattle.server_reads.specs.Found.{IsOther, IsFoundRecipe, ReadsLog}
@@ -54,7 +54,7 @@ names_entry (Err (stops.Rotten n f)) cloud area m key entry is kept named lies u
 
 -- ---- the list's file
 
-module _ (s : OpenStore) (list : List Command) (c : Chain) (cloud : Cloud) (user : UserId) (tag : Tag) (version : Version) (entry : Entry) (bytes : List ℕ) (r : Answer) where
+module _ (s : CloudStore) (list : List Command) (c : Chain) (cloud : Cloud) (user : UserId) (tag : Tag) (version : Version) (entry : Entry) (bytes : List ℕ) (r : Answer) where
   pub reads_file : Serves list c s cloud → get (memory_of s.memory).files (key_of user.0 tag.0 version.0) ≡ Some entry → s.disk.recipes.area ≡ Recipes
       → (IsTrue cloud.told → logs.Agrees s.disk.recipes (cloud.now s.disk.recipes.area).read → (b : Placed) → b.place ≡ entry.at → length b.blob ≡ entry.len → fingerprint b.blob ≡ entry.fp
       → IsAt (cloud.now s.disk.recipes.area).read b → OnOk r (bytes ≡ b.blob))
@@ -76,10 +76,10 @@ module _ (s : OpenStore) (list : List Command) (c : Chain) (cloud : Cloud) (user
 -- ---- the store
 
 -- the store whose log of the recipes keeps these containers
-abbrev pub keeping : OpenStore → List Kept → OpenStore
+abbrev pub keeping : CloudStore → List Kept → CloudStore
 keeping s kept = record s { disk = record s.disk { recipes = record s.disk.recipes { kept = kept } } }
 
-kept_serves : (s : OpenStore) (kept : List Kept) (before after : Cloud) → Stays before after → after.told ≡ before.told
+kept_serves : (s : CloudStore) (kept : List Kept) (before after : Cloud) → Stays before after → after.told ≡ before.told
     → (IsTrue before.told → logs.Agrees s.disk.recipes (before.now s.disk.recipes.area).read → logs.Agrees (keeping s kept).disk.recipes (after.now s.disk.recipes.area).read)
     → (list : List Command) (c : Chain) → Serves list c s before → Serves list c (keeping s kept) after
 kept_serves s kept before after stays told agrees list c serves =
@@ -93,7 +93,7 @@ kept_serves s kept before after stays told agrees list c serves =
     } in
     reads_serve list c s (keeping s kept) before after serves refl through
 
-pub only_reads : (s : OpenStore) (disk : Disk) (before after : Cloud) → disk ≡ record s.disk { recipes = disk.recipes } → ReadsLog s.disk.recipes disk.recipes before after
+pub only_reads : (s : CloudStore) (disk : Disk) (before after : Cloud) → disk ≡ record s.disk { recipes = disk.recipes } → ReadsLog s.disk.recipes disk.recipes before after
     → Stays before after → after.told ≡ before.told → HasOnlyReadRecipes s (record s { disk = disk }) before after
 only_reads s disk before after same log stays told =
     let is : record s { disk = disk } ≡ keeping s disk.recipes.kept =
@@ -103,10 +103,10 @@ only_reads s disk before after same log stays told =
     (λ t a. subst (λ (x : Area). logs.Agrees disk.recipes (after.now x).read) area (log.agrees t a)) in
     record {
       same = is;
-      serves = λ list c serves. subst (λ (x : OpenStore). Serves list c x after) (sym is) (kept_serves s disk.recipes.kept before after stays told agrees list c serves);
+      serves = λ list c serves. subst (λ (x : CloudStore). Serves list c x after) (sym is) (kept_serves s disk.recipes.kept before after stays told agrees list c serves);
     }
 
-pub kept_ready : (s : OpenStore) (kept : List Kept) → IsStoreReady s → IsStoreReady (keeping s kept)
+pub kept_ready : (s : CloudStore) (kept : List Kept) → IsStoreReady s → IsStoreReady (keeping s kept)
 kept_ready s kept ready = record {
   settled = reads_settled s (keeping s kept) ready.settled refl refl refl refl;
   at_end = ready.at_end;

@@ -1,3 +1,3 @@
 -- What journal_start has proved, for callers.
-pub use Rattle.open_store.proofs.JournalStart.Lengths
-pub use Rattle.open_store.proofs.JournalStart.Whole
+pub use Rattle.cloud_store.proofs.JournalStart.Lengths
+pub use Rattle.cloud_store.proofs.JournalStart.Whole

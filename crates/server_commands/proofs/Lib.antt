@@ -7,7 +7,7 @@ pub mod Doing
 pub mod Entered
 pub mod Enterings
 pub mod EntryLaws
-pub mod OfOpenStore
+pub mod OfCloudStore
 pub mod Picking
 pub mod Puts
 pub mod Repeats

@@ -24,9 +24,9 @@ use Rattle.server_reads.proofs.UserDedup.New.{are_new}
 use Rattle.server_reads.specs.CloudMemory.rooms.New.{New}
 use Rattle.server_reads.specs.CloudMemory.Memory.{Memory, Remembers, uses_of}
 use Rattle.server_reads.specs.CloudMemory.Rooms.{memory_of}
-use Rattle.open_store.specs.declared.store.OpenStore.{OpenStore}
-use Rattle.open_store.specs.Store.{IsOpen, IsSettled, EndsMeet}
-use Rattle.open_store.specs.Adding.{unplaced}
+use Rattle.cloud_store.specs.declared.store.CloudStore.{CloudStore}
+use Rattle.cloud_store.specs.Store.{IsOpen, IsSettled, EndsMeet}
+use Rattle.cloud_store.specs.Adding.{unplaced}
 use Rattle.server_commands.specs.Executing.{IsStoreReady}
 use Rattle.server_commands.specs.Entering.{new_of, unowned_from, unowned}
 use Rattle.server_commands.specs.Picked.{fps_of, with_shares, Picked}
@@ -106,7 +106,7 @@ abbrev pub IsNew : Memory → UserId → List ℕ → Type 0
 IsNew m user s = get m.owners (owner_of user.0 (fingerprint s).0) ≡ None
 
 -- Of the first shares these are picked, and the rest follows.
-pub record Picking (old store : OpenStore) (user : UserId) (sent : List (List ℕ)) (place count : ℕ) (rest : List (List ℕ)) (news : List New) : Type 0 where
+pub record Picking (old store : CloudStore) (user : UserId) (sent : List (List ℕ)) (place count : ℕ) (rest : List (List ℕ)) (news : List New) : Type 0 where
   pub picked : List (List ℕ)
   pub front : take count news ≡ map new_of picked
   pub long : length picked ≡ count
@@ -121,7 +121,7 @@ pub record Picking (old store : OpenStore) (user : UserId) (sent : List (List �
   pub settled : IsSettled store
   pub meet : EndsMeet store
 
-pub begun : (old : OpenStore) (user : UserId) (sent : List (List ℕ)) (news : List New) → IsStoreReady old → Picking old old user sent 0 0 sent news
+pub begun : (old : CloudStore) (user : UserId) (sent : List (List ℕ)) (news : List New) → IsStoreReady old → Picking old old user sent 0 0 sent news
 begun old user sent news ready = record {
   picked = [];
   front = refl;
@@ -197,13 +197,13 @@ pub record Tested (m : Memory) (user : UserId) (before : List New) (s : List ℕ
   pub other : IsTrue b → is_among (fps_of before) (fingerprint s) ≡ false
   pub by_memory : b ≡ not (is_some (get m.owners (owner_of user.0 (fingerprint s).0)) || is_among (fps_of before) (fingerprint s))
 
-memory_same : (old store : OpenStore) → store ≡ with_shares old store.disk.shares.staged → memory_of store.memory ≡ memory_of old.memory
-memory_same old store same = ap (λ (s : OpenStore). memory_of s.memory) same
+memory_same : (old store : CloudStore) → store ≡ with_shares old store.disk.shares.staged → memory_of store.memory ≡ memory_of old.memory
+memory_same old store same = ap (λ (s : CloudStore). memory_of s.memory) same
 
-pub opened : (old store : OpenStore) → IsStoreReady old → store ≡ with_shares old store.disk.shares.staged → IsOpen store
+pub opened : (old store : CloudStore) → IsStoreReady old → store ≡ with_shares old store.disk.shares.staged → IsOpen store
 opened old store ready same = subst IsOpen (sym same) ready.at_end
 
-module _ (old store : OpenStore) (user : UserId) (sent : List (List ℕ)) (place count : ℕ) (rest : List (List ℕ)) (news : List New) (s : List ℕ) (others : List (List ℕ)) (rest_is : rest ≡ s ∷ others)
+module _ (old store : CloudStore) (user : UserId) (sent : List (List ℕ)) (place count : ℕ) (rest : List (List ℕ)) (news : List New) (s : List ℕ) (others : List (List ℕ)) (rest_is : rest ≡ s ∷ others)
     (p : Picking old store user sent place count rest news) where
   pub room_for : IsShare s → length sent ≤ 256 → need_of store.disk.shares (length s) ≤ container_len
   room_for range few =
@@ -225,7 +225,7 @@ module _ (old store : OpenStore) (user : UserId) (sent : List (List ℕ)) (place
   pub tested : (b : Bool) → Tested (memory_of store.memory) user (take count news) s b → Tested (memory_of old.memory) user (take count news) s b
   tested b t = subst (λ (m : Memory). Tested m user (take count news) s b) (memory_same old store p.same) t
 
-  pub more_new : (news' : List New) (store' : OpenStore) → count < length news → IsShare s → Tested (memory_of store.memory) user (take count news) s true → news' ≡ set news count (new_of s)
+  pub more_new : (news' : List New) (store' : CloudStore) → count < length news → IsShare s → Tested (memory_of store.memory) user (take count news) s true → news' ≡ set news count (new_of s)
       → ((blobs : List (List ℕ)) → HasStaged store.disk.shares blobs
       → HasStaged store'.disk.shares (cond (is_some (get (memory_of store.memory).places (fingerprint s).0)) blobs (blobs ++ s ∷ [])))
       → store' ≡ with_shares store store'.disk.shares.staged → IsSettled store' → EndsMeet store' → Picking old store' user sent (place + 1) (count + 1) others news'
@@ -246,7 +246,7 @@ module _ (old store : OpenStore) (user : UserId) (sent : List (List ℕ)) (place
         staged = subst (λ (l : List (List ℕ)). HasStaged store'.disk.shares l) (sym (unplaced_more (memory_of old.memory).places p.picked s))
             (subst (λ (m : Memory). HasStaged store'.disk.shares (cond (is_some (get m.places (fingerprint s).0)) (unplaced (memory_of old.memory).places p.picked) (unplaced (memory_of old.memory).places p.picked ++ s ∷ []))) m_same
             (stages (unplaced (memory_of old.memory).places p.picked) p.staged));
-        same = same ∙ ap (λ (x : OpenStore). with_shares x store'.disk.shares.staged) p.same;
+        same = same ∙ ap (λ (x : CloudStore). with_shares x store'.disk.shares.staged) p.same;
         settled = settled;
         meet = meet;
       }
@@ -271,10 +271,10 @@ module _ (old store : OpenStore) (user : UserId) (sent : List (List ℕ)) (place
         meet = p.meet;
       }
 
-pub moved : (old store store' : OpenStore) (user : UserId) (sent : List (List ℕ)) (place count count' : ℕ) (rest : List (List ℕ)) (news : List New) → store' ≡ store → count' ≡ count
+pub moved : (old store store' : CloudStore) (user : UserId) (sent : List (List ℕ)) (place count count' : ℕ) (rest : List (List ℕ)) (news : List New) → store' ≡ store → count' ≡ count
     → Picking old store user sent place count rest news → Picking old store' user sent place count' rest news
 moved old store store' user sent place count count' rest news same is p =
-    subst (λ (n : ℕ). Picking old store' user sent place n rest news) (sym is) (subst (λ (s : OpenStore). Picking old s user sent place count rest news) (sym same) p)
+    subst (λ (n : ℕ). Picking old store' user sent place n rest news) (sym is) (subst (λ (s : CloudStore). Picking old s user sent place count rest news) (sym same) p)
 
 abbrev Apart : List Fp → Type 0
 Apart fps = (i j : ℕ) (fp : Fp) → slice_get fps i ≡ Some fp → slice_get fps j ≡ Some fp → i ≡ j
@@ -283,7 +283,7 @@ nothing_left : (rest : List (List ℕ)) (place n : ℕ) → place + length rest 
 nothing_left [] place n left past = refl
 nothing_left (s ∷ rest) place n left past = absurd (omega arith)
 
-pub ended : (old store : OpenStore) (user : UserId) (sent : List (List ℕ)) (place count : ℕ) (rest : List (List ℕ)) (news : List New) → length sent ≤ place → place ≤ length sent
+pub ended : (old store : CloudStore) (user : UserId) (sent : List (List ℕ)) (place count : ℕ) (rest : List (List ℕ)) (news : List New) → length sent ≤ place → place ≤ length sent
     → Picking old store user sent place count rest news → Picked old store user sent (take count news)
 ended old store user sent place count rest news past within p = record {
   strings = p.picked;

@@ -12,8 +12,8 @@ use Rattle.server_reads.specs.CdBase.shape.Shape.{Shape}
 use Rattle.server_reads.specs.CdEdges.Disk.{Cloud}
 use Rattle.server_reads.specs.ContainerLog.Laying.{laid}
 use Rattle.server_reads.specs.ContainerLog.States.{State, HasStaged}
-use Rattle.open_store.specs.HalfJournal.journal.Stage.TheVariants.{AtEnd}
-use Rattle.open_store.specs.JournalStart.rooms.UserRooms.{UserRooms}
+use Rattle.cloud_store.specs.CommitJournal.journal.Stage.TheVariants.{AtEnd}
+use Rattle.cloud_store.specs.JournalStart.rooms.UserRooms.{UserRooms}
 use Rattle.server_reads.specs.MessageFields.Shares.{AreShares}
 use Rattle.server_reads.specs.Messages.request.Request.{Request}
 use Rattle.server_reads.specs.Messages.request.Request.TheVariants as requests
@@ -26,16 +26,16 @@ use Rattle.server_reads.specs.UserDedup.Cloud.{user_view}
 use Rattle.server_reads.specs.UserDedup.Dedup.{IsSound, Added, Outcome, only, put_outcome, answer_over}
 use Rattle.server_reads.specs.UserDedup.Owning.{new_strings}
 use Rattle.server_reads.specs.UserDedup.Spending.{full_for}
-use Rattle.open_store.specs.CloudAreas.Standing.{Chain}
+use Rattle.cloud_store.specs.CloudAreas.Standing.{Chain}
 use Rattle.server_reads.specs.CloudMemory.cloud.CloudMemory.{CloudMemory}
 use Rattle.server_reads.specs.CloudMemory.rooms.New.{New}
 use Rattle.server_reads.specs.CloudMemory.Memory.{Memory}
 use Rattle.server_reads.specs.CloudMemory.Rooms.{memory_of}
-use Rattle.open_store.specs.declared.store.OpenStore.{OpenStore}
-use Rattle.open_store.specs.Store.{IsSettled, EndsMeet, Serves}
-use Rattle.open_store.specs.Adding.{NoneStaged, Unmoved, IsPut, unplaced, unstaged}
-use Rattle.open_store.proofs.Held.{is_put}
-use Rattle.open_store.proofs.Keeping.{serves_on}
+use Rattle.cloud_store.specs.declared.store.CloudStore.{CloudStore}
+use Rattle.cloud_store.specs.Store.{IsSettled, EndsMeet, Serves}
+use Rattle.cloud_store.specs.Adding.{NoneStaged, Unmoved, IsPut, unplaced, unstaged}
+use Rattle.cloud_store.proofs.Held.{is_put}
+use Rattle.cloud_store.proofs.Keeping.{serves_on}
 use Rattle.server_reads.specs.Allowed.{Replies}
 use Rattle.server_commands.specs.Entering.{Stores, new_of, news_of}
 use Rattle.server_commands.specs.Executing.{IsStoreReady, GrowsBehind, Executes}
@@ -117,18 +117,18 @@ module _ (rooms : UserRooms) (m new : Memory) (user : UserId) (news : List New) 
 -- ---- no share is new
 
 -- nothing was staged
-pub nothing_staged : (old new : OpenStore) (user : UserId) (sent : List (List ℕ)) (news : List New) → NoneStaged old → Picked old new user sent news → length news ≡ 0 → new ≡ old
+pub nothing_staged : (old new : CloudStore) (user : UserId) (sent : List (List ℕ)) (news : List New) → NoneStaged old → Picked old new user sent news → length news ≡ 0 → new ≡ old
 nothing_staged old new user sent news none p few =
     let nil = nil_from_length p.strings (sym (as_many news p.strings p.are_of) ∙ few) in
     let bytes = p.staged.bytes ∙ ap (λ (l : List (List ℕ)). laid new.disk.shares.end (unplaced (memory_of old.memory).places l)) nil in
     p.same ∙ ap (with_shares old) (bytes ∙ sym none.shares.bytes)
 
-pub none_new : (Same : Type 0) (old new : OpenStore) (a : ℕ → Cloud) (f : ℕ) (user : UserId) (sent : List (List ℕ)) (news : List New) (content : List ℕ) → Same → IsStoreReady old
+pub none_new : (Same : Type 0) (old new : CloudStore) (a : ℕ → Cloud) (f : ℕ) (user : UserId) (sent : List (List ℕ)) (news : List New) (content : List ℕ) → Same → IsStoreReady old
     → Picked old new user sent news → length news ≡ 0 → IsReply content (replies.Stored 0) → Executes Same old new a a f f (requests.Put user sent) content ok_result
 none_new Same old new a f user sent news content same ready p few content_is =
     let n = old.header.cloud.0 in let shape = old.header.shape in
     let nil = nil_from_length p.strings (sym (as_many news p.strings p.are_of) ∙ few) in
-    subst (λ (x : OpenStore). Executes Same old x a a f f (requests.Put user sent) content ok_result) (sym (nothing_staged old new user sent news ready.none p few))
+    subst (λ (x : CloudStore). Executes Same old x a a f f (requests.Put user sent) content ok_result) (sym (nothing_staged old new user sent news ready.none p few))
     (stays_executes ok_result Same old old a a f f (requests.Put user sent) content
     (record { ready = ready; settled = ready.settled; none = ready.none; shut = tt; header = refl })
     (record { cloud = stays_still (a n); memory = refl })
@@ -152,32 +152,32 @@ none_new Same old new a f user sent news content same ready p few content_is =
 
 -- ---- some are
 
-shares_serve : (s : OpenStore) (bytes : List ℕ) (list : List Command) (c : Chain) (cloud : Cloud) → Serves list c s cloud → Serves list c (with_shares s bytes) cloud
+shares_serve : (s : CloudStore) (bytes : List ℕ) (list : List Command) (c : Chain) (cloud : Cloud) → Serves list c s cloud → Serves list c (with_shares s bytes) cloud
 shares_serve s bytes list c cloud serves =
     let on = serves.known.on in
     serves_on list c s (with_shares s bytes).disk cloud cloud serves
     (record { read = on.read; shares = record { area_is = on.shares.area_is; behind = on.shares.behind; agrees = on.shares.agrees }; recipes = on.recipes }) refl refl refl
 
-pub news_staged : (old x : OpenStore) (user : UserId) (sent : List (List ℕ)) (news : List New) → IsStoreReady old → Picked old x user sent news → IsSettled x → EndsMeet x → HasNewsStaged x news
+pub news_staged : (old x : CloudStore) (user : UserId) (sent : List (List ℕ)) (news : List New) → IsStoreReady old → Picked old x user sent news → IsSettled x → EndsMeet x → HasNewsStaged x news
 news_staged old x user sent news ready p settled meet = record {
   settled = settled;
-  at_end = subst (λ (s : OpenStore). s.disk.journal.stage ≡ old.disk.journal.stage) (sym p.same) refl ∙ ready.at_end;
+  at_end = subst (λ (s : CloudStore). s.disk.journal.stage ≡ old.disk.journal.stage) (sym p.same) refl ∙ ready.at_end;
   meet = meet;
   strings = p.strings;
   are_of = p.are_of;
-  shares = subst (λ (m : Memory). HasStaged x.disk.shares (unplaced m.places p.strings)) (sym (ap (λ (s : OpenStore). memory_of s.memory) p.same)) p.staged;
-  recipes = subst (λ (s : OpenStore). HasStaged s.disk.recipes []) (sym p.same) ready.none.recipes;
+  shares = subst (λ (m : Memory). HasStaged x.disk.shares (unplaced m.places p.strings)) (sym (ap (λ (s : CloudStore). memory_of s.memory) p.same)) p.staged;
+  recipes = subst (λ (s : CloudStore). HasStaged s.disk.recipes []) (sym p.same) ready.none.recipes;
 }
 
-unstaged_is : (s : OpenStore) (bytes : List ℕ) → NoneStaged s → unstaged (with_shares s bytes) ≡ s
+unstaged_is : (s : CloudStore) (bytes : List ℕ) → NoneStaged s → unstaged (with_shares s bytes) ≡ s
 unstaged_is s bytes none = λ i. record s { disk = record s.disk { shares = record s.disk.shares { staged = sym none.shares.bytes i }; recipes = record s.disk.recipes { staged = sym none.recipes.bytes i } } }
 
-served_staged : {T E : Type 0} (old new : OpenStore) (c : Cloud) (bytes : List ℕ) (list : List Command) (request : Request) (content : List ℕ) (r : Result T E)
+served_staged : {T E : Type 0} (old new : CloudStore) (c : Cloud) (bytes : List ℕ) (list : List Command) (request : Request) (content : List ℕ) (r : Result T E)
     → OnOk r (IsServedByList (with_shares old bytes) new c list request content) → OnOk r (IsServedByList old new c list request content)
 served_staged old new c bytes list request content (Err e) s = tt
 served_staged old new c bytes list request content (Ok v) s = record { reply = s.reply; next = s.next }
 
-does_staged : {T E : Type 0} (old new : OpenStore) (a c : Cloud) (bytes : List ℕ) (list : List Command) (request : Request) (content : List ℕ) (r : Result T E)
+does_staged : {T E : Type 0} (old new : CloudStore) (a c : Cloud) (bytes : List ℕ) (list : List Command) (request : Request) (content : List ℕ) (r : Result T E)
     → Does (with_shares old bytes) new a c list request content r → Does old new a c list request content r
 does_staged old new a c bytes list request content r d = record {
   any_moment = d.any_moment;
@@ -185,13 +185,13 @@ does_staged old new a c bytes list request content r d = record {
   stays = λ none. let l = d.stays none in record { cloud = l.cloud; memory = l.memory };
 }
 
-full_then : {T E : Type 0} (r : Result T E) (P Same : Type 0) (old new : OpenStore) (bytes : List ℕ) → NoneStaged old → OnOk r (P → Same × (new ≡ unstaged (with_shares old bytes))) → OnOk r (P → Same × (new ≡ old))
+full_then : {T E : Type 0} (r : Result T E) (P Same : Type 0) (old new : CloudStore) (bytes : List ℕ) → NoneStaged old → OnOk r (P → Same × (new ≡ unstaged (with_shares old bytes))) → OnOk r (P → Same × (new ≡ old))
 full_then (Err e) P Same old new bytes none f = tt
 full_then (Ok v) P Same old new bytes none f = λ p. let u = f p in (u.0, u.1 ∙ unstaged_is old bytes none)
 
 module _ (user : UserId) (sent : List (List ℕ)) (news : List New) where
   -- what adding the Put leaves of a store that has its shares staged
-  pub record Adds {T E : Type 0} (Same : Type 0) (x new : OpenStore) (a c : ℕ → Cloud) (f0 f1 : ℕ) (content : List ℕ) (r : Result T E) : Type 0 where
+  pub record Adds {T E : Type 0} (Same : Type 0) (x new : CloudStore) (a c : ℕ → Cloud) (f0 f1 : ℕ) (content : List ℕ) (r : Result T E) : Type 0 where
     pub leaves : IsLeftSettled x new r
     pub does : (list : List Command) (chain : Chain) (strings : List (List ℕ)) → IsPut list chain x user news strings (a x.header.cloud.0)
         → strings ≡ new_strings (user_view x.header.shape list user).own sent
@@ -201,13 +201,13 @@ module _ (user : UserId) (sent : List (List ℕ)) (news : List New) where
     pub full : (room : Room) (used need limit : ℕ) → room ≢ names.Journal → OnOk r (IsReply content (replies.Full room used need limit) → Same × (new ≡ unstaged x))
     pub calls : Calls a c x.header.cloud.0 f0 f1 r
 
-  pub added : {T E : Type 0} (r : Result T E) (Same : Type 0) (old x new : OpenStore) (a c : ℕ → Cloud) (f0 f1 : ℕ) (content : List ℕ) → IsStoreReady old → AreShares sent → user.0 < 2 ^ 32
+  pub added : {T E : Type 0} (r : Result T E) (Same : Type 0) (old x new : CloudStore) (a c : ℕ → Cloud) (f0 f1 : ℕ) (content : List ℕ) → IsStoreReady old → AreShares sent → user.0 < 2 ^ 32
       → Picked old x user sent news → 1 ≤ length news → Adds Same x new a c f0 f1 content r → Executes Same old new a c f0 f1 (requests.Put user sent) content r
   added r Same old x new a c f0 f1 content ready batch small p some adds =
       let n = old.header.cloud.0 in let shape = old.header.shape in let m = memory_of old.memory in
       let bytes = x.disk.shares.staged in
-      let e = subst (λ (s : OpenStore). Adds Same s new a c f0 f1 content r) p.same adds in
-      let staged : HasStaged (with_shares old bytes).disk.shares (unplaced m.places p.strings) = subst (λ (s : OpenStore). HasStaged s.disk.shares (unplaced m.places p.strings)) p.same p.staged in
+      let e = subst (λ (s : CloudStore). Adds Same s new a c f0 f1 content r) p.same adds in
+      let staged : HasStaged (with_shares old bytes).disk.shares (unplaced m.places p.strings) = subst (λ (s : CloudStore). HasStaged s.disk.shares (unplaced m.places p.strings)) p.same p.staged in
       let many = as_many news p.strings p.are_of in
       let few : length news ≤ length sent = omega (arith, many, p.few) in
       adds_executes r Same old new a c f0 f1 (requests.Put user sent) content
@@ -230,7 +230,7 @@ module _ (user : UserId) (sent : List (List ℕ)) (news : List New) where
 
 -- ---- what adding leaves
 
-pub leaves_added : (old new : OpenStore) → IsSettled new → NoneStaged new → new.header ≡ old.header → new.disk.journal.stage ≡ AtEnd → EndsMeet new → IsLeftSettled old new ok_result
+pub leaves_added : (old new : CloudStore) → IsSettled new → NoneStaged new → new.header ≡ old.header → new.disk.journal.stage ≡ AtEnd → EndsMeet new → IsLeftSettled old new ok_result
 leaves_added old new settled none header at_end meet = record {
   ready = record { settled = settled; at_end = at_end; none = none; meet = meet };
   settled = settled;
@@ -239,10 +239,10 @@ leaves_added old new settled none header at_end meet = record {
   header = header;
 }
 
-pub unstaged_meets : (old new : OpenStore) → EndsMeet old → new ≡ unstaged old → EndsMeet new
+pub unstaged_meets : (old new : CloudStore) → EndsMeet old → new ≡ unstaged old → EndsMeet new
 unstaged_meets old new meet is = subst EndsMeet (sym is) (record { shares = meet.shares; recipes = meet.recipes })
 
-pub unmoved_meets : (old new : OpenStore) → EndsMeet old → Unmoved old new → EndsMeet new
+pub unmoved_meets : (old new : CloudStore) → EndsMeet old → Unmoved old new → EndsMeet new
 unmoved_meets old new meet u = record {
   shares = ap (λ (l : State). l.end) u.shares ∙ meet.shares ∙ sym (ap (λ (m : CloudMemory). m.shares_end) u.memory);
   recipes = ap (λ (l : State). l.end) u.recipes ∙ meet.recipes ∙ sym (ap (λ (m : CloudMemory). m.recipes_end) u.memory);
@@ -254,18 +254,18 @@ long_stores rooms m new user news content used need limit some same is = record 
 
 -- ---- what a Put says by the memory
 
-pub none_stores : (rooms : UserRooms) (old new : OpenStore) (user : UserId) (sent : List (List ℕ)) (news : List New) (content : List ℕ) → NoneStaged old → Picked old new user sent news → length news ≡ 0
+pub none_stores : (rooms : UserRooms) (old new : CloudStore) (user : UserId) (sent : List (List ℕ)) (news : List New) (content : List ℕ) → NoneStaged old → Picked old new user sent news → length news ≡ 0
     → IsReply content (replies.Stored 0) → Replies content (Stores rooms (memory_of old.memory) (memory_of new.memory) user (news_of (memory_of old.memory) user sent))
 none_stores rooms old new user sent news content none p few is =
     let m = memory_of old.memory in
     let nil = nil_from_length p.strings (sym (as_many news p.strings p.are_of) ∙ few) in
     let no_news : news_of m user sent ≡ [] = ap (map new_of) (sym p.by_memory ∙ nil) in
     subst (λ (l : List New). Replies content (Stores rooms m (memory_of new.memory) user l)) (sym no_news)
-    (record { reply = replies.Stored 0; is = is; said = (refl, ap (λ (s : OpenStore). memory_of s.memory) (nothing_staged old new user sent news none p few), λ some. absurd (omega (arith, some))) })
+    (record { reply = replies.Stored 0; is = is; said = (refl, ap (λ (s : CloudStore). memory_of s.memory) (nothing_staged old new user sent news none p few), λ some. absurd (omega (arith, some))) })
 
-pub some_store : {T E : Type 0} (r : Result T E) (old x : OpenStore) (new : Memory) (user : UserId) (sent : List (List ℕ)) (news : List New) (content : List ℕ) → Picked old x user sent news
+pub some_store : {T E : Type 0} (r : Result T E) (old x : CloudStore) (new : Memory) (user : UserId) (sent : List (List ℕ)) (news : List New) (content : List ℕ) → Picked old x user sent news
     → OnOk r (Replies content (Stores x.header.rooms (memory_of x.memory) new user news))
     → OnOk r (Replies content (Stores old.header.rooms (memory_of old.memory) new user (news_of (memory_of old.memory) user sent)))
 some_store r old x new user sent news content p stores =
     subst (λ (l : List New). OnOk r (Replies content (Stores old.header.rooms (memory_of old.memory) new user l))) (p.lens ∙ ap (map new_of) p.by_memory)
-    (subst (λ (s : OpenStore). OnOk r (Replies content (Stores s.header.rooms (memory_of s.memory) new user news))) p.same stores)
+    (subst (λ (s : CloudStore). OnOk r (Replies content (Stores s.header.rooms (memory_of s.memory) new user news))) p.same stores)

@@ -20,8 +20,8 @@ use Rattle.server_reads.specs.UserDedup.Requests.{fps_of}
 use Rattle.server_reads.specs.UserDedup.Spending.{full_for}
 use Rattle.server_reads.specs.CloudMemory.Memory.{Remembers}
 use Rattle.server_reads.specs.CloudMemory.Rooms.{memory_of}
-use Rattle.open_store.specs.declared.store.OpenStore.{OpenStore}
-use Rattle.open_store.specs.Store.{IsSettled, IsOpen, closed}
+use Rattle.cloud_store.specs.declared.store.CloudStore.{CloudStore}
+use Rattle.cloud_store.specs.Store.{IsSettled, IsOpen, closed}
 use Rattle.server_reads.specs.declared.blobs.BlobStop.{BlobStop}
 use Rattle.server_reads.specs.declared.blobs.BlobStop.TheVariants as stops
 use Rattle.server_reads.specs.Found.{IsFoundRecipe}
@@ -38,10 +38,10 @@ use Rattle.server_commands.proofs.Reread.{both_read, both_failed, leaves_failed,
 
 module _ (user : UserId) (tag : Tag) (version : Version) where
   -- the user owns what the recipe names, by each list that the memory has
-  abbrev pub Owns : OpenStore → List ℕ → Type 0
+  abbrev pub Owns : CloudStore → List ℕ → Type 0
   Owns s recipe = (list : List Command) → Remembers s.header.shape list (memory_of s.memory) → first_lacking (user_view s.header.shape list user).own (fps_of s.header.shape recipe) ≡ None
 
-  module _ (Same : Type 0) (old mid : OpenStore) (a b : ℕ → Cloud) (f0 f1 : ℕ) (recipe content : List ℕ) (o : HasOnlyReadRecipes old mid (a old.header.cloud.0) (b old.header.cloud.0)) (ready : IsStoreReady old) where
+  module _ (Same : Type 0) (old mid : CloudStore) (a b : ℕ → Cloud) (f0 f1 : ℕ) (recipe content : List ℕ) (o : HasOnlyReadRecipes old mid (a old.header.cloud.0) (b old.header.cloud.0)) (ready : IsStoreReady old) where
     abbrev request : Request
     request = requests.Commit user tag version recipe
 
@@ -64,7 +64,7 @@ module _ (user : UserId) (tag : Tag) (version : Version) where
         (λ answer leaves other. compared_leaves content there recipe (Same × (mid ≡ old)) is answer leaves other)
         (compared_gives old.header.shape user tag version there recipe content is)
 
-    pub unread : (new : OpenStore) → HasReadCloud a b old.header.cloud.0 f0 f1 failed_read → new ≡ closed mid → IsSettled new → ¬ (IsOpen new)
+    pub unread : (new : CloudStore) → HasReadCloud a b old.header.cloud.0 f0 f1 failed_read → new ≡ closed mid → IsSettled new → ¬ (IsOpen new)
         → Executes Same old new a b f0 f1 (requests.Commit user tag version recipe) content failed_result
     unread new read is settled shut =
         let n = old.header.cloud.0 in
@@ -90,7 +90,7 @@ module _ (user : UserId) (tag : Tag) (version : Version) where
         (λ answer leaves other. rotten_enters content named found (Same × (mid ≡ old)) content_is answer leaves other)
         (record { reply = replies.Rotten named found; is = content_is; given = rotten_of_commit old.header.shape user tag version recipe named found })
 
-  pub lacking : (Same : Type 0) (old : OpenStore) (a : ℕ → Cloud) (f : ℕ) (r : Recipe) (content : List ℕ) (place : ℕ) → Same → IsStoreReady old → IsRecipe old.header.shape (spelling r) r → place < length r.items
+  pub lacking : (Same : Type 0) (old : CloudStore) (a : ℕ → Cloud) (f : ℕ) (r : Recipe) (content : List ℕ) (place : ℕ) → Same → IsStoreReady old → IsRecipe old.header.shape (spelling r) r → place < length r.items
       → ((list : List Command) → Remembers old.header.shape list (memory_of old.memory) → first_lacking (user_view old.header.shape list user).own (fps_in r.items) ≡ Some place)
       → IsReply content (replies.Lacking place) → Executes Same old old a a f f (requests.Commit user tag version (spelling r)) content ok_result
   lacking Same old a f r content place same ready is within lacks content_is =

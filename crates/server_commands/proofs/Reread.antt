@@ -5,14 +5,14 @@ use Rattle.server_reads.specs.CdBase.ids.Fp.{Fp}
 use Rattle.server_reads.specs.CdEdges.area.Area.TheVariants.{Journal, Shares, Recipes}
 use Rattle.server_reads.specs.CdEdges.Disk.{Areas, Cloud}
 use Rattle.server_reads.specs.CdEdges.Shelf.{Stays}
-use Rattle.open_store.specs.CloudAreas.Peers.{StandsForSome}
+use Rattle.cloud_store.specs.CloudAreas.Peers.{StandsForSome}
 use Rattle.server_reads.specs.ContainerLog.Caches.{Kept}
 use Rattle.server_reads.specs.ContainerLog.Kept.{KeepsBelow}
 use Rattle.server_reads.specs.Messages.request.Request.{Request}
 use Rattle.server_reads.specs.UserDedup.command.Command.{Command}
-use Rattle.open_store.specs.declared.store.OpenStore.{OpenStore}
-use Rattle.open_store.specs.Adding.{NoneStaged, IsOneOf}
-use Rattle.open_store.specs.Store.{IsSettled, IsOpen, closed}
+use Rattle.cloud_store.specs.declared.store.CloudStore.{CloudStore}
+use Rattle.cloud_store.specs.Adding.{NoneStaged, IsOneOf}
+use Rattle.cloud_store.specs.Store.{IsSettled, IsOpen, closed}
 use Rattle.server_reads.specs.declared.blobs.BlobStop.{BlobStop}
 use Rattle.server_reads.specs.declared.blobs.BlobStop.TheVariants as stops
 use Rattle.server_reads.specs.Reading.{UnlessFailed}
@@ -22,15 +22,15 @@ use Rattle.server_commands.specs.Steps.{IsLeftSettled, Does, HasOnlyReadRecipes}
 use Rattle.server_commands.proofs.Calls.{failed_result, ok_result, since_read, stays_twice, grows_read}
 use Rattle.server_commands.proofs.EntryLaws.{keeping, kept_ready}
 
-pub ready_read : (old mid : OpenStore) (a b : Cloud) → HasOnlyReadRecipes old mid a b → IsStoreReady old → IsStoreReady mid
+pub ready_read : (old mid : CloudStore) (a b : Cloud) → HasOnlyReadRecipes old mid a b → IsStoreReady old → IsStoreReady mid
 ready_read old mid a b o ready = subst IsStoreReady (sym o.same) (kept_ready old mid.disk.recipes.kept ready)
 
-pub both_read : (old mid : OpenStore) (a b : Cloud) → HasOnlyReadRecipes old mid a b → Stays a b → LeavesBoth old mid a b
-both_read old mid a b o stays = record { cloud = stays; memory = ap (λ (s : OpenStore). s.memory) o.same }
+pub both_read : (old mid : CloudStore) (a b : Cloud) → HasOnlyReadRecipes old mid a b → Stays a b → LeavesBoth old mid a b
+both_read old mid a b o stays = record { cloud = stays; memory = ap (λ (s : CloudStore). s.memory) o.same }
 
 -- ---- a command is added behind the read
 
-module _ (old : OpenStore) (kept : List Kept) (new : OpenStore) (a b c : Cloud) (stays : Stays a b) where
+module _ (old : CloudStore) (kept : List Kept) (new : CloudStore) (a b c : Cloud) (stays : Stays a b) where
   leaves_read : {T E : Type 0} (r : Result T E) → IsLeftSettled (keeping old kept) new r → IsLeftSettled old new r
   leaves_read r l = record { ready = l.ready; settled = l.settled; none = l.none; shut = l.shut; header = l.header }
 
@@ -57,7 +57,7 @@ module _ (old : OpenStore) (kept : List Kept) (new : OpenStore) (a b c : Cloud) 
 
 -- ---- the read failed
 
-pub leaves_failed : (old mid new : OpenStore) (a b : Cloud) → HasOnlyReadRecipes old mid a b → IsStoreReady old → new ≡ closed mid → IsSettled new → ¬ (IsOpen new) → IsLeftSettled old new failed_result
+pub leaves_failed : (old mid new : CloudStore) (a b : Cloud) → HasOnlyReadRecipes old mid a b → IsStoreReady old → new ≡ closed mid → IsSettled new → ¬ (IsOpen new) → IsLeftSettled old new failed_result
 leaves_failed old mid new a b o ready is settled shut =
     let m = ready_read old mid a b o ready in
     record {
@@ -65,18 +65,18 @@ leaves_failed old mid new a b o ready is settled shut =
       settled = settled;
       none = subst NoneStaged (sym is) (record { shares = m.none.shares; recipes = m.none.recipes });
       shut = shut;
-      header = ap (λ (s : OpenStore). s.header) is ∙ ap (λ (s : OpenStore). s.header) o.same;
+      header = ap (λ (s : CloudStore). s.header) is ∙ ap (λ (s : CloudStore). s.header) o.same;
     }
 
-pub both_failed : (old mid new : OpenStore) (a b : Cloud) → HasOnlyReadRecipes old mid a b → new ≡ closed mid → Stays a b → LeavesBoth old new a b
-both_failed old mid new a b o is stays = record { cloud = stays; memory = ap (λ (s : OpenStore). s.memory) is ∙ ap (λ (s : OpenStore). s.memory) o.same }
+pub both_failed : (old mid new : CloudStore) (a b : Cloud) → HasOnlyReadRecipes old mid a b → new ≡ closed mid → Stays a b → LeavesBoth old new a b
+both_failed old mid new a b o is stays = record { cloud = stays; memory = ap (λ (s : CloudStore). s.memory) is ∙ ap (λ (s : CloudStore). s.memory) o.same }
 
 -- ---- something else was read
 
-pub leaves_rotten : (old mid : OpenStore) (a b : Cloud) → HasOnlyReadRecipes old mid a b → IsStoreReady old → IsLeftSettled old mid ok_result
+pub leaves_rotten : (old mid : CloudStore) (a b : Cloud) → HasOnlyReadRecipes old mid a b → IsStoreReady old → IsLeftSettled old mid ok_result
 leaves_rotten old mid a b o ready =
     let m = ready_read old mid a b o ready in
-    record { ready = m; settled = m.settled; none = m.none; shut = tt; header = ap (λ (s : OpenStore). s.header) o.same }
+    record { ready = m; settled = m.settled; none = m.none; shut = tt; header = ap (λ (s : CloudStore). s.header) o.same }
 
 pub counts_at : (stop : BlobStop) (named found : Fp) (P : Type 0) → stop ≡ stops.Rotten named found → UnlessFailed {A = Unit {0}} (Err stop) P → P
 counts_at stop named found P is counts = subst (λ (x : BlobStop). UnlessFailed {A = Unit {0}} (Err x) P) is counts

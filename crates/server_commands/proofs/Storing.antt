@@ -25,9 +25,9 @@ use Rattle.server_reads.specs.CloudMemory.Sharing.{AreOwned}
 use Rattle.server_reads.specs.CloudMemory.Steps.{end_with, with_item, with_items, with_put, part_in, parts_of}
 use Rattle.server_reads.proofs.MemoryProofs.Adding.{Others, others, rest_apart}
 use Rattle.server_reads.proofs.MemoryProofs.Puts.{place_for, placed_more}
-use Rattle.open_store.specs.declared.store.OpenStore.{OpenStore}
-use Rattle.open_store.specs.Store.{EndsMeet}
-use Rattle.open_store.specs.Adding.{IsShareNew, EndBehind, unplaced}
+use Rattle.cloud_store.specs.declared.store.CloudStore.{CloudStore}
+use Rattle.cloud_store.specs.Store.{EndsMeet}
+use Rattle.cloud_store.specs.Adding.{IsShareNew, EndBehind, unplaced}
 use Rattle.server_commands.specs.Entering.{new_of, unowned_from, unowned, storing}
 use Rattle.server_commands.specs.Steps.{HasNewsStaged}
 
@@ -121,7 +121,7 @@ recipes_stay user m [] = refl
 recipes_stay user m (n ∷ news) = recipes_stay user (with_item user m (part_in m n)) news
 
 -- both logs end where the memory says, once the Put is there
-pub news_met : (old new : OpenStore) (user : UserId) (news : List New) → HasNewsStaged old news → AreNewTo (memory_of old.memory) user news → EndBehind old new
+pub news_met : (old new : CloudStore) (user : UserId) (news : List New) → HasNewsStaged old news → AreNewTo (memory_of old.memory) user news → EndBehind old new
     → memory_of new.memory ≡ with_put user (parts_of user (memory_of old.memory) news) (memory_of old.memory) → EndsMeet new
 news_met old new user news has fresh ends taken =
     let m = memory_of old.memory in

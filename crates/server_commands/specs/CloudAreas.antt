@@ -1,2 +1,2 @@
 -- What cloud_areas says, for callers.
-pub use Rattle.open_store.specs.CloudAreas.Standing
+pub use Rattle.cloud_store.specs.CloudAreas.Standing

@@ -1,2 +1,2 @@
 -- What cloud_disk says, for callers.
-pub use Rattle.open_store.specs.CloudDisk.Disk
+pub use Rattle.cloud_store.specs.CloudDisk.Disk

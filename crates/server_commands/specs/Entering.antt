@@ -12,8 +12,8 @@ use Rattle.server_reads.specs.ContainerLog.Places.{place_of}
 use Rattle.server_reads.specs.FileIndex.key.Entry.{Entry}
 use Rattle.server_reads.specs.FileIndex.key.FileKey.{FileKey}
 use Rattle.server_reads.specs.FileIndex.Files.{key_of}
-use Rattle.open_store.specs.JournalStart.rooms.UserRooms.{UserRooms}
-use Rattle.open_store.specs.JournalStart.start.Header.{Header}
+use Rattle.cloud_store.specs.JournalStart.rooms.UserRooms.{UserRooms}
+use Rattle.cloud_store.specs.JournalStart.start.Header.{Header}
 use Rattle.server_reads.specs.Messages.request.Request.{Request}
 use Rattle.server_reads.specs.Messages.request.Request.TheVariants as requests
 use Rattle.server_reads.specs.Messages.reply.Reply.{Reply}

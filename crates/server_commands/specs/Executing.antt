@@ -8,39 +8,39 @@ use Rattle.server_reads.specs.Messages.reply.Reply.{Reply}
 use Rattle.server_reads.specs.Messages.reply.Reply.TheVariants as replies
 use Rattle.server_reads.specs.Messages.Replies.{IsReply}
 use Rattle.server_reads.specs.UserDedup.command.Command.{Command}
-use Rattle.open_store.specs.CloudAreas.Peers.{ImagesSince}
+use Rattle.cloud_store.specs.CloudAreas.Peers.{ImagesSince}
 use Rattle.server_reads.specs.CloudMemory.Rooms.{memory_of}
-use Rattle.open_store.specs.declared.store.OpenStore.{OpenStore}
-use Rattle.open_store.specs.Store.{IsOpen, IsSettled, EndsMeet, ServesSome}
-use Rattle.open_store.specs.Adding.{NoneStaged, KeepsOrGrows}
+use Rattle.cloud_store.specs.declared.store.CloudStore.{CloudStore}
+use Rattle.cloud_store.specs.Store.{IsOpen, IsSettled, EndsMeet, ServesSome}
+use Rattle.cloud_store.specs.Adding.{NoneStaged, KeepsOrGrows}
 use Rattle.server_commands.specs.Leaving.{LeavesAll, IsSteady, IsFound}
 use Rattle.server_commands.specs.Serving.{serves, IsServedByList, IsServedOrNot, Gives}
 
 -- What holds of an open store between two requests: nothing is staged, and both logs end where the memory says.
-pub record IsStoreReady (s : OpenStore) : Type 0 where
+pub record IsStoreReady (s : CloudStore) : Type 0 where
   pub settled : IsSettled s
   pub at_end : IsOpen s
   pub none : NoneStaged s
   pub meet : EndsMeet s
 
 -- Each list that the store serves has this.
-abbrev pub ForServed : OpenStore → Cloud → (List Command → Type 0) → Type 0
+abbrev pub ForServed : CloudStore → Cloud → (List Command → Type 0) → Type 0
 ForServed s cloud P = (list : List Command) → ServesSome list s cloud → P list
 
 -- Whatever the records say: each image since has the chain that was read, or the memory's checkpoint in its place, or one of the two with one
 -- record more; and all that lay below the ends of both logs.
-pub record GrowsBehind (old : OpenStore) (before after : Cloud) : Type 0 where
+pub record GrowsBehind (old : CloudStore) (before after : Cloud) : Type 0 where
   pub body : List ℕ
   pub chain : KeepsOrGrows old body before after
 
 -- The cloud's areas and the memory stay.
-pub record LeavesBoth (old new : OpenStore) (before after : Cloud) : Type 0 where
+pub record LeavesBoth (old new : CloudStore) (before after : Cloud) : Type 0 where
   pub cloud : Stays before after
   pub memory : new.memory ≡ old.memory
 
 -- What an open store does with a request, and leaves. The clouds are those by their numbers, with the count of all faults; `Same` says that no
 -- device was called.
-pub record Executes {T E : Type 0} (Same : Type 0) (old new : OpenStore) (before after : ℕ → Cloud) (faults_before faults_after : ℕ) (request : Request) (content : List ℕ) (result : Result T E) : Type 0 where
+pub record Executes {T E : Type 0} (Same : Type 0) (old new : CloudStore) (before after : ℕ → Cloud) (faults_before faults_after : ℕ) (request : Request) (content : List ℕ) (result : Result T E) : Type 0 where
   -- what the store is then
   pub ready : OnOk result (IsStoreReady new)
   pub settled : IsSettled new

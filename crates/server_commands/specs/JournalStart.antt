@@ -1,5 +1,5 @@
 -- What journal_start says, for callers.
-pub use Rattle.open_store.specs.JournalStart.Ranges
-pub use Rattle.open_store.specs.JournalStart.Spelling
-pub use Rattle.open_store.specs.JournalStart.rooms
-pub use Rattle.open_store.specs.JournalStart.start
+pub use Rattle.cloud_store.specs.JournalStart.Ranges
+pub use Rattle.cloud_store.specs.JournalStart.Spelling
+pub use Rattle.cloud_store.specs.JournalStart.rooms
+pub use Rattle.cloud_store.specs.JournalStart.start

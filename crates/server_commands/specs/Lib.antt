@@ -7,12 +7,12 @@ pub mod Entering
 pub mod Executing
 pub mod FileIndex
 pub mod Frames
-pub mod HalfJournal
+pub mod CommitJournal
 pub mod JournalStart
 pub mod Leaving
 pub mod MessageFields
 pub mod Messages
-pub mod OpenStore
+pub mod CloudStore
 pub mod Picked
 pub mod Recipe
 pub mod ServerReads

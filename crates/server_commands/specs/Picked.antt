@@ -11,20 +11,20 @@ use Rattle.server_reads.specs.CloudMemory.rooms.New.{New}
 use Rattle.server_reads.specs.CloudMemory.Memory.{Remembers}
 use Rattle.server_reads.specs.CloudMemory.News.{AreOf, AreNewTo}
 use Rattle.server_reads.specs.CloudMemory.Rooms.{memory_of}
-use Rattle.open_store.specs.declared.store.OpenStore.{OpenStore}
-use Rattle.open_store.specs.Adding.{unplaced}
+use Rattle.cloud_store.specs.declared.store.CloudStore.{CloudStore}
+use Rattle.cloud_store.specs.Adding.{unplaced}
 use Rattle.server_commands.specs.Entering.{new_of, unowned}
 
 abbrev pub fps_of : List New → List Fp
 fps_of news = map (λ (n : New). n.fp) news
 
 -- the store with these bytes staged in the log of the shares
-abbrev pub with_shares : OpenStore → List ℕ → OpenStore
+abbrev pub with_shares : CloudStore → List ℕ → CloudStore
 with_shares s bytes = record s { disk = record s.disk { shares = record s.disk.shares { staged = bytes } } }
 
 -- Of the shares that were sent those that the memory doesn't give to the user, the first of each fingerprint. For a list that the memory
 -- has they are those that are new to the user. Of the store only what is staged has changed: those that have no place yet, in their order.
-pub record Picked (old new : OpenStore) (user : UserId) (sent : List (List ℕ)) (news : List New) : Type 0 where
+pub record Picked (old new : CloudStore) (user : UserId) (sent : List (List ℕ)) (news : List New) : Type 0 where
   pub strings : List (List ℕ)
   pub range : All IsShare strings
   pub few : length strings ≤ length sent

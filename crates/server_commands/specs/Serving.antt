@@ -10,21 +10,21 @@ use Rattle.server_reads.specs.Messages.Replies.{IsReply, reply_bytes}
 use Rattle.server_reads.specs.UserDedup.command.Command.{Command}
 use Rattle.server_reads.specs.UserDedup.Dedup.{Outcome}
 use Rattle.server_reads.specs.UserDedup.Exec.{items_of}
-use Rattle.open_store.specs.declared.store.OpenStore.{OpenStore}
-use Rattle.open_store.specs.Store.{ServesSome}
+use Rattle.cloud_store.specs.declared.store.CloudStore.{CloudStore}
+use Rattle.cloud_store.specs.Store.{ServesSome}
 use Rattle.server_reads.specs.UserDedup.Served.{served_by}
 
 -- the reply by a list, and the command that it adds
-abbrev pub serves : OpenStore → List Command → Request → Outcome
+abbrev pub serves : CloudStore → List Command → Request → Outcome
 serves s = served_by s.header.rooms s.header.shape s.header.cloud.0
 
 -- The content is the reply that the list gives, and the store serves the list with what the request adds.
-pub record IsServedByList (old new : OpenStore) (cloud : Cloud) (list : List Command) (request : Request) (content : List ℕ) : Type 0 where
+pub record IsServedByList (old new : CloudStore) (cloud : Cloud) (list : List Command) (request : Request) (content : List ℕ) : Type 0 where
   pub reply : content ≡ reply_bytes (serves old list request).reply
   pub next : ServesSome (list ++ option_to_list (serves old list request).adds) new cloud
 
 -- the list, or the list with the command that the request adds
-abbrev pub IsServedOrNot : OpenStore → List Command → Request → List Command → Type 0
+abbrev pub IsServedOrNot : CloudStore → List Command → Request → List Command → Type 0
 IsServedOrNot s list request other =
     (other ≡ list) ⊎ ((command : Command) × ((serves s list request).adds ≡ Some command) × (other ≡ list ++ command ∷ []))
 

@@ -9,7 +9,7 @@ use Rattle.server_reads.specs.CdEdges.Disk.{Cloud}
 use Rattle.server_reads.specs.CdEdges.Shelf.{IsCall, HasFailed, KeepsCounts}
 use Rattle.server_reads.specs.ContainerLog.States.{HasStaged, with_blob}
 use Rattle.server_reads.specs.FileIndex.key.FileKey.{FileKey}
-use Rattle.open_store.specs.JournalStart.start.Header.{Header}
+use Rattle.cloud_store.specs.JournalStart.start.Header.{Header}
 use Rattle.server_reads.specs.Messages.request.Request.{Request}
 use Rattle.server_reads.specs.Messages.request.Request.TheVariants as requests
 use Rattle.server_reads.specs.Messages.reply.Reply.{Reply}
@@ -20,16 +20,16 @@ use Rattle.server_reads.specs.UserDedup.Dedup.{answer_over}
 use Rattle.server_reads.specs.UserDedup.Requests.{HasRecipe, fps_of}
 use Rattle.server_reads.specs.UserDedup.file_list.FileEntry.{FileEntry}
 use Rattle.server_reads.specs.UserDedup.Pages.{entry_at}
-use Rattle.open_store.specs.CloudAreas.Peers.{ImagesSince}
-use Rattle.open_store.specs.CloudAreas.Standing.{Chain}
-use Rattle.open_store.specs.declared.store.OpenStore.{OpenStore}
-use Rattle.open_store.specs.Store.{IsOpen, IsSettled, EndsMeet, Serves}
+use Rattle.cloud_store.specs.CloudAreas.Peers.{ImagesSince}
+use Rattle.cloud_store.specs.CloudAreas.Standing.{Chain}
+use Rattle.cloud_store.specs.declared.store.CloudStore.{CloudStore}
+use Rattle.cloud_store.specs.Store.{IsOpen, IsSettled, EndsMeet, Serves}
 use Rattle.server_reads.specs.CloudMemory.rooms.New.{New}
 use Rattle.server_reads.specs.CloudMemory.Memory.{Memory}
 use Rattle.server_reads.specs.CloudMemory.News.{AreOf}
 use Rattle.server_reads.specs.CloudMemory.Steps.{without_entry}
 use Rattle.server_reads.specs.CloudMemory.Rooms.{memory_of}
-use Rattle.open_store.specs.Adding.{NoneStaged, unplaced}
+use Rattle.cloud_store.specs.Adding.{NoneStaged, unplaced}
 use Rattle.server_reads.specs.declared.blobs.BlobStop.{BlobStop}
 use Rattle.server_reads.specs.Reading.{IfRotten}
 use Rattle.server_commands.specs.Executing.{IsStoreReady, LeavesBoth}
@@ -46,7 +46,7 @@ pub record Calls {T E : Type 0} (old new : ℕ → Cloud) (number before now : �
 -- ---- the store
 
 -- It is settled with nothing staged; ready after Ok, and shut after Failed.
-pub record IsLeftSettled {T E : Type 0} (old new : OpenStore) (result : Result T E) : Type 0 where
+pub record IsLeftSettled {T E : Type 0} (old new : CloudStore) (result : Result T E) : Type 0 where
   pub ready : OnOk result (IsStoreReady new)
   pub settled : IsSettled new
   pub none : NoneStaged new
@@ -54,7 +54,7 @@ pub record IsLeftSettled {T E : Type 0} (old new : OpenStore) (result : Result T
   pub header : new.header ≡ old.header
 
 -- A request is served by a list that the store serves.
-pub record Does {T E : Type 0} (old new : OpenStore) (before after : Cloud) (list : List Command) (request : Request) (content : List ℕ) (result : Result T E) : Type 0 where
+pub record Does {T E : Type 0} (old new : CloudStore) (before after : Cloud) (list : List Command) (request : Request) (content : List ℕ) (result : Result T E) : Type 0 where
   pub any_moment : ImagesSince before after old.header (IsServedOrNot old list request)
   pub served : OnOk result (IsServedByList old new after list request content)
   pub stays : (serves old list request).adds ≡ None → LeavesBoth old new before after
@@ -62,7 +62,7 @@ pub record Does {T E : Type 0} (old new : OpenStore) (before after : Cloud) (lis
 -- ---- reading
 
 -- Of the store only the containers have changed that the log of the recipes keeps; it is what it was else, and serves what it served.
-pub record HasOnlyReadRecipes (old new : OpenStore) (before after : Cloud) : Type 0 where
+pub record HasOnlyReadRecipes (old new : CloudStore) (before after : Cloud) : Type 0 where
   pub same : new ≡ record old { disk = record old.disk { recipes = record old.disk.recipes { kept = new.disk.recipes.kept } } }
   pub serves : (list : List Command) (c : Chain) → Serves list c old before → Serves list c new after
 
@@ -100,11 +100,11 @@ by_recipe there recipe = if bytes_eq there recipe then replies.Committed else re
 -- ---- a Commit
 
 -- the store with the recipe staged
-abbrev pub staging : OpenStore → List ℕ → OpenStore
+abbrev pub staging : CloudStore → List ℕ → CloudStore
 staging s recipe = record s { disk = record s.disk { recipes = with_blob s.disk.recipes recipe } }
 
 -- An open store in which just this recipe is staged, and whose logs end where its memory says.
-pub record HasRecipeStaged (s : OpenStore) (recipe : List ℕ) : Type 0 where
+pub record HasRecipeStaged (s : CloudStore) (recipe : List ℕ) : Type 0 where
   pub settled : IsSettled s
   pub at_end : IsOpen s
   pub meet : EndsMeet s
@@ -120,7 +120,7 @@ pub record IsAnsweredNew (header : Header) (list : List Command) (user : UserId)
 -- ---- a Put
 
 -- An open store in which of these shares just those are staged, in their order, that have no place yet; its logs end where its memory says.
-pub record HasNewsStaged (s : OpenStore) (news : List New) : Type 0 where
+pub record HasNewsStaged (s : CloudStore) (news : List New) : Type 0 where
   pub settled : IsSettled s
   pub at_end : IsOpen s
   pub meet : EndsMeet s

@@ -15,12 +15,12 @@ ghost use Rattle.server_reads.specs.UserDedup.command.Command.{Command};
 ghost use Rattle.server_reads.specs.UserDedup.Cloud.{fingerprint, user_view};
 ghost use Rattle.server_reads.specs.UserDedup.Owning.{fps_in, first_lacking};
 ghost use Rattle.server_reads.specs.UserDedup.Requests.{fps_of};
-ghost use Rattle.open_store.specs.CloudAreas.Standing.{Chain};
+ghost use Rattle.cloud_store.specs.CloudAreas.Standing.{Chain};
 ghost use Rattle.server_reads.specs.CloudMemory.Memory.{Remembers};
 ghost use Rattle.server_reads.specs.CloudMemory.Rooms.{memory_of};
 ghost use Rattle.server_reads.specs.CloudMemory.Sharing.{AreOwned};
-ghost use Rattle.open_store.specs.Store.{Serves};
-ghost use Rattle.open_store.specs.Adding.{unstaged};
+ghost use Rattle.cloud_store.specs.Store.{Serves};
+ghost use Rattle.cloud_store.specs.Adding.{unstaged};
 ghost use Rattle.server_reads.specs.Allowed.{Replies};
 ghost use Rattle.server_commands.specs.Entering.{Commits, Enters};
 ghost use Rattle.server_commands.specs.Executing.{IsStoreReady, GrowsBehind, Executes};
@@ -28,7 +28,7 @@ ghost use Rattle.server_commands.specs.Steps.{Calls, IsLeftSettled, Does, HasRec
 
 use crate::reading::read_entry;
 use crate::refusing::refuse_long;
-use open_store::{OpenStore, Unadded};
+use cloud_store::{CloudStore, Unadded};
 use server_reads::{
     BlobStop, Entry, Failed, Fp, RecipeView, ReplyBuf, Shelf, Tag, UserId, Version, VersionKey,
     sha256, write_committed, write_exists, write_full, write_lacking, write_rotten,
@@ -50,7 +50,7 @@ fn put_compared(there: &[u8], recipe: &[u8], reply: &mut ReplyBuf)
 
 // A Commit of a version that has this entry: its recipe is read back and compared.
 fn repeat<V: Shelf>(
-    store: &mut OpenStore,
+    store: &mut CloudStore,
     shelf: &mut V,
     key: VersionKey,
     entry: &Entry,
@@ -90,7 +90,7 @@ fn repeat<V: Shelf>(
 }
 
 // Stages a recipe where nothing is staged.
-fn stage(store: &mut OpenStore, recipe: &[u8])
+fn stage(store: &mut CloudStore, recipe: &[u8])
     requires ready { IsStoreReady store.old }
     requires few { length recipe.now ≤ recipe_limit }
     ensures staged { store.new ≡ staging store.old recipe.now }
@@ -106,7 +106,7 @@ fn stage(store: &mut OpenStore, recipe: &[u8])
 
 // Adds the Commit of a recipe that is staged.
 fn add_staged<V: Shelf>(
-    store: &mut OpenStore,
+    store: &mut CloudStore,
     shelf: &mut V,
     key: VersionKey,
     fp: Fp,
@@ -158,7 +158,7 @@ fn add_staged<V: Shelf>(
 
 // A Commit of a version that has no entry.
 fn enter<V: Shelf>(
-    store: &mut OpenStore,
+    store: &mut CloudStore,
     shelf: &mut V,
     key: VersionKey,
     recipe: &RecipeView<'_>,
@@ -206,7 +206,7 @@ fn enter<V: Shelf>(
 /// It asks for a buffer of 1,180,190 bytes at least, the most that a recipe has. It takes no memory but for the containers
 /// that the log keeps, and goes on without where there is none for them.
 pub fn commit<V: Shelf>(
-    store: &mut OpenStore,
+    store: &mut CloudStore,
     shelf: &mut V,
     user: UserId,
     tag: &Tag,

@@ -9,9 +9,9 @@ ghost use Rattle.server_reads.specs.UserDedup.command.Command.{Command};
 ghost use Rattle.server_reads.specs.UserDedup.file_list.FileEntry.{FileEntry};
 ghost use Rattle.server_reads.specs.UserDedup.Cloud.{user_view};
 ghost use Rattle.server_reads.specs.UserDedup.Pages.{entry_at};
-ghost use Rattle.open_store.specs.CloudAreas.Standing.{Chain};
+ghost use Rattle.cloud_store.specs.CloudAreas.Standing.{Chain};
 ghost use Rattle.server_reads.specs.CloudMemory.Rooms.{memory_of};
-ghost use Rattle.open_store.specs.Store.{Serves};
+ghost use Rattle.cloud_store.specs.Store.{Serves};
 ghost use Rattle.server_reads.specs.Allowed.{Replies};
 ghost use Rattle.server_commands.specs.Entering.{Enters};
 ghost use Rattle.server_commands.specs.Executing.{IsStoreReady, GrowsBehind, Executes};
@@ -19,7 +19,7 @@ ghost use Rattle.server_commands.specs.Steps.{Calls, IsLeftSettled, Does, IsOfDe
 
 use crate::reading::read_entry;
 use crate::refusing::refuse_long;
-use open_store::{OpenStore, Unadded};
+use cloud_store::{CloudStore, Unadded};
 use server_reads::{
     BlobStop, Entry, Failed, ReplyBuf, Shelf, Tag, UserId, Version, write_deleted, write_missing,
     write_rotten,
@@ -30,7 +30,7 @@ const DELETE_LEN: u32 = 45;
 
 // Adds the Delete of an entry with this recipe.
 fn forget<V: Shelf>(
-    store: &mut OpenStore,
+    store: &mut CloudStore,
     shelf: &mut V,
     user: UserId,
     tag: Tag,
@@ -72,7 +72,7 @@ fn forget<V: Shelf>(
 
 // A Delete of a version that has this entry.
 fn delete_entry<V: Shelf>(
-    store: &mut OpenStore,
+    store: &mut CloudStore,
     shelf: &mut V,
     user: UserId,
     tag: Tag,
@@ -123,7 +123,7 @@ fn delete_entry<V: Shelf>(
 /// It asks for a buffer of 1,180,190 bytes at least, the most that a recipe has. It takes no memory but for the containers
 /// that the log keeps, and goes on without where there is none for them.
 pub fn delete<V: Shelf>(
-    store: &mut OpenStore,
+    store: &mut CloudStore,
     shelf: &mut V,
     user: UserId,
     tag: &Tag,

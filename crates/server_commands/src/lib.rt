@@ -11,9 +11,9 @@ mod putting;
 mod reading;
 mod refusing;
 
+pub use cloud_store::{CloudDisk, CloudStore, Header, OpenErr, Start, UserRooms};
 pub use committing::commit;
 pub use deleting::delete;
-pub use open_store::{CloudDisk, Header, OpenErr, OpenStore, Start, UserRooms};
 pub use putting::put;
 pub use server_reads::{
     Area, Bytes, CloudMemory, CloudNo, Entry, Failed, Fp, FpsView, Link, Log, Lost, NoMemory,

@@ -10,12 +10,12 @@ ghost use Rattle.server_reads.specs.ShareIndex.Order.{owner_of};
 ghost use Rattle.server_reads.specs.UserDedup.Cloud.{fingerprint};
 ghost use Rattle.server_reads.specs.UserDedup.Owning.{is_among};
 ghost use Rattle.server_reads.specs.CloudMemory.Rooms.{memory_of};
-ghost use Rattle.open_store.specs.Store.{IsOpen, IsSettled, EndsMeet};
+ghost use Rattle.cloud_store.specs.Store.{IsOpen, IsSettled, EndsMeet};
 ghost use Rattle.server_commands.specs.Executing.{IsStoreReady};
 ghost use Rattle.server_commands.specs.Entering.{new_of};
 ghost use Rattle.server_commands.specs.Picked.{fps_of, with_shares, Picked};
 
-use open_store::OpenStore;
+use cloud_store::CloudStore;
 use server_reads::{CloudMemory, Fp, New, SharesView, UserId};
 use share_digests::digests_of;
 
@@ -87,7 +87,7 @@ fn pick(
 }
 
 // Stages a share whose fingerprint has no place yet.
-fn stage_one(store: &mut OpenStore, share: &[u8], fp: &Fp)
+fn stage_one(store: &mut CloudStore, share: &[u8], fp: &Fp)
     requires fp { fp.now ≡ fingerprint share.now }
     requires settled { IsSettled store.old }
     requires open { IsOpen store.old }
@@ -112,7 +112,7 @@ fn stage_one(store: &mut OpenStore, share: &[u8], fp: &Fp)
 /// Puts what the memory needs of each share that is new to the user, the first of each fingerprint, in front of `news`, in
 /// order, and stages those that have no place yet. The answer is how many are new.
 pub(crate) fn collect(
-    store: &mut OpenStore,
+    store: &mut CloudStore,
     user: UserId,
     shares: &SharesView<'_>,
     news: &mut [New],

@@ -10,10 +10,10 @@ ghost use Rattle.server_reads.specs.Messages.Replies.{IsReply};
 ghost use Rattle.server_reads.specs.UserDedup.command.Command.{Command};
 ghost use Rattle.server_reads.specs.UserDedup.Cloud.{user_view};
 ghost use Rattle.server_reads.specs.UserDedup.Owning.{new_strings};
-ghost use Rattle.open_store.specs.CloudAreas.Standing.{Chain};
+ghost use Rattle.cloud_store.specs.CloudAreas.Standing.{Chain};
 ghost use Rattle.server_reads.specs.CloudMemory.News.{AreNewTo};
 ghost use Rattle.server_reads.specs.CloudMemory.Rooms.{memory_of};
-ghost use Rattle.open_store.specs.Adding.{IsPut, IsShareNew, unstaged};
+ghost use Rattle.cloud_store.specs.Adding.{IsPut, IsShareNew, unstaged};
 ghost use Rattle.server_reads.specs.Allowed.{Replies};
 ghost use Rattle.server_commands.specs.Entering.{Stores, Enters};
 ghost use Rattle.server_commands.specs.Executing.{IsStoreReady, GrowsBehind, Executes};
@@ -21,14 +21,14 @@ ghost use Rattle.server_commands.specs.Steps.{Calls, IsLeftSettled, Does, HasNew
 
 use crate::news::collect;
 use crate::refusing::refuse_long;
-use open_store::{OpenStore, Unadded};
+use cloud_store::{CloudStore, Unadded};
 use server_reads::{
     Failed, Fp, New, ReplyBuf, SharesView, Shelf, UserId, write_full, write_stored,
 };
 
 // Adds the Put of these shares, which are new; those that have no place yet are staged.
 fn add_news<V: Shelf>(
-    store: &mut OpenStore,
+    store: &mut CloudStore,
     shelf: &mut V,
     user: UserId,
     news: &[New],
@@ -92,7 +92,7 @@ fn add_news<V: Shelf>(
 ///
 /// It asks for 1 to 256 shares of 1 to 8,208 bytes. It takes no memory.
 pub fn put<V: Shelf>(
-    store: &mut OpenStore,
+    store: &mut CloudStore,
     shelf: &mut V,
     user: UserId,
     shares: &SharesView<'_>,

@@ -12,15 +12,15 @@ ghost use Rattle.server_reads.specs.FileIndex.key.FileKey.{FileKey};
 ghost use Rattle.server_reads.specs.FileIndex.Files.{key_of};
 ghost use Rattle.server_reads.specs.UserDedup.command.Command.{Command};
 ghost use Rattle.server_reads.specs.UserDedup.Cloud.{fingerprint, user_view};
-ghost use Rattle.open_store.specs.CloudAreas.Standing.{Chain};
+ghost use Rattle.cloud_store.specs.CloudAreas.Standing.{Chain};
 ghost use Rattle.server_reads.specs.CloudMemory.Memory.{Memory};
 ghost use Rattle.server_reads.specs.CloudMemory.Rooms.{memory_of};
-ghost use Rattle.open_store.specs.Store.{IsSettled, Serves};
+ghost use Rattle.cloud_store.specs.Store.{IsSettled, Serves};
 ghost use Rattle.server_reads.specs.Found.{IsOther, IsFoundRecipe, ReadsLog};
 ghost use Rattle.server_reads.specs.Reading.{HasReadCloud, IfRotten};
 ghost use Rattle.server_commands.specs.Steps.{HasOnlyReadRecipes, ReadsFile};
 
-use open_store::{CloudDisk, OpenStore};
+use cloud_store::{CloudDisk, CloudStore};
 use server_reads::{BlobStop, CloudNo, Entry, Shelf, read_recipe};
 
 // The same as `read_entry`, by the disk alone.
@@ -61,7 +61,7 @@ fn read_on_disk<V: Shelf>(
 /// Fills the front of the buffer with the recipe of an entry that the memory has, as `server_reads::read_recipe` does. By a list
 /// that the store serves it is the recipe of the list's entry, and Rotten never comes. What the store serves stays.
 pub(crate) fn read_entry<V: Shelf>(
-    store: &mut OpenStore,
+    store: &mut CloudStore,
     shelf: &mut V,
     entry: &Entry,
     buffer: &mut [u8],

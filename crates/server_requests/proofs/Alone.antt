@@ -8,7 +8,7 @@ use Rattle.server_commands.specs.UserDedup.command.Command.{Command}
 use Rattle.server_commands.specs.UserDedup.Dedup.{only}
 use Rattle.server_commands.specs.ServerReads.CloudMemory.Memory.{Remembers}
 use Rattle.server_commands.specs.ServerReads.CloudMemory.Rooms.{memory_of}
-use Rattle.server_commands.specs.OpenStore.store.OpenStore.{OpenStore}
+use Rattle.server_commands.specs.CloudStore.store.CloudStore.{CloudStore}
 use Rattle.server_commands.specs.Executing.{IsStoreReady, Executes}
 use Rattle.server_commands.specs.Leaving.{IsFound}
 use Rattle.server_commands.specs.Serving.{serves, Gives}
@@ -16,7 +16,7 @@ use Rattle.server_commands.proofs.Calls.{ok_result, no_calls, stays_still}
 use Rattle.server_commands.proofs.Doing.{served_still, stays_executes}
 use Rattle.server_requests.proofs.Readings.{answer_of}
 
-pub was_told : (Same : Type 0) (s : OpenStore) (a : ℕ → Cloud) (f : ℕ) (request : Request) (content : List ℕ) → Same → IsStoreReady s
+pub was_told : (Same : Type 0) (s : CloudStore) (a : ℕ → Cloud) (f : ℕ) (request : Request) (content : List ℕ) → Same → IsStoreReady s
     → ((list : List Command) → serves s list request ≡ only (answer_of s list request))
     → ((list : List Command) → Remembers s.header.shape list (memory_of s.memory) → content ≡ reply_bytes (answer_of s list request))
     → ((named found : Fp) → IsFound (a s.header.cloud.0) (memory_of s.memory) request named found)

@@ -1,6 +1,6 @@
 pub mod Alone
 pub mod Contents
-pub mod OfOpenStore
+pub mod OfCloudStore
 pub mod Places
 pub mod Readings
 pub mod ServerReads

@@ -5,7 +5,7 @@ use Rattle.server_commands.specs.CdBase.ids.Fp.{Fp}
 use Rattle.server_commands.specs.CdEdges.Disk.{Cloud}
 use Rattle.server_commands.specs.CdEdges.Shelf.{IsCall, HasFailed, KeepsCounts, Stays}
 use Rattle.server_commands.specs.ContainerLog.States.{State, HasStaged}
-use Rattle.server_commands.specs.HalfJournal.States as journals
+use Rattle.server_commands.specs.CommitJournal.States as journals
 use Rattle.server_commands.specs.Messages.request.Request.{Request}
 use Rattle.server_commands.specs.Messages.reply.Reply.{Reply}
 use Rattle.server_commands.specs.Messages.reply.Reply.TheVariants as replies
@@ -15,10 +15,10 @@ use Rattle.server_commands.specs.UserDedup.Dedup.{only, answer_over}
 use Rattle.server_commands.specs.CloudAreas.Standing.{Chain}
 use Rattle.server_commands.specs.CloudDisk.Disk.{Disk, IsReadThrough}
 use Rattle.server_commands.specs.ServerReads.CloudMemory.Rooms.{memory_of}
-use Rattle.server_commands.specs.OpenStore.store.OpenStore.{OpenStore}
-use Rattle.server_commands.specs.OpenStore.Store.{IsSettled, IsOpen, Serves, ServesSome, closed}
-use Rattle.server_commands.specs.OpenStore.Adding.{NoneStaged}
-use Rattle.server_commands.proofs.OfOpenStore.Keeping.{reads_serve, reads_settled, reads_meet}
+use Rattle.server_commands.specs.CloudStore.store.CloudStore.{CloudStore}
+use Rattle.server_commands.specs.CloudStore.Store.{IsSettled, IsOpen, Serves, ServesSome, closed}
+use Rattle.server_commands.specs.CloudStore.Adding.{NoneStaged}
+use Rattle.server_commands.proofs.OfCloudStore.Keeping.{reads_serve, reads_settled, reads_meet}
 use Rattle.server_commands.specs.ServerReads.Found.{ReadsLog}
 use Rattle.server_commands.proofs.ServerReads.Logs.{log_still}
 use Rattle.server_commands.specs.Executing.{IsStoreReady, Executes}
@@ -53,13 +53,13 @@ lent_back (Ok x) P Q Same put old lent new is f = λ p. let s = f p in (s.1, ap 
 
 -- ---- the store
 
-abbrev pub with_disk : OpenStore → Disk → OpenStore
+abbrev pub with_disk : CloudStore → Disk → CloudStore
 with_disk s disk = record s { disk = disk }
 
 staged_still : (old new : State) → new ≡ record old { kept = new.kept } → HasStaged old [] → HasStaged new []
 staged_still old new same none = subst (λ (s : State). HasStaged s []) (sym same) (record { fit = none.fit; bytes = none.bytes })
 
-module _ (old : OpenStore) (disk : Disk) (a b : Cloud) (reads : ReadsDisk old.disk disk a b) where
+module _ (old : CloudStore) (disk : Disk) (a b : Cloud) (reads : ReadsDisk old.disk disk a b) where
   pub ready_after : IsStoreReady old → IsStoreReady (with_disk old disk)
   ready_after ready = record {
     settled = reads_settled old (with_disk old disk) ready.settled refl reads.journal reads.shares.rest reads.recipes.rest;
@@ -86,10 +86,10 @@ module _ (old : OpenStore) (disk : Disk) (a b : Cloud) (reads : ReadsDisk old.di
 -- ---- a request that only reads
 
 -- the list's reply, whatever rooms there are
-abbrev pub answer_of : OpenStore → List Command → Request → Reply
+abbrev pub answer_of : CloudStore → List Command → Request → Reply
 answer_of s list request = (answer_over s.header.shape s.header.cloud.0 list request).reply
 
-module _ (Same : Type 0) (old : OpenStore) (disk : Disk) (a b : ℕ → Cloud) (f0 f1 : ℕ) (request : Request) (content : List ℕ) (ready : IsStoreReady old)
+module _ (Same : Type 0) (old : CloudStore) (disk : Disk) (a b : ℕ → Cloud) (f0 f1 : ℕ) (request : Request) (content : List ℕ) (ready : IsStoreReady old)
     (reads : ReadsDisk old.disk disk (a old.header.cloud.0) (b old.header.cloud.0)) (stays : Stays (a old.header.cloud.0) (b old.header.cloud.0)) (call : IsCall a b old.header.cloud.0 f0 f1) where
   pub was_read : KeepsCounts (a old.header.cloud.0) (b old.header.cloud.0) f0 f1 → ((list : List Command) → serves old list request ≡ only (answer_of old list request))
       → ((list : List Command) (c : Chain) → Serves list c old (a old.header.cloud.0) → content ≡ reply_bytes (answer_of old list request))
@@ -110,7 +110,7 @@ module _ (Same : Type 0) (old : OpenStore) (disk : Disk) (a b : ℕ → Cloud) (
       (λ answer is other. let s = leaves answer is other in (s.0, ap (with_disk old) s.1))
       kind
 
-  pub was_failed : (new : OpenStore) → HasFailed (a old.header.cloud.0) (b old.header.cloud.0) f0 f1 → new ≡ closed (with_disk old disk) → IsSettled new → ¬ (IsOpen new)
+  pub was_failed : (new : CloudStore) → HasFailed (a old.header.cloud.0) (b old.header.cloud.0) f0 f1 → new ≡ closed (with_disk old disk) → IsSettled new → ¬ (IsOpen new)
       → Executes Same old new a b f0 f1 request content failed_result
   was_failed new failed is settled shut =
       let n = old.header.cloud.0 in
@@ -121,8 +121,8 @@ module _ (Same : Type 0) (old : OpenStore) (disk : Disk) (a b : ℕ → Cloud) (
         settled = settled;
         none = subst NoneStaged (sym is) (record { shares = now.none.shares; recipes = now.none.recipes });
         shut = shut;
-        header = ap (λ (s : OpenStore). s.header) is;
+        header = ap (λ (s : CloudStore). s.header) is;
       })
-      (record { cloud = stays; memory = ap (λ (s : OpenStore). s.memory) is })
+      (record { cloud = stays; memory = ap (λ (s : CloudStore). s.memory) is })
       (record { call = call; failed = failed; counts = tt })
       (λ list some. tt) (λ named found. tt) (λ answer leaves. tt) tt

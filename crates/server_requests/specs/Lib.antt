@@ -4,12 +4,12 @@ pub mod CdEdges
 pub mod ContainerLog
 pub mod FileIndex
 pub mod Frames
-pub mod HalfJournal
+pub mod CommitJournal
 pub mod Hashed
 pub mod JournalStart
 pub mod MessageFields
 pub mod Messages
-pub mod OpenStore
+pub mod CloudStore
 pub mod Reading
 pub mod Recipe
 pub mod ServerCommands

@@ -24,7 +24,7 @@ ghost use Rattle.server_requests.specs.Hashed.{IsHashed};
 ghost use Rattle.server_requests.specs.Reading.{ReadsDisk};
 
 use server_commands::{
-    CloudDisk, CloudMemory, CloudNo, Failed, OpenStore, ReplyBuf, Shelf, Tag, UserId, Version,
+    CloudDisk, CloudMemory, CloudNo, CloudStore, Failed, ReplyBuf, Shelf, Tag, UserId, Version,
     VersionKey, recipe,
 };
 
@@ -73,7 +73,7 @@ fn recipe_on_disk<V: Shelf>(
 
 /// Serves a GetRecipe. Where the device fails the store is shut.
 pub(crate) fn send_recipe<V: Shelf>(
-    store: &mut OpenStore,
+    store: &mut CloudStore,
     shelf: &mut V,
     user: UserId,
     tag: &Tag,

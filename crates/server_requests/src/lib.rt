@@ -10,8 +10,8 @@ mod serving;
 
 pub use asked::StoreRequest;
 pub use server_commands::{
-    Area, Bytes, CloudNo, Entry, Failed, Fp, Header, Link, Log, Lost, NoMemory, OpenErr, OpenStore,
-    Place, Ports, RECIPE_LIMIT, ReplyBuf, Shape, Shelf, Sink, Source, Start, Tag, UserId,
+    Area, Bytes, CloudNo, CloudStore, Entry, Failed, Fp, Header, Link, Log, Lost, NoMemory,
+    OpenErr, Place, Ports, RECIPE_LIMIT, ReplyBuf, Shape, Shelf, Sink, Source, Start, Tag, UserId,
     UserRooms, Version, sha256, write_all, write_damaged, write_fault, write_malformed,
 };
 pub use serving::dispatch;

@@ -26,7 +26,7 @@ ghost use Rattle.server_requests.specs.Hashed.{IsHashed};
 ghost use Rattle.server_requests.specs.Reading.{ReadsDisk};
 
 use server_commands::{
-    CloudDisk, CloudMemory, CloudNo, Failed, FpsView, OpenStore, ReplyBuf, Shelf, UserId, shares,
+    CloudDisk, CloudMemory, CloudNo, CloudStore, Failed, FpsView, ReplyBuf, Shelf, UserId, shares,
 };
 
 // The same as `shares`, by the disk.
@@ -83,7 +83,7 @@ fn shares_on_disk<V: Shelf>(
 
 /// Serves a GetShares. Where the device fails the store is shut.
 pub(crate) fn send_shares<V: Shelf>(
-    store: &mut OpenStore,
+    store: &mut CloudStore,
     shelf: &mut V,
     user: UserId,
     fps: &FpsView<'_>,

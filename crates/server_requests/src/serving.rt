@@ -16,7 +16,7 @@ use crate::StoreRequest;
 use crate::fetching::send_recipe;
 use crate::sending::send_shares;
 use server_commands::{
-    Failed, OpenStore, ReplyBuf, Shelf, commit, delete, entries, hello, known, put,
+    CloudStore, Failed, ReplyBuf, Shelf, commit, delete, entries, hello, known, put,
 };
 
 /// Executes a request by an open store. The reply becomes the content.
@@ -41,7 +41,7 @@ use server_commands::{
 /// 1,180,190 bytes at least, the most that a recipe has. It takes no memory but for the containers that the logs keep, and
 /// goes on without where there is none for them.
 pub fn dispatch<V: Shelf>(
-    store: &mut OpenStore,
+    store: &mut CloudStore,
     shelf: &mut V,
     asked: &StoreRequest<'_>,
     buffer: &mut [u8],

@@ -10,13 +10,13 @@ use Rattle.session.specs.CdBase.ids.UserId.{UserId}
 use Rattle.session.specs.CdBase.ids.Version.{Version}
 use Rattle.session.specs.CdEdges.Causes.{Rose}
 use Rattle.session.specs.CdEdges.Disk.{Cloud}
-use Rattle.local_link.specs.HalfJournal.errors.OpenErr.{OpenErr}
-use Rattle.local_link.specs.HalfJournal.errors.OpenErr.TheVariants as errors
+use Rattle.local_link.specs.CommitJournal.errors.OpenErr.{OpenErr}
+use Rattle.local_link.specs.CommitJournal.errors.OpenErr.TheVariants as errors
 use Rattle.rebuild.specs.Messages.request.Request.{Request}
 use Rattle.rebuild.specs.Messages.reply.Reply.{Reply}
 use Rattle.subset_restore.specs.UserDedup.Exec.{Peer}
 use Rattle.subset_restore.proofs.UserDedup.Owned.{contains_cases, contains_nothing, contains_here}
-use Rattle.local_link.specs.CloudServer.Serving.{ReopensAs}
+use Rattle.local_link.specs.ShareServer.Serving.{ReopensAs}
 use Rattle.rebuild.specs.UploadJob.Lanes as lanes
 use Rattle.rebuild.specs.LaneSteps.Runs.{LaneTurn, Progress, LaneRun, progress_after}
 use Rattle.session.specs.declared.event.Event.{Event}

@@ -12,8 +12,8 @@ use Rattle.session.specs.CdBase.ids.UserId.{UserId}
 use Rattle.session.specs.CdBase.ids.Version.{Version}
 use Rattle.session.specs.CdEdges.Causes.{Rose}
 use Rattle.session.specs.CdEdges.Disk.{Cloud}
-use Rattle.local_link.specs.HalfJournal.errors.OpenErr.{OpenErr}
-use Rattle.local_link.specs.HalfJournal.errors.OpenErr.TheVariants as errors
+use Rattle.local_link.specs.CommitJournal.errors.OpenErr.{OpenErr}
+use Rattle.local_link.specs.CommitJournal.errors.OpenErr.TheVariants as errors
 use Rattle.rebuild.specs.Messages.request.Request.{Request}
 use Rattle.rebuild.specs.Messages.request.Request.TheVariants as requests
 use Rattle.rebuild.specs.Messages.reply.Reply.{Reply}
@@ -27,7 +27,7 @@ use Rattle.subset_restore.specs.UserDedup.Pages.{page_of, entry_at}
 use Rattle.subset_restore.specs.UserDedup.Exec.{Peer, ExecTold, ExecUntold}
 use Rattle.subset_restore.proofs.UserDedup.Owned.{contains_cases, contains_nothing}
 use Rattle.subset_restore.specs.UserDedup.Spending.{full_for}
-use Rattle.local_link.specs.CloudServer.Serving.{ReopensAs}
+use Rattle.local_link.specs.ShareServer.Serving.{ReopensAs}
 use Rattle.rebuild.specs.UploadJob.news.LaneNews.{LaneNews}
 use Rattle.rebuild.specs.UploadJob.news.LaneNews.TheVariants as lane_news
 use Rattle.rebuild.specs.UploadJob.Lane.{lane_request}

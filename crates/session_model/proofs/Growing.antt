@@ -10,8 +10,8 @@ use Rattle.session.specs.CdBase.ids.UserId.{UserId}
 use Rattle.session.specs.CdBase.ids.Version.{Version}
 use Rattle.session.specs.CdBase.shape.Shape.{Shape}
 use Rattle.subset_restore.specs.CaontRs.Package.{tag}
-use Rattle.local_link.specs.HalfJournal.errors.OpenErr.{OpenErr}
-use Rattle.local_link.specs.HalfJournal.errors.OpenErr.TheVariants as errors
+use Rattle.local_link.specs.CommitJournal.errors.OpenErr.{OpenErr}
+use Rattle.local_link.specs.CommitJournal.errors.OpenErr.TheVariants as errors
 use Rattle.rebuild.specs.Messages.request.Request.{Request}
 use Rattle.rebuild.specs.Messages.request.Request.TheVariants as requests
 use Rattle.rebuild.specs.Messages.reply.Reply.{Reply}
@@ -23,7 +23,7 @@ use Rattle.subset_restore.specs.UserDedup.Dedup.{Outcome, FullRoom, Ends as Take
 use Rattle.subset_restore.specs.UserDedup.Pages.{entry_at}
 use Rattle.subset_restore.proofs.UserDedup.Growing.{Each, GrowsBy, IfCommand, AddsBy, AsksNoDelete, IsNoDelete, adds_no_delete, ends_none, grows_then}
 use Rattle.subset_restore.specs.UserDedup.Exec.{Peer, MaySettleAs, Settles, KeepsPeer, IsCut, Exec, ExecTold, ExecUntold}
-use Rattle.local_link.specs.CloudServer.Serving.{ReopensAs}
+use Rattle.local_link.specs.ShareServer.Serving.{ReopensAs}
 use Rattle.rebuild.specs.UploadJob.Upload.{FileVersion}
 use Rattle.rebuild.specs.KeptFiles.Kept.{Keeps, key_of, AreHarmless}
 use Rattle.rebuild.proofs.KeptFiles.Keeping.{keeps_still}

@@ -1,6 +1,6 @@
 pub mod Acknowledged
 pub mod Armings
-pub mod CloudServer
+pub mod ShareServer
 pub mod Committed
 pub mod Counts
 mod Examples

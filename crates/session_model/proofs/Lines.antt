@@ -10,8 +10,8 @@ use Rattle.session.specs.CdBase.ids.Version.{Version}
 use Rattle.session.specs.CdBase.shape.Shape.{Shape}
 use Rattle.subset_restore.specs.CaontRs.Package.{share}
 use Rattle.rebuild.specs.FileRecipe.FileRecipe.{secrets}
-use Rattle.local_link.specs.HalfJournal.errors.OpenErr.{OpenErr}
-use Rattle.local_link.specs.HalfJournal.errors.OpenErr.TheVariants as errors
+use Rattle.local_link.specs.CommitJournal.errors.OpenErr.{OpenErr}
+use Rattle.local_link.specs.CommitJournal.errors.OpenErr.TheVariants as errors
 use Rattle.rebuild.specs.Messages.request.Request.{Request}
 use Rattle.rebuild.specs.Messages.reply.Reply.{Reply}
 use Rattle.rebuild.specs.Messages.reply.Reply.TheVariants as replies

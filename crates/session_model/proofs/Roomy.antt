@@ -3,8 +3,8 @@ use Rattle.std.proofs.Common.{◌≡◌, ℕ, Bool, true, List, [], ◌∷◌, �
 use Rattle.std.specs.Prelude.{IsTrue, IsSomeAnd, option_to_list}
 use Rattle.std.specs.Bool.{MatchBool}
 use Rattle.session.specs.CdEdges.Disk.{Cloud}
-use Rattle.local_link.specs.HalfJournal.errors.OpenErr.{OpenErr}
-use Rattle.local_link.specs.HalfJournal.errors.OpenErr.TheVariants as errors
+use Rattle.local_link.specs.CommitJournal.errors.OpenErr.{OpenErr}
+use Rattle.local_link.specs.CommitJournal.errors.OpenErr.TheVariants as errors
 use Rattle.rebuild.specs.Messages.request.Request.{Request}
 use Rattle.rebuild.specs.Messages.reply.Reply.{Reply}
 use Rattle.subset_restore.specs.UserDedup.command.Command.{Command}
@@ -13,7 +13,7 @@ use Rattle.subset_restore.specs.UserDedup.Exec.{Peer, Answers, Exec, ExecTold, E
 use Rattle.subset_restore.specs.UserDedup.Spending.{IsWithin, full_for}
 use Rattle.subset_restore.proofs.UserDedup.Spending.{none_within}
 use Rattle.subset_restore.proofs.UserDedup.Within.{next_within}
-use Rattle.local_link.specs.CloudServer.Serving.{ReopensAs}
+use Rattle.local_link.specs.ShareServer.Serving.{ReopensAs}
 use Rattle.subset_restore.specs.RestoreJob.Asking.{MayRead}
 use Rattle.session.specs.declared.event.Event.{Event}
 use Rattle.session.specs.Transcript.line.Line.{Line}

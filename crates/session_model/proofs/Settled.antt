@@ -4,13 +4,13 @@ use Rattle.std.specs.Prelude.{IsTrue, List, ◌∷◌, ◌++◌, [], IsSomeAnd}
 use Rattle.std.specs.Bool.{MatchBool}
 use Rattle.session.specs.CdEdges.Causes.{Rose}
 use Rattle.session.specs.CdEdges.Disk.{Cloud}
-use Rattle.local_link.specs.HalfJournal.errors.OpenErr.{OpenErr}
-use Rattle.local_link.specs.HalfJournal.errors.OpenErr.TheVariants as errors
+use Rattle.local_link.specs.CommitJournal.errors.OpenErr.{OpenErr}
+use Rattle.local_link.specs.CommitJournal.errors.OpenErr.TheVariants as errors
 use Rattle.rebuild.specs.Messages.request.Request.{Request}
 use Rattle.rebuild.specs.Messages.reply.Reply.{Reply}
 use Rattle.subset_restore.specs.UserDedup.Exec.{Peer, Exec, ExecTold, ExecUntold, MaySettleAs, KeepsPeer, Settles}
 use Rattle.subset_restore.specs.UserDedup.command.Command.{Command}
-use Rattle.local_link.specs.CloudServer.Serving.{ReopensAs}
+use Rattle.local_link.specs.ShareServer.Serving.{ReopensAs}
 use Rattle.subset_restore.specs.RestoreJob.Asking.{MayRead}
 use Rattle.session.specs.declared.event.Event.{Event}
 use Rattle.session.specs.Transcript.line.Line.{Line}

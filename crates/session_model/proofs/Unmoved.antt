@@ -8,13 +8,13 @@ use Rattle.session.specs.CdBase.ids.CloudNo.{CloudNo}
 use Rattle.session.specs.CdBase.ids.UserId.{UserId}
 use Rattle.session.specs.CdBase.ids.Version.{Version}
 use Rattle.session.specs.CdEdges.Causes.{Rose}
-use Rattle.local_link.specs.HalfJournal.errors.OpenErr.TheVariants as errors
+use Rattle.local_link.specs.CommitJournal.errors.OpenErr.TheVariants as errors
 use Rattle.rebuild.specs.Messages.request.Request.{Request}
 use Rattle.rebuild.specs.Messages.request.Request.TheVariants as requests
 use Rattle.rebuild.specs.Messages.reply.Reply.TheVariants as replies
 use Rattle.subset_restore.specs.UserDedup.Exec.{Peer, CountsOn}
 use Rattle.subset_restore.proofs.UserDedup.Owned.{contains_here}
-use Rattle.local_link.specs.CloudServer.Serving.{ReopensAs}
+use Rattle.local_link.specs.ShareServer.Serving.{ReopensAs}
 use Rattle.subset_restore.specs.RestoreJob.Asking.{MayRead}
 use Rattle.subset_restore.specs.RestoreJob.error.RestoreErr.TheVariants as restore_errors
 use Rattle.rebuild.specs.declared.error.RebuildErr.TheVariants as rebuild_errors

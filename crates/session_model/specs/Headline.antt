@@ -13,7 +13,7 @@ use Rattle.subset_restore.specs.UserDedup.Dedup.{answer_by_view}
 use Rattle.subset_restore.specs.UserDedup.Requests.{asker}
 use Rattle.subset_restore.specs.UserDedup.Exec.{Peer, MaySettleAs}
 use Rattle.local_link.specs.CloudAreas.Standing.{StandsFor}
-use Rattle.local_link.specs.CloudServer.Names.{header_of}
+use Rattle.local_link.specs.ShareServer.Names.{header_of}
 use Rattle.rebuild.specs.UploadJob.Upload.{FileVersion}
 use Rattle.subset_restore.specs.RestoreJob.Restored.{recipe_in}
 use Rattle.subset_restore.specs.Subsets.{IsSubset}

@@ -1,11 +1,11 @@
 pub mod CaontRs
 pub mod CdEdges
 pub mod CloudAreas
-pub mod CloudServer
+pub mod ShareServer
 pub mod Cut
 pub mod Faults
 pub mod FileRecipe
-pub mod HalfJournal
+pub mod CommitJournal
 pub mod Headline
 pub mod JournalStart
 pub mod Kept

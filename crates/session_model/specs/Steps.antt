@@ -8,8 +8,8 @@ use Rattle.session.specs.CdBase.ids.UserId.{UserId}
 use Rattle.session.specs.CdBase.ids.CloudNo.{CloudNo}
 use Rattle.session.specs.CdBase.shape.Shape.{Shape}
 use Rattle.session.specs.CdEdges.Causes.{Rose}
-use Rattle.local_link.specs.HalfJournal.errors.OpenErr.{OpenErr}
-use Rattle.local_link.specs.HalfJournal.errors.OpenErr.TheVariants as errors
+use Rattle.local_link.specs.CommitJournal.errors.OpenErr.{OpenErr}
+use Rattle.local_link.specs.CommitJournal.errors.OpenErr.TheVariants as errors
 use Rattle.rebuild.specs.MessageFields.Keys.{key_limit}
 use Rattle.rebuild.specs.Messages.request.Request.{Request}
 use Rattle.rebuild.specs.Messages.request.Request.TheVariants as requests
@@ -17,7 +17,7 @@ use Rattle.rebuild.specs.Messages.reply.Reply.{Reply}
 use Rattle.rebuild.specs.Messages.reply.Reply.TheVariants as replies
 use Rattle.subset_restore.specs.UserDedup.Exec.{Peer, KeepsPeer, CountsOn}
 use Rattle.subset_restore.specs.UserDedup.Link.{LinkTelling}
-use Rattle.local_link.specs.CloudServer.Serving.{ReopensAs}
+use Rattle.local_link.specs.ShareServer.Serving.{ReopensAs}
 use Rattle.rebuild.specs.UploadJob.news.LaneNews.{LaneNews}
 use Rattle.rebuild.specs.UploadJob.news.LaneNews.TheVariants as lane_news
 use Rattle.rebuild.specs.UploadJob.Lane.{LaneState, Done, news_of}

@@ -4,7 +4,7 @@ ghost use Rattle.std.specs.Prelude.{◌≡◌, ◌≤◌, ◌++◌, [], ℕ, Lis
 ghost use Rattle.std.specs.List.{Contains};
 ghost use Rattle.upload_spool.specs.CdEdges.Causes.{Rose};
 ghost use Rattle.upload_spool.specs.CdEdges.Shelf.{IsCall, HasFailed};
-ghost use Rattle.upload_spool.specs.HalfJournal.journal.Stage.{Stage};
+ghost use Rattle.upload_spool.specs.CommitJournal.journal.Stage.{Stage};
 ghost use Rattle.backup_command.specs.LaneSteps.Reached.{IsReached};
 ghost use Rattle.upload_spool.specs.UploadJob.Upload.{FileVersion};
 ghost use Rattle.upload_spool.specs.States.{state_of, IsOf, IsJobOf};

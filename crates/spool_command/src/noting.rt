@@ -2,7 +2,7 @@
 
 ghost use Rattle.std.specs.Prelude.{◌≡◌, ◌≢◌, ◌<◌, ◌↔◌, length, All, IsTrue, OnOk};
 ghost use Rattle.upload_spool.specs.CdEdges.Shelf.{IsCall, HasFailed};
-ghost use Rattle.upload_spool.specs.HalfJournal.journal.Stage.{Stage};
+ghost use Rattle.upload_spool.specs.CommitJournal.journal.Stage.{Stage};
 ghost use Rattle.upload_spool.specs.UploadJob.Lanes.{IsDoneAt};
 ghost use Rattle.upload_spool.specs.UploadJob.Upload.{FileVersion};
 ghost use Rattle.upload_spool.specs.States.{state_of, IsOf, IsJobOf};

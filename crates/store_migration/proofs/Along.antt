@@ -5,19 +5,19 @@ use Rattle.fresh_checkpoints.specs.CdEdges.Disk.{Store, Areas, Cloud}
 use Rattle.fresh_checkpoints.specs.CdEdges.Shelf.{IsCall, HasFailed, KeepsCounts, Stays}
 use Rattle.fresh_checkpoints.proofs.CdEdges.Calls.{called_twice}
 use Rattle.fresh_checkpoints.proofs.CdEdges.Moments.{told_on}
-use Rattle.store_opening.specs.JournalStart.start.Start.{Start}
-use Rattle.store_opening.specs.JournalStart.Spelling.{records_of}
+use Rattle.cloud_opening.specs.JournalStart.start.Start.{Start}
+use Rattle.cloud_opening.specs.JournalStart.Spelling.{records_of}
 use Rattle.fresh_checkpoints.specs.JournalHalves.Journals.{Where}
-use Rattle.store_opening.specs.HalfJournal.journal.Stage.TheVariants.{Reading}
-use Rattle.store_opening.specs.HalfJournal.States.{JournalState, IsJournalReading}
+use Rattle.cloud_opening.specs.CommitJournal.journal.Stage.TheVariants.{Reading}
+use Rattle.cloud_opening.specs.CommitJournal.States.{JournalState, IsJournalReading}
 use Rattle.fresh_checkpoints.specs.CloudMemory.cloud.CloudMemory.{CloudMemory}
 use Rattle.fresh_checkpoints.specs.CloudMemory.Fitting.{FitsRecords}
 use Rattle.fresh_checkpoints.specs.CloudMemory.Memory.{Memory}
 use Rattle.fresh_checkpoints.specs.CloudMemory.Rooms.{memory_of}
-use Rattle.store_opening.specs.RecordChecks.ground.Ground.{Ground}
+use Rattle.cloud_opening.specs.RecordChecks.ground.Ground.{Ground}
 use Rattle.first_laws.specs.FirstRecords.Limits.{HasFirstRooms}
-use Rattle.store_opening.proofs.Along.{with_bodies}
-use Rattle.store_opening.proofs.Synced.{still, counts_still}
+use Rattle.cloud_opening.proofs.Along.{with_bodies}
+use Rattle.cloud_opening.proofs.Synced.{still, counts_still}
 use Rattle.store_migration.specs.declared.errors.OldErr.{OldErr}
 use Rattle.store_migration.specs.declared.errors.MigrateErr.{MigrateErr}
 use Rattle.store_migration.specs.declared.errors.MigrateErr.TheVariants as why

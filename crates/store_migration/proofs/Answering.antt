@@ -7,12 +7,12 @@ use Rattle.fresh_checkpoints.specs.CdBase.shape.Shape.{Shape}
 use Rattle.fresh_checkpoints.specs.CdEdges.Disk.{Areas, Image, Cloud, IsImage, reads}
 use Rattle.fresh_checkpoints.specs.CdEdges.Shelf.{IsCall, HasFailed, KeepsCounts}
 use Rattle.fresh_checkpoints.proofs.CdEdges.Calls.{failed_after}
-use Rattle.store_opening.specs.HalfJournal.States as journals
-use Rattle.store_opening.specs.JournalStart.rooms.UserRooms.{UserRooms}
-use Rattle.store_opening.specs.JournalStart.start.Header.{Header}
-use Rattle.store_opening.specs.UserDedup.command.Command.{Command}
-use Rattle.store_opening.specs.UserDedup.Cloud.{counted}
-use Rattle.store_opening.specs.UserDedup.Compact.{compact}
+use Rattle.cloud_opening.specs.CommitJournal.States as journals
+use Rattle.cloud_opening.specs.JournalStart.rooms.UserRooms.{UserRooms}
+use Rattle.cloud_opening.specs.JournalStart.start.Header.{Header}
+use Rattle.cloud_opening.specs.UserDedup.command.Command.{Command}
+use Rattle.cloud_opening.specs.UserDedup.Cloud.{counted}
+use Rattle.cloud_opening.specs.UserDedup.Compact.{compact}
 use Rattle.fresh_checkpoints.specs.CloudAreas.Standing.{Chain, StandsFor}
 use Rattle.fresh_checkpoints.specs.CloudDisk.Disk.{IsRead}
 use Rattle.fresh_checkpoints.proofs.CloudDiskLaws.Standing.{one_image, stands_read}
@@ -28,7 +28,7 @@ use Rattle.fresh_checkpoints.specs.CompactMemories.Kept.{IsCompacted, commands_i
 use Rattle.first_laws.specs.FirstRecords.Limits.{limit_of}
 use Rattle.large_users.specs.Large.{IsNonePassed, IsCountedBy}
 use Rattle.large_users.specs.MigrationModel.Migrating.{AreSmallEnough, header_two}
-use Rattle.store_opening.specs.Synced.{AreSynced, BeginsSynced}
+use Rattle.cloud_opening.specs.Synced.{AreSynced, BeginsSynced}
 use Rattle.store_migration.specs.declared.errors.MigrateErr.{MigrateErr}
 use Rattle.store_migration.specs.declared.errors.MigrateErr.TheVariants as why
 use Rattle.store_migration.specs.Answers.{MigratedAs, OnFault, IfAnswered, IfRefused, IfNoMemory}

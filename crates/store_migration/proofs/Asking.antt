@@ -2,9 +2,9 @@
 use Rattle.std.proofs.Common.{◌≡◌, ℕ, Bool, List, [], take, drop, Result, sym, subst}
 use Rattle.fresh_checkpoints.specs.CdBase.place.Place.{Place}
 use Rattle.fresh_checkpoints.specs.CloudMemory.Memory.{Memory}
-use Rattle.store_opening.specs.RecordChecks.ground.Ground.{Ground}
-use Rattle.store_opening.specs.RecordChecks.Checks.{AsksFor}
-use Rattle.store_opening.specs.Exact.{Recipe, Nothing}
+use Rattle.cloud_opening.specs.RecordChecks.ground.Ground.{Ground}
+use Rattle.cloud_opening.specs.RecordChecks.Checks.{AsksFor}
+use Rattle.cloud_opening.specs.Exact.{Recipe, Nothing}
 use Rattle.store_migration.specs.declared.errors.MigrateErr.{MigrateErr}
 use Rattle.store_migration.specs.Answers.{OnFault}
 use Rattle.store_migration.specs.Steps.{BodyAs, IsFirstOneAs}

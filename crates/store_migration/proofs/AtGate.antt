@@ -3,9 +3,9 @@ use Rattle.std.proofs.Common.{◌≡◌, ℕ, ◌+◌, ◌-◌, ◌<◌, List, [
 use Rattle.std.proofs.Math.Seq.{take-append-add}
 use Rattle.std.proofs.lemmas.List.{append_cancel_left, drop_at}
 use Rattle.fresh_checkpoints.specs.CdEdges.Disk.{Store}
-use Rattle.store_opening.specs.JournalHalves.Records.{sized, chain, AreBodies}
-use Rattle.store_opening.specs.JournalHalves.Frames.{IsClosed, IsRecord}
-use Rattle.store_opening.proofs.JournalHalves.Chain.{chain-push}
+use Rattle.cloud_opening.specs.JournalHalves.Records.{sized, chain, AreBodies}
+use Rattle.cloud_opening.specs.JournalHalves.Frames.{IsClosed, IsRecord}
+use Rattle.cloud_opening.proofs.JournalHalves.Chain.{chain-push}
 use Rattle.fresh_checkpoints.specs.JournalHalves.Halves.{half_len, half_of}
 use Rattle.fresh_checkpoints.specs.JournalHalves.Findings.{part_of}
 use Rattle.fresh_checkpoints.specs.JournalHalves.Outcomes.{rest_of}

@@ -3,7 +3,7 @@ use Rattle.std.proofs.Common.{ℕ, Result, Ok, Err}
 use Rattle.fresh_checkpoints.specs.CdEdges.Disk.{Cloud}
 use Rattle.fresh_checkpoints.specs.CdEdges.Shelf.{HasFailed, KeepsCounts, IsCall}
 use Rattle.fresh_checkpoints.proofs.CdEdges.Calls.{failed_after}
-use Rattle.store_opening.proofs.Synced.{counts_still}
+use Rattle.cloud_opening.proofs.Synced.{counts_still}
 use Rattle.store_migration.specs.declared.errors.MigrateErr.{MigrateErr}
 use Rattle.store_migration.specs.declared.errors.MigrateErr.TheVariants as why
 use Rattle.store_migration.specs.Answers.{OnFault, IfNoMemory}

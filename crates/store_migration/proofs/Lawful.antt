@@ -6,29 +6,29 @@ use Rattle.std.proofs.lemmas.List.{drop_at}
 use Rattle.std.proofs.lemmas.List.Elements.{All-head, All-tail}
 use Rattle.fresh_checkpoints.specs.CdEdges.area.Area.TheVariants.{Journal, Shares, Recipes}
 use Rattle.fresh_checkpoints.specs.CdEdges.Disk.{Image}
-use Rattle.store_opening.specs.JournalHalves.Records.{sized, chain, IsJournal}
-use Rattle.store_opening.specs.JournalHalves.Frames.{IsClosed, IsRecord}
-use Rattle.store_opening.proofs.JournalHalves.Headed.{one_record}
-use Rattle.store_opening.proofs.JournalHalves.Unique.{undamaged, whole_record}
-use Rattle.store_opening.specs.JournalStart.start.Checkpoint.{Checkpoint}
-use Rattle.store_opening.specs.JournalStart.start.Header.{Header}
-use Rattle.store_opening.specs.JournalStart.start.Start.{Start}
-use Rattle.store_opening.specs.JournalStart.Ranges.{IsBehind}
-use Rattle.store_opening.specs.JournalStart.Spelling.{start_bytes, records_of, commands_of, region_of, recipes_end_of}
+use Rattle.cloud_opening.specs.JournalHalves.Records.{sized, chain, IsJournal}
+use Rattle.cloud_opening.specs.JournalHalves.Frames.{IsClosed, IsRecord}
+use Rattle.cloud_opening.proofs.JournalHalves.Headed.{one_record}
+use Rattle.cloud_opening.proofs.JournalHalves.Unique.{undamaged, whole_record}
+use Rattle.cloud_opening.specs.JournalStart.start.Checkpoint.{Checkpoint}
+use Rattle.cloud_opening.specs.JournalStart.start.Header.{Header}
+use Rattle.cloud_opening.specs.JournalStart.start.Start.{Start}
+use Rattle.cloud_opening.specs.JournalStart.Ranges.{IsBehind}
+use Rattle.cloud_opening.specs.JournalStart.Spelling.{start_bytes, records_of, commands_of, region_of, recipes_end_of}
 use Rattle.fresh_checkpoints.specs.JournalHalves.Halves.{half_len, half_of}
 use Rattle.fresh_checkpoints.specs.JournalHalves.Findings.{part_of}
-use Rattle.store_opening.specs.RecordBody.Spelling.{Body, body_bytes, FitsBody}
-use Rattle.store_opening.specs.UserDedup.command.Command.{Command}
+use Rattle.cloud_opening.specs.RecordBody.Spelling.{Body, body_bytes, FitsBody}
+use Rattle.cloud_opening.specs.UserDedup.command.Command.{Command}
 use Rattle.fresh_checkpoints.specs.CloudAreas.FormatOne.{Lays}
 use Rattle.fresh_checkpoints.specs.CloudAreas.Standing.{Chain, IsChain}
 use Rattle.fresh_checkpoints.specs.CloudMemory.Memory.{Memory, Remembers, Stand}
 use Rattle.fresh_checkpoints.specs.CompactMemories.Moved.{PlacesLie}
 use Rattle.fresh_checkpoints.specs.CompactMemories.Tables.{with_table}
-use Rattle.store_opening.specs.RecordChecks.ground.Ground.{Ground}
-use Rattle.store_opening.specs.RecordLaws.Fronts.{is_inside}
-use Rattle.store_opening.proofs.RecordLaws.Chain.{checkpoint_within}
-use Rattle.store_opening.specs.Exact.{ground_of, ReadsFor, Recipe, Nothing}
-use Rattle.store_opening.proofs.Opened.{not_open, not_broken}
+use Rattle.cloud_opening.specs.RecordChecks.ground.Ground.{Ground}
+use Rattle.cloud_opening.specs.RecordLaws.Fronts.{is_inside}
+use Rattle.cloud_opening.proofs.RecordLaws.Chain.{checkpoint_within}
+use Rattle.cloud_opening.specs.Exact.{ground_of, ReadsFor, Recipe, Nothing}
+use Rattle.cloud_opening.proofs.Opened.{not_open, not_broken}
 use Rattle.first_laws.specs.FirstRecords.errors.FirstErr.{FirstErr}
 use Rattle.first_laws.specs.FirstRecords.Judging.{JudgesFirst}
 use Rattle.first_laws.proofs.FirstRecords.OneAnswer.{one_answer}

@@ -8,10 +8,10 @@ use Rattle.fresh_checkpoints.specs.CdEdges.Disk.{Store, Image, Cloud, MayLeave, 
 use Rattle.fresh_checkpoints.specs.CdEdges.Shelf.{stable}
 use Rattle.fresh_checkpoints.proofs.CdEdges.Moments.{joined, weaker, at_end}
 use Rattle.fresh_checkpoints.proofs.CdEdges.Since.{image_of_stable}
-use Rattle.store_opening.specs.HalfJournal.States as journals
-use Rattle.store_opening.specs.JournalStart.rooms.UserRooms.{UserRooms}
-use Rattle.store_opening.specs.Synced.{AreSynced}
-use Rattle.store_opening.proofs.Synced.{synced_at}
+use Rattle.cloud_opening.specs.CommitJournal.States as journals
+use Rattle.cloud_opening.specs.JournalStart.rooms.UserRooms.{UserRooms}
+use Rattle.cloud_opening.specs.Synced.{AreSynced}
+use Rattle.cloud_opening.proofs.Synced.{synced_at}
 use Rattle.fresh_checkpoints.specs.JournalHalves.Journals.{Where, HasChain, IsEither}
 use Rattle.fresh_checkpoints.specs.CloudMemory.Memory.{Memory}
 use Rattle.fresh_checkpoints.specs.CloudMemory.Rooms.{memory_of}

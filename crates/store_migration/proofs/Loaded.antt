@@ -6,30 +6,30 @@ use Rattle.fresh_checkpoints.specs.CdEdges.area.Area.{Area}
 use Rattle.fresh_checkpoints.specs.CdEdges.area.Area.TheVariants.{Journal, Shares, Recipes}
 use Rattle.fresh_checkpoints.specs.CdEdges.Disk.{Store, Areas, Cloud, Image, reads}
 use Rattle.fresh_checkpoints.specs.CdEdges.Shelf.{stable, Stays}
-use Rattle.store_opening.specs.JournalHalves.Records.{chain}
-use Rattle.store_opening.specs.JournalStart.start.Checkpoint.{Checkpoint}
-use Rattle.store_opening.specs.JournalStart.start.Header.{Header}
-use Rattle.store_opening.specs.JournalStart.start.Start.{Start}
-use Rattle.store_opening.specs.JournalStart.Ranges.{IsBehind, usual_rooms}
-use Rattle.store_opening.specs.JournalStart.Spelling.{start_bytes, region_of, recipes_end_of}
+use Rattle.cloud_opening.specs.JournalHalves.Records.{chain}
+use Rattle.cloud_opening.specs.JournalStart.start.Checkpoint.{Checkpoint}
+use Rattle.cloud_opening.specs.JournalStart.start.Header.{Header}
+use Rattle.cloud_opening.specs.JournalStart.start.Start.{Start}
+use Rattle.cloud_opening.specs.JournalStart.Ranges.{IsBehind, usual_rooms}
+use Rattle.cloud_opening.specs.JournalStart.Spelling.{start_bytes, region_of, recipes_end_of}
 use Rattle.fresh_checkpoints.specs.JournalHalves.Halves.{half_len}
 use Rattle.fresh_checkpoints.specs.JournalHalves.Journals.{Where}
 use Rattle.fresh_checkpoints.specs.JournalHalves.Findings.{part_of}
-use Rattle.store_opening.specs.HalfJournal.Openings.{IsOpened}
-use Rattle.store_opening.specs.HalfJournal.States.{JournalState, IsJournalReading, IsJournalEnded}
+use Rattle.cloud_opening.specs.CommitJournal.Openings.{IsOpened}
+use Rattle.cloud_opening.specs.CommitJournal.States.{JournalState, IsJournalReading, IsJournalEnded}
 use Rattle.fresh_checkpoints.specs.CloudMemory.cloud.CloudMemory.{CloudMemory}
 use Rattle.fresh_checkpoints.specs.CloudMemory.Fitting.{FitsRecords}
 use Rattle.fresh_checkpoints.specs.CloudMemory.Greatest.{KeepsGreatest}
 use Rattle.fresh_checkpoints.specs.CloudMemory.Memory.{Memory}
 use Rattle.fresh_checkpoints.proofs.CloudMemoryLaws.Fitting.{begun_fits}
-use Rattle.store_opening.specs.RecordChecks.ground.Ground.{Ground}
+use Rattle.cloud_opening.specs.RecordChecks.ground.Ground.{Ground}
 use Rattle.fresh_checkpoints.specs.CdBase.rooms.Room.TheVariants.{Fps, Owners, Files}
 use Rattle.first_laws.specs.FirstRecords.Limits.{HasFirstRooms, limit_of}
 use Rattle.first_laws.specs.Leaving.{begun_behind}
-use Rattle.store_opening.specs.Exact.{ground_of}
-use Rattle.store_opening.specs.Steps.{HasChainEnded}
-use Rattle.store_opening.specs.Synced.{AreSynced}
-use Rattle.store_opening.proofs.Synced.{synced_at}
+use Rattle.cloud_opening.specs.Exact.{ground_of}
+use Rattle.cloud_opening.specs.Steps.{HasChainEnded}
+use Rattle.cloud_opening.specs.Synced.{AreSynced}
+use Rattle.cloud_opening.proofs.Synced.{synced_at}
 use Rattle.large_users.specs.MigrationModel.Migrating.{header_one}
 use Rattle.store_migration.specs.declared.errors.OldErr.{OldErr}
 use Rattle.store_migration.specs.declared.errors.OldErr.TheVariants.{NotBegun, Damaged, OtherStore, RoomsTooSmall}

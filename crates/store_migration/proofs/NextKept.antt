@@ -11,21 +11,21 @@ use Rattle.fresh_checkpoints.specs.CdBase.place.Place.{Place}
 use Rattle.fresh_checkpoints.specs.CdBase.shape.Shape.{Shape}
 use Rattle.fresh_checkpoints.specs.CdEdges.area.Area.TheVariants.{Shares, Recipes}
 use Rattle.fresh_checkpoints.specs.CdEdges.Disk.{Cloud}
-use Rattle.store_opening.specs.ContainerLog.Laying.{IsAt}
-use Rattle.store_opening.specs.FileIndex.key.Entry.{Entry}
-use Rattle.store_opening.specs.FileIndex.key.FileKey.{FileKey}
-use Rattle.store_opening.specs.FileIndex.Files.{key_of}
-use Rattle.store_opening.specs.HalfJournal.States as journals
-use Rattle.store_opening.specs.JournalStart.rooms.UserRooms.{UserRooms}
-use Rattle.store_opening.specs.UserDedup.command.Command.{Command}
-use Rattle.store_opening.specs.UserDedup.file_list.FileEntry.{FileEntry}
-use Rattle.store_opening.specs.UserDedup.Cloud.{counted, user_view, held_bytes}
-use Rattle.store_opening.specs.UserDedup.Compact.{compact}
-use Rattle.store_opening.specs.UserDedup.Dedup.{IsSound}
-use Rattle.store_opening.specs.UserDedup.Pages.{entry_at}
-use Rattle.store_opening.specs.UserDedup.Spending.{nothing, spent_by_all, IsWithin}
-use Rattle.store_opening.proofs.UserDedup.CompactSound.{compact_sound}
-use Rattle.store_opening.proofs.UserDedup.Compacting.{same_entries, same_held}
+use Rattle.cloud_opening.specs.ContainerLog.Laying.{IsAt}
+use Rattle.cloud_opening.specs.FileIndex.key.Entry.{Entry}
+use Rattle.cloud_opening.specs.FileIndex.key.FileKey.{FileKey}
+use Rattle.cloud_opening.specs.FileIndex.Files.{key_of}
+use Rattle.cloud_opening.specs.CommitJournal.States as journals
+use Rattle.cloud_opening.specs.JournalStart.rooms.UserRooms.{UserRooms}
+use Rattle.cloud_opening.specs.UserDedup.command.Command.{Command}
+use Rattle.cloud_opening.specs.UserDedup.file_list.FileEntry.{FileEntry}
+use Rattle.cloud_opening.specs.UserDedup.Cloud.{counted, user_view, held_bytes}
+use Rattle.cloud_opening.specs.UserDedup.Compact.{compact}
+use Rattle.cloud_opening.specs.UserDedup.Dedup.{IsSound}
+use Rattle.cloud_opening.specs.UserDedup.Pages.{entry_at}
+use Rattle.cloud_opening.specs.UserDedup.Spending.{nothing, spent_by_all, IsWithin}
+use Rattle.cloud_opening.proofs.UserDedup.CompactSound.{compact_sound}
+use Rattle.cloud_opening.proofs.UserDedup.Compacting.{same_entries, same_held}
 use Rattle.fresh_checkpoints.specs.CloudAreas.Chains.{least_shares, least_recipes}
 use Rattle.fresh_checkpoints.proofs.CloudAreas.Room.{spent_above}
 use Rattle.fresh_checkpoints.specs.CloudMemory.cloud.CloudMemory.{CloudMemory}

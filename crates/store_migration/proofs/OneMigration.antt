@@ -9,30 +9,30 @@ use Rattle.fresh_checkpoints.specs.CdBase.place.Place.{Place}
 use Rattle.fresh_checkpoints.specs.CdBase.shape.Shape.{Shape}
 use Rattle.fresh_checkpoints.specs.CdEdges.area.Area.TheVariants.{Journal, Recipes}
 use Rattle.fresh_checkpoints.specs.CdEdges.Disk.{Image}
-use Rattle.store_opening.specs.JournalHalves.Frames.{IsRecord}
-use Rattle.store_opening.proofs.JournalHalves.Headed.{one_record}
-use Rattle.store_opening.proofs.JournalHalves.Unique.{undamaged}
-use Rattle.store_opening.specs.FileIndex.key.Entry.{Entry}
-use Rattle.store_opening.specs.RecordBody.Reading.{body_at}
-use Rattle.store_opening.specs.RecordBody.Spelling.{Body}
-use Rattle.store_opening.specs.RecordBody.body.BodyErr.{BodyErr}
-use Rattle.store_opening.specs.JournalStart.rooms.UserRooms.{UserRooms}
-use Rattle.store_opening.specs.JournalStart.start.Header.{Header}
-use Rattle.store_opening.specs.JournalStart.start.Start.{Start}
-use Rattle.store_opening.specs.JournalStart.Spelling.{records_of, recipes_end_of}
+use Rattle.cloud_opening.specs.JournalHalves.Frames.{IsRecord}
+use Rattle.cloud_opening.proofs.JournalHalves.Headed.{one_record}
+use Rattle.cloud_opening.proofs.JournalHalves.Unique.{undamaged}
+use Rattle.cloud_opening.specs.FileIndex.key.Entry.{Entry}
+use Rattle.cloud_opening.specs.RecordBody.Reading.{body_at}
+use Rattle.cloud_opening.specs.RecordBody.Spelling.{Body}
+use Rattle.cloud_opening.specs.RecordBody.body.BodyErr.{BodyErr}
+use Rattle.cloud_opening.specs.JournalStart.rooms.UserRooms.{UserRooms}
+use Rattle.cloud_opening.specs.JournalStart.start.Header.{Header}
+use Rattle.cloud_opening.specs.JournalStart.start.Start.{Start}
+use Rattle.cloud_opening.specs.JournalStart.Spelling.{records_of, recipes_end_of}
 use Rattle.fresh_checkpoints.specs.JournalHalves.Halves.{half_len, IsCurrent}
-use Rattle.store_opening.specs.UserDedup.Dedup.{FullRoom}
+use Rattle.cloud_opening.specs.UserDedup.Dedup.{FullRoom}
 use Rattle.fresh_checkpoints.specs.CloudMemory.Memory.{Memory}
-use Rattle.store_opening.specs.RecordChecks.ground.Ground.{Ground}
-use Rattle.store_opening.specs.RecordChecks.Checks.{Asks, ByCommit, ByDelete, AsksFor}
+use Rattle.cloud_opening.specs.RecordChecks.ground.Ground.{Ground}
+use Rattle.cloud_opening.specs.RecordChecks.Checks.{Asks, ByCommit, ByDelete, AsksFor}
 use Rattle.first_laws.specs.FirstRecords.errors.FirstErr.{FirstErr}
 use Rattle.first_laws.specs.FirstRecords.Judging.{JudgesFirst}
 use Rattle.first_laws.proofs.FirstRecords.OneAnswer.{one_answer}
 use Rattle.fresh_checkpoints.specs.CompactMemories.Kept.{commands_in}
-use Rattle.store_opening.specs.Exact.{ReadsFor, Recipe, Nothing}
-use Rattle.store_opening.proofs.Current.{same_half, same_start, not_unbegun}
-use Rattle.store_opening.proofs.Opened.{not_open, not_broken}
-use Rattle.store_opening.proofs.OneStart.{one_damage, one_found, unbegun_whole, current_whole}
+use Rattle.cloud_opening.specs.Exact.{ReadsFor, Recipe, Nothing}
+use Rattle.cloud_opening.proofs.Current.{same_half, same_start, not_unbegun}
+use Rattle.cloud_opening.proofs.Opened.{not_open, not_broken}
+use Rattle.cloud_opening.proofs.OneStart.{one_damage, one_found, unbegun_whole, current_whole}
 use Rattle.large_users.specs.Large.{passed_in, IsFirstPassed, IsNonePassed}
 use Rattle.large_users.specs.MigrationModel.Migrating.{header_one}
 use Rattle.store_migration.specs.declared.errors.OldErr.{OldErr}

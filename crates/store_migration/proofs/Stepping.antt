@@ -2,21 +2,21 @@
 use Rattle.std.proofs.Common.{◌≡◌, inl, inr, ℕ, ◌+◌, ◌*◌, Bool, true, false, List, length, drop, nat_lt, Result, Ok, Err, refl, sym, ◌∙◌, ap, subst, arith}
 use Rattle.std.proofs.lemmas.List.{drop-drop}
 use Rattle.fresh_checkpoints.specs.CdEdges.Disk.{Store}
-use Rattle.store_opening.specs.JournalHalves.Frames.{IsRecord}
-use Rattle.store_opening.specs.JournalStart.start.Start.{Start}
-use Rattle.store_opening.specs.JournalStart.Spelling.{records_of}
+use Rattle.cloud_opening.specs.JournalHalves.Frames.{IsRecord}
+use Rattle.cloud_opening.specs.JournalStart.start.Start.{Start}
+use Rattle.cloud_opening.specs.JournalStart.Spelling.{records_of}
 use Rattle.fresh_checkpoints.specs.JournalHalves.Halves.{half_len}
 use Rattle.fresh_checkpoints.specs.JournalHalves.Journals.{Where, all_bodies, with_body}
 use Rattle.fresh_checkpoints.specs.JournalHalves.Findings.{part_of}
 use Rattle.fresh_checkpoints.specs.JournalHalves.Outcomes.{gate_at, rest_of, IsRecordFurther}
-use Rattle.store_opening.specs.HalfJournal.journal.Stage.{Stage}
-use Rattle.store_opening.specs.HalfJournal.States.{JournalState, IsJournalReading, IsJournalEnded}
-use Rattle.store_opening.specs.HalfJournal.Outcomes.{records_place, IsDamaged}
+use Rattle.cloud_opening.specs.CommitJournal.journal.Stage.{Stage}
+use Rattle.cloud_opening.specs.CommitJournal.States.{JournalState, IsJournalReading, IsJournalEnded}
+use Rattle.cloud_opening.specs.CommitJournal.Outcomes.{records_place, IsDamaged}
 use Rattle.fresh_checkpoints.specs.CloudMemory.Memory.{Memory}
-use Rattle.store_opening.specs.RecordChecks.ground.Ground.{Ground}
+use Rattle.cloud_opening.specs.RecordChecks.ground.Ground.{Ground}
 use Rattle.first_laws.specs.FirstRecords.Judging.{JudgesFirst}
-use Rattle.store_opening.specs.Exact.{ReadsFor}
-use Rattle.store_opening.proofs.Stepping.{restaged}
+use Rattle.cloud_opening.specs.Exact.{ReadsFor}
+use Rattle.cloud_opening.proofs.Stepping.{restaged}
 use Rattle.store_migration.specs.declared.errors.OldErr.{OldErr}
 use Rattle.store_migration.specs.declared.errors.OldErr.TheVariants.{Damaged}
 use Rattle.store_migration.specs.declared.errors.MigrateErr.{MigrateErr}

@@ -8,22 +8,22 @@ use Rattle.fresh_checkpoints.specs.CdEdges.Disk.{Store, Image, Cloud, MayLeave, 
 use Rattle.fresh_checkpoints.specs.CdEdges.Shelf.{stable}
 use Rattle.fresh_checkpoints.proofs.CdEdges.Moments.{at_end}
 use Rattle.fresh_checkpoints.proofs.CdEdges.Since.{image_of_stable}
-use Rattle.store_opening.specs.JournalHalves.Records.{IsJournal}
-use Rattle.store_opening.specs.JournalStart.start.Header.{Header}
-use Rattle.store_opening.specs.JournalStart.start.Start.{Start}
-use Rattle.store_opening.specs.JournalStart.Spelling.{recipes_end_of}
+use Rattle.cloud_opening.specs.JournalHalves.Records.{IsJournal}
+use Rattle.cloud_opening.specs.JournalStart.start.Header.{Header}
+use Rattle.cloud_opening.specs.JournalStart.start.Start.{Start}
+use Rattle.cloud_opening.specs.JournalStart.Spelling.{recipes_end_of}
 use Rattle.fresh_checkpoints.specs.JournalHalves.Beginnings.{IsUnbegun}
 use Rattle.fresh_checkpoints.specs.JournalHalves.Halves.{half_of, IsCurrent}
 use Rattle.fresh_checkpoints.specs.JournalHalves.Journals.{Where, all_bodies, HasChain}
-use Rattle.store_opening.specs.HalfJournal.States.{JournalState, IsJournalEnded}
-use Rattle.store_opening.specs.UserDedup.command.Command.{Command}
+use Rattle.cloud_opening.specs.CommitJournal.States.{JournalState, IsJournalEnded}
+use Rattle.cloud_opening.specs.UserDedup.command.Command.{Command}
 use Rattle.fresh_checkpoints.specs.CloudAreas.FormatOne.{Lays, HasListOne, StandsForOne, IsWithinGreatest}
 use Rattle.fresh_checkpoints.specs.CloudAreas.Standing.{Chain}
 use Rattle.fresh_checkpoints.specs.CloudMemory.Memory.{Memory}
-use Rattle.store_opening.specs.Synced.{AreSynced}
-use Rattle.store_opening.proofs.Current.{same_half, same_start}
-use Rattle.store_opening.proofs.OneStart.{current_whole}
-use Rattle.store_opening.proofs.Synced.{synced_at}
+use Rattle.cloud_opening.specs.Synced.{AreSynced}
+use Rattle.cloud_opening.proofs.Current.{same_half, same_start}
+use Rattle.cloud_opening.proofs.OneStart.{current_whole}
+use Rattle.cloud_opening.proofs.Synced.{synced_at}
 use Rattle.first_laws.specs.Holding.{MayHoldOne, front_left_one}
 use Rattle.first_laws.specs.Leaving.{IsLeftOne}
 use Rattle.first_laws.proofs.Stood.{is_sound, by_chain}

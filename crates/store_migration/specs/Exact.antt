@@ -6,21 +6,21 @@ use Rattle.fresh_checkpoints.specs.CdBase.ids.UserId.{UserId}
 use Rattle.fresh_checkpoints.specs.CdBase.shape.Shape.{Shape}
 use Rattle.fresh_checkpoints.specs.CdEdges.area.Area.TheVariants.{Journal, Recipes}
 use Rattle.fresh_checkpoints.specs.CdEdges.Disk.{Image}
-use Rattle.store_opening.specs.JournalHalves.Records.{IsDamage}
-use Rattle.store_opening.specs.JournalHalves.Frames.{IsClosed, IsRecord}
-use Rattle.store_opening.specs.JournalStart.rooms.UserRooms.{UserRooms}
-use Rattle.store_opening.specs.JournalStart.start.Header.{Header}
-use Rattle.store_opening.specs.JournalStart.start.Start.{Start}
-use Rattle.store_opening.specs.JournalStart.Spelling.{start_bytes, records_of, recipes_end_of}
+use Rattle.cloud_opening.specs.JournalHalves.Records.{IsDamage}
+use Rattle.cloud_opening.specs.JournalHalves.Frames.{IsClosed, IsRecord}
+use Rattle.cloud_opening.specs.JournalStart.rooms.UserRooms.{UserRooms}
+use Rattle.cloud_opening.specs.JournalStart.start.Header.{Header}
+use Rattle.cloud_opening.specs.JournalStart.start.Start.{Start}
+use Rattle.cloud_opening.specs.JournalStart.Spelling.{start_bytes, records_of, recipes_end_of}
 use Rattle.fresh_checkpoints.specs.JournalHalves.Beginnings.{IsUnbegun}
 use Rattle.fresh_checkpoints.specs.JournalHalves.Halves.{half_len, IsCurrent}
 use Rattle.fresh_checkpoints.specs.JournalHalves.Findings.{part_of, IsFoundDamage}
-use Rattle.store_opening.specs.HalfJournal.Outcomes.{records_place}
-use Rattle.store_opening.specs.UserDedup.Dedup.{FullRoom}
+use Rattle.cloud_opening.specs.CommitJournal.Outcomes.{records_place}
+use Rattle.cloud_opening.specs.UserDedup.Dedup.{FullRoom}
 use Rattle.fresh_checkpoints.specs.CloudMemory.Memory.{Memory}
 use Rattle.first_laws.specs.Leaving.{begun_behind}
-use Rattle.store_opening.specs.RecordChecks.ground.Ground.{Ground}
-use Rattle.store_opening.specs.Exact.{ReadsFor, ground_of}
+use Rattle.cloud_opening.specs.RecordChecks.ground.Ground.{Ground}
+use Rattle.cloud_opening.specs.Exact.{ReadsFor, ground_of}
 use Rattle.first_laws.specs.FirstRecords.errors.FirstErr.{FirstErr}
 use Rattle.first_laws.specs.FirstRecords.errors.FirstErr.TheVariants as records
 use Rattle.first_laws.specs.FirstRecords.Judging.{JudgesFirst}

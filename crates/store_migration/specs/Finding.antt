@@ -3,16 +3,16 @@ use Rattle.std.specs.Prelude.{◌≡◌, ◌≢◌, ℕ, ◌+◌, ◌*◌, List,
 use Rattle.fresh_checkpoints.specs.CdBase.ids.CloudNo.{CloudNo}
 use Rattle.fresh_checkpoints.specs.CdBase.shape.Shape.{Shape}
 use Rattle.fresh_checkpoints.specs.CdEdges.Disk.{Store}
-use Rattle.store_opening.specs.JournalStart.start.Start.{Start}
+use Rattle.cloud_opening.specs.JournalStart.start.Start.{Start}
 use Rattle.fresh_checkpoints.specs.JournalHalves.Beginnings.{IsUnbegun}
 use Rattle.fresh_checkpoints.specs.JournalHalves.Halves.{half_len, IsCurrent}
 use Rattle.fresh_checkpoints.specs.JournalHalves.Findings.{IsFoundDamage}
 use Rattle.fresh_checkpoints.specs.JournalHalves.found.FindErr.{FindErr}
 use Rattle.fresh_checkpoints.specs.JournalHalves.found.FindErr.TheVariants as finds
-use Rattle.store_opening.specs.HalfJournal.errors.OpenErr.{OpenErr}
-use Rattle.store_opening.specs.HalfJournal.errors.OpenErr.TheVariants as opens
-use Rattle.store_opening.specs.HalfJournal.States.{JournalState}
-use Rattle.store_opening.specs.HalfJournal.Openings.{IsOpened}
+use Rattle.cloud_opening.specs.CommitJournal.errors.OpenErr.{OpenErr}
+use Rattle.cloud_opening.specs.CommitJournal.errors.OpenErr.TheVariants as opens
+use Rattle.cloud_opening.specs.CommitJournal.States.{JournalState}
+use Rattle.cloud_opening.specs.CommitJournal.Openings.{IsOpened}
 use Rattle.large_users.specs.MigrationModel.Migrating.{header_one}
 use Rattle.store_migration.specs.declared.errors.OldErr.TheVariants.{NotBegun, Damaged, OtherStore, RoomsTooSmall}
 use Rattle.store_migration.specs.declared.errors.MigrateErr.{MigrateErr}

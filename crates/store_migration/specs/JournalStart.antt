@@ -1,3 +1,3 @@
 -- What journal_start says, for callers.
-pub use Rattle.store_opening.specs.JournalStart.Ranges
-pub use Rattle.store_opening.specs.JournalStart.rooms
+pub use Rattle.cloud_opening.specs.JournalStart.Ranges
+pub use Rattle.cloud_opening.specs.JournalStart.rooms

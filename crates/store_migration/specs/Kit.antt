@@ -1,9 +1,9 @@
 -- What the memory of a migration is. No public clause cites this module.
 use Rattle.std.specs.Prelude.{◌≡◌, ◌≤◌, length, vec_len}
 use Rattle.fresh_checkpoints.specs.CdBase.Limits.{recipe_limit}
-use Rattle.store_opening.specs.JournalStart.rooms.UserRooms.{UserRooms}
+use Rattle.cloud_opening.specs.JournalStart.rooms.UserRooms.{UserRooms}
 use Rattle.fresh_checkpoints.specs.JournalHalves.Halves.{half_limit}
-use Rattle.store_opening.specs.HalfJournal.States.{state_of}
+use Rattle.cloud_opening.specs.CommitJournal.States.{state_of}
 use Rattle.fresh_checkpoints.specs.CloudMemory.cloud.CloudMemory.{CloudMemory}
 use Rattle.first_laws.specs.FirstRecords.Limits.{HasFirstRooms}
 use Rattle.store_migration.specs.Exact.{users_most}

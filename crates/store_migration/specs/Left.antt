@@ -7,8 +7,8 @@ use Rattle.fresh_checkpoints.specs.CdEdges.area.Area.TheVariants.{Journal}
 use Rattle.fresh_checkpoints.specs.CdEdges.Disk.{Image, Cloud, IsImage, LeavesOnly, IsAtArea, reads}
 use Rattle.fresh_checkpoints.specs.CdEdges.Shelf.{stable}
 use Rattle.fresh_checkpoints.specs.JournalHalves.Journals.{Where, HasChain, IsEither}
-use Rattle.store_opening.specs.JournalStart.rooms.UserRooms.{UserRooms}
-use Rattle.store_opening.specs.JournalStart.start.Header.{Header}
+use Rattle.cloud_opening.specs.JournalStart.rooms.UserRooms.{UserRooms}
+use Rattle.cloud_opening.specs.JournalStart.start.Header.{Header}
 use Rattle.fresh_checkpoints.specs.CloudMemory.Rooms.{memory_of}
 use Rattle.fresh_checkpoints.specs.CloudMemory.cloud.CloudMemory.{CloudMemory}
 use Rattle.fresh_checkpoints.specs.Checkpoints.Laying.{checkpoint_behind}

@@ -10,5 +10,5 @@ pub mod Left
 pub mod MigrationModel
 pub mod Reading
 pub mod Steps
-pub mod StoreOpening
+pub mod CloudOpening
 pub mod UserDedup

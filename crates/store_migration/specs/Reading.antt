@@ -4,10 +4,10 @@ use Rattle.fresh_checkpoints.specs.CdBase.ids.CloudNo.{CloudNo}
 use Rattle.fresh_checkpoints.specs.CdBase.shape.Shape.{Shape}
 use Rattle.fresh_checkpoints.specs.CdEdges.area.Area.TheVariants.{Shares, Recipes}
 use Rattle.fresh_checkpoints.specs.CdEdges.Disk.{Cloud, reads}
-use Rattle.store_opening.specs.JournalStart.Spelling.{recipes_end_of}
-use Rattle.store_opening.specs.SpentTable.Spent.{Spent as Row}
-use Rattle.store_opening.specs.HalfJournal.States as journals
-use Rattle.store_opening.specs.UserDedup.command.Command.{Command}
+use Rattle.cloud_opening.specs.JournalStart.Spelling.{recipes_end_of}
+use Rattle.cloud_opening.specs.SpentTable.Spent.{Spent as Row}
+use Rattle.cloud_opening.specs.CommitJournal.States as journals
+use Rattle.cloud_opening.specs.UserDedup.command.Command.{Command}
 use Rattle.fresh_checkpoints.specs.CloudAreas.Standing.{Chain}
 use Rattle.fresh_checkpoints.specs.CloudMemory.Memory.{Memory, Remembers, Stand}
 use Rattle.fresh_checkpoints.specs.CompactMemories.Moved.{PlacesLie}

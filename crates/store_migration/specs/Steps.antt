@@ -7,16 +7,16 @@ use Rattle.fresh_checkpoints.specs.CdEdges.area.Area.{Area}
 use Rattle.fresh_checkpoints.specs.CdEdges.area.Area.TheVariants as areas
 use Rattle.fresh_checkpoints.specs.CdEdges.Disk.{Store, Cloud, reads}
 use Rattle.fresh_checkpoints.specs.CdEdges.Shelf.{stable}
-use Rattle.store_opening.specs.JournalStart.Spelling.{recipes_end_of}
+use Rattle.cloud_opening.specs.JournalStart.Spelling.{recipes_end_of}
 use Rattle.fresh_checkpoints.specs.JournalHalves.Halves.{half_len}
 use Rattle.fresh_checkpoints.specs.JournalHalves.Journals.{Where, with_body}
 use Rattle.fresh_checkpoints.specs.JournalHalves.Outcomes.{gate_at, rest_of}
-use Rattle.store_opening.specs.HalfJournal.journal.Stage.{Stage}
-use Rattle.store_opening.specs.HalfJournal.journal.Stage.TheVariants.{Shut, Reading, AtEnd}
-use Rattle.store_opening.specs.HalfJournal.States as journals
+use Rattle.cloud_opening.specs.CommitJournal.journal.Stage.{Stage}
+use Rattle.cloud_opening.specs.CommitJournal.journal.Stage.TheVariants.{Shut, Reading, AtEnd}
+use Rattle.cloud_opening.specs.CommitJournal.States as journals
 use Rattle.fresh_checkpoints.specs.CloudMemory.Memory.{Memory}
-use Rattle.store_opening.specs.RecordChecks.ground.Ground.{Ground}
-use Rattle.store_opening.specs.Exact.{ReadsFor}
+use Rattle.cloud_opening.specs.RecordChecks.ground.Ground.{Ground}
+use Rattle.cloud_opening.specs.Exact.{ReadsFor}
 use Rattle.first_laws.specs.FirstRecords.errors.FirstErr.{FirstErr}
 use Rattle.first_laws.specs.FirstRecords.Judging.{JudgesFirst}
 use Rattle.first_laws.specs.Leaving.{begun_behind}

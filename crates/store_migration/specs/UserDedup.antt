@@ -1,2 +1,2 @@
 -- What user_dedup says, for callers.
-pub use Rattle.store_opening.specs.UserDedup.command
+pub use Rattle.cloud_opening.specs.UserDedup.command

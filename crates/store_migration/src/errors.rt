@@ -3,8 +3,8 @@
 ghost use Rattle.std.specs.Prelude.{◌≡◌};
 ghost use Rattle.store_migration.specs.Finding.{err_of_find, err_of_open};
 
+use cloud_opening::{Header, OpenErr};
 use fresh_checkpoints::{FindErr, Room, UserId};
-use store_opening::{Header, OpenErr};
 
 /// Why a store of format 1 isn't opened. Places are those of the area Journal, from 0.
 #[derive(Clone, Copy, Debug, PartialEq, Eq)]

@@ -4,10 +4,10 @@ ghost use Rattle.std.specs.Prelude.{◌≡◌, ◌<◌, IsTrue, Ok};
 ghost use Rattle.fresh_checkpoints.specs.CdEdges.area.Area.{Area};
 ghost use Rattle.fresh_checkpoints.specs.CdEdges.Disk.{LeavesOnly, IsImage};
 ghost use Rattle.fresh_checkpoints.specs.CdEdges.Shelf.{IsCall, HasFailed, KeepsCounts, Stays};
-ghost use Rattle.store_opening.specs.HalfJournal.journal.Stage.TheVariants as Stage;
-ghost use Rattle.store_opening.specs.HalfJournal.Openings.{IsSynced};
-ghost use Rattle.store_opening.specs.HalfJournal.States.{state_of};
-ghost use Rattle.store_opening.specs.Synced.{AreSynced};
+ghost use Rattle.cloud_opening.specs.CommitJournal.journal.Stage.TheVariants as Stage;
+ghost use Rattle.cloud_opening.specs.CommitJournal.Openings.{IsSynced};
+ghost use Rattle.cloud_opening.specs.CommitJournal.States.{state_of};
+ghost use Rattle.cloud_opening.specs.Synced.{AreSynced};
 ghost use Rattle.store_migration.specs.Answers.{OnFault, IfNoMemory};
 ghost use Rattle.store_migration.specs.Finding.{FoundAs, OpenedAs};
 ghost use Rattle.store_migration.specs.Steps.{stage_after};
@@ -15,8 +15,8 @@ ghost use Rattle.store_migration.specs.Steps.{stage_after};
 use crate::MigrateErr;
 use crate::errors::{unfound, unopened};
 use crate::headers::{header_one, is_new};
+use cloud_opening::{Journal, sync_all};
 use fresh_checkpoints::{CloudNo, Failed, Shape, Shelf};
-use store_opening::{Journal, sync_all};
 
 // The current half, if its start isn't one of format 2 of this cloud. The journal is shut then.
 fn find_old<V: Shelf>(

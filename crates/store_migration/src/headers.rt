@@ -1,12 +1,12 @@
 //! The headers of a cloud before and after.
 
 ghost use Rattle.std.specs.Prelude.{◌≡◌, ◌↔◌, ◌<◌, IsTrue};
-ghost use Rattle.store_opening.specs.JournalStart.Ranges.{AreRooms, IsHeader};
+ghost use Rattle.cloud_opening.specs.JournalStart.Ranges.{AreRooms, IsHeader};
 ghost use Rattle.large_users.specs.MigrationModel.Migrating as model;
 ghost use Rattle.store_migration.specs.Exact.{IsNewHeader};
 
+use cloud_opening::{Header, UserRooms};
 use fresh_checkpoints::{CloudNo, Shape};
-use store_opening::{Header, UserRooms};
 
 /// The header that format 1 has of the cloud.
 pub(crate) fn header_one(shape: Shape, cloud: CloudNo) -> Header

@@ -1,13 +1,13 @@
 //! The memory of a migration.
 
 ghost use Rattle.std.specs.Prelude.{◌≡◌, vec_len, IfOk};
-ghost use Rattle.store_opening.specs.JournalStart.Ranges.{AreRooms};
+ghost use Rattle.cloud_opening.specs.JournalStart.Ranges.{AreRooms};
 ghost use Rattle.store_migration.specs.Kit.{IsKit, HasFirst};
 
 use cd_base::Rooms as Limits;
+use cloud_opening::{BodyBuf, Journal, UserRooms};
 use fresh_checkpoints::{CloudMemory, Marks, NoMemory, OwnerChains, RECIPE_LIMIT, half_limit};
 use std::alloc::Global;
-use store_opening::{BodyBuf, Journal, UserRooms};
 
 // As many users as a cloud may have.
 const USERS: u32 = 256;

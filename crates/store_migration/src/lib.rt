@@ -12,7 +12,7 @@ mod reading;
 mod recipes;
 mod records;
 
+pub use cloud_opening::UserRooms;
 pub use errors::{MigrateErr, OldErr};
 pub use fresh_checkpoints::{Bytes, CloudNo, NoMemory, Room, Shape, Shelf, Sink, UserId};
 pub use migrating::migrate;
-pub use store_opening::UserRooms;

@@ -6,16 +6,16 @@ ghost use Rattle.fresh_checkpoints.specs.CdBase.shape.Shape.{Shape as OfStore};
 ghost use Rattle.fresh_checkpoints.specs.CdEdges.area.Area.TheVariants.{Journal as OfJournal};
 ghost use Rattle.fresh_checkpoints.specs.CdEdges.Disk.{Image, Cloud, IsImage, LeavesOnly, reads};
 ghost use Rattle.fresh_checkpoints.specs.CdEdges.Shelf.{IsCall, HasFailed, KeepsCounts};
-ghost use Rattle.store_opening.specs.JournalStart.Ranges.{AreRooms, IsHeader};
-ghost use Rattle.store_opening.specs.JournalStart.start.Header.{Header as Heading};
+ghost use Rattle.cloud_opening.specs.JournalStart.Ranges.{AreRooms, IsHeader};
+ghost use Rattle.cloud_opening.specs.JournalStart.start.Header.{Header as Heading};
 ghost use Rattle.fresh_checkpoints.specs.JournalHalves.Halves.{half_limit};
 ghost use Rattle.fresh_checkpoints.specs.JournalHalves.Journals.{Where};
-ghost use Rattle.store_opening.specs.HalfJournal.journal.Stage.TheVariants as Stage;
-ghost use Rattle.store_opening.specs.HalfJournal.States as journals;
-ghost use Rattle.store_opening.specs.SpentTable.Spent.{Spent as Row};
-ghost use Rattle.store_opening.specs.UserDedup.command.Command.{Command};
-ghost use Rattle.store_opening.specs.UserDedup.Compact.{compact};
-ghost use Rattle.store_opening.specs.UserDedup.Dedup.{IsSound};
+ghost use Rattle.cloud_opening.specs.CommitJournal.journal.Stage.TheVariants as Stage;
+ghost use Rattle.cloud_opening.specs.CommitJournal.States as journals;
+ghost use Rattle.cloud_opening.specs.SpentTable.Spent.{Spent as Row};
+ghost use Rattle.cloud_opening.specs.UserDedup.command.Command.{Command};
+ghost use Rattle.cloud_opening.specs.UserDedup.Compact.{compact};
+ghost use Rattle.cloud_opening.specs.UserDedup.Dedup.{IsSound};
 ghost use Rattle.fresh_checkpoints.specs.CloudAreas.Standing.{Chain, StandsFor};
 ghost use Rattle.fresh_checkpoints.specs.CloudMemory.Fitting.{FitsRecords};
 ghost use Rattle.fresh_checkpoints.specs.CloudMemory.Memory.{Remembers};
@@ -27,7 +27,7 @@ ghost use Rattle.fresh_checkpoints.specs.CompactMemories.Kept.{IsCompacted, comm
 ghost use Rattle.fresh_checkpoints.specs.CompactMemories.Tables.{with_table};
 ghost use Rattle.fresh_checkpoints.specs.Fresh.{IsNextMemory};
 ghost use Rattle.fresh_checkpoints.specs.Switching.{IsReadOne, IsMigrating};
-ghost use Rattle.store_opening.specs.Synced.{AreSynced, BeginsSynced};
+ghost use Rattle.cloud_opening.specs.Synced.{AreSynced, BeginsSynced};
 ghost use Rattle.large_users.specs.MigrationModel.Migrating.{MayBeMigrated, EachBegunOne, IsBetween};
 ghost use Rattle.large_users.specs.MigrationModel.Migrating as model;
 ghost use Rattle.store_migration.specs.Answers.{MigratedAs, OnFault, IfAnswered, IfRefused, IfNoMemory};
@@ -42,6 +42,7 @@ use crate::MigrateErr;
 use crate::headers::header_two;
 use crate::kit::Kit;
 use crate::reading::read_old;
+use cloud_opening::{Header, UserRooms};
 use fresh_checkpoints::{
     CheckpointSpace, CloudMemory, CloudNo, NextList, NoMemory, Shape, Shelf, commands_of_compact,
     lay_fresh, make_compact,
@@ -49,7 +50,6 @@ use fresh_checkpoints::{
 use large_users::laws::{law_of_compacted_fits, law_of_compacted_room};
 use large_users::{TooLarge, first_too_large};
 use std::alloc::Global;
-use store_opening::{Header, UserRooms};
 
 // The slots of a memory's tables list what they have.
 fn slots_list(memory: &CloudMemory)

@@ -6,16 +6,16 @@ ghost use Rattle.fresh_checkpoints.specs.CdEdges.area.Area.{Area};
 ghost use Rattle.fresh_checkpoints.specs.CdEdges.Disk.{LeavesOnly, IsImage, reads};
 ghost use Rattle.fresh_checkpoints.specs.CdEdges.Shelf.{IsCall, HasFailed, KeepsCounts, Stays};
 ghost use Rattle.fresh_checkpoints.specs.JournalHalves.Journals.{Where};
-ghost use Rattle.store_opening.specs.HalfJournal.journal.Stage.TheVariants as Stage;
-ghost use Rattle.store_opening.specs.HalfJournal.States.{state_of, IsJournalReading, IsJournalEnded};
-ghost use Rattle.store_opening.specs.JournalStart.Ranges.{usual_rooms};
-ghost use Rattle.store_opening.specs.UserDedup.command.Command.{Command};
+ghost use Rattle.cloud_opening.specs.CommitJournal.journal.Stage.TheVariants as Stage;
+ghost use Rattle.cloud_opening.specs.CommitJournal.States.{state_of, IsJournalReading, IsJournalEnded};
+ghost use Rattle.cloud_opening.specs.JournalStart.Ranges.{usual_rooms};
+ghost use Rattle.cloud_opening.specs.UserDedup.command.Command.{Command};
 ghost use Rattle.fresh_checkpoints.specs.CloudMemory.Fitting.{FitsRecords};
 ghost use Rattle.fresh_checkpoints.specs.CloudMemory.Rooms.{memory_of};
 ghost use Rattle.first_laws.specs.FirstRecords.Limits.{HasFirstRooms};
 ghost use Rattle.large_users.specs.MigrationModel.Migrating.{MayBeMigrated};
-ghost use Rattle.store_opening.specs.Steps.{HasChainEnded};
-ghost use Rattle.store_opening.specs.Synced.{AreSynced};
+ghost use Rattle.cloud_opening.specs.Steps.{HasChainEnded};
+ghost use Rattle.cloud_opening.specs.Synced.{AreSynced};
 ghost use Rattle.store_migration.specs.Answers.{OnFault, IfNoMemory};
 ghost use Rattle.store_migration.specs.Exact.{ReadsOld, users_most};
 ghost use Rattle.store_migration.specs.Finding.{OpenedAs};
@@ -25,9 +25,9 @@ ghost use Rattle.store_migration.specs.Steps.{past_err, stage_after, HasReadAll,
 use crate::finding::open_old;
 use crate::records::take_all;
 use crate::{MigrateErr, OldErr};
+use cloud_opening::{Journal, UserRooms};
 use first_laws::{CloudMemory, Ground};
 use fresh_checkpoints::{Area, CloudNo, Failed, HALF_LEN, Shape, Shelf};
-use store_opening::{Journal, UserRooms};
 
 // The first place of the recipes' end in a start's record.
 const RECIPES_END: u64 = 33;

@@ -3,7 +3,7 @@
 ghost use Rattle.std.specs.Prelude.{◌≡◌, ◌≤◌, length, take, drop, IsTrue, IfOk, OnOk, OnErr};
 ghost use Rattle.fresh_checkpoints.specs.CdEdges.area.Area.{Area};
 ghost use Rattle.fresh_checkpoints.specs.CdEdges.Shelf.{IsCall, HasFailed, KeepsCounts, Stays};
-ghost use Rattle.store_opening.specs.Windows.{IsFrontOfWindow};
+ghost use Rattle.cloud_opening.specs.Windows.{IsFrontOfWindow};
 
 use fresh_checkpoints::{Area, CloudNo, Failed, Place, Shelf};
 

@@ -4,11 +4,11 @@ ghost use Rattle.std.specs.Prelude.{◌≡◌, ◌≤◌, ◌<◌, ◌+◌, ◌^
 ghost use Rattle.fresh_checkpoints.specs.CdBase.Limits.{recipe_limit};
 ghost use Rattle.fresh_checkpoints.specs.CdEdges.area.Area.{Area};
 ghost use Rattle.fresh_checkpoints.specs.CdEdges.Shelf.{IsCall, HasFailed, KeepsCounts, Stays};
-ghost use Rattle.store_opening.specs.JournalHalves.Records.{IsJournalBody};
+ghost use Rattle.cloud_opening.specs.JournalHalves.Records.{IsJournalBody};
 ghost use Rattle.fresh_checkpoints.specs.JournalHalves.Journals.{Where};
-ghost use Rattle.store_opening.specs.JournalStart.Spelling.{records_of};
-ghost use Rattle.store_opening.specs.HalfJournal.journal.Stage.TheVariants as Stage;
-ghost use Rattle.store_opening.specs.HalfJournal.States.{state_of, IsJournalReading};
+ghost use Rattle.cloud_opening.specs.JournalStart.Spelling.{records_of};
+ghost use Rattle.cloud_opening.specs.CommitJournal.journal.Stage.TheVariants as Stage;
+ghost use Rattle.cloud_opening.specs.CommitJournal.States.{state_of, IsJournalReading};
 ghost use Rattle.fresh_checkpoints.specs.CloudMemory.Fitting.{FitsRecords};
 ghost use Rattle.fresh_checkpoints.specs.CloudMemory.Rooms.{memory_of};
 ghost use Rattle.first_laws.specs.FirstRecords.Limits.{HasFirstRooms};
@@ -20,9 +20,9 @@ ghost use Rattle.store_migration.specs.declared.errors.MigrateErr.TheVariants.{O
 
 use crate::recipes::{front, read_at};
 use crate::{MigrateErr, OldErr};
+use cloud_opening::{Journal, RecordErr};
 use first_laws::{CloudMemory, Damage, FirstErr, Ground, recipe_of, take};
 use fresh_checkpoints::{CloudNo, Failed, Place, Shelf};
-use store_opening::{Journal, RecordErr};
 
 // Why a record isn't taken.
 fn untaken(error: FirstErr) -> MigrateErr

@@ -10,11 +10,11 @@ use cd_edges::{Area, Shelf};
 use cd_fakes::MemShelf;
 use checkpoints::{CheckpointSpace, CloudDisk, Marks, OwnerChains, checkpoint_of_memory};
 use cloud_memory::CloudMemory;
+use cloud_opening::reopen;
 use journal_halves::half_limit;
 use journal_start::{Header, UserRooms};
 use record_body::BodyBuf;
 use std::alloc::Global;
-use store_opening::reopen;
 
 pub(crate) const ZERO: CloudNo = CloudNo(0);
 

@@ -7,7 +7,7 @@ use cd_base::{CloudNo, Fp, NoMemory, Place, Shape, Tag, UserId, Version};
 use cd_edges::Shelf;
 use cd_fakes::MemShelf;
 use cloud_disk::CloudDisk;
-use half_journal::{Journal, Stage};
+use commit_journal::{Journal, Stage};
 use journal_start::{Header, UserRooms};
 use record_body::{BodyBuf, CommitBody, DeleteBody, PutItem};
 use std::alloc::Global;

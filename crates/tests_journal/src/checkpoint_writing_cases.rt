@@ -3,7 +3,7 @@
 use cd_base::{CloudNo, Shape};
 use cd_edges::{Area, Failed, Shelf};
 use cd_fakes::MemShelf;
-use half_journal::CheckpointWriter;
+use commit_journal::CheckpointWriter;
 use journal_halves::HALF_LEN;
 use journal_start::{Checkpoint, Header, Start, UserRooms};
 use mem_disk::Note;

@@ -3,7 +3,7 @@
 use crate::ground::{Chain, ZERO, add, checkpoint, lay, next, read, settle, turn};
 use cd_base::NoMemory;
 use cd_fakes::MemShelf;
-use half_journal::Journal;
+use commit_journal::Journal;
 use std::alloc::Global;
 use std::test::Fail;
 

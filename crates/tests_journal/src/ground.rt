@@ -6,7 +6,7 @@ ghost use Rattle.journal_start.specs.Ranges.{IsHeader};
 use cd_base::{CloudNo, NoMemory, Shape};
 use cd_edges::{Area, Shelf};
 use cd_fakes::MemShelf;
-use half_journal::{Journal, OpenErr, RecordErr, Stage};
+use commit_journal::{Journal, OpenErr, RecordErr, Stage};
 use journal_halves::HALF_LEN;
 use journal_start::{Header, UserRooms};
 use std::alloc::Global;

@@ -6,7 +6,7 @@ ghost use Rattle.journal_start.specs.Ranges.{IsHeader};
 use crate::ground::{Chain, Ground, Stop, ZERO, header, next, read};
 use cd_base::{CloudNo, Shape};
 use cd_edges::{Area, Shelf};
-use half_journal::{OpenErr, RecordErr};
+use commit_journal::{OpenErr, RecordErr};
 use journal_halves::{FindErr, HALF_LEN};
 use journal_start::{Header, UserRooms};
 use std::test::Fail;

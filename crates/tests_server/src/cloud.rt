@@ -5,9 +5,9 @@ ghost use Rattle.std.specs.Prelude.{◌≡◌};
 use cd_base::{CloudNo, NoMemory, Shape};
 use cd_edges::{Area, Shelf};
 use cd_fakes::MemShelf;
-use cloud_server::{OpenErr, Server};
 use frames::ReplyBuf;
 use journal_start::UserRooms;
+use share_server::{OpenErr, Server};
 use std::alloc::Global;
 
 /// The number of the cloud.

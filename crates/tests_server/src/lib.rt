@@ -18,5 +18,5 @@ mod rooms;
 mod storing;
 
 pub use cloud::{Cloud, Row, SMALL, TWO, WIDE, server_of, shape};
-pub use cloud_server::{OpenErr, Server};
+pub use share_server::{OpenErr, Server};
 pub use storing::is_stored;

@@ -3,12 +3,12 @@
 ghost use Rattle.std.specs.Prelude.{◌≡◌, ◌≤◌, IfOk, vec_len};
 ghost use Rattle.cd_base.specs.Limits.{recipe_limit};
 ghost use Rattle.journal_start.specs.Ranges.{IsHeader};
-ghost use Rattle.open_store.specs.Store.{IsSettled};
+ghost use Rattle.cloud_store.specs.Store.{IsSettled};
 
 use cd_base::{CloudNo, Fp, NoMemory, Shape, Tag, UserId, Version, sha256};
 use cd_fakes::MemShelf;
+use cloud_store::{CloudStore, New};
 use journal_start::{Header, UserRooms};
-use open_store::{New, OpenStore};
 use recipe::RecipeView;
 use std::alloc::Global;
 
@@ -68,7 +68,7 @@ pub(crate) enum Step {
 }
 
 // Puts a share that the user doesn't own. Says whether it did.
-fn put(store: &mut OpenStore, shelf: &mut MemShelf, byte: u8) -> bool
+fn put(store: &mut CloudStore, shelf: &mut MemShelf, byte: u8) -> bool
     requires { IsSettled store.old }
     ensures { IsSettled store.new }
 {
@@ -89,7 +89,7 @@ fn put(store: &mut OpenStore, shelf: &mut MemShelf, byte: u8) -> bool
 }
 
 // Commits a version that the user doesn't have. Says whether it did.
-fn commit(store: &mut OpenStore, shelf: &mut MemShelf, version: Version, byte: u8) -> bool
+fn commit(store: &mut CloudStore, shelf: &mut MemShelf, version: Version, byte: u8) -> bool
     requires { IsSettled store.old }
     ensures { IsSettled store.new }
 {
@@ -112,7 +112,7 @@ fn commit(store: &mut OpenStore, shelf: &mut MemShelf, version: Version, byte: u
 }
 
 // Deletes a version that the user has. Says whether it did.
-fn delete(store: &mut OpenStore, shelf: &mut MemShelf, version: Version, byte: u8) -> bool
+fn delete(store: &mut CloudStore, shelf: &mut MemShelf, version: Version, byte: u8) -> bool
     requires { IsSettled store.old }
     ensures { IsSettled store.new }
 {
@@ -125,7 +125,7 @@ fn delete(store: &mut OpenStore, shelf: &mut MemShelf, version: Version, byte: u
 }
 
 // Adds a command. Says whether it did.
-fn play(store: &mut OpenStore, shelf: &mut MemShelf, step: Step) -> bool
+fn play(store: &mut CloudStore, shelf: &mut MemShelf, step: Step) -> bool
     requires { IsSettled store.old }
     ensures { IsSettled store.new }
 {
@@ -139,7 +139,7 @@ fn play(store: &mut OpenStore, shelf: &mut MemShelf, step: Step) -> bool
 /// A store, and the buffer that its openings need.
 #[derive(Drop)]
 pub(crate) struct Ground {
-    pub store: OpenStore,
+    pub store: CloudStore,
     pub buffer: Vec<u8>,
     ghost long: { recipe_limit ≤ vec_len buffer },
 }
@@ -151,7 +151,7 @@ impl Ground {
     {
         Ok(Ground {
             buffer: vec![in alloc; 0u8; 1_180_190]?,
-            store: OpenStore::make(alloc, header())?,
+            store: CloudStore::make(alloc, header())?,
         })
     }
 

@@ -3,14 +3,14 @@
 ghost use Rattle.std.specs.Prelude.{◌≤◌, length, vec_len};
 ghost use Rattle.cd_base.specs.Limits.{recipe_limit};
 ghost use Rattle.journal_start.specs.Ranges.{IsHeader, AreRooms};
-ghost use Rattle.open_store.specs.CloudMemory.Rooms.{HasRooms};
+ghost use Rattle.cloud_store.specs.CloudMemory.Rooms.{HasRooms};
 
 use cd_base::{CloudNo, Fp, NoMemory, Place, Shape, Tag, UserId, Version, sha256};
 use cd_edges::{Area, Shelf};
 use cd_fakes::MemShelf;
-use half_journal::OpenErr;
+use cloud_store::{CloudDisk, CloudMemory, reopen};
+use commit_journal::OpenErr;
 use journal_start::{Header, UserRooms};
-use open_store::{CloudDisk, CloudMemory, reopen};
 use record_body::{BodyBuf, CommitBody, DeleteBody, PutItem};
 use std::alloc::Global;
 

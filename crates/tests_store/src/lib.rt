@@ -2,14 +2,14 @@
 #![tactic(auto)]
 
 #[cfg(test)]
+mod cloud_opening_stops;
+#[cfg(test)]
+mod cloud_store_stops;
+#[cfg(test)]
 mod commands;
 #[cfg(test)]
 mod ground;
 #[cfg(test)]
-mod open_store_stops;
-#[cfg(test)]
 mod openings;
-#[cfg(test)]
-mod store_opening_stops;
 #[cfg(test)]
 mod walk;

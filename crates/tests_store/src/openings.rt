@@ -4,7 +4,7 @@ use crate::ground::{Found, Ground, Step, ZERO, header, shelf_of};
 use cd_base::NoMemory;
 use cd_edges::{Area, Shelf};
 use cd_fakes::MemShelf;
-use half_journal::OpenErr;
+use commit_journal::OpenErr;
 use std::alloc::Global;
 use std::test::Fail;
 

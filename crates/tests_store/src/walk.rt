@@ -1,11 +1,11 @@
 //! A thousand commands, with a checkpoint every hundred or two.
 
-ghost use Rattle.open_store.specs.Store.{IsSettled};
+ghost use Rattle.cloud_store.specs.Store.{IsSettled};
 
 use crate::commands::{Ground, Step, TAG, USER};
 use cd_base::{NoMemory, Version};
 use cd_fakes::MemShelf;
-use open_store::OpenStore;
+use cloud_store::CloudStore;
 use std::alloc::Global;
 use std::test::Fail;
 
@@ -28,7 +28,7 @@ pub(crate) fn step_of(number: u64) -> Step {
 }
 
 /// Whether the store has what is left of so many commands: the newest version, and the one before it while that isn't deleted.
-pub(crate) fn is_left(store: &OpenStore, count: u64) -> bool {
+pub(crate) fn is_left(store: &CloudStore, count: u64) -> bool {
     let commits = if count > 2 { count / 2 } else { 0 };
     let newest = commits.wrapping_sub(1);
     let last = store.memory.entry(USER, &TAG, Version(newest));

@@ -11,8 +11,8 @@ use Rattle.recipe.specs.CdBase.ids.UserId.{UserId}
 use Rattle.recipe.specs.CdBase.ids.Version.{Version}
 use Rattle.session_model.specs.CdEdges.Causes.{Rose}
 use Rattle.session_model.specs.CdEdges.Disk.{Cloud}
-use Rattle.session_model.specs.HalfJournal.errors.OpenErr.{OpenErr}
-use Rattle.session_model.specs.HalfJournal.errors.OpenErr.TheVariants as errors
+use Rattle.session_model.specs.CommitJournal.errors.OpenErr.{OpenErr}
+use Rattle.session_model.specs.CommitJournal.errors.OpenErr.TheVariants as errors
 use Rattle.session_model.specs.Messages.request.Request.{Request}
 use Rattle.session_model.specs.UserDedup.command.Command.{Command}
 use Rattle.session_model.specs.UserDedup.Cloud.{commands_of, user_view}
@@ -20,7 +20,7 @@ use Rattle.session_model.specs.UserDedup.Exec.{Peer, Settles}
 use Rattle.session_model.proofs.UserDedup.Owned.{contains_cases, contains_nothing}
 use Rattle.two_worlds.proofs.Rules.{EntriesOwned, none_owned}
 use Rattle.session_model.specs.UserDedup.Cloud.{counted}
-use Rattle.session_model.specs.CloudServer.Serving.{ReopensAs}
+use Rattle.session_model.specs.ShareServer.Serving.{ReopensAs}
 use Rattle.session_model.specs.UploadJob.Upload.{FileVersion}
 use Rattle.session_model.specs.UploadJob.Lanes.{LaneView}
 use Rattle.session_model.specs.UploadJob.Lanes as lanes

@@ -6,15 +6,15 @@ use Rattle.std.specs.List.{Contains, range_with_len}
 use Rattle.std.proofs.lemmas.Bool.{cases_eq}
 use Rattle.recipe.specs.CdBase.ids.CloudNo.{CloudNo}
 use Rattle.session_model.specs.CdEdges.Causes.{Rose}
-use Rattle.session_model.specs.HalfJournal.errors.OpenErr.{OpenErr}
-use Rattle.session_model.specs.HalfJournal.errors.OpenErr.TheVariants as errors
+use Rattle.session_model.specs.CommitJournal.errors.OpenErr.{OpenErr}
+use Rattle.session_model.specs.CommitJournal.errors.OpenErr.TheVariants as errors
 use Rattle.session_model.specs.Messages.request.Request.TheVariants as requests
 use Rattle.session_model.specs.Messages.reply.Reply.{Reply}
 use Rattle.session_model.specs.Messages.reply.Reply.TheVariants as replies
 use Rattle.session_model.specs.UserDedup.Exec.{Peer}
 use Rattle.session_model.proofs.UserDedup.Owned.{contains_cases, contains_nothing}
 use Rattle.session_model.specs.UserDedup.Cloud.{counted}
-use Rattle.session_model.specs.CloudServer.Serving.{ReopensAs}
+use Rattle.session_model.specs.ShareServer.Serving.{ReopensAs}
 use Rattle.session_model.specs.LocalLink.Calls.{Armed}
 use Rattle.session_model.specs.KeptFiles.Kept.{key_of}
 use Rattle.session_model.specs.UploadJob.Lanes as lanes

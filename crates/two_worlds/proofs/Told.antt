@@ -14,7 +14,7 @@ use Rattle.session_model.specs.Messages.request.Request.TheVariants as requests
 use Rattle.session_model.specs.Messages.reply.Reply.{Reply}
 use Rattle.session_model.specs.UserDedup.Exec.{Peer, Exec}
 use Rattle.session_model.proofs.UserDedup.Owned.{contains_here, contains_later, contains_cases}
-use Rattle.session_model.specs.CloudServer.Serving.{ReopensAs}
+use Rattle.session_model.specs.ShareServer.Serving.{ReopensAs}
 use Rattle.session_model.specs.UploadJob.Lanes as lanes
 use Rattle.session_model.specs.LaneSteps.Runs.{LaneTurn, Progress, LaneRun, progress_after}
 use Rattle.session_model.specs.RestoreJob.error.RestoreErr.{RestoreErr}

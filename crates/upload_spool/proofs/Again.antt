@@ -13,22 +13,22 @@ use Rattle.grammar.specs.CdBase.Numbers.{numbers_of}
 use Rattle.grammar.specs.CdBase.ids.CloudNo.{CloudNo}
 use Rattle.grammar.specs.CdBase.ids.Fp.{Fp}
 use Rattle.grammar.specs.CdBase.shape.Shape.{Shape}
-use Rattle.half_journal.specs.CdEdges.area.Area.TheVariants.{Journal}
-use Rattle.half_journal.specs.CdEdges.Disk.{Image}
-use Rattle.half_journal.specs.JournalHalves.Records.{IsDamage, LastGate, BadLength, AreBodies, IsJournal, chain, sized}
-use Rattle.half_journal.proofs.JournalHalves.Headed.{one_record}
-use Rattle.half_journal.proofs.JournalHalves.Unique.{undamaged, whole_record}
-use Rattle.half_journal.specs.JournalStart.fault.StartFault.{StartFault}
-use Rattle.half_journal.specs.JournalStart.start.Start.{Start}
-use Rattle.half_journal.specs.JournalStart.Reading.{Fields, start_at, fields_of}
-use Rattle.half_journal.specs.JournalStart.Spelling.{start_bytes, records_of}
-use Rattle.half_journal.proofs.JournalStart.Whole.{again}
-use Rattle.half_journal.specs.JournalHalves.Beginnings.{IsUnbegun}
-use Rattle.half_journal.specs.JournalHalves.Findings.{part_of, IsStartDamage, IsFoundDamage, InFirst, InSecond, Epochs}
-use Rattle.half_journal.specs.JournalHalves.Halves.{half_len, half_of, is_half_begun, HasStart, IsCurrent}
-use Rattle.half_journal.specs.JournalHalves.Journals.{Where, all_bodies, with_body}
-use Rattle.half_journal.proofs.JournalHalves.Current.{begun_half, one_chain, one_current}
-use Rattle.half_journal.proofs.Kept.{record_off}
+use Rattle.commit_journal.specs.CdEdges.area.Area.TheVariants.{Journal}
+use Rattle.commit_journal.specs.CdEdges.Disk.{Image}
+use Rattle.commit_journal.specs.JournalHalves.Records.{IsDamage, LastGate, BadLength, AreBodies, IsJournal, chain, sized}
+use Rattle.commit_journal.proofs.JournalHalves.Headed.{one_record}
+use Rattle.commit_journal.proofs.JournalHalves.Unique.{undamaged, whole_record}
+use Rattle.commit_journal.specs.JournalStart.fault.StartFault.{StartFault}
+use Rattle.commit_journal.specs.JournalStart.start.Start.{Start}
+use Rattle.commit_journal.specs.JournalStart.Reading.{Fields, start_at, fields_of}
+use Rattle.commit_journal.specs.JournalStart.Spelling.{start_bytes, records_of}
+use Rattle.commit_journal.proofs.JournalStart.Whole.{again}
+use Rattle.commit_journal.specs.JournalHalves.Beginnings.{IsUnbegun}
+use Rattle.commit_journal.specs.JournalHalves.Findings.{part_of, IsStartDamage, IsFoundDamage, InFirst, InSecond, Epochs}
+use Rattle.commit_journal.specs.JournalHalves.Halves.{half_len, half_of, is_half_begun, HasStart, IsCurrent}
+use Rattle.commit_journal.specs.JournalHalves.Journals.{Where, all_bodies, with_body}
+use Rattle.commit_journal.proofs.JournalHalves.Current.{begun_half, one_chain, one_current}
+use Rattle.commit_journal.proofs.Kept.{record_off}
 use Rattle.upload_job.specs.Lanes.{LaneView, lanes_resumed}
 use Rattle.upload_job.specs.Upload.{FileVersion}
 use Rattle.upload_spool.specs.Opens.{Notes, Say, HasReadSpool, HasAll, IsChainDamage, IsWrongNext, IsDamagedAt, OpensIs, FindsAgain, gate_of, rest_behind, with_record, kept_file, version_in, rising, first_notes, more_notes}

@@ -4,33 +4,33 @@ use Rattle.std.proofs.Math.Seq.{take-add, take-length, take-append-add}
 use Rattle.std.proofs.lemmas.Bool.{false≢true}
 use Rattle.std.specs.Int.{w32, to_be_bytes}
 use Rattle.std.proofs.lemmas.List.{length-take, length-drop, drop_at}
-use Rattle.half_journal.specs.CdEdges.area.Area.{Area}
-use Rattle.half_journal.specs.CdEdges.area.Area.TheVariants.{Journal, Shares, Recipes}
-use Rattle.half_journal.specs.CdEdges.Disk.{Store, Areas, Cloud, Image, MayLeave, IsImage, LeavesOnly, IsAtArea, overwritten, reads}
-use Rattle.half_journal.specs.CdEdges.Shelf.{Stays, wrote, stable}
-use Rattle.half_journal.proofs.CdEdges.Moments.{joined, weaker, stayed, started, at_end}
-use Rattle.half_journal.proofs.CdEdges.Torn.{only}
-use Rattle.half_journal.specs.JournalHalves.Records.{IsJournal, IsDamage, LastGate, BadLength, chain}
-use Rattle.half_journal.proofs.JournalHalves.Chain.{overwritten_within}
-use Rattle.half_journal.proofs.JournalHalves.Unique.{first_of}
-use Rattle.half_journal.specs.JournalStart.start.Header.{Header}
-use Rattle.half_journal.specs.JournalStart.start.Start.{Start}
-use Rattle.half_journal.specs.JournalStart.Spelling.{start_bytes}
-use Rattle.half_journal.specs.JournalHalves.Beginnings.{IsUnbegun, new_of}
-use Rattle.half_journal.specs.JournalHalves.Halves.{half_len, half_of, is_half_begun, HasStart, IsCurrent}
-use Rattle.half_journal.specs.JournalHalves.Findings.{part_of, IsFoundDamage, InFirst, InSecond, Epochs}
-use Rattle.half_journal.specs.JournalHalves.Journals.{Where, HasChain, IsEither, all_bodies, with_body}
-use Rattle.half_journal.specs.JournalHalves.Outcomes as steps
-use Rattle.half_journal.specs.JournalHalves.errors.RecordErr.TheVariants as jerrors
-use Rattle.half_journal.proofs.JournalHalves.Current.{one_start, begun_half, one_chain}
-use Rattle.half_journal.specs.declared.errors.OpenErr.{OpenErr}
-use Rattle.half_journal.specs.declared.errors.OpenErr.TheVariants as opens
-use Rattle.half_journal.specs.Openings.{MayBecome, OpensIs, IsOpened}
-use Rattle.half_journal.specs.declared.journal.Stage.{Stage}
-use Rattle.half_journal.specs.declared.journal.Stage.TheVariants.{AtEnd, Shut}
-use Rattle.half_journal.specs.Outcomes.{NextIs, IsDamaged}
-use Rattle.half_journal.specs.States.{IsJournalReading, IsJournalEnded}
-use Rattle.half_journal.specs.States as half
+use Rattle.commit_journal.specs.CdEdges.area.Area.{Area}
+use Rattle.commit_journal.specs.CdEdges.area.Area.TheVariants.{Journal, Shares, Recipes}
+use Rattle.commit_journal.specs.CdEdges.Disk.{Store, Areas, Cloud, Image, MayLeave, IsImage, LeavesOnly, IsAtArea, overwritten, reads}
+use Rattle.commit_journal.specs.CdEdges.Shelf.{Stays, wrote, stable}
+use Rattle.commit_journal.proofs.CdEdges.Moments.{joined, weaker, stayed, started, at_end}
+use Rattle.commit_journal.proofs.CdEdges.Torn.{only}
+use Rattle.commit_journal.specs.JournalHalves.Records.{IsJournal, IsDamage, LastGate, BadLength, chain}
+use Rattle.commit_journal.proofs.JournalHalves.Chain.{overwritten_within}
+use Rattle.commit_journal.proofs.JournalHalves.Unique.{first_of}
+use Rattle.commit_journal.specs.JournalStart.start.Header.{Header}
+use Rattle.commit_journal.specs.JournalStart.start.Start.{Start}
+use Rattle.commit_journal.specs.JournalStart.Spelling.{start_bytes}
+use Rattle.commit_journal.specs.JournalHalves.Beginnings.{IsUnbegun, new_of}
+use Rattle.commit_journal.specs.JournalHalves.Halves.{half_len, half_of, is_half_begun, HasStart, IsCurrent}
+use Rattle.commit_journal.specs.JournalHalves.Findings.{part_of, IsFoundDamage, InFirst, InSecond, Epochs}
+use Rattle.commit_journal.specs.JournalHalves.Journals.{Where, HasChain, IsEither, all_bodies, with_body}
+use Rattle.commit_journal.specs.JournalHalves.Outcomes as steps
+use Rattle.commit_journal.specs.JournalHalves.errors.RecordErr.TheVariants as jerrors
+use Rattle.commit_journal.proofs.JournalHalves.Current.{one_start, begun_half, one_chain}
+use Rattle.commit_journal.specs.declared.errors.OpenErr.{OpenErr}
+use Rattle.commit_journal.specs.declared.errors.OpenErr.TheVariants as opens
+use Rattle.commit_journal.specs.Openings.{MayBecome, OpensIs, IsOpened}
+use Rattle.commit_journal.specs.declared.journal.Stage.{Stage}
+use Rattle.commit_journal.specs.declared.journal.Stage.TheVariants.{AtEnd, Shut}
+use Rattle.commit_journal.specs.Outcomes.{NextIs, IsDamaged}
+use Rattle.commit_journal.specs.States.{IsJournalReading, IsJournalEnded}
+use Rattle.commit_journal.specs.States as half
 use Rattle.grammar.specs.CdBase.shape.Shape.{Shape}
 use Rattle.upload_job.specs.Upload.{FileVersion}
 use Rattle.upload_spool.specs.Spools.{HasOpenJob, IsBegunOr, spool_header, job_bytes}

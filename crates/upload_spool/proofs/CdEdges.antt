@@ -1,4 +1,4 @@
 -- What cd_edges has proved, for callers.
-pub use Rattle.half_journal.proofs.CdEdges.Calls
-pub use Rattle.half_journal.proofs.CdEdges.Moments
-pub use Rattle.half_journal.proofs.CdEdges.Torn
+pub use Rattle.commit_journal.proofs.CdEdges.Calls
+pub use Rattle.commit_journal.proofs.CdEdges.Moments
+pub use Rattle.commit_journal.proofs.CdEdges.Torn

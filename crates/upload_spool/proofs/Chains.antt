@@ -5,12 +5,12 @@ use Rattle.std.specs.Int.{w32, to_be_bytes}
 use Rattle.std.proofs.lemmas.List.{length-append, map-append}
 use Rattle.grammar.specs.CdBase.ids.CloudNo.{CloudNo}
 use Rattle.grammar.specs.CdBase.shape.Shape.{Shape}
-use Rattle.half_journal.specs.CdEdges.area.Area.TheVariants.{Journal, Shares}
-use Rattle.half_journal.specs.CdEdges.Disk.{Image}
-use Rattle.half_journal.specs.JournalHalves.Records.{chain, sized}
-use Rattle.half_journal.specs.JournalStart.Spelling.{start_bytes}
-use Rattle.half_journal.specs.JournalHalves.Halves.{is_half_begun}
-use Rattle.half_journal.specs.JournalHalves.Journals.{Where, HasChain, IsEither, used_by, with_body}
+use Rattle.commit_journal.specs.CdEdges.area.Area.TheVariants.{Journal, Shares}
+use Rattle.commit_journal.specs.CdEdges.Disk.{Image}
+use Rattle.commit_journal.specs.JournalHalves.Records.{chain, sized}
+use Rattle.commit_journal.specs.JournalStart.Spelling.{start_bytes}
+use Rattle.commit_journal.specs.JournalHalves.Halves.{is_half_begun}
+use Rattle.commit_journal.specs.JournalHalves.Journals.{Where, HasChain, IsEither, used_by, with_body}
 use Rattle.upload_job.specs.Upload.{FileVersion}
 use Rattle.upload_spool.specs.Spools.{FitsKept, AreJobLanes, SpoolFor, HasOpenJob, IsNotedOr, spool_chain, spool_start, lane_bytes, job_bytes}
 use Rattle.upload_spool.proofs.Bodies.{SameFields, same_job, job_len, same_lane}

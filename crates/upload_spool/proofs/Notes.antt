@@ -5,22 +5,22 @@ use Rattle.std.proofs.lemmas.Bool.{false≢true}
 use Rattle.std.proofs.lemmas.List.{drop_at, length-map}
 use Rattle.grammar.specs.CdBase.Numbers.{numbers_of}
 use Rattle.grammar.specs.CdBase.ids.CloudNo.{CloudNo}
-use Rattle.half_journal.specs.CdEdges.area.Area.{Area}
-use Rattle.half_journal.specs.CdEdges.area.Area.TheVariants.{Journal, Shares}
-use Rattle.half_journal.specs.CdEdges.Disk.{Store, Areas, Cloud, Image, MayLeave, IsImage, SomeLeaves, LeavesOnly, IsAtArea, reads}
-use Rattle.half_journal.specs.CdEdges.Shelf.{stable}
-use Rattle.half_journal.proofs.CdEdges.Moments.{weaker, started, at_end}
-use Rattle.half_journal.proofs.CdEdges.Torn.{only}
-use Rattle.half_journal.specs.JournalHalves.Records.{IsJournal, is_begun}
-use Rattle.half_journal.specs.JournalHalves.Findings.{part_of}
-use Rattle.half_journal.specs.JournalHalves.Halves.{half_of, is_half_begun}
-use Rattle.half_journal.specs.JournalHalves.Journals.{HasChain, IsEither, all_bodies, with_body, used_by}
-use Rattle.half_journal.proofs.JournalHalves.Looks.{begun_part}
-use Rattle.half_journal.specs.declared.journal.Stage.{Stage}
-use Rattle.half_journal.specs.declared.journal.Stage.TheVariants.{AtEnd, Shut}
-use Rattle.half_journal.specs.Outcomes.{stage_after}
-use Rattle.half_journal.specs.States.{IsJournalEnded}
-use Rattle.half_journal.specs.States as half
+use Rattle.commit_journal.specs.CdEdges.area.Area.{Area}
+use Rattle.commit_journal.specs.CdEdges.area.Area.TheVariants.{Journal, Shares}
+use Rattle.commit_journal.specs.CdEdges.Disk.{Store, Areas, Cloud, Image, MayLeave, IsImage, SomeLeaves, LeavesOnly, IsAtArea, reads}
+use Rattle.commit_journal.specs.CdEdges.Shelf.{stable}
+use Rattle.commit_journal.proofs.CdEdges.Moments.{weaker, started, at_end}
+use Rattle.commit_journal.proofs.CdEdges.Torn.{only}
+use Rattle.commit_journal.specs.JournalHalves.Records.{IsJournal, is_begun}
+use Rattle.commit_journal.specs.JournalHalves.Findings.{part_of}
+use Rattle.commit_journal.specs.JournalHalves.Halves.{half_of, is_half_begun}
+use Rattle.commit_journal.specs.JournalHalves.Journals.{HasChain, IsEither, all_bodies, with_body, used_by}
+use Rattle.commit_journal.proofs.JournalHalves.Looks.{begun_part}
+use Rattle.commit_journal.specs.declared.journal.Stage.{Stage}
+use Rattle.commit_journal.specs.declared.journal.Stage.TheVariants.{AtEnd, Shut}
+use Rattle.commit_journal.specs.Outcomes.{stage_after}
+use Rattle.commit_journal.specs.States.{IsJournalEnded}
+use Rattle.commit_journal.specs.States as half
 use Rattle.upload_job.specs.Upload.{FileVersion}
 use Rattle.upload_spool.specs.Spools.{AreJobLanes, SpoolFor, IsNotedOr, spool_chain, lane_bytes}
 use Rattle.upload_spool.specs.States.{SpoolState, IsOf, IsSpool, HasFile}

@@ -5,17 +5,17 @@ use Rattle.sha2.specs.Sha256.{sha256 as sha256_of}
 use Rattle.grammar.specs.CdBase.ids.CloudNo.{CloudNo}
 use Rattle.grammar.specs.CdBase.ids.Fp.{Fp}
 use Rattle.grammar.specs.CdBase.shape.Shape.{Shape}
-use Rattle.half_journal.specs.CdEdges.area.Area.TheVariants.{Journal, Shares}
-use Rattle.half_journal.specs.CdEdges.Disk.{Store, Areas, Cloud, Image, MayLeave, IsImage, LeavesOnly, reads}
-use Rattle.half_journal.specs.CdEdges.Shelf.{Stays, Syncs, Changes, stable}
-use Rattle.half_journal.proofs.CdEdges.Moments.{started, joined, weaker, at_end}
-use Rattle.half_journal.proofs.CdEdges.Shrinks.{sync_goes_on}
-use Rattle.half_journal.proofs.CdEdges.Torn.{only}
-use Rattle.half_journal.specs.JournalHalves.Halves.{is_half_begun}
-use Rattle.half_journal.specs.JournalHalves.Journals.{Where, HasChain, used_by}
-use Rattle.half_journal.proofs.JournalHalves.Current.{one_chain}
-use Rattle.half_journal.specs.States.{IsJournalEnded}
-use Rattle.half_journal.specs.States as half
+use Rattle.commit_journal.specs.CdEdges.area.Area.TheVariants.{Journal, Shares}
+use Rattle.commit_journal.specs.CdEdges.Disk.{Store, Areas, Cloud, Image, MayLeave, IsImage, LeavesOnly, reads}
+use Rattle.commit_journal.specs.CdEdges.Shelf.{Stays, Syncs, Changes, stable}
+use Rattle.commit_journal.proofs.CdEdges.Moments.{started, joined, weaker, at_end}
+use Rattle.commit_journal.proofs.CdEdges.Shrinks.{sync_goes_on}
+use Rattle.commit_journal.proofs.CdEdges.Torn.{only}
+use Rattle.commit_journal.specs.JournalHalves.Halves.{is_half_begun}
+use Rattle.commit_journal.specs.JournalHalves.Journals.{Where, HasChain, used_by}
+use Rattle.commit_journal.proofs.JournalHalves.Current.{one_chain}
+use Rattle.commit_journal.specs.States.{IsJournalEnded}
+use Rattle.commit_journal.specs.States as half
 use Rattle.upload_job.specs.Lanes.{LaneView, lanes_resumed}
 use Rattle.upload_job.specs.Upload.{FileVersion}
 use Rattle.upload_spool.specs.Opens.{Notes, Say, HasAll, OpensIs, IsOpenedSpool, answer_of, kept_file, rising, first_notes, more_notes}

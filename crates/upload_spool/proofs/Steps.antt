@@ -6,27 +6,27 @@ use Rattle.std.specs.Int.{w32, to_be_bytes}
 use Rattle.std.proofs.lemmas.List.{length-take}
 use Rattle.grammar.specs.CdBase.ids.CloudNo.{CloudNo}
 use Rattle.grammar.specs.CdBase.shape.Shape.{Shape}
-use Rattle.half_journal.specs.CdEdges.area.Area.TheVariants.{Journal, Shares}
-use Rattle.half_journal.specs.CdEdges.Disk.{Store, Areas, Cloud, Image, IsImage, LeavesOnly}
-use Rattle.half_journal.specs.CdEdges.Shelf.{Stays}
-use Rattle.half_journal.proofs.CdEdges.Moments.{told_on, weaker}
-use Rattle.half_journal.specs.JournalHalves.Records.{IsDamage, IsJournal, chain, sized}
-use Rattle.half_journal.specs.JournalHalves.Frames.{IsClosed}
-use Rattle.half_journal.proofs.JournalHalves.Chain.{chain-push, length-chain-push}
-use Rattle.half_journal.specs.JournalStart.start.Header.{Header}
-use Rattle.half_journal.specs.JournalStart.Spelling.{records_of}
-use Rattle.half_journal.specs.JournalHalves.Halves.{half_len, half_of}
-use Rattle.half_journal.specs.JournalHalves.Findings.{part_of}
-use Rattle.half_journal.specs.JournalHalves.Journals.{Where, HasChain, all_bodies, with_body}
-use Rattle.half_journal.specs.JournalHalves.Outcomes as halves
-use Rattle.half_journal.specs.Outcomes.{IsDamaged, records_place}
-use Rattle.half_journal.specs.Outcomes as journal
-use Rattle.half_journal.specs.Openings.{IsOpened, OpensIs, MayBecome}
-use Rattle.half_journal.specs.declared.errors.OpenErr.TheVariants as opens
-use Rattle.half_journal.specs.declared.journal.Stage.TheVariants.{AtEnd}
-use Rattle.half_journal.specs.JournalHalves.Beginnings.{IsUnbegun}
-use Rattle.half_journal.specs.States.{IsJournalReading, IsJournalEnded}
-use Rattle.half_journal.specs.States as half
+use Rattle.commit_journal.specs.CdEdges.area.Area.TheVariants.{Journal, Shares}
+use Rattle.commit_journal.specs.CdEdges.Disk.{Store, Areas, Cloud, Image, IsImage, LeavesOnly}
+use Rattle.commit_journal.specs.CdEdges.Shelf.{Stays}
+use Rattle.commit_journal.proofs.CdEdges.Moments.{told_on, weaker}
+use Rattle.commit_journal.specs.JournalHalves.Records.{IsDamage, IsJournal, chain, sized}
+use Rattle.commit_journal.specs.JournalHalves.Frames.{IsClosed}
+use Rattle.commit_journal.proofs.JournalHalves.Chain.{chain-push, length-chain-push}
+use Rattle.commit_journal.specs.JournalStart.start.Header.{Header}
+use Rattle.commit_journal.specs.JournalStart.Spelling.{records_of}
+use Rattle.commit_journal.specs.JournalHalves.Halves.{half_len, half_of}
+use Rattle.commit_journal.specs.JournalHalves.Findings.{part_of}
+use Rattle.commit_journal.specs.JournalHalves.Journals.{Where, HasChain, all_bodies, with_body}
+use Rattle.commit_journal.specs.JournalHalves.Outcomes as halves
+use Rattle.commit_journal.specs.Outcomes.{IsDamaged, records_place}
+use Rattle.commit_journal.specs.Outcomes as journal
+use Rattle.commit_journal.specs.Openings.{IsOpened, OpensIs, MayBecome}
+use Rattle.commit_journal.specs.declared.errors.OpenErr.TheVariants as opens
+use Rattle.commit_journal.specs.declared.journal.Stage.TheVariants.{AtEnd}
+use Rattle.commit_journal.specs.JournalHalves.Beginnings.{IsUnbegun}
+use Rattle.commit_journal.specs.States.{IsJournalReading, IsJournalEnded}
+use Rattle.commit_journal.specs.States as half
 use Rattle.upload_spool.specs.Opens.{Notes, Say, HasReadSpool, HasAll, IsDamagedAt, IsChainDamage, IsFaultAt, gate_of, with_record, first_notes, more_notes}
 use Rattle.upload_spool.specs.Reading.{JobFields, job_in, lane_in}
 use Rattle.upload_spool.specs.Spools.{spool_header}

@@ -6,11 +6,11 @@ use Rattle.std.proofs.lemmas.List.{length-map}
 use Rattle.grammar.specs.CdBase.Numbers.{numbers_of}
 use Rattle.grammar.specs.CdBase.ids.CloudNo.{CloudNo}
 use Rattle.grammar.specs.CdBase.shape.Shape.{Shape}
-use Rattle.half_journal.specs.CdEdges.area.Area.TheVariants.{Journal}
-use Rattle.half_journal.specs.CdEdges.Disk.{Store, Areas, Cloud}
-use Rattle.half_journal.specs.CdEdges.Shelf.{Stays}
-use Rattle.half_journal.proofs.CdEdges.Moments.{told_on}
-use Rattle.half_journal.specs.States as half
+use Rattle.commit_journal.specs.CdEdges.area.Area.TheVariants.{Journal}
+use Rattle.commit_journal.specs.CdEdges.Disk.{Store, Areas, Cloud}
+use Rattle.commit_journal.specs.CdEdges.Shelf.{Stays}
+use Rattle.commit_journal.proofs.CdEdges.Moments.{told_on}
+use Rattle.commit_journal.specs.States as half
 use Rattle.upload_spool.specs.Reading.{JobFields}
 use Rattle.upload_spool.specs.Steps.{IsSpoolRead, LaneStepIs, ReadsLane, MoreNoted, AreNoted, notes_of, IsRefused}
 use Rattle.upload_spool.specs.declared.error.SpoolErr.{SpoolErr}

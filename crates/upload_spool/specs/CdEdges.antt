@@ -1,6 +1,6 @@
 -- What cd_edges says, for callers.
-pub use Rattle.half_journal.specs.CdEdges.Causes
-pub use Rattle.half_journal.specs.CdEdges.Disk
-pub use Rattle.half_journal.specs.CdEdges.Ports
-pub use Rattle.half_journal.specs.CdEdges.Shelf
-pub use Rattle.half_journal.specs.CdEdges.area
+pub use Rattle.commit_journal.specs.CdEdges.Causes
+pub use Rattle.commit_journal.specs.CdEdges.Disk
+pub use Rattle.commit_journal.specs.CdEdges.Ports
+pub use Rattle.commit_journal.specs.CdEdges.Shelf
+pub use Rattle.commit_journal.specs.CdEdges.area

@@ -1,6 +1,6 @@
 pub mod CdBase
 pub mod CdEdges
-pub mod HalfJournal
+pub mod CommitJournal
 pub mod Opens
 pub mod Reading
 pub mod Recipe

@@ -5,17 +5,17 @@ use Rattle.std.specs.Int.{w32, to_be_bytes}
 use Rattle.sha2.specs.Sha256.{sha256 as sha256_of}
 use Rattle.grammar.specs.CdBase.ids.CloudNo.{CloudNo}
 use Rattle.grammar.specs.CdBase.shape.Shape.{Shape}
-use Rattle.half_journal.specs.CdEdges.area.Area.TheVariants.{Journal, Shares}
-use Rattle.half_journal.specs.CdEdges.Disk.{Image}
-use Rattle.half_journal.specs.JournalHalves.Records.{IsDamage, chain}
-use Rattle.half_journal.specs.JournalHalves.Frames.{IsClosed}
-use Rattle.half_journal.specs.JournalStart.Spelling.{records_of}
-use Rattle.half_journal.specs.JournalHalves.Beginnings.{IsUnbegun}
-use Rattle.half_journal.specs.JournalHalves.Halves.{half_len, IsCurrent}
-use Rattle.half_journal.specs.JournalHalves.Findings.{part_of, IsFoundDamage}
-use Rattle.half_journal.specs.JournalHalves.Journals.{Where, HasChain, all_bodies, with_body}
-use Rattle.half_journal.specs.Openings.{HasHeader}
-use Rattle.half_journal.specs.Outcomes.{records_place}
+use Rattle.commit_journal.specs.CdEdges.area.Area.TheVariants.{Journal, Shares}
+use Rattle.commit_journal.specs.CdEdges.Disk.{Image}
+use Rattle.commit_journal.specs.JournalHalves.Records.{IsDamage, chain}
+use Rattle.commit_journal.specs.JournalHalves.Frames.{IsClosed}
+use Rattle.commit_journal.specs.JournalStart.Spelling.{records_of}
+use Rattle.commit_journal.specs.JournalHalves.Beginnings.{IsUnbegun}
+use Rattle.commit_journal.specs.JournalHalves.Halves.{half_len, IsCurrent}
+use Rattle.commit_journal.specs.JournalHalves.Findings.{part_of, IsFoundDamage}
+use Rattle.commit_journal.specs.JournalHalves.Journals.{Where, HasChain, all_bodies, with_body}
+use Rattle.commit_journal.specs.Openings.{HasHeader}
+use Rattle.commit_journal.specs.Outcomes.{records_place}
 use Rattle.upload_job.specs.Lanes.{LaneView, lanes_resumed}
 use Rattle.upload_job.specs.Upload.{FileVersion}
 use Rattle.upload_spool.specs.declared.error.SpoolErr.{SpoolErr}
@@ -25,7 +25,7 @@ use Rattle.upload_spool.specs.declared.spool.Spool.{Spool}
 use Rattle.upload_spool.specs.declared.records.RecordFault.TheVariants as faults
 use Rattle.upload_spool.specs.Spools.{spool_header}
 use Rattle.grammar.specs.CdBase.Limits.{IsPath, file_limit}
-use Rattle.half_journal.specs.declared.journal.Stage.TheVariants.{AtEnd}
+use Rattle.commit_journal.specs.declared.journal.Stage.TheVariants.{AtEnd}
 use Rattle.upload_spool.specs.States.{SpoolState, IsOf, state_of}
 use Rattle.upload_spool.specs.Reading.{JobFields, job_in, lane_in}
 

@@ -9,13 +9,13 @@ use Rattle.grammar.specs.CdBase.ids.CloudNo.{CloudNo}
 use Rattle.grammar.specs.CdBase.ids.UserId.{UserId}
 use Rattle.grammar.specs.CdBase.ids.Version.{Version}
 use Rattle.grammar.specs.CdBase.shape.Shape.{Shape}
-use Rattle.half_journal.specs.CdEdges.area.Area.TheVariants.{Journal, Shares}
-use Rattle.half_journal.specs.CdEdges.Disk.{Image}
-use Rattle.half_journal.specs.JournalStart.start.Header.{Header}
-use Rattle.half_journal.specs.JournalStart.start.Start.{Start}
-use Rattle.half_journal.specs.JournalStart.Ranges.{usual_rooms}
-use Rattle.half_journal.specs.JournalHalves.Halves.{is_half_begun}
-use Rattle.half_journal.specs.JournalHalves.Journals.{Where, HasChain, used_by}
+use Rattle.commit_journal.specs.CdEdges.area.Area.TheVariants.{Journal, Shares}
+use Rattle.commit_journal.specs.CdEdges.Disk.{Image}
+use Rattle.commit_journal.specs.JournalStart.start.Header.{Header}
+use Rattle.commit_journal.specs.JournalStart.start.Start.{Start}
+use Rattle.commit_journal.specs.JournalStart.Ranges.{usual_rooms}
+use Rattle.commit_journal.specs.JournalHalves.Halves.{is_half_begun}
+use Rattle.commit_journal.specs.JournalHalves.Journals.{Where, HasChain, used_by}
 use Rattle.upload_job.specs.Upload.{FileVersion}
 
 -- Each field is in its range: a path has 1 to 1,024 bytes, none of them zero, and a file 67,108,864 at most.

@@ -7,19 +7,19 @@ use Rattle.grammar.specs.CdBase.ids.UserId.{UserId}
 use Rattle.grammar.specs.CdBase.ids.Version.{Version}
 use Rattle.grammar.specs.CdBase.ids.Fp.{Fp}
 use Rattle.grammar.specs.CdBase.shape.Shape.{Shape}
-use Rattle.half_journal.specs.CdEdges.area.Area.{Area}
-use Rattle.half_journal.specs.CdEdges.area.Area.TheVariants.{Journal, Shares, Recipes}
-use Rattle.half_journal.specs.CdEdges.Disk.{Store, Areas, Cloud, Image, MayLeave, LeavesOnly, reads}
-use Rattle.half_journal.specs.CdEdges.Shelf.{stable}
-use Rattle.half_journal.specs.JournalStart.start.Header.{Header}
-use Rattle.half_journal.specs.JournalHalves.Beginnings.{IsUnbegun, new_of}
-use Rattle.half_journal.specs.JournalHalves.Halves.{is_half_begun}
-use Rattle.half_journal.specs.JournalHalves.Journals.{HasChain, with_body, used_by}
-use Rattle.half_journal.specs.declared.journal.Stage.TheVariants.{AtEnd}
-use Rattle.half_journal.specs.declared.errors.OpenErr.{OpenErr}
-use Rattle.half_journal.specs.declared.errors.OpenErr.TheVariants as opens
-use Rattle.half_journal.specs.States.{IsJournalEnded, IsJournalReading}
-use Rattle.half_journal.specs.States as half
+use Rattle.commit_journal.specs.CdEdges.area.Area.{Area}
+use Rattle.commit_journal.specs.CdEdges.area.Area.TheVariants.{Journal, Shares, Recipes}
+use Rattle.commit_journal.specs.CdEdges.Disk.{Store, Areas, Cloud, Image, MayLeave, LeavesOnly, reads}
+use Rattle.commit_journal.specs.CdEdges.Shelf.{stable}
+use Rattle.commit_journal.specs.JournalStart.start.Header.{Header}
+use Rattle.commit_journal.specs.JournalHalves.Beginnings.{IsUnbegun, new_of}
+use Rattle.commit_journal.specs.JournalHalves.Halves.{is_half_begun}
+use Rattle.commit_journal.specs.JournalHalves.Journals.{HasChain, with_body, used_by}
+use Rattle.commit_journal.specs.declared.journal.Stage.TheVariants.{AtEnd}
+use Rattle.commit_journal.specs.declared.errors.OpenErr.{OpenErr}
+use Rattle.commit_journal.specs.declared.errors.OpenErr.TheVariants as opens
+use Rattle.commit_journal.specs.States.{IsJournalEnded, IsJournalReading}
+use Rattle.commit_journal.specs.States as half
 use Rattle.upload_job.specs.Lanes.{LaneView}
 use Rattle.upload_job.specs.Upload.{FileVersion, work_of}
 use Rattle.upload_spool.specs.declared.error.SpoolErr.{SpoolErr}

@@ -6,15 +6,15 @@ use Rattle.grammar.specs.CdBase.Numbers.{numbers_of}
 use Rattle.grammar.specs.CdBase.ids.CloudNo.{CloudNo}
 use Rattle.grammar.specs.CdBase.ids.Fp.{Fp}
 use Rattle.grammar.specs.CdBase.shape.Shape.{Shape}
-use Rattle.half_journal.specs.CdEdges.area.Area.TheVariants.{Journal, Shares}
-use Rattle.half_journal.specs.CdEdges.Disk.{Store, Cloud}
-use Rattle.half_journal.specs.JournalHalves.Beginnings.{IsUnbegun}
-use Rattle.half_journal.specs.JournalHalves.Findings.{IsFoundDamage}
-use Rattle.half_journal.specs.JournalHalves.Journals.{Where, with_body}
-use Rattle.half_journal.specs.Openings.{HasHeader}
-use Rattle.half_journal.specs.States.{IsJournalReading, IsJournalEnded}
-use Rattle.half_journal.specs.States as half
-use Rattle.half_journal.specs.declared.journal.Stage.TheVariants.{AtEnd}
+use Rattle.commit_journal.specs.CdEdges.area.Area.TheVariants.{Journal, Shares}
+use Rattle.commit_journal.specs.CdEdges.Disk.{Store, Cloud}
+use Rattle.commit_journal.specs.JournalHalves.Beginnings.{IsUnbegun}
+use Rattle.commit_journal.specs.JournalHalves.Findings.{IsFoundDamage}
+use Rattle.commit_journal.specs.JournalHalves.Journals.{Where, with_body}
+use Rattle.commit_journal.specs.Openings.{HasHeader}
+use Rattle.commit_journal.specs.States.{IsJournalReading, IsJournalEnded}
+use Rattle.commit_journal.specs.States as half
+use Rattle.commit_journal.specs.declared.journal.Stage.TheVariants.{AtEnd}
 use Rattle.upload_spool.specs.Opens.{Notes, Say, IsDamagedAt, HasAll, gate_of, rising}
 use Rattle.upload_spool.specs.Reading.{JobFields, job_in, lane_in, is_lane}
 use Rattle.upload_spool.specs.Spools.{spool_header}

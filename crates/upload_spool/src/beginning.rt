@@ -3,23 +3,23 @@
 ghost use Rattle.std.specs.Prelude.{◌≡◌, ◌≢◌, ◌⊎◌, ℕ, ◌+◌, ◌<◌, ◌≤◌, List, [], ◌∷◌, ◌++◌, length, None, IsTrue, IfOk, OnOk, OnErr};
 ghost use Rattle.sha2.specs.Sha256.{sha256 as sha256_of};
 ghost use Rattle.grammar.specs.CdBase.Limits.{IsPath, file_limit};
-ghost use Rattle.half_journal.specs.CdEdges.area.Area.{Area};
-ghost use Rattle.half_journal.specs.CdEdges.Disk.{Cloud, reads};
-ghost use Rattle.half_journal.specs.CdEdges.Shelf.{IsCall, HasFailed, KeepsCounts, Stays};
-ghost use Rattle.half_journal.specs.JournalStart.start.Header.{Header};
-ghost use Rattle.half_journal.specs.JournalStart.Ranges.{IsHeader};
-ghost use Rattle.half_journal.specs.JournalHalves.Beginnings.{IsUnbegun};
-ghost use Rattle.half_journal.specs.declared.journal.Stage.{Stage};
-ghost use Rattle.half_journal.specs.States as half;
+ghost use Rattle.commit_journal.specs.CdEdges.area.Area.{Area};
+ghost use Rattle.commit_journal.specs.CdEdges.Disk.{Cloud, reads};
+ghost use Rattle.commit_journal.specs.CdEdges.Shelf.{IsCall, HasFailed, KeepsCounts, Stays};
+ghost use Rattle.commit_journal.specs.JournalStart.start.Header.{Header};
+ghost use Rattle.commit_journal.specs.JournalStart.Ranges.{IsHeader};
+ghost use Rattle.commit_journal.specs.JournalHalves.Beginnings.{IsUnbegun};
+ghost use Rattle.commit_journal.specs.declared.journal.Stage.{Stage};
+ghost use Rattle.commit_journal.specs.States as half;
 ghost use Rattle.upload_spool.specs.Spools.{spool_header, job_fields};
 ghost use Rattle.upload_spool.specs.States.{state_of, chosen, first_filled, Along, IsKept, IsNewSpool, IsNewRead, spool_error, KeepsJournal, HasWritten, OthersStay, LeavesNone, HasNew, IsOkOrFault, KeepsNewJob, HasNewJob, IsDraft, BeginsIs, LeavesJob, HasBegun, IsBegunSpool, OnFault};
 
 use crate::spool::{SPOOL_CLOUD, SPOOL_LIMIT};
 use crate::{Spool, SpoolErr};
-use grammar::{Bytes, Fp, NoMemory, Shape, UserId, Version, sha256};
-use half_journal::{
+use commit_journal::{
     Area, Failed, Header, Journal, OpenErr, RecordErr, Shelf, UserRooms, write_synced,
 };
+use grammar::{Bytes, Fp, NoMemory, Shape, UserId, Version, sha256};
 use std::alloc::Global;
 
 /// The most bytes of the file that are written at once.

@@ -1,7 +1,7 @@
 //! Why a spool's call failed.
 
+use commit_journal::{Area, Header};
 use grammar::Fp;
-use half_journal::{Area, Header};
 
 /// Why a spool's call failed.
 #[derive(Clone, Copy, Debug, PartialEq, Eq)]

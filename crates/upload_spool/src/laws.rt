@@ -3,10 +3,10 @@
 ghost use Rattle.std.specs.Prelude.{◌≡◌, ◌≢◌, ◌⊎◌, ℕ, ◌+◌, ◌*◌, ◌<◌, ◌≤◌, false, List, [], ◌∷◌, ◌++◌, length, take, All, true, Option, Result, Ok};
 ghost use Rattle.grammar.specs.CdBase.ids.CloudNo.{CloudNo};
 ghost use Rattle.grammar.specs.CdBase.shape.Shape.{Shape};
-ghost use Rattle.half_journal.specs.CdEdges.area.Area.TheVariants.{Journal, Shares};
-ghost use Rattle.half_journal.specs.CdEdges.Disk.{Image};
-ghost use Rattle.half_journal.specs.JournalHalves.Halves.{is_half_begun};
-ghost use Rattle.half_journal.specs.JournalHalves.Journals.{Where, HasChain, IsEither, used_by, with_body};
+ghost use Rattle.commit_journal.specs.CdEdges.area.Area.TheVariants.{Journal, Shares};
+ghost use Rattle.commit_journal.specs.CdEdges.Disk.{Image};
+ghost use Rattle.commit_journal.specs.JournalHalves.Halves.{is_half_begun};
+ghost use Rattle.commit_journal.specs.JournalHalves.Journals.{Where, HasChain, IsEither, used_by, with_body};
 ghost use Rattle.upload_job.specs.declared.news.LaneNews.{LaneNews};
 ghost use Rattle.upload_job.specs.declared.news.LaneErr.{LaneErr};
 ghost use Rattle.upload_job.specs.Lanes.{LaneView, lanes_begun, lanes_resumed, AnswersAt};

@@ -8,9 +8,9 @@ mod opening;
 mod records;
 mod spool;
 
+pub use commit_journal::{Area, Failed, Ports, Shelf, Sink, Source};
 pub use error::SpoolErr;
 pub use grammar::{Bytes, CloudNo, NoMemory, Shape, UserId, Version};
-pub use half_journal::{Area, Failed, Ports, Shelf, Sink, Source};
 pub use records::{JobRecord, RecordFault, read_job, read_lane};
 pub use spool::Spool;
 pub use upload_job::{Job, LaneNews};

@@ -2,12 +2,12 @@
 
 ghost use Rattle.std.specs.Prelude.{◌≡◌, ◌↔◌, ◌<◌, ◌≤◌, ℕ, ◌+◌, ◌*◌, All, List, [], length, take, Ok, IsTrue, IfOk, OnOk, None, IfSome};
 ghost use Rattle.grammar.specs.CdBase.Limits.{IsPath, file_limit};
-ghost use Rattle.half_journal.specs.CdEdges.area.Area.{Area};
-ghost use Rattle.half_journal.specs.CdEdges.Disk.{IsImage, LeavesOnly, reads};
-ghost use Rattle.half_journal.specs.CdEdges.Shelf.{IsCall, HasFailed, KeepsCounts, Stays};
-ghost use Rattle.half_journal.specs.declared.journal.Stage.{Stage};
-ghost use Rattle.half_journal.specs.Outcomes.{stage_of};
-ghost use Rattle.half_journal.specs.States as half;
+ghost use Rattle.commit_journal.specs.CdEdges.area.Area.{Area};
+ghost use Rattle.commit_journal.specs.CdEdges.Disk.{IsImage, LeavesOnly, reads};
+ghost use Rattle.commit_journal.specs.CdEdges.Shelf.{IsCall, HasFailed, KeepsCounts, Stays};
+ghost use Rattle.commit_journal.specs.declared.journal.Stage.{Stage};
+ghost use Rattle.commit_journal.specs.Outcomes.{stage_of};
+ghost use Rattle.commit_journal.specs.States as half;
 ghost use Rattle.upload_job.specs.Upload.{FileVersion};
 ghost use Rattle.upload_spool.specs.Spools.{FitsKept, SpoolFor};
 ghost use Rattle.upload_spool.specs.States.{OnFault, IsSpool, state_of};
@@ -21,8 +21,8 @@ use crate::beginning::header_of;
 use crate::records::{RecordFault, is_noted, read_job, read_lane};
 use crate::spool::{SPOOL_CLOUD, SPOOL_LIMIT};
 use crate::{Spool, SpoolErr};
+use commit_journal::{Area, Failed, Journal, OpenErr, RecordErr, Shelf};
 use grammar::{Bytes, CloudNo, Clouds, Fp, NoMemory, Shape, UserId, Version, sha256};
-use half_journal::{Area, Failed, Journal, OpenErr, RecordErr, Shelf};
 use std::alloc::Global;
 use upload_job::Job;
 

@@ -4,15 +4,15 @@ ghost use Rattle.std.specs.Prelude.{◌≡◌, ◌≢◌, ◌⊎◌, ℕ, ◌+�
 ghost use Rattle.std.specs.List.{IsDistinct};
 ghost use Rattle.std.proofs.Props.{props};
 ghost use Rattle.grammar.specs.CdBase.Numbers.{numbers_of};
-ghost use Rattle.half_journal.specs.CdEdges.Shelf.{IsCall, HasFailed, KeepsCounts, Refreshes};
-ghost use Rattle.half_journal.specs.declared.journal.Stage.{Stage};
-ghost use Rattle.half_journal.specs.States as half;
-ghost use Rattle.half_journal.specs.Leaving.{IsLater};
+ghost use Rattle.commit_journal.specs.CdEdges.Shelf.{IsCall, HasFailed, KeepsCounts, Refreshes};
+ghost use Rattle.commit_journal.specs.declared.journal.Stage.{Stage};
+ghost use Rattle.commit_journal.specs.States as half;
+ghost use Rattle.commit_journal.specs.Leaving.{IsLater};
 ghost use Rattle.upload_job.specs.Upload.{FileVersion};
 
 use crate::SpoolErr;
+use commit_journal::{Failed, Journal, Shelf, Stage};
 use grammar::{Bytes, CloudNo, Fp, Shape, UserId, Version};
-use half_journal::{Failed, Journal, Shelf, Stage};
 use upload_job::Job;
 
 /// The cloud of a shelf in which a spool is kept.
@@ -44,7 +44,7 @@ pub struct Spool {
 impl Spool {
     ghost use Rattle.upload_job.specs.Lanes.{IsDoneAt};
     ghost use Rattle.upload_spool.specs.States.{state_of, IsOf, IsJobOf, KeepsOrNotes, HasNoted, IsNoteAnswer, IsOkOrFault, OthersStay, OnFault};
-    ghost use Rattle.half_journal.specs.CdEdges.area.Area.{Area};
+    ghost use Rattle.commit_journal.specs.CdEdges.area.Area.{Area};
 
     /// The lanes that were noted, in the order in which they were.
     pub fn noted(&self) -> &[CloudNo]

@@ -1,6 +1,6 @@
 use Rattle.std.proofs.Common.{Err}
-use Rattle.cloud_opening.proofs.CdEdges.Calls.{called_twice}
-use Rattle.cloud_opening.proofs.Standing.{call_at}
+use Rattle.command_cloud.proofs.CdEdges.Calls.{called_twice}
+use Rattle.command_cloud.proofs.Standing.{call_at}
 use Rattle.audit_command.proofs.Completing.{completes}
 use Rattle.audit_command.proofs.Ends.{audited, audited_at, unopened_audit}
 use Rattle.audit_command.proofs.auditing.audit_cloud.Goals as goal

@@ -1,7 +1,7 @@
 use Rattle.std.proofs.Common.{ℕ, List, subst}
 use Rattle.audit.specs.Audits.{own_of}
-use Rattle.cloud_opening.specs.BackupCommand.Writing.{HasWrittenOrCause, output_of}
-use Rattle.cloud_opening.specs.JournalStart.start.Header.{Header}
+use Rattle.command_cloud.specs.BackupCommand.Writing.{HasWrittenOrCause, output_of}
+use Rattle.command_cloud.specs.JournalStart.start.Header.{Header}
 use Rattle.audit_command.specs.Said.{audit_status, audit_text}
 use Rattle.audit_command.proofs.Ends.{audit_said}
 use Rattle.audit_command.proofs.auditing.audit_opened.Goals as goal

@@ -1,6 +1,6 @@
 use Rattle.std.proofs.Common.{refl}
-use Rattle.cloud_opening.proofs.CdEdges.Calls.{called_twice}
-use Rattle.cloud_opening.proofs.Standing.{call_at}
+use Rattle.command_cloud.proofs.CdEdges.Calls.{called_twice}
+use Rattle.command_cloud.proofs.Standing.{call_at}
 use Rattle.audit_command.proofs.Ends.{checked, checked_at, unopened_check}
 use Rattle.audit_command.proofs.checking.check_cloud.Goals as goal
 

@@ -1,5 +1,5 @@
 use Rattle.std.proofs.Common.{List, ℕ, refl, sym, subst}
-use Rattle.cloud_opening.specs.BackupCommand.Reading.{input_of}
+use Rattle.command_cloud.specs.BackupCommand.Reading.{input_of}
 use Rattle.audit_command.specs.Source.{IsCertificateRead}
 use Rattle.audit_command.specs.Steps.{Answered, Unread}
 use Rattle.audit_command.proofs.checking.check_opened.Goals as goal

@@ -1,6 +1,6 @@
 use Rattle.std.proofs.Common.{subst}
-use Rattle.cloud_opening.specs.BackupCommand.Writing.{HasWrittenOrCause, output_of}
-use Rattle.cloud_opening.specs.JournalStart.start.Header.{Header}
+use Rattle.command_cloud.specs.BackupCommand.Writing.{HasWrittenOrCause, output_of}
+use Rattle.command_cloud.specs.JournalStart.start.Header.{Header}
 use Rattle.audit_command.specs.Said.{check_status, check_text}
 use Rattle.audit_command.proofs.checking.check_read.Goals as goal
 

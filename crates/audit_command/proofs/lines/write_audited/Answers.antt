@@ -1,9 +1,9 @@
 use Rattle.std.proofs.Common.{List, ℕ, [], ◌++◌, Result, Err, sym, ap, ◌∙◌, subst}
 use Rattle.audit.specs.declared.errors.AuditErr.{AuditErr}
-use Rattle.cloud_opening.specs.BackupCommand.Writing.{HasWrittenOrCause, output_of}
+use Rattle.command_cloud.specs.BackupCommand.Writing.{HasWrittenOrCause, output_of}
 use Rattle.audit_command.specs.Said.{audit_status, audit_text}
 use Rattle.audit_command.proofs.Written.{refusal_is}
-use Rattle.cloud_opening.proofs.Written.{written_as}
+use Rattle.command_cloud.proofs.Written.{written_as}
 use Rattle.audit_command.proofs.lines.write_audited.Goals as goal
 
 pub returns-in-Ok : goal.returns-in-Ok

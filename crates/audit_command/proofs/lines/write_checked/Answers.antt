@@ -1,6 +1,6 @@
 use Rattle.std.proofs.Common.{List, ℕ, ◌++◌, ap, ◌∙◌}
 use Rattle.audit_command.specs.Said.{check_text}
-use Rattle.cloud_opening.proofs.Written.{written_as}
+use Rattle.command_cloud.proofs.Written.{written_as}
 use Rattle.audit_command.proofs.lines.write_checked.Goals as goal
 
 pub returns-in-Ok : goal.returns-in-Ok

@@ -1,5 +1,5 @@
 use Rattle.std.proofs.Common.{sym, subst}
-use Rattle.cloud_opening.specs.BackupCommand.Writing.{output_of}
+use Rattle.command_cloud.specs.BackupCommand.Writing.{output_of}
 use Rattle.audit_command.specs.declared.reading.CertificateReadErr.{CertificateReadErr}
 use Rattle.audit_command.specs.Steps.{SaysUnread}
 use Rattle.audit_command.proofs.lines.write_unread.Goals as goal

@@ -2,7 +2,7 @@ use Rattle.std.proofs.Common.{◌+◌}
 use Rattle.record_laws.specs.SpentTable.Spent.{Spent}
 use Rattle.fresh_checkpoints.specs.CloudAreas.Placing.{region_start}
 use Rattle.fresh_checkpoints.specs.CloudAreas.Chains.{least_shares}
-use Rattle.open_store.proofs.StoreOpening.Bounds.{fits}
+use Rattle.cloud_store.proofs.CloudOpening.Bounds.{fits}
 use Rattle.blob_copy.proofs.room.shares_fit.Goals as goal
 
 pub returns : goal.returns

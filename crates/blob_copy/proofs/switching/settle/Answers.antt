@@ -2,7 +2,7 @@ use Rattle.std.proofs.Common.{◌≡◌, length, true, false, rules, refl, sym, 
 use Rattle.std.proofs.lemmas.Bool.{false≢true}
 use Rattle.fresh_checkpoints.specs.CdEdges.area.Area.TheVariants.{Journal}
 use Rattle.fresh_checkpoints.proofs.CdEdges.Moments.{weaker}
-use Rattle.open_store.specs.HalfJournal.States as journals
+use Rattle.cloud_store.specs.CommitJournal.States as journals
 use Rattle.fresh_checkpoints.specs.CloudAreas.Standing.{StandsFor}
 use Rattle.fresh_checkpoints.specs.CloudDisk.Disk.{IsRead}
 use Rattle.fresh_checkpoints.specs.Checkpoints.Laying.{KeepsOrSettles}

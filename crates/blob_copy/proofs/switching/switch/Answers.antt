@@ -6,7 +6,7 @@ use Rattle.fresh_checkpoints.specs.Checkpoints.Records.{records_of}
 use Rattle.fresh_checkpoints.specs.CompactMemories.Moved.{IsMoved, other_region}
 use Rattle.fresh_checkpoints.specs.CompactMemories.Kept.{commands_in}
 use Rattle.compact_lists.specs.UserDedup.Compact.{compact}
-use Rattle.open_store.specs.StoreOpening.Roomy.{IsRoomy}
+use Rattle.cloud_store.specs.CloudOpening.Roomy.{IsRoomy}
 use Rattle.record_laws.specs.ContainerLog.States as logs
 use Rattle.blob_copy.specs.Switched.{OnLong}
 use Rattle.blob_copy.proofs.Near.{shares_near, recipes_near}

@@ -2,7 +2,7 @@ use Rattle.std.proofs.Common.{refl, sym, ap, ◌∙◌, subst}
 use Rattle.cloud_disk.specs.CdEdges.area.Area.TheVariants.{Journal}
 use Rattle.cloud_disk.specs.CdEdges.Disk.{IsAtArea}
 use Rattle.cloud_disk.proofs.CdEdges.Moments.{told_on, weaker}
-use Rattle.cloud_disk.specs.HalfJournal.States as journals
+use Rattle.cloud_disk.specs.CommitJournal.States as journals
 use Rattle.cloud_disk.specs.CloudAreas.Standing.{where_of}
 use Rattle.cloud_disk.specs.Disk.{Disk}
 use Rattle.checkpoints.specs.Laying.{KeepsOrSettles, HasSettled}

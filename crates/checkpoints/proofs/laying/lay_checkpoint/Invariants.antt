@@ -1,4 +1,4 @@
-use Rattle.cloud_disk.specs.HalfJournal.States.{state_of}
+use Rattle.cloud_disk.specs.CommitJournal.States.{state_of}
 use Rattle.checkpoints.proofs.Along.{Along}
 use Rattle.checkpoints.proofs.laying.lay_checkpoint.Given as goal
 

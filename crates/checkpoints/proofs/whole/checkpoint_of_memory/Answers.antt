@@ -2,7 +2,7 @@ use Rattle.std.proofs.Common.{ℕ, ◌+◌, ◌≤◌, List, length, sym, ap, �
 use Rattle.std.specs.Prelude.{All}
 use Rattle.cloud_memory.specs.RecordBody.Spelling.{Body, FitsBody, body_bytes}
 use Rattle.cloud_disk.specs.CdEdges.area.Area.TheVariants.{Journal}
-use Rattle.cloud_disk.specs.HalfJournal.States as journals
+use Rattle.cloud_disk.specs.CommitJournal.States as journals
 use Rattle.checkpoints.specs.Laying.{records_len, longest_record, checkpoint_behind, KeepsOrSettles}
 use Rattle.checkpoints.specs.Records.{coming, records_of}
 use Rattle.checkpoints.specs.Known.{recipes_of}

@@ -1,9 +1,9 @@
 use Rattle.std.proofs.Common.{◌≡◌, ◌≢◌, subst}
-use Rattle.half_journal.specs.CdEdges.area.Area.{Area}
-use Rattle.half_journal.specs.CdEdges.area.Area.TheVariants.{Journal, Shares, Recipes}
-use Rattle.half_journal.proofs.CdEdges.Calls.{called_twice}
-use Rattle.half_journal.proofs.CdEdges.Moments.{told_on}
-use Rattle.half_journal.specs.CdEdges.Disk.{moment}
+use Rattle.commit_journal.specs.CdEdges.area.Area.{Area}
+use Rattle.commit_journal.specs.CdEdges.area.Area.TheVariants.{Journal, Shares, Recipes}
+use Rattle.commit_journal.proofs.CdEdges.Calls.{called_twice}
+use Rattle.commit_journal.proofs.CdEdges.Moments.{told_on}
+use Rattle.commit_journal.specs.CdEdges.Disk.{moment}
 use Rattle.cloud_disk.specs.Held.{LogHolds, flush_moments, with_staged}
 use Rattle.cloud_disk.proofs.Holding.{by_log}
 use Rattle.cloud_disk.proofs.Both.{shares_flushed, first_images, both_images, both_held, moments_on, failed_later, counts_kept}

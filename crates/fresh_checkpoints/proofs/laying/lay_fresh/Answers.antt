@@ -2,7 +2,7 @@ use Rattle.std.proofs.Common.{ℕ, ◌+◌, ◌≤◌, List, length, sym, ap, �
 use Rattle.std.specs.Prelude.{All}
 use Rattle.cloud_disk.specs.RecordBody.Spelling.{Body, FitsBody}
 use Rattle.cloud_disk.proofs.CdEdges.Moments.{told_on}
-use Rattle.cloud_disk.specs.HalfJournal.States as journals
+use Rattle.cloud_disk.specs.CommitJournal.States as journals
 use Rattle.compact_memories.specs.Checkpoints.Laying.{records_len}
 use Rattle.compact_memories.specs.Checkpoints.Records.{coming, records_of}
 use Rattle.compact_memories.proofs.Checkpoints.InPlace.{ended_still}

@@ -1,7 +1,7 @@
 use Rattle.std.proofs.Common.{rules, ◌≡◌, ℕ, [], Some, None, refl, subst}
 use Rattle.replay_core.specs.JournalStart.Ranges.{usual_rooms}
 use Rattle.replay_core.specs.JournalStart.rooms.UserRooms.{UserRooms}
-use Rattle.replay_core.specs.CloudServer.server.Server.{Server}
+use Rattle.replay_core.specs.ShareServer.server.Server.{Server}
 use Rattle.replay_core.specs.LocalLink.Steps.{IsClosedIn}
 use Rattle.replay_core.specs.LocalLink.Tells.{server_at}
 use Rattle.replay_core.specs.SessionModel.Vault.{Setting}

@@ -1,5 +1,5 @@
 use Rattle.std.proofs.Common.{List, ℕ, ◌++◌, ap, ◌∙◌}
-use Rattle.cloud_opening.proofs.Written.{written_as}
+use Rattle.command_cloud.proofs.Written.{written_as}
 use Rattle.migrate_command.specs.Said.{migrate_text}
 use Rattle.migrate_command.proofs.lines.write_migrated.Goals as goal
 

@@ -1,6 +1,6 @@
 use Rattle.std.proofs.Common.{◌≡◌, ap}
-use Rattle.cloud_opening.specs.Opened.{CloudCall, IsUnchanged, cloud_call}
-use Rattle.cloud_opening.specs.BackupCommand.Writing.{output_of}
+use Rattle.command_cloud.specs.Opened.{CloudCall, IsUnchanged, cloud_call}
+use Rattle.command_cloud.specs.BackupCommand.Writing.{output_of}
 use Rattle.migrate_command.proofs.Completing.{completes}
 use Rattle.migrate_command.proofs.Ends.{if_no_memory}
 use Rattle.migrate_command.specs.TakenOver.{IsTakenOver}

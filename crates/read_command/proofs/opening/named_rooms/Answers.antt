@@ -1,8 +1,8 @@
 use Rattle.std.proofs.Common.{Result, Err, sym, subst}
-use Rattle.half_journal.specs.CdEdges.area.Area.TheVariants.{Journal}
-use Rattle.half_journal.specs.JournalHalves.found.Found.{Found}
-use Rattle.half_journal.specs.JournalHalves.found.FindErr.{FindErr}
-use Rattle.half_journal.specs.JournalHalves.Findings.{FindIs}
+use Rattle.commit_journal.specs.CdEdges.area.Area.TheVariants.{Journal}
+use Rattle.commit_journal.specs.JournalHalves.found.Found.{Found}
+use Rattle.commit_journal.specs.JournalHalves.found.FindErr.{FindErr}
+use Rattle.commit_journal.specs.JournalHalves.Findings.{FindIs}
 use Rattle.read_command.specs.Disks.{NamesRooms, Current, Unbegun, Broken}
 use Rattle.read_command.proofs.opening.named_rooms.Goals as goal
 

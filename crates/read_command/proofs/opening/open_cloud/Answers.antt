@@ -1,7 +1,7 @@
 use Rattle.std.proofs.Common.{◌<◌, sym, ap, subst}
 use Rattle.std.specs.Prelude.{IsTrue}
-use Rattle.half_journal.specs.CdEdges.area.Area.TheVariants.{Journal}
-use Rattle.half_journal.specs.CdEdges.Disk.{Cloud, reads}
+use Rattle.commit_journal.specs.CdEdges.area.Area.TheVariants.{Journal}
+use Rattle.commit_journal.specs.CdEdges.Disk.{Cloud, reads}
 use Rattle.local_link.specs.declared.servers.Servers.{Servers}
 use Rattle.read_command.specs.Disks.{NamesRooms}
 use Rattle.read_command.proofs.Disks.{fails_open, opening_from}

@@ -1,7 +1,7 @@
 use Rattle.std.proofs.Common.{◌<◌, List, sym, ◌∙◌, subst}
-use Rattle.half_journal.specs.CdBase.ids.CloudNo.{CloudNo}
-use Rattle.half_journal.specs.CdBase.shape.Shape.{Shape}
-use Rattle.half_journal.specs.CdBase.Numbers.{numbers_of}
+use Rattle.commit_journal.specs.CdBase.ids.CloudNo.{CloudNo}
+use Rattle.commit_journal.specs.CdBase.shape.Shape.{Shape}
+use Rattle.commit_journal.specs.CdBase.Numbers.{numbers_of}
 use Rattle.read_command.proofs.Row.{SoFar, none_yet, all_opened, all_kept, is_below, leaves_next, kept_next, one_more, stops_here, free_here}
 use Rattle.read_command.proofs.opening.open_clouds.Goals as goal
 

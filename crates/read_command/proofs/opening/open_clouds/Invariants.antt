@@ -1,5 +1,5 @@
 use Rattle.std.proofs.Common.{length}
-use Rattle.half_journal.specs.CdBase.Numbers.{numbers_of}
+use Rattle.commit_journal.specs.CdBase.Numbers.{numbers_of}
 use Rattle.read_command.proofs.Row.{SoFar}
 use Rattle.read_command.proofs.opening.open_clouds.Given as goal
 

@@ -1,6 +1,6 @@
 use Rattle.std.proofs.Common.{rules, ◌≡◌, ℕ, List, [], refl, subst}
 use Rattle.cloud_areas.specs.UserDedup.command.Command.{Command}
-use Rattle.half_journal.specs.JournalStart.rooms.UserRooms.{UserRooms}
+use Rattle.commit_journal.specs.JournalStart.rooms.UserRooms.{UserRooms}
 use Rattle.read_command.specs.Disks.{AreReadable}
 use Rattle.read_command.specs.Opening.{EndsOpening, IsFree}
 use Rattle.read_command.specs.Ends.{Outside, IsWritten, Restored}

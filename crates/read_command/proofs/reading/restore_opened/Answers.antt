@@ -1,8 +1,8 @@
 use Rattle.std.proofs.Common.{ℕ, List, sym, ◌∙◌, subst}
-use Rattle.half_journal.specs.CdBase.ids.Tag.{Tag}
-use Rattle.half_journal.specs.CdBase.shape.Shape.{Shape}
-use Rattle.half_journal.specs.CdBase.Numbers.{numbers_of}
-use Rattle.half_journal.specs.JournalStart.start.Header.{Header}
+use Rattle.commit_journal.specs.CdBase.ids.Tag.{Tag}
+use Rattle.commit_journal.specs.CdBase.shape.Shape.{Shape}
+use Rattle.commit_journal.specs.CdBase.Numbers.{numbers_of}
+use Rattle.commit_journal.specs.JournalStart.start.Header.{Header}
 use Rattle.subset_restore.specs.CaontRs.Package.{tag as tag_at}
 use Rattle.read_command.specs.Disks.{AreReadable, InItsRooms, IsOpenedToRead, KeepsDisks}
 use Rattle.read_command.specs.Opening.{AreOpened}

@@ -1,5 +1,5 @@
 use Rattle.std.proofs.Common.{◌≡◌, Bool, true, Ok, Result, subst}
-use Rattle.cloud_server.specs.declared.copies.ReclaimErr.{ReclaimErr}
+use Rattle.share_server.specs.declared.copies.ReclaimErr.{ReclaimErr}
 use Rattle.reclaim.specs.Inner.{Steps}
 use Rattle.reclaim.proofs.Going.{one_more, all_done, given_up, fewer_left}
 use Rattle.reclaim.proofs.copying.copy_all.Goals as goal

@@ -1,5 +1,5 @@
 use Rattle.std.proofs.Common.{rules, Err, refl}
-use Rattle.cloud_server.specs.Copies.{no_copies}
+use Rattle.share_server.specs.Copies.{no_copies}
 use Rattle.reclaim.proofs.Ending.{gave_up, dropped, switched_over, not_switched}
 use Rattle.reclaim.proofs.copying.copy_and_switch.Goals as goal
 

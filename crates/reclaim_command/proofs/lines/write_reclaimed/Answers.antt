@@ -1,5 +1,5 @@
 use Rattle.std.proofs.Common.{List, ℕ, ◌++◌, ap, ◌∙◌}
-use Rattle.cloud_opening.proofs.Written.{written_as}
+use Rattle.command_cloud.proofs.Written.{written_as}
 use Rattle.reclaim_command.specs.Said.{reclaim_text}
 use Rattle.reclaim_command.proofs.lines.write_reclaimed.Goals as goal
 

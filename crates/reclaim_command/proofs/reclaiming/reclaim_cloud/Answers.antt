@@ -1,6 +1,6 @@
 use Rattle.std.proofs.Common.{Err}
 use Rattle.reclaim.proofs.CdEdges.Calls.{called_twice}
-use Rattle.cloud_opening.proofs.Standing.{call_at}
+use Rattle.command_cloud.proofs.Standing.{call_at}
 use Rattle.reclaim_command.proofs.Completing.{completes}
 use Rattle.reclaim_command.proofs.Ends.{reclaimed, reclaimed_at, unopened_reclaim}
 use Rattle.reclaim_command.proofs.reclaiming.reclaim_cloud.Goals as goal

@@ -1,5 +1,5 @@
 use Rattle.std.proofs.Common.{subst}
-use Rattle.cloud_opening.specs.BackupCommand.Writing.{HasWrittenOrCause, output_of}
+use Rattle.command_cloud.specs.BackupCommand.Writing.{HasWrittenOrCause, output_of}
 use Rattle.reclaim.specs.JournalStart.start.Header.{Header}
 use Rattle.reclaim_command.specs.Said.{reclaim_status, reclaim_text}
 use Rattle.reclaim_command.proofs.reclaiming.reclaim_opened.Goals as goal

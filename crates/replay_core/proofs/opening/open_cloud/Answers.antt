@@ -1,5 +1,5 @@
 use Rattle.std.proofs.Common.{[]}
-use Rattle.cloud_server.specs.CdEdges.Disk.{reads}
+use Rattle.share_server.specs.CdEdges.Disk.{reads}
 use Rattle.script_lines.specs.LocalLink.Tells.{rooms_at, header_at}
 use Rattle.replay_core.proofs.Clouds.{empty_stands, ends_opening, failed_by}
 use Rattle.replay_core.proofs.Links.{prepares_opened, opened_peer, may_fail_only}

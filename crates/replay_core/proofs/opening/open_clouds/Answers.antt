@@ -1,6 +1,6 @@
 use Rattle.std.specs.Prelude.{Err}
 use Rattle.std.proofs.Common.{rules, ◌≡◌, [], refl, sym, ap, subst, ◌∙◌, arith}
-use Rattle.cloud_server.specs.CdBase.shape.Shape.{Shape}
+use Rattle.share_server.specs.CdBase.shape.Shape.{Shape}
 use Rattle.replay_core.specs.Opening.{IsEmpty, OpensTo}
 use Rattle.replay_core.proofs.Clouds.{empty_stands, on_err, if_err, ends_unopened}
 use Rattle.replay_core.proofs.Links.{none_opened, one_opened, stops_opening}

@@ -1,6 +1,6 @@
 use Rattle.std.proofs.Common.{ℕ, ◌<◌, ◌≤◌, length, sym, ◌∙◌, subst, arith}
 use Rattle.std.specs.Prelude.{Some, None}
-use Rattle.cloud_server.specs.CdBase.shape.Shape.{Shape}
+use Rattle.share_server.specs.CdBase.shape.Shape.{Shape}
 use Rattle.script_lines.specs.Jobs.{AreReached}
 use Rattle.replay_core.specs.Going.{EndsReading}
 use Rattle.replay_core.proofs.Whole.{over, goes_on, few_after, can_at, says_at, said_some, ends_reading, ends_writing, ends_done, ends_answered}

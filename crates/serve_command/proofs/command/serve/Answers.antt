@@ -1,5 +1,5 @@
 use Rattle.std.proofs.Common.{refl}
-use Rattle.cloud_server.proofs.CdEdges.Calls.{called_twice}
+use Rattle.share_server.proofs.CdEdges.Calls.{called_twice}
 use Rattle.serve_command.proofs.Completing.{completes}
 use Rattle.serve_command.proofs.InRooms.{all_stay, behind, in_rooms, not_found}
 use Rattle.serve_command.proofs.command.serve.Goals as goal

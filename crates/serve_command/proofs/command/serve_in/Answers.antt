@@ -1,5 +1,5 @@
 use Rattle.std.proofs.Common.{inl, inr, ap}
-use Rattle.cloud_server.specs.JournalStart.start.Header.{Header}
+use Rattle.share_server.specs.JournalStart.start.Header.{Header}
 use Rattle.serve_command.proofs.Openings.{by_header}
 use Rattle.serve_command.proofs.command.serve_in.Goals as goal
 

@@ -1,5 +1,5 @@
 use Rattle.std.proofs.Common.{sym, ap, ◌∙◌, subst}
-use Rattle.cloud_server.specs.CdEdges.Ports.{Telling}
+use Rattle.share_server.specs.CdEdges.Ports.{Telling}
 use Rattle.serve_command.specs.Serving.{RepliesOne, ServesOne, held_of, standing}
 use Rattle.serve_command.specs.Steps.{OneServed}
 use Rattle.serve_command.proofs.Passing.{one_served}

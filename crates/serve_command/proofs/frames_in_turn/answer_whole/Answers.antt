@@ -1,6 +1,6 @@
 use Rattle.std.proofs.Common.{subst, sym, List, ℕ}
 use Rattle.ports_link.specs.Frames.Frames.{frame}
-use Rattle.cloud_server.specs.CdEdges.Ports.{Sent, SentPart}
+use Rattle.share_server.specs.CdEdges.Ports.{Sent, SentPart}
 use Rattle.serve_command.specs.Framing.{IsAlongFrames}
 use Rattle.serve_command.proofs.PassingOn.{answered, broken}
 use Rattle.serve_command.proofs.frames_in_turn.answer_whole.Goals as goal

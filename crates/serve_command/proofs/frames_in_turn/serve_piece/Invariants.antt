@@ -1,6 +1,6 @@
 use Rattle.std.proofs.Common.{ℕ, length, ◌≡◌}
 use Rattle.ports_link.specs.Frames.Frames.{IsFrame, IsRefused}
-use Rattle.cloud_server.specs.CdEdges.Ports.{Telling}
+use Rattle.share_server.specs.CdEdges.Ports.{Telling}
 use Rattle.serve_command.specs.Framing.{IsAlongFrames}
 use Rattle.serve_command.proofs.frames_in_turn.serve_piece.Given as goal
 

@@ -1,6 +1,6 @@
 use Rattle.std.proofs.Common.{ℕ, ◌+◌, List, subst, sym, ◌∙◌}
 use Rattle.std.proofs.lemmas.List.{take-append-le}
-use Rattle.cloud_server.specs.CdEdges.Ports.{Telling}
+use Rattle.share_server.specs.CdEdges.Ports.{Telling}
 use Rattle.serve_command.specs.Framing.{IsAlongFrames, Broken}
 use Rattle.serve_command.proofs.Ending.{broke_off, received_some}
 use Rattle.serve_command.proofs.frames_in_turn.serve_some.Goals as goal

@@ -1,5 +1,5 @@
 use Rattle.std.proofs.Common.{ap}
-use Rattle.cloud_server.specs.declared.server.Server.{Server}
+use Rattle.share_server.specs.declared.server.Server.{Server}
 use Rattle.serve_command.specs.Serving.{held_of}
 use Rattle.serve_command.proofs.Replied.{replied, same_held, some_content}
 use Rattle.serve_command.proofs.responder.execute.Goals as goal

@@ -7,15 +7,15 @@ use Rattle.server_reads.specs.Recipe.Spelling.{spelling}
 use Rattle.server_reads.specs.UserDedup.command.Command.TheVariants as commands
 use Rattle.server_reads.specs.UserDedup.Spending.{full_for}
 use Rattle.server_reads.specs.CloudMemory.News.{seen}
-use Rattle.open_store.specs.declared.store.OpenStore.{OpenStore}
-use Rattle.open_store.specs.declared.store.Unadded.{Unadded}
-use Rattle.open_store.specs.CloudAreas.Standing.{Chain}
+use Rattle.cloud_store.specs.declared.store.CloudStore.{CloudStore}
+use Rattle.cloud_store.specs.declared.store.Unadded.{Unadded}
+use Rattle.cloud_store.specs.CloudAreas.Standing.{Chain}
 use Rattle.server_reads.specs.CdEdges.Disk.{Cloud}
 use Rattle.server_reads.specs.UserDedup.command.Command.{Command}
-use Rattle.open_store.specs.Store.{Serves}
+use Rattle.cloud_store.specs.Store.{Serves}
 use Rattle.server_reads.specs.UserDedup.Owning.{fps_in}
 use Rattle.server_reads.specs.CloudMemory.Rooms.{memory_of, full_commit}
-use Rattle.open_store.specs.Adding.{NotLong, MatchFull, WhenLong, Unmoved, unstaged}
+use Rattle.cloud_store.specs.Adding.{NotLong, MatchFull, WhenLong, Unmoved, unstaged}
 use Rattle.server_commands.proofs.Calls.{ok_result, failed_result, stays_still}
 use Rattle.server_commands.proofs.Commits.{few_bytes, only_journal}
 use Rattle.server_commands.proofs.Doing.{adds_does, stays_does, served_added, served_full, full_reply}
@@ -57,7 +57,7 @@ returns-in-Err-Full-clause-does g c = λ list chain serves answered.
     (record { c = chain; serves = serves })
     (record {
       cloud = subst (λ s. Stays before (g.V.Shelf.cloud_at s old.header.cloud.0)) (sym un.1) (stays_still before);
-      memory = ap (λ (s : OpenStore). s.memory) un.0;
+      memory = ap (λ (s : CloudStore). s.memory) un.0;
     })
     (record { c = chain; serves = subst (λ s. Serves list chain c.add_commit.new.self (g.V.Shelf.cloud_at s old.header.cloud.0)) (sym un.1) (still list chain before serves) })
 
@@ -94,7 +94,7 @@ returns-in-Err-Full-clause-commits g c =
     let full : room ≡ Some (seen c.in-Err-Full.full) =
     subst (λ (why : Unadded). MatchFull (Err why) (room ≡ None) (λ f. room ≡ Some (seen f))) c.in-Err-Full.field-0-is c.in-Err-Full.ensures.full in
     full_commits old.header.rooms (memory_of old.memory) (memory_of new.memory) c.args.key.user c.args.key.tag c.args.key.version (fps_in c.args.recipe.now.items) (spelling c.args.recipe.now)
-    c.args.fp c.args.len c.requires.fp c.requires.len c.requires.new c.requires.owned c.write_full.new.out (seen c.in-Err-Full.full) (ap (λ (s : OpenStore). memory_of s.memory) un.0) full c.write_full.ensures
+    c.args.fp c.args.len c.requires.fp c.requires.len c.requires.new c.requires.owned c.write_full.new.out (seen c.in-Err-Full.full) (ap (λ (s : CloudStore). memory_of s.memory) un.0) full c.write_full.ensures
 
 pub returns-in-Err-Long-clause-commits : goal.returns-in-Err-Long-clause-commits
 returns-in-Err-Long-clause-commits g c =

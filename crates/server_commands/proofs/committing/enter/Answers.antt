@@ -1,6 +1,6 @@
 use Rattle.std.proofs.Common.{◌≡◌, ap, ◌∙◌, arith}
 use Rattle.server_reads.specs.CloudMemory.Rooms.{memory_of}
-use Rattle.open_store.specs.declared.store.OpenStore.{OpenStore}
+use Rattle.cloud_store.specs.declared.store.CloudStore.{CloudStore}
 use Rattle.server_commands.specs.Steps.{staging}
 use Rattle.server_commands.proofs.Commits.{few_bytes}
 use Rattle.server_commands.proofs.Enterings.{staged_commits}
@@ -27,4 +27,4 @@ returns-clause-enters g c =
     let old = c.args.store.now in
     let same = c.stage.ensures.staged in
     staged_commits c.add_staged.result old c.stage.new.store (memory_of c.add_staged.new.store.memory) c.args.key.user c.args.key.tag c.args.key.version c.args.recipe.now c.add_staged.new.reply c.requires.recipe
-    (ap (λ (s : OpenStore). s.header) same) (ap (λ (s : OpenStore). memory_of s.memory) same) c.add_staged.ensures.commits
+    (ap (λ (s : CloudStore). s.header) same) (ap (λ (s : CloudStore). memory_of s.memory) same) c.add_staged.ensures.commits

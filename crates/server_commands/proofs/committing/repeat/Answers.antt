@@ -3,7 +3,7 @@ use Rattle.server_reads.specs.UserDedup.Cloud.{fingerprint}
 use Rattle.server_reads.specs.FileIndex.Files.{key_of}
 use Rattle.server_reads.specs.CloudMemory.Rooms.{memory_of}
 use Rattle.server_reads.specs.UserDedup.Requests.{fps_of}
-use Rattle.open_store.specs.declared.store.OpenStore.{OpenStore}
+use Rattle.cloud_store.specs.declared.store.CloudStore.{CloudStore}
 use Rattle.server_reads.specs.declared.blobs.BlobStop.{BlobStop}
 use Rattle.server_reads.specs.Reading.{HasReadCloud}
 use Rattle.server_reads.proofs.Spelled.{rotten_is}
@@ -43,12 +43,12 @@ pub returns-in-Ok-clause-enters : goal.returns-in-Ok-clause-enters
 returns-in-Ok-clause-enters g c =
     let old = c.args.store.now in
     compared_commits old.header.rooms (memory_of old.memory) (memory_of c.read_entry.new.store.memory) c.args.key.user c.args.key.tag c.args.key.version (fps_of old.header.shape c.args.recipe.now) c.args.recipe.now
-    c.split_at.result.0.now c.put_compared.new.reply c.args.entry.now c.requires.there c.requires.owns (ap (λ (s : OpenStore). memory_of s.memory) c.in-Ok.ensures.store.same)
+    c.split_at.result.0.now c.put_compared.new.reply c.args.entry.now c.requires.there c.requires.owns (ap (λ (s : CloudStore). memory_of s.memory) c.in-Ok.ensures.store.same)
     (ap fingerprint c.split_at.ensures.front ∙ c.in-Ok.ensures.hashed) c.put_compared.ensures
 
 pub returns-in-Err-Rotten-clause-enters : goal.returns-in-Err-Rotten-clause-enters
 returns-in-Err-Rotten-clause-enters g c =
     let old = c.args.store.now in
     rotten_commits old.header.rooms (memory_of old.memory) (memory_of c.read_entry.new.store.memory) c.args.key.user c.args.key.tag c.args.key.version (fps_of old.header.shape c.args.recipe.now) c.args.recipe.now
-    c.write_rotten.new.out c.args.entry.now c.in-Err-Rotten.named c.in-Err-Rotten.found c.requires.there c.requires.owns (ap (λ (s : OpenStore). memory_of s.memory) c.in-Err-Rotten.ensures.store.same)
+    c.write_rotten.new.out c.args.entry.now c.in-Err-Rotten.named c.in-Err-Rotten.found c.requires.there c.requires.owns (ap (λ (s : CloudStore). memory_of s.memory) c.in-Err-Rotten.ensures.store.same)
     (rotten_is c.write_rotten.new.out _ _ c.in-Err-Rotten.named c.in-Err-Rotten.found c.write_rotten.ensures c.in-Err-Rotten.named-is c.in-Err-Rotten.found-is)

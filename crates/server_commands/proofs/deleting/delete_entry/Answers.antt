@@ -5,7 +5,7 @@ use Rattle.server_reads.specs.UserDedup.Cloud.{fingerprint}
 use Rattle.std.specs.FinMap.{get}
 use Rattle.server_reads.specs.FileIndex.Files.{key_of}
 use Rattle.server_reads.specs.CloudMemory.Rooms.{memory_of}
-use Rattle.open_store.specs.declared.store.OpenStore.{OpenStore}
+use Rattle.cloud_store.specs.declared.store.CloudStore.{CloudStore}
 use Rattle.server_reads.specs.declared.blobs.BlobStop.{BlobStop}
 use Rattle.server_reads.specs.Reading.{HasReadCloud}
 use Rattle.server_reads.proofs.Spelled.{rotten_is}
@@ -19,7 +19,7 @@ forget-requires-clause-ready g c = ready_read c.args.store.now c.read_entry.new.
 
 pub forget-requires-clause-there : goal.forget-requires-clause-there
 forget-requires-clause-there g c =
-    subst (λ (x : OpenStore). IsSome (get (memory_of x.memory).files (key_of c.args.user.0 c.args.tag.0 c.args.version.0))) (sym c.in-Ok.ensures.store.same)
+    subst (λ (x : CloudStore). IsSome (get (memory_of x.memory).files (key_of c.args.user.0 c.args.tag.0 c.args.version.0))) (sym c.in-Ok.ensures.store.same)
     (subst (λ o. IsSome o) (sym c.requires.there) refl)
 
 pub returns-in-Ok-clause-does : goal.returns-in-Ok-clause-does
@@ -58,12 +58,12 @@ returns-in-Ok-clause-enters g c =
     let long = ap length front in
     let fits : c.args.entry.now.len ≤ recipe_limit = c.in-Ok.ensures.fits.1 in
     forgotten c.forget.result old mid (memory_of c.forget.new.store.memory) c.args.user (key_of c.args.user.0 c.args.tag.0 c.args.version.0) recipe c.forget.new.reply c.args.entry.now
-    (ap (λ (s : OpenStore). s.header) c.in-Ok.ensures.store.same) (ap (λ (s : OpenStore). memory_of s.memory) c.in-Ok.ensures.store.same) c.requires.there
+    (ap (λ (s : CloudStore). s.header) c.in-Ok.ensures.store.same) (ap (λ (s : CloudStore). memory_of s.memory) c.in-Ok.ensures.store.same) c.requires.there
     (omega (arith, long, fits, length-take c.args.entry.now.len c.read_entry.new.buffer)) (ap fingerprint front ∙ c.in-Ok.ensures.hashed) c.forget.ensures.forgets
 
 pub returns-in-Err-Rotten-clause-enters : goal.returns-in-Err-Rotten-clause-enters
 returns-in-Err-Rotten-clause-enters g c = record {
   reply = replies.Rotten c.in-Err-Rotten.named c.in-Err-Rotten.found;
   is = rotten_is c.write_rotten.new.out _ _ c.in-Err-Rotten.named c.in-Err-Rotten.found c.write_rotten.ensures c.in-Err-Rotten.named-is c.in-Err-Rotten.found-is;
-  said = (subst (λ o. IsSome o) (sym c.requires.there) refl, ap (λ (s : OpenStore). memory_of s.memory) c.in-Err-Rotten.ensures.store.same);
+  said = (subst (λ o. IsSome o) (sym c.requires.there) refl, ap (λ (s : CloudStore). memory_of s.memory) c.in-Err-Rotten.ensures.store.same);
 }

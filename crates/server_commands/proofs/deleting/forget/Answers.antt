@@ -4,9 +4,9 @@ use Rattle.server_reads.specs.Messages.Requests.{FitsRequest}
 use Rattle.server_reads.specs.Messages.request.Request.TheVariants as requests
 use Rattle.server_reads.specs.Messages.reply.Reply.TheVariants as replies
 use Rattle.server_reads.specs.UserDedup.command.Command.TheVariants as commands
-use Rattle.open_store.specs.declared.store.Unadded.{Unadded}
+use Rattle.cloud_store.specs.declared.store.Unadded.{Unadded}
 use Rattle.server_reads.specs.CloudMemory.Rooms.{memory_of}
-use Rattle.open_store.specs.Adding.{NotLong, WhenLong, Unmoved}
+use Rattle.cloud_store.specs.Adding.{NotLong, WhenLong, Unmoved}
 use Rattle.server_commands.proofs.Calls.{ok_result, failed_result}
 use Rattle.server_commands.proofs.Doing.{adds_does}
 use Rattle.server_commands.proofs.Deletions.{deleted_served, is_delete}

@@ -7,7 +7,7 @@ use Rattle.server_reads.specs.ContainerLog.States.{HasStaged}
 use Rattle.server_reads.proofs.ContainerLog.Staged.{staged_more}
 use Rattle.server_reads.specs.UserDedup.Cloud.{fingerprint}
 use Rattle.server_reads.specs.CloudMemory.Rooms.{memory_of}
-use Rattle.open_store.specs.declared.store.OpenStore.{OpenStore}
+use Rattle.cloud_store.specs.declared.store.CloudStore.{CloudStore}
 use Rattle.server_commands.proofs.news.stage_one.Goals as goal
 
 pub returns-in-Ok-clause-staged : goal.returns-in-Ok-clause-staged
@@ -16,4 +16,4 @@ returns-in-Ok-clause-staged c = λ blobs has.
     let free : is_some (get (memory_of store.memory).places (fingerprint share).0) ≡ false =
     ap (λ (f : Fp). is_some (get (memory_of store.memory).places f.0)) (sym c.requires.fp) ∙ ap (λ (o : Option Place). is_some o) (sym c.place_of.ensures.kept) ∙ c.if-is_none.ensures in
     subst (λ (b : Bool). HasStaged c.stage_share.new.self.disk.shares (cond b blobs (blobs ++ share ∷ []))) (sym free)
-    (subst (λ (s : OpenStore). HasStaged s.disk.shares (blobs ++ share ∷ [])) (sym c.in-Ok.ensures.ok) (staged_more store.disk.shares blobs share has c.requires.room))
+    (subst (λ (s : CloudStore). HasStaged s.disk.shares (blobs ++ share ∷ [])) (sym c.in-Ok.ensures.ok) (staged_more store.disk.shares blobs share has c.requires.room))

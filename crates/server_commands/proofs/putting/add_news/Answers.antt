@@ -5,16 +5,16 @@ use Rattle.server_reads.specs.Messages.reply.Reply.TheVariants as replies
 use Rattle.server_reads.specs.UserDedup.command.Command.{Command}
 use Rattle.server_reads.specs.UserDedup.command.Command.TheVariants as commands
 use Rattle.server_reads.specs.UserDedup.Spending.{full_for}
-use Rattle.open_store.specs.CloudAreas.Standing.{Chain}
+use Rattle.cloud_store.specs.CloudAreas.Standing.{Chain}
 use Rattle.server_reads.specs.CdEdges.Disk.{Cloud}
 use Rattle.server_reads.specs.CloudMemory.News.{seen}
-use Rattle.open_store.specs.declared.store.OpenStore.{OpenStore}
-use Rattle.open_store.specs.declared.store.Unadded.{Unadded}
-use Rattle.open_store.specs.Store.{Serves}
-use Rattle.open_store.proofs.Fields.{are_long}
+use Rattle.cloud_store.specs.declared.store.CloudStore.{CloudStore}
+use Rattle.cloud_store.specs.declared.store.Unadded.{Unadded}
+use Rattle.cloud_store.specs.Store.{Serves}
+use Rattle.cloud_store.proofs.Fields.{are_long}
 use Rattle.server_reads.specs.CloudMemory.Rooms.{memory_of, full_news}
-use Rattle.open_store.specs.HalfJournal.journal.Stage.TheVariants.{AtEnd}
-use Rattle.open_store.specs.Adding.{NotLong, MatchFull, WhenLong, Unmoved, stage_after, unstaged}
+use Rattle.cloud_store.specs.CommitJournal.journal.Stage.TheVariants.{AtEnd}
+use Rattle.cloud_store.specs.Adding.{NotLong, MatchFull, WhenLong, Unmoved, stage_after, unstaged}
 use Rattle.server_reads.specs.UserDedup.Dedup.{answer_over}
 use Rattle.server_commands.proofs.Calls.{ok_result, failed_result, stays_still}
 use Rattle.server_commands.proofs.Commits.{only_journal}
@@ -52,7 +52,7 @@ returns-in-Err-Full-clause-does g c = λ list chain sent strings put new.
     (record { c = chain; serves = put.serves })
     (record {
       cloud = subst (λ s. Stays before (g.V.Shelf.cloud_at s old.header.cloud.0)) (sym un.1) (stays_still before);
-      memory = ap (λ (s : OpenStore). s.memory) un.0;
+      memory = ap (λ (s : CloudStore). s.memory) un.0;
     })
     (record { c = chain; serves = subst (λ s. Serves list chain c.add_put.new.self (g.V.Shelf.cloud_at s old.header.cloud.0)) (sym un.1) (still list chain before put.serves) })
 
@@ -114,7 +114,7 @@ returns-in-Err-Full-clause-stores g c =
     record {
       reply = full_reply (seen c.in-Err-Full.full);
       is = c.write_full.ensures;
-      said = (c.requires.some, ap (λ (s : OpenStore). memory_of s.memory) un.0, λ other. full);
+      said = (c.requires.some, ap (λ (s : CloudStore). memory_of s.memory) un.0, λ other. full);
     }
 
 pub returns-in-Err-Long-clause-stores : goal.returns-in-Err-Long-clause-stores

@@ -4,8 +4,8 @@ use Rattle.server_reads.specs.CloudMemory.rooms.New.{New}
 use Rattle.server_reads.specs.CloudMemory.Memory.{Memory}
 use Rattle.server_reads.specs.CloudMemory.News.{AreNewTo}
 use Rattle.server_reads.specs.CloudMemory.Rooms.{memory_of}
-use Rattle.open_store.specs.declared.store.OpenStore.{OpenStore}
-use Rattle.open_store.specs.Adding.{IsShareNew}
+use Rattle.cloud_store.specs.declared.store.CloudStore.{CloudStore}
+use Rattle.cloud_store.specs.Adding.{IsShareNew}
 use Rattle.server_commands.specs.Picked.{Picked}
 use Rattle.server_commands.specs.Steps.{HasNewsStaged}
 use Rattle.server_commands.proofs.Puts.{none_new, none_stores, news_staged, added, some_store}
@@ -39,7 +39,7 @@ pub add_news-requires-clause-new : goal.add_news-requires-clause-new
 add_news-requires-clause-new g c =
     let p = c.collect-count.ensures.picked in
     subst (AreNewTo (memory_of c.collect-count.new.store.memory) c.args.user) (sym c.split_at.ensures.front)
-    (subst (λ (m : Memory). AreNewTo m c.args.user (take c.collect-count.result c.collect-count.new.news)) (sym (ap (λ (s : OpenStore). memory_of s.memory) p.same)) p.fresh)
+    (subst (λ (m : Memory). AreNewTo m c.args.user (take c.collect-count.result c.collect-count.new.news)) (sym (ap (λ (s : CloudStore). memory_of s.memory) p.same)) p.fresh)
 
 pub returns-clause-does : goal.returns-clause-does
 returns-clause-does g c =

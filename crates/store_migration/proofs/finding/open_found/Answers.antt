@@ -1,9 +1,9 @@
 use Rattle.std.proofs.Common.{refl, false, Err, subst}
 use Rattle.fresh_checkpoints.specs.CdEdges.area.Area.TheVariants.{Journal}
 use Rattle.fresh_checkpoints.specs.CdEdges.Disk.{Areas}
-use Rattle.store_opening.specs.JournalStart.start.Header.{Header}
-use Rattle.store_opening.specs.HalfJournal.Openings.{IsOpened, OpensIs}
-use Rattle.store_opening.specs.HalfJournal.States.{state_of}
+use Rattle.cloud_opening.specs.JournalStart.start.Header.{Header}
+use Rattle.cloud_opening.specs.CommitJournal.Openings.{IsOpened, OpensIs}
+use Rattle.cloud_opening.specs.CommitJournal.States.{state_of}
 use Rattle.store_migration.proofs.Opened.{old_opened, not_opened, open_counts, open_memory}
 use Rattle.store_migration.proofs.finding.open_found.Goals as goal
 

@@ -3,10 +3,10 @@ use Rattle.fresh_checkpoints.specs.CdEdges.area.Area.TheVariants.{Journal}
 use Rattle.fresh_checkpoints.specs.CdEdges.Disk.{Areas, IsImage}
 use Rattle.fresh_checkpoints.proofs.CdEdges.Calls.{called_twice}
 use Rattle.fresh_checkpoints.proofs.CdEdges.Moments.{told_on}
-use Rattle.store_opening.specs.HalfJournal.Openings.{IsSynced}
-use Rattle.store_opening.specs.HalfJournal.States.{state_of}
-use Rattle.store_opening.proofs.Opened.{then_stays}
-use Rattle.store_opening.proofs.Synced.{synced_at, none_behind}
+use Rattle.cloud_opening.specs.CommitJournal.Openings.{IsSynced}
+use Rattle.cloud_opening.specs.CommitJournal.States.{state_of}
+use Rattle.cloud_opening.proofs.Opened.{then_stays}
+use Rattle.cloud_opening.proofs.Synced.{synced_at, none_behind}
 use Rattle.store_migration.specs.Finding.{OpenedAs}
 use Rattle.store_migration.proofs.Cases.{of_all, counted_behind}
 use Rattle.store_migration.proofs.finding.open_old.Goals as goal

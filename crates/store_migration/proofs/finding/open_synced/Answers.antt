@@ -3,9 +3,9 @@ use Rattle.fresh_checkpoints.specs.CdEdges.area.Area.TheVariants.{Journal}
 use Rattle.fresh_checkpoints.specs.CdEdges.Disk.{Areas}
 use Rattle.fresh_checkpoints.proofs.CdEdges.Calls.{called_twice}
 use Rattle.fresh_checkpoints.proofs.CdEdges.Moments.{told_on}
-use Rattle.store_opening.specs.HalfJournal.Openings.{IsSynced}
-use Rattle.store_opening.specs.HalfJournal.States.{state_of}
-use Rattle.store_opening.proofs.Synced.{still}
+use Rattle.cloud_opening.specs.CommitJournal.Openings.{IsSynced}
+use Rattle.cloud_opening.specs.CommitJournal.States.{state_of}
+use Rattle.cloud_opening.proofs.Synced.{still}
 use Rattle.store_migration.specs.Finding.{FoundAs, OpenedAs}
 use Rattle.store_migration.proofs.Cases.{counted_behind}
 use Rattle.store_migration.proofs.Opened.{none_opened}

@@ -4,9 +4,9 @@ use Rattle.fresh_checkpoints.proofs.CdEdges.Calls.{called_twice}
 use Rattle.fresh_checkpoints.proofs.CdEdges.Moments.{joined, weaker, at_end, told_on}
 use Rattle.fresh_checkpoints.specs.CloudMemory.Rooms.{memory_of}
 use Rattle.large_users.specs.MigrationModel.Migrating.{IsBetween}
-use Rattle.store_opening.specs.Synced.{AreSynced}
+use Rattle.cloud_opening.specs.Synced.{AreSynced}
 use Rattle.store_migration.proofs.Answering.{read_as, moves_as, unread_as, refused_map, unread_refused, answered_of, unread_answered, over_no_memory, unread_no_memory, still_goes_on, begins, counted_behind, unread_counts}
-use Rattle.store_opening.specs.HalfJournal.States as journals
+use Rattle.cloud_opening.specs.CommitJournal.States as journals
 use Rattle.store_migration.proofs.Leaving.{laid_left, unread_left}
 use Rattle.store_migration.proofs.migrating.migrate_with.Goals as goal
 

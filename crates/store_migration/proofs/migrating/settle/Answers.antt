@@ -1,5 +1,5 @@
 use Rattle.std.proofs.Common.{◌≡◌, ◌≤◌, ℕ, ◌+◌, length, refl, sym, ap, ◌∙◌, subst, arith}
-use Rattle.store_opening.specs.HalfJournal.States as journals
+use Rattle.cloud_opening.specs.CommitJournal.States as journals
 use Rattle.fresh_checkpoints.specs.CloudMemory.Rooms.{memory_of}
 use Rattle.fresh_checkpoints.specs.Checkpoints.Laying.{records_len}
 use Rattle.fresh_checkpoints.specs.Checkpoints.Records.{records_of}

@@ -1,14 +1,14 @@
 use Rattle.std.proofs.Common.{◌≡◌, ◌≤◌, ℕ, ◌+◌, List, Err, refl, sym, ap, ◌∙◌, subst, arith, inl}
 use Rattle.fresh_checkpoints.specs.CdEdges.Disk.{Image, Cloud, IsImage, LeavesOnly}
 use Rattle.fresh_checkpoints.proofs.CdEdges.Moments.{started}
-use Rattle.store_opening.specs.HalfJournal.States as journals
+use Rattle.cloud_opening.specs.CommitJournal.States as journals
 use Rattle.fresh_checkpoints.specs.JournalHalves.Halves.{half_limit}
-use Rattle.store_opening.specs.JournalStart.start.Header.{Header}
+use Rattle.cloud_opening.specs.JournalStart.start.Header.{Header}
 use Rattle.fresh_checkpoints.specs.CloudAreas.Standing.{StandsFor}
 use Rattle.fresh_checkpoints.specs.CloudMemory.Rooms.{memory_of}
 use Rattle.fresh_checkpoints.specs.Checkpoints.Laying.{records_len}
 use Rattle.fresh_checkpoints.specs.Checkpoints.Records.{records_of}
-use Rattle.store_opening.specs.UserDedup.Compact.{compact}
+use Rattle.cloud_opening.specs.UserDedup.Compact.{compact}
 use Rattle.fresh_checkpoints.specs.Fresh.{IsNextMemory}
 use Rattle.fresh_checkpoints.specs.Switching.{IsMigrating}
 use Rattle.large_users.specs.MigrationModel.Migrating.{header_one, header_two}

@@ -1,12 +1,12 @@
 use Rattle.std.proofs.Common.{◌≡◌, ℕ, ◌<◌, ◌≤◌, length, ◌∙◌, sym, ap, subst, arith}
 use Rattle.fresh_checkpoints.specs.CdEdges.area.Area.TheVariants.{Journal, Recipes}
-use Rattle.store_opening.specs.JournalStart.start.Start.{Start}
-use Rattle.store_opening.specs.JournalStart.Spelling.{recipes_end_of}
-use Rattle.store_opening.specs.HalfJournal.States.{state_of}
+use Rattle.cloud_opening.specs.JournalStart.start.Start.{Start}
+use Rattle.cloud_opening.specs.JournalStart.Spelling.{recipes_end_of}
+use Rattle.cloud_opening.specs.CommitJournal.States.{state_of}
 use Rattle.fresh_checkpoints.specs.CloudMemory.Fitting.{FitsRecords}
 use Rattle.fresh_checkpoints.specs.CloudMemory.Rooms.{memory_of}
 use Rattle.first_laws.specs.Leaving.{begun_behind}
-use Rattle.store_opening.proofs.Synced.{on_ok}
+use Rattle.cloud_opening.proofs.Synced.{on_ok}
 use Rattle.store_migration.specs.Exact.{users_most}
 use Rattle.store_migration.proofs.Loaded.{behind_fits, rooms_kept, users_kept, loads, loads_ended, loads_past}
 use Rattle.store_migration.proofs.reading.load.Goals as goal

@@ -2,10 +2,10 @@ use Rattle.std.proofs.Common.{ℕ, ◌∙◌}
 use Rattle.fresh_checkpoints.specs.CdEdges.Disk.{IsImage}
 use Rattle.fresh_checkpoints.proofs.CdEdges.Calls.{called_twice}
 use Rattle.fresh_checkpoints.proofs.CdEdges.Moments.{told_on}
-use Rattle.store_opening.specs.HalfJournal.States.{state_of}
+use Rattle.cloud_opening.specs.CommitJournal.States.{state_of}
 use Rattle.fresh_checkpoints.specs.CloudMemory.Rooms.{memory_of}
-use Rattle.store_opening.proofs.Opened.{then_stays}
-use Rattle.store_opening.proofs.Synced.{none_behind, on_ok}
+use Rattle.cloud_opening.proofs.Opened.{then_stays}
+use Rattle.cloud_opening.proofs.Synced.{none_behind, on_ok}
 use Rattle.store_migration.proofs.Cases.{of_all, on_answer, counted_behind, same_err, same_memory}
 use Rattle.store_migration.proofs.Loaded.{read_before, read_whole, read_all_still, unopened_before}
 use Rattle.store_migration.proofs.reading.read_journal.Goals as goal

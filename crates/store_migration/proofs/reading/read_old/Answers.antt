@@ -1,6 +1,6 @@
-use Rattle.store_opening.specs.HalfJournal.States.{state_of}
+use Rattle.cloud_opening.specs.CommitJournal.States.{state_of}
 use Rattle.fresh_checkpoints.specs.CloudMemory.Rooms.{memory_of}
-use Rattle.store_opening.proofs.Synced.{on_ok}
+use Rattle.cloud_opening.proofs.Synced.{on_ok}
 use Rattle.store_migration.proofs.Whole.{read_by_list, whole_by_list}
 use Rattle.store_migration.proofs.reading.read_old.Goals as goal
 

@@ -3,10 +3,10 @@ use Rattle.fresh_checkpoints.specs.CdEdges.area.Area.TheVariants.{Journal, Recip
 use Rattle.fresh_checkpoints.specs.CdEdges.Disk.{Areas}
 use Rattle.fresh_checkpoints.proofs.CdEdges.Calls.{called_twice}
 use Rattle.fresh_checkpoints.proofs.CdEdges.Moments.{told_on}
-use Rattle.store_opening.specs.HalfJournal.States.{state_of, IsJournalReading}
+use Rattle.cloud_opening.specs.CommitJournal.States.{state_of, IsJournalReading}
 use Rattle.fresh_checkpoints.specs.CloudMemory.Rooms.{memory_of}
-use Rattle.store_opening.specs.Steps.{HasChainEnded}
-use Rattle.store_opening.proofs.Synced.{still, on_ok}
+use Rattle.cloud_opening.specs.Steps.{HasChainEnded}
+use Rattle.cloud_opening.proofs.Synced.{still, on_ok}
 use Rattle.store_migration.specs.Steps.{LoadsAs}
 use Rattle.store_migration.proofs.Cases.{counted_behind, not_memory}
 use Rattle.store_migration.proofs.Loaded.{read_as, read_all}

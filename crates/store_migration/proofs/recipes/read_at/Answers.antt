@@ -1,6 +1,6 @@
 use Rattle.std.proofs.Common.{arith}
 use Rattle.fresh_checkpoints.specs.CdEdges.area.Area.TheVariants.{Recipes}
-use Rattle.store_opening.proofs.Looking.{read_there}
+use Rattle.cloud_opening.proofs.Looking.{read_there}
 use Rattle.store_migration.proofs.recipes.read_at.Goals as goal
 
 pub returns-in-Ok-clause-bytes : goal.returns-in-Ok-clause-bytes

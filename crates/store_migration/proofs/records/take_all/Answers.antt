@@ -1,11 +1,11 @@
 use Rattle.std.proofs.Common.{◌≡◌, ℕ, ◌+◌, ◌≤◌, Bool, true, false, List, [], length, Result, Ok, Err, refl, sym, ◌∙◌, ap, subst, rules}
 use Rattle.std.proofs.lemmas.Result.{err_from_is_err_and}
 use Rattle.fresh_checkpoints.specs.CdEdges.area.Area.TheVariants.{Journal, Recipes}
-use Rattle.store_opening.specs.JournalStart.Spelling.{records_of}
-use Rattle.store_opening.specs.HalfJournal.States.{state_of, IsJournalReading}
+use Rattle.cloud_opening.specs.JournalStart.Spelling.{records_of}
+use Rattle.cloud_opening.specs.CommitJournal.States.{state_of, IsJournalReading}
 use Rattle.fresh_checkpoints.specs.CloudMemory.Fitting.{FitsRecords}
 use Rattle.fresh_checkpoints.specs.CloudMemory.Rooms.{memory_of}
-use Rattle.store_opening.proofs.Along.{with_bodies}
+use Rattle.cloud_opening.proofs.Along.{with_bodies}
 use Rattle.store_migration.specs.declared.errors.MigrateErr.{MigrateErr}
 use Rattle.store_migration.specs.Steps.{OnTrue, AllAs, stage_of}
 use Rattle.store_migration.proofs.Along.{further, all_taken, not_taken, StepAs}

@@ -1,6 +1,6 @@
 use Rattle.std.proofs.Common.{◌-◌, length}
 use Rattle.fresh_checkpoints.specs.JournalHalves.Halves.{half_len}
-use Rattle.store_opening.specs.HalfJournal.States.{state_of}
+use Rattle.cloud_opening.specs.CommitJournal.States.{state_of}
 use Rattle.store_migration.proofs.Along.{Along}
 use Rattle.store_migration.proofs.records.take_all.Given as goal
 

@@ -1,5 +1,5 @@
 use Rattle.std.proofs.Common.{ℕ, List, Err, refl, sym, subst}
-use Rattle.store_opening.specs.HalfJournal.States.{state_of}
+use Rattle.cloud_opening.specs.CommitJournal.States.{state_of}
 use Rattle.fresh_checkpoints.specs.CloudMemory.Rooms.{memory_of}
 use Rattle.first_laws.specs.FirstRecords.Judging.{JudgesFirst}
 use Rattle.store_migration.specs.declared.errors.MigrateErr.{MigrateErr}

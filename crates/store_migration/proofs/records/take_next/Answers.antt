@@ -4,8 +4,8 @@ use Rattle.fresh_checkpoints.specs.CdEdges.Disk.{Areas}
 use Rattle.fresh_checkpoints.proofs.CdEdges.Moments.{told_on}
 use Rattle.fresh_checkpoints.specs.JournalHalves.errors.RecordErr.{RecordErr}
 use Rattle.fresh_checkpoints.specs.JournalHalves.Outcomes.{StepIs}
-use Rattle.store_opening.specs.HalfJournal.States.{JournalState, state_of}
-use Rattle.store_opening.specs.HalfJournal.Outcomes as journals
+use Rattle.cloud_opening.specs.CommitJournal.States.{JournalState, state_of}
+use Rattle.cloud_opening.specs.CommitJournal.Outcomes as journals
 use Rattle.fresh_checkpoints.specs.CloudMemory.Rooms.{memory_of}
 use Rattle.store_migration.specs.declared.errors.OldErr.{OldErr}
 use Rattle.store_migration.specs.declared.errors.OldErr.TheVariants.{Damaged}

@@ -1,6 +1,6 @@
 use Rattle.std.proofs.Common.{Ok, Err}
 use Rattle.fresh_checkpoints.specs.CdEdges.area.Area.TheVariants.{Recipes}
-use Rattle.store_opening.specs.HalfJournal.States.{state_of}
+use Rattle.cloud_opening.specs.CommitJournal.States.{state_of}
 use Rattle.fresh_checkpoints.specs.CloudMemory.Rooms.{memory_of}
 use Rattle.store_migration.proofs.Asking.{by_recipe, by_nothing}
 use Rattle.store_migration.proofs.records.take_record.Goals as goal

@@ -1,9 +1,9 @@
 use Rattle.std.proofs.Common.{◌≢◌, Err, sym, ap, ◌∙◌, subst}
-use Rattle.half_journal.specs.CdEdges.area.Area.{Area}
-use Rattle.half_journal.specs.CdEdges.area.Area.TheVariants.{Journal}
-use Rattle.half_journal.specs.CdEdges.Disk.{Areas}
-use Rattle.half_journal.proofs.CdEdges.Moments.{told_on}
-use Rattle.half_journal.specs.States as half
+use Rattle.commit_journal.specs.CdEdges.area.Area.{Area}
+use Rattle.commit_journal.specs.CdEdges.area.Area.TheVariants.{Journal}
+use Rattle.commit_journal.specs.CdEdges.Disk.{Areas}
+use Rattle.commit_journal.proofs.CdEdges.Moments.{told_on}
+use Rattle.commit_journal.specs.States as half
 use Rattle.upload_spool.specs.declared.error.SpoolErr.{SpoolErr}
 use Rattle.upload_spool.specs.States.{HasNone, IsOkOrFault}
 use Rattle.upload_spool.proofs.Begins.{still_none, reopened_none, new_read, opens_well, on_all}

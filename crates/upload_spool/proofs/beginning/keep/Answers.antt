@@ -1,9 +1,9 @@
 use Rattle.std.proofs.Common.{sym, subst}
-use Rattle.half_journal.specs.CdEdges.area.Area.TheVariants.{Journal, Shares}
-use Rattle.half_journal.specs.CdEdges.Disk.{Store, reads}
-use Rattle.half_journal.proofs.CdEdges.Moments.{told_on}
-use Rattle.half_journal.specs.JournalHalves.Beginnings.{IsUnbegun, new_of}
-use Rattle.half_journal.specs.States as half
+use Rattle.commit_journal.specs.CdEdges.area.Area.TheVariants.{Journal, Shares}
+use Rattle.commit_journal.specs.CdEdges.Disk.{Store, reads}
+use Rattle.commit_journal.proofs.CdEdges.Moments.{told_on}
+use Rattle.commit_journal.specs.JournalHalves.Beginnings.{IsUnbegun, new_of}
+use Rattle.commit_journal.specs.States as half
 use Rattle.upload_spool.specs.States.{HasFile, NoOpenJob}
 use Rattle.upload_spool.proofs.Notes.{shares≢journal}
 use Rattle.upload_spool.proofs.Begins.{empty_of, unbegun_empty, journal≢shares, second_step, third_step, job_kept}

@@ -1,9 +1,9 @@
 use Rattle.std.proofs.Common.{Err, subst}
-use Rattle.half_journal.specs.CdEdges.area.Area.TheVariants.{Journal}
-use Rattle.half_journal.specs.JournalHalves.Beginnings.{new_of}
-use Rattle.half_journal.specs.JournalHalves.errors.RecordErr.{RecordErr}
-use Rattle.half_journal.specs.Outcomes.{NextIs}
-use Rattle.half_journal.specs.States as half
+use Rattle.commit_journal.specs.CdEdges.area.Area.TheVariants.{Journal}
+use Rattle.commit_journal.specs.JournalHalves.Beginnings.{new_of}
+use Rattle.commit_journal.specs.JournalHalves.errors.RecordErr.{RecordErr}
+use Rattle.commit_journal.specs.Outcomes.{NextIs}
+use Rattle.commit_journal.specs.States as half
 use Rattle.upload_spool.proofs.Begins.{next_new, next_wrong}
 use Rattle.upload_spool.proofs.beginning.read_to_end.Goals as goal
 

@@ -1,5 +1,5 @@
 use Rattle.std.proofs.Common.{◌≤◌, ◌-◌, IsTrue, length}
-use Rattle.half_journal.specs.CdEdges.Shelf.{IsCall, KeepsCounts}
+use Rattle.commit_journal.specs.CdEdges.Shelf.{IsCall, KeepsCounts}
 use Rattle.upload_spool.specs.States.{Along}
 use Rattle.upload_spool.proofs.beginning.write_file.Given as goal
 

@@ -1,10 +1,10 @@
 use Rattle.std.proofs.Common.{Err, false, inl, subst}
-use Rattle.half_journal.specs.CdEdges.area.Area.TheVariants.{Journal, Shares}
-use Rattle.half_journal.specs.CdEdges.Disk.{IsImage}
-use Rattle.half_journal.proofs.CdEdges.Moments.{told_on}
-use Rattle.half_journal.specs.Openings.{OpensIs}
-use Rattle.half_journal.specs.States as half
-use Rattle.half_journal.specs.declared.errors.OpenErr.{OpenErr}
+use Rattle.commit_journal.specs.CdEdges.area.Area.TheVariants.{Journal, Shares}
+use Rattle.commit_journal.specs.CdEdges.Disk.{IsImage}
+use Rattle.commit_journal.proofs.CdEdges.Moments.{told_on}
+use Rattle.commit_journal.specs.Openings.{OpensIs}
+use Rattle.commit_journal.specs.States as half
+use Rattle.commit_journal.specs.declared.errors.OpenErr.{OpenErr}
 use Rattle.upload_spool.proofs.Notes.{shares≢journal}
 use Rattle.upload_spool.proofs.Begins.{still_none}
 use Rattle.upload_spool.proofs.Steps.{begun_before, found_here, ended_here, spared, other_store}

@@ -1,8 +1,8 @@
 use Rattle.std.proofs.Common.{◌≡◌, ◌-◌, IsTrue, length, []}
-use Rattle.half_journal.specs.CdEdges.area.Area.TheVariants.{Journal}
-use Rattle.half_journal.specs.CdEdges.Shelf.{IsCall, KeepsCounts, Stays}
-use Rattle.half_journal.specs.declared.journal.Stage.TheVariants.{Reading}
-use Rattle.half_journal.specs.States as half
+use Rattle.commit_journal.specs.CdEdges.area.Area.TheVariants.{Journal}
+use Rattle.commit_journal.specs.CdEdges.Shelf.{IsCall, KeepsCounts, Stays}
+use Rattle.commit_journal.specs.declared.journal.Stage.TheVariants.{Reading}
+use Rattle.commit_journal.specs.States as half
 use Rattle.upload_spool.specs.Reading.{JobFields}
 use Rattle.upload_spool.specs.Steps.{IsSpoolRead, AreNoted, notes_of}
 use Rattle.upload_spool.proofs.opening.lanes_in.Given as goal

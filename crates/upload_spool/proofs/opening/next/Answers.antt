@@ -1,8 +1,8 @@
 use Rattle.std.proofs.Common.{Err, subst}
-use Rattle.half_journal.specs.CdEdges.area.Area.TheVariants.{Journal}
-use Rattle.half_journal.specs.JournalHalves.errors.RecordErr.{RecordErr}
-use Rattle.half_journal.specs.Outcomes as journal
-use Rattle.half_journal.specs.States as half
+use Rattle.commit_journal.specs.CdEdges.area.Area.TheVariants.{Journal}
+use Rattle.commit_journal.specs.JournalHalves.errors.RecordErr.{RecordErr}
+use Rattle.commit_journal.specs.Outcomes as journal
+use Rattle.commit_journal.specs.States as half
 use Rattle.upload_spool.proofs.Steps.{next_ok, next_damaged}
 use Rattle.upload_spool.proofs.opening.next.Goals as goal
 

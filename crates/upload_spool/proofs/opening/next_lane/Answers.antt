@@ -1,6 +1,6 @@
 use Rattle.std.proofs.Common.{Bool, Ok, subst}
-use Rattle.half_journal.specs.CdEdges.area.Area.TheVariants.{Journal}
-use Rattle.half_journal.specs.States as half
+use Rattle.commit_journal.specs.CdEdges.area.Area.TheVariants.{Journal}
+use Rattle.commit_journal.specs.States as half
 use Rattle.upload_spool.specs.Steps.{NextIs, GateIs, notes_of}
 use Rattle.upload_spool.proofs.Steps.{lane_more, lane_refused, lane_unread, lane_step}
 use Rattle.upload_spool.proofs.opening.next_lane.Goals as goal

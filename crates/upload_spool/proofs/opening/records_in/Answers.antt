@@ -1,7 +1,7 @@
 use Rattle.std.proofs.Common.{Bool, Ok, None, subst}
-use Rattle.half_journal.specs.CdEdges.Disk.{Store}
-use Rattle.half_journal.specs.CdEdges.area.Area.TheVariants.{Journal}
-use Rattle.half_journal.specs.States as half
+use Rattle.commit_journal.specs.CdEdges.Disk.{Store}
+use Rattle.commit_journal.specs.CdEdges.area.Area.TheVariants.{Journal}
+use Rattle.commit_journal.specs.States as half
 use Rattle.upload_spool.specs.Steps.{NextIs, GateIs, IsAllRead, IsRefused, notes_of, fields_kept}
 use Rattle.upload_spool.proofs.Steps.{unread, job_refused, behind_job, are_kept}
 use Rattle.upload_spool.proofs.opening.records_in.Goals as goal

@@ -1,11 +1,11 @@
 use Rattle.std.proofs.Common.{◌≡◌, ◌+◌, ◌≤◌, sym, ap, subst}
 use Rattle.std.specs.Prelude.{OnOk, length}
-use Rattle.half_journal.specs.CdEdges.area.Area.TheVariants.{Journal}
-use Rattle.half_journal.specs.CdEdges.Disk.{Store, moment}
-use Rattle.half_journal.proofs.CdEdges.Calls.{called_twice}
-use Rattle.half_journal.proofs.CdEdges.Moments.{told_on}
-use Rattle.half_journal.specs.States as journals
-use Rattle.half_journal.specs.JournalHalves.Halves.{half_limit}
+use Rattle.commit_journal.specs.CdEdges.area.Area.TheVariants.{Journal}
+use Rattle.commit_journal.specs.CdEdges.Disk.{Store, moment}
+use Rattle.commit_journal.proofs.CdEdges.Calls.{called_twice}
+use Rattle.commit_journal.proofs.CdEdges.Moments.{told_on}
+use Rattle.commit_journal.specs.States as journals
+use Rattle.commit_journal.specs.JournalHalves.Halves.{half_limit}
 use Rattle.cloud_areas.specs.Placing.{shares_in}
 use Rattle.cloud_areas.specs.Chains.{laid_shares}
 use Rattle.cloud_areas.specs.Standing.{where_of}

@@ -1,10 +1,10 @@
 use Rattle.std.proofs.Common.{sym, subst}
 use Rattle.std.proofs.lemmas.List.Elements.{All-contains}
-use Rattle.half_journal.specs.CdEdges.area.Area.{Area}
-use Rattle.half_journal.specs.CdEdges.area.Area.TheVariants.{Recipes}
+use Rattle.commit_journal.specs.CdEdges.area.Area.{Area}
+use Rattle.commit_journal.specs.CdEdges.area.Area.TheVariants.{Recipes}
 use Rattle.cloud_areas.specs.ContainerLog.Laying.{IsAt}
 use Rattle.cloud_areas.specs.ContainerLog.States as logs
-use Rattle.half_journal.specs.States as journals
+use Rattle.commit_journal.specs.States as journals
 use Rattle.cloud_disk.specs.Disk.{Disk, IsOn}
 use Rattle.cloud_disk.proofs.Standing.{on_still, read_whole}
 use Rattle.cloud_disk.proofs.disk.CloudDisk.read_recipe.Goals as goal

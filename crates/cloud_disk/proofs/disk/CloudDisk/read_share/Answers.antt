@@ -1,10 +1,10 @@
 use Rattle.std.proofs.Common.{sym, subst}
 use Rattle.std.proofs.lemmas.List.Elements.{All-contains}
-use Rattle.half_journal.specs.CdEdges.area.Area.{Area}
-use Rattle.half_journal.specs.CdEdges.area.Area.TheVariants.{Shares}
+use Rattle.commit_journal.specs.CdEdges.area.Area.{Area}
+use Rattle.commit_journal.specs.CdEdges.area.Area.TheVariants.{Shares}
 use Rattle.cloud_areas.specs.ContainerLog.Laying.{IsAt}
 use Rattle.cloud_areas.specs.ContainerLog.States as logs
-use Rattle.half_journal.specs.States as journals
+use Rattle.commit_journal.specs.States as journals
 use Rattle.cloud_areas.specs.Placing.{shares_in}
 use Rattle.cloud_areas.specs.Chains.{laid_shares}
 use Rattle.cloud_disk.specs.Disk.{Disk, IsOn}

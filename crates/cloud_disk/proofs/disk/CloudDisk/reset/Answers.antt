@@ -1,5 +1,5 @@
 use Rattle.std.proofs.Common.{refl, sym, subst}
-use Rattle.half_journal.specs.States as journals
+use Rattle.commit_journal.specs.States as journals
 use Rattle.cloud_disk.specs.Disk.{Disk, AreEnds}
 use Rattle.cloud_disk.proofs.Standing.{on_ended}
 use Rattle.cloud_disk.proofs.disk.CloudDisk.reset.Goals as goal

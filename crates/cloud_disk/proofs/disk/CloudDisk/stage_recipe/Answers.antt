@@ -1,5 +1,5 @@
 use Rattle.std.proofs.Common.{refl, sym, subst}
-use Rattle.half_journal.specs.States as journals
+use Rattle.commit_journal.specs.States as journals
 use Rattle.cloud_disk.specs.Disk.{Disk, IsOn, Stages}
 use Rattle.cloud_disk.proofs.Standing.{on_alike, stage_area, stage_end, stage_kept, stages_more}
 use Rattle.cloud_disk.proofs.disk.CloudDisk.stage_recipe.Goals as goal

@@ -1,6 +1,6 @@
 use Rattle.std.proofs.Common.{refl, sym, ap, subst}
 use Rattle.cloud_areas.specs.ContainerLog.States as logs
-use Rattle.half_journal.specs.States as journals
+use Rattle.commit_journal.specs.States as journals
 use Rattle.cloud_disk.specs.Disk.{Disk, IsOn}
 use Rattle.cloud_disk.proofs.Standing.{on_alike}
 use Rattle.cloud_disk.proofs.disk.CloudDisk.unstage.Goals as goal

@@ -1,7 +1,7 @@
 use Rattle.std.proofs.Common.{refl, sym, subst, arith, inl, inr}
 use Rattle.std.proofs.lemmas.Bool.{ltb-true}
-use Rattle.cloud_server.specs.UserDedup.Link.{LeavesOthers, serves}
-use Rattle.cloud_server.specs.CloudAreas.Peers.{MayBecome}
+use Rattle.share_server.specs.UserDedup.Link.{LeavesOthers, serves}
+use Rattle.share_server.specs.CloudAreas.Peers.{MayBecome}
 use Rattle.local_link.specs.Tells.{server_at, rooms_at, header_at, telling, LeavesRest}
 use Rattle.local_link.proofs.Standing.{rest_by, others_by, rooms_same, here_now, images_now}
 use Rattle.local_link.proofs.Executing.{goes_on, refused_clouds, clouds_counted, refuses, refused_reply, images_since, images_stay, peer_counted, images_counted, replied_here, uncounted_here, called_here, closed_here, none_called, calls_counted, replied_counted, closed_counted, total_counted, opened_here, found_here, opened_counted, found_counted, rooms_counted, behind_here, behind_counted, enters_here, enters_counted, first_here, first_counted}

@@ -1,5 +1,5 @@
 use Rattle.std.proofs.Common.{◌<◌, sym, subst}
-use Rattle.cloud_server.specs.CdBase.shape.Shape.{Shape}
+use Rattle.share_server.specs.CdBase.shape.Shape.{Shape}
 use Rattle.local_link.specs.Calls.{MayServe}
 use Rattle.local_link.proofs.Standing.{closed_stands}
 use Rattle.local_link.proofs.link.LocalLink.over.Goals as goal

@@ -1,5 +1,5 @@
 use Rattle.std.proofs.Common.{refl, ap}
-use Rattle.cloud_server.specs.OpenStore.store.OpenStore.{OpenStore}
+use Rattle.share_server.specs.CloudStore.store.CloudStore.{CloudStore}
 use Rattle.local_link.proofs.Placing.{stands_at}
 use Rattle.local_link.proofs.servers.Servers.close.Goals as goal
 
@@ -12,5 +12,5 @@ returns c = (
     list = refl;
     shape = refl;
   },
-  record { same = ap (λ (s : OpenStore). s.header) c.close.ensures.same; shut = c.close.ensures.closed },
+  record { same = ap (λ (s : CloudStore). s.header) c.close.ensures.same; shut = c.close.ensures.closed },
 )

@@ -1,5 +1,5 @@
 use Rattle.std.proofs.Common.{refl, ap}
-use Rattle.cloud_server.specs.Serving.{number_of}
+use Rattle.share_server.specs.Serving.{number_of}
 use Rattle.local_link.proofs.Passing.{shut_behind}
 use Rattle.local_link.proofs.Placing.{stands_at}
 use Rattle.local_link.proofs.servers.Servers.execute.Goals as goal

@@ -1,5 +1,5 @@
 use Rattle.std.proofs.Common.{◌+◌, refl, subst, sym, arith, List}
-use Rattle.cloud_server.specs.declared.server.Server.{Server}
+use Rattle.share_server.specs.declared.server.Server.{Server}
 use Rattle.local_link.proofs.Placing.{Made, none_made, one_made}
 use Rattle.local_link.proofs.servers.Servers.make.Goals as goal
 

@@ -1,7 +1,7 @@
 use Rattle.std.proofs.Common.{sym, ◌∙◌}
-use Rattle.half_journal.proofs.CdEdges.Moments.{told_on}
+use Rattle.commit_journal.proofs.CdEdges.Moments.{told_on}
 use Rattle.upload_job.specs.Upload.{FileVersion}
-use Rattle.half_journal.specs.States as half
+use Rattle.commit_journal.specs.States as half
 use Rattle.upload_spool.specs.States.{SpoolState, state_of}
 use Rattle.upload_spool.proofs.Begins.{none_kept, begun_kept, spool_begun, none_on}
 use Rattle.upload_spool.proofs.spool.Spool.begin.Goals as goal

@@ -3,8 +3,8 @@ use Rattle.std.specs.Prelude.{All}
 use Rattle.std.specs.List.{IsDistinct}
 use Rattle.grammar.specs.CdBase.ids.CloudNo.{CloudNo}
 use Rattle.grammar.specs.CdBase.Numbers.{numbers_of}
-use Rattle.half_journal.proofs.CdEdges.Moments.{told_on}
-use Rattle.half_journal.specs.States as half
+use Rattle.commit_journal.proofs.CdEdges.Moments.{told_on}
+use Rattle.commit_journal.specs.States as half
 use Rattle.upload_spool.specs.States.{SpoolState, state_of}
 use Rattle.upload_spool.specs.Spools.{spool_chain}
 use Rattle.upload_spool.proofs.Lanes.{distinct_more, below_more}

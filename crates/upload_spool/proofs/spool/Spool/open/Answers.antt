@@ -1,9 +1,9 @@
 use Rattle.std.proofs.Common.{Option, Ok, Err, Some, None, subst}
 use Rattle.std.specs.Prelude.{IfSome}
-use Rattle.half_journal.specs.CdEdges.Disk.{IsImage, reads}
-use Rattle.half_journal.proofs.CdEdges.Moments.{told_on}
-use Rattle.half_journal.specs.CdEdges.area.Area.TheVariants.{Journal}
-use Rattle.half_journal.specs.States as half
+use Rattle.commit_journal.specs.CdEdges.Disk.{IsImage, reads}
+use Rattle.commit_journal.proofs.CdEdges.Moments.{told_on}
+use Rattle.commit_journal.specs.CdEdges.area.Area.TheVariants.{Journal}
+use Rattle.commit_journal.specs.States as half
 use Rattle.upload_spool.specs.Opens.{answer_of}
 use Rattle.upload_spool.specs.Steps.{FoundIs, HasSpoolEnded}
 use Rattle.upload_spool.specs.declared.opening.Records.{Records}

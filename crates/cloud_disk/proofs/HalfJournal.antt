@@ -1,2 +1,0 @@
--- What half_journal has proved, for callers.
-pub use Rattle.half_journal.proofs.Kept

@@ -1,2 +1,0 @@
--- What serve_command has proved, for callers.
-pub use Rattle.serve_command.proofs.CloudServer

@@ -1,5 +1,0 @@
-use Rattle.cloud_opening.proofs.Written.{written_as}
-use Rattle.cloud_opening.proofs.lines.write_shut.Goals as goal
-
-pub returns : goal.returns
-returns g c = written_as _ _ _ _ _ _ c.ending_of-due.ensures.line c.ending_of-due.ensures.status c.write_last.ensures

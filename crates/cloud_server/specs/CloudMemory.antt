@@ -1,3 +1,0 @@
--- What cloud_memory says, for callers.
-pub use Rattle.blob_copy.specs.StoreOpening.CloudMemory.Memory
-pub use Rattle.blob_copy.specs.StoreOpening.CloudMemory.Rooms

@@ -1,0 +1,15 @@
+pub mod Carrying
+pub mod DiskProofs
+pub mod Fields
+pub mod Growing
+pub mod Held
+pub mod Keeping
+pub mod Moving
+pub mod Next
+pub mod Preparing
+pub mod Putting
+pub mod Rooming
+pub mod Stepping
+pub mod JournalStart
+pub mod CloudOpening
+pub mod Checkpoints

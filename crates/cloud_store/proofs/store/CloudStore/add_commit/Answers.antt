@@ -1,0 +1,269 @@
+use Rattle.std.proofs.Common.{◌≡◌, ◌≤◌, ℕ, [], ◌∷◌, ◌++◌, inl, Err, sym, ap, ◌∙◌, subst, arith, ◌+◌, IsTrue, refl}
+use Rattle.checkpoints.proofs.CdEdges.Moments.{started}
+use Rattle.std.specs.Prelude.{◌-◌, ◌^◌, min}
+use Rattle.cloud_store.specs.Adding.{IsTooLong}
+use Rattle.checkpoints.specs.CloudMemory.Steps.{with_commit}
+use Rattle.checkpoints.specs.JournalStart.start.Header.{Header}
+use Rattle.checkpoints.specs.RecordBody.Spelling as bodies
+use Rattle.checkpoints.specs.RecordBody.Spelling.{body_bytes}
+use Rattle.checkpoints.specs.UserDedup.command.Command.TheVariants as asked
+use Rattle.checkpoints.specs.CloudAreas.Adding.{with_record}
+use Rattle.checkpoints.specs.CloudAreas.Standing.{Chain}
+use Rattle.checkpoints.specs.CloudDisk.Disk.{IsOn, KeepsOrAdds, StandsForEither}
+use Rattle.checkpoints.proofs.DiskProofs.Standing.{images_on}
+use Rattle.checkpoints.specs.CloudMemory.Rooms.{memory_of, full_commit}
+use Rattle.checkpoints.specs.declared.whole.Unsettled.{Unsettled}
+use Rattle.checkpoints.specs.Known.{IfLong}
+use Rattle.cloud_store.specs.declared.store.CloudStore.{CloudStore}
+use Rattle.cloud_store.specs.Store.{Serves, Fits, chain_with_room}
+use Rattle.cloud_store.proofs.Rooming.{chain_next}
+use Rattle.cloud_store.proofs.Next.{images_both, images_kept}
+use Rattle.checkpoints.specs.ContainerLog.Laying.{Placed}
+use Rattle.checkpoints.specs.ContainerLog.Places.{container_len, place_of}
+use Rattle.checkpoints.proofs.RecordBody.FirstSpelled.{length-commit}
+use Rattle.checkpoints.specs.UserDedup.Owning.{fps_in}
+use Rattle.checkpoints.proofs.MemoryProofs.FullRooms.{full_commit_is}
+use Rattle.cloud_store.specs.Adding.{commit_body}
+use Rattle.cloud_store.proofs.Fields.{commit_fits}
+use Rattle.cloud_store.proofs.Moving.{commit_moved}
+use Rattle.cloud_store.proofs.Preparing.{ends_near}
+use Rattle.cloud_store.proofs.Stepping.{staged_small}
+use Rattle.checkpoints.specs.CdEdges.Disk.{moment}
+use Rattle.checkpoints.proofs.CdEdges.Moments.{told_on}
+use Rattle.checkpoints.specs.ContainerLog.States as logs
+use Rattle.checkpoints.specs.CloudDisk.Held.{flush_moments}
+use Rattle.checkpoints.specs.CloudDisk.Disk.{KeepsOrGrows as GrowsBy}
+use Rattle.cloud_store.proofs.Growing.{grows_both, grows_sums, grows_still}
+use Rattle.checkpoints.specs.CloudDisk.Disk.{Disk}
+use Rattle.cloud_store.proofs.Keeping.{serves_on}
+use Rattle.cloud_store.proofs.store.CloudStore.add_commit.Goals as goal
+
+pub returns-in-Some-clause-any_moment : goal.returns-in-Some-clause-any_moment
+returns-in-Some-clause-any_moment g c list chain bytes p =
+    let store = c.args.self.now in let header = store.header in let number = header.cloud.0 in
+    let user = c.args.user in let tag = c.args.tag in let version = c.args.version in let fp = c.args.fp in let len = c.args.len in let command = asked.Commit user tag version bytes in
+    let c0 = g.V.Shelf.cloud_at c.args.shelf.now number in
+    let s = p.serves in let k = s.known in
+    started c0 (StandsForEither header list command) (λ image left. inl (images_on header list chain store.disk c0 k.on image left))
+
+pub returns-in-Some-clause-full_list : goal.returns-in-Some-clause-full_list
+returns-in-Some-clause-full_list g c list chain bytes p =
+    let store = c.args.self.now in let header = store.header in let number = header.cloud.0 in
+    let user = c.args.user in let tag = c.args.tag in let version = c.args.version in let fp = c.args.fp in let len = c.args.len in let command = asked.Commit user tag version bytes in
+    let c0 = g.V.Shelf.cloud_at c.args.shelf.now number in
+    let s = p.serves in let k = s.known in
+    let is = ap (λ (n : ℕ). full_commit header.rooms user (memory_of store.memory) n) (sym p.len_is) ∙ full_commit_is header.shape number header.rooms list user (memory_of store.memory) k.on.read.sound k.remembers k.within tag version bytes in
+    sym is ∙ sym c.in-Some.ensures
+
+pub returns-in-Err-Long-clause-full_list : goal.returns-in-Err-Long-clause-full_list
+returns-in-Err-Long-clause-full_list g c list chain bytes p =
+    let store = c.args.self.now in let header = store.header in let number = header.cloud.0 in
+    let user = c.args.user in let tag = c.args.tag in let version = c.args.version in let fp = c.args.fp in let len = c.args.len in let command = asked.Commit user tag version bytes in
+    let c0 = g.V.Shelf.cloud_at c.args.shelf.now number in
+    let s = p.serves in let k = s.known in
+    let is = ap (λ (n : ℕ). full_commit header.rooms user (memory_of store.memory) n) (sym p.len_is) ∙ full_commit_is header.shape number header.rooms list user (memory_of store.memory) k.on.read.sound k.remembers k.within tag version bytes in
+    sym is ∙ sym c.in-None.ensures
+
+pub returns-in-Err-Failed-clause-full_list : goal.returns-in-Err-Failed-clause-full_list
+returns-in-Err-Failed-clause-full_list g c list chain bytes p =
+    let store = c.args.self.now in let header = store.header in let number = header.cloud.0 in
+    let user = c.args.user in let tag = c.args.tag in let version = c.args.version in let fp = c.args.fp in let len = c.args.len in let command = asked.Commit user tag version bytes in
+    let c0 = g.V.Shelf.cloud_at c.args.shelf.now number in
+    let s = p.serves in let k = s.known in
+    let is = ap (λ (n : ℕ). full_commit header.rooms user (memory_of store.memory) n) (sym p.len_is) ∙ full_commit_is header.shape number header.rooms list user (memory_of store.memory) k.on.read.sound k.remembers k.within tag version bytes in
+    sym is ∙ sym c.in-None.ensures
+
+pub returns-in-Ok-add_roomy-clause-full_list : goal.returns-in-Ok-add_roomy-clause-full_list
+returns-in-Ok-add_roomy-clause-full_list g c list chain bytes p =
+    let store = c.args.self.now in let header = store.header in let number = header.cloud.0 in
+    let user = c.args.user in let tag = c.args.tag in let version = c.args.version in let fp = c.args.fp in let len = c.args.len in let command = asked.Commit user tag version bytes in
+    let c0 = g.V.Shelf.cloud_at c.args.shelf.now number in
+    let s = p.serves in let k = s.known in
+    let is = ap (λ (n : ℕ). full_commit header.rooms user (memory_of store.memory) n) (sym p.len_is) ∙ full_commit_is header.shape number header.rooms list user (memory_of store.memory) k.on.read.sound k.remembers k.within tag version bytes in
+    sym is ∙ sym c.in-None.ensures
+
+pub returns-in-Err-clause-full_list : goal.returns-in-Err-clause-full_list
+returns-in-Err-clause-full_list g c list chain bytes p =
+    let store = c.args.self.now in let header = store.header in let number = header.cloud.0 in
+    let user = c.args.user in let tag = c.args.tag in let version = c.args.version in let fp = c.args.fp in let len = c.args.len in let command = asked.Commit user tag version bytes in
+    let c0 = g.V.Shelf.cloud_at c.args.shelf.now number in
+    let s = p.serves in let k = s.known in
+    let is = ap (λ (n : ℕ). full_commit header.rooms user (memory_of store.memory) n) (sym p.len_is) ∙ full_commit_is header.shape number header.rooms list user (memory_of store.memory) k.on.read.sound k.remembers k.within tag version bytes in
+    sym is ∙ sym c.in-None.ensures
+
+pub returns-in-Err-Long-clause-never_long : goal.returns-in-Err-Long-clause-never_long
+returns-in-Err-Long-clause-never_long g c =
+    subst (λ (why : Unsettled). IfLong {A = Unit {0}} (Err why) ⊥) c.in-Err-Long.field-0-is (c.in-Err-Long.ensures.never_long (omega arith))
+
+pub returns-in-Err-Failed-clause-any_moment : goal.returns-in-Err-Failed-clause-any_moment
+returns-in-Err-Failed-clause-any_moment g c list chain bytes p =
+    let store = c.args.self.now in let header = store.header in let number = header.cloud.0 in
+    let user = c.args.user in let tag = c.args.tag in let version = c.args.version in let fp = c.args.fp in let len = c.args.len in let command = asked.Commit user tag version bytes in
+    let c0 = g.V.Shelf.cloud_at c.args.shelf.now number in
+    let s = p.serves in let k = s.known in
+    images_kept header list command c0 (g.V.Shelf.cloud_at c.have_room.new.shelf number) (c.have_room.ensures.any_moment list chain s)
+
+pub returns-in-Ok-add_roomy-clause-any_moment : goal.returns-in-Ok-add_roomy-clause-any_moment
+returns-in-Ok-add_roomy-clause-any_moment g c list chain bytes p =
+    let store = c.args.self.now in let header = store.header in let number = header.cloud.0 in
+    let user = c.args.user in let tag = c.args.tag in let version = c.args.version in let fp = c.args.fp in let len = c.args.len in let command = asked.Commit user tag version bytes in
+    let c0 = g.V.Shelf.cloud_at c.args.shelf.now number in
+    let s = p.serves in let k = s.known in
+    let mid = c.have_room.new.store in let keeps = c.in-Ok.ensures.same in
+    let at = g.V.Shelf.cloud_at c.have_room.new.shelf in let later = g.V.Shelf.cloud_at c.add_roomy.new.shelf in
+    let header_is : mid.header ≡ header = ap (λ (x : CloudStore). x.header) keeps.same in
+    let d = chain_with_room store list chain 89 in let c1 = at mid.header.cloud.0 in
+    let serves = subst (λ (h : Header). Serves list d mid (at h.cloud.0)) (sym header_is) (c.in-Ok.ensures.serves list chain s) in
+    let moved = commit_moved list chain d store mid c0 c1 keeps serves user tag version fp len (fps_in c.args.recipe.now.items) bytes p in
+    images_both header list command c0 (at number) (later number) (c.have_room.ensures.any_moment list chain s)
+    (subst (λ (h : Header). KeepsOrAdds h list command (at h.cloud.0) (later h.cloud.0)) header_is (c.add_roomy.ensures.any_moment list d bytes moved))
+
+pub returns-in-Err-clause-any_moment : goal.returns-in-Err-clause-any_moment
+returns-in-Err-clause-any_moment g c list chain bytes p =
+    let store = c.args.self.now in let header = store.header in let number = header.cloud.0 in
+    let user = c.args.user in let tag = c.args.tag in let version = c.args.version in let fp = c.args.fp in let len = c.args.len in let command = asked.Commit user tag version bytes in
+    let c0 = g.V.Shelf.cloud_at c.args.shelf.now number in
+    let s = p.serves in let k = s.known in
+    let mid = c.have_room.new.store in let keeps = c.in-Ok.ensures.same in
+    let at = g.V.Shelf.cloud_at c.have_room.new.shelf in let later = g.V.Shelf.cloud_at c.add_roomy.new.shelf in
+    let header_is : mid.header ≡ header = ap (λ (x : CloudStore). x.header) keeps.same in
+    let d = chain_with_room store list chain 89 in let c1 = at mid.header.cloud.0 in
+    let serves = subst (λ (h : Header). Serves list d mid (at h.cloud.0)) (sym header_is) (c.in-Ok.ensures.serves list chain s) in
+    let moved = commit_moved list chain d store mid c0 c1 keeps serves user tag version fp len (fps_in c.args.recipe.now.items) bytes p in
+    images_both header list command c0 (at number) (later number) (c.have_room.ensures.any_moment list chain s)
+    (subst (λ (h : Header). KeepsOrAdds h list command (at h.cloud.0) (later h.cloud.0)) header_is (c.add_roomy.ensures.any_moment list d bytes moved))
+
+pub returns-in-Ok-add_roomy-clause-added : goal.returns-in-Ok-add_roomy-clause-added
+returns-in-Ok-add_roomy-clause-added g c list chain bytes p =
+    let store = c.args.self.now in let header = store.header in let number = header.cloud.0 in
+    let user = c.args.user in let tag = c.args.tag in let version = c.args.version in let fp = c.args.fp in let len = c.args.len in let command = asked.Commit user tag version bytes in
+    let c0 = g.V.Shelf.cloud_at c.args.shelf.now number in
+    let s = p.serves in let k = s.known in
+    let mid = c.have_room.new.store in let keeps = c.in-Ok.ensures.same in
+    let at = g.V.Shelf.cloud_at c.have_room.new.shelf in let later = g.V.Shelf.cloud_at c.add_roomy.new.shelf in
+    let header_is : mid.header ≡ header = ap (λ (x : CloudStore). x.header) keeps.same in
+    let d = chain_with_room store list chain 89 in let c1 = at mid.header.cloud.0 in
+    let serves = subst (λ (h : Header). Serves list d mid (at h.cloud.0)) (sym header_is) (c.in-Ok.ensures.serves list chain s) in
+    let moved = commit_moved list chain d store mid c0 c1 keeps serves user tag version fp len (fps_in c.args.recipe.now.items) bytes p in
+    let near = ends_near header list chain store.commands store.region store.memory store.disk c0 s c.requires.settled.header.rooms c.requires.settled.region in
+    let blob : Placed = record { place = place_of store.memory.recipes_end len; blob = bytes } in
+    let small = staged_small store.disk.recipes blob p.recipes in
+    let few : len ≤ container_len = omega (arith, small, p.len_is) in
+    let fits = commit_fits header.shape number list user tag version bytes fp len store.memory.recipes_end p.sound p.fp_is c.requires.some few near.1 in
+    let len_is = sym (length-commit (commit_body store user tag version fp len) fits) in
+    let got = c.in-Ok-add_roomy.ensures.added list d bytes moved in
+    let here = subst (λ (h : Header). Serves (list ++ command ∷ []) (with_record d (bodies.Commit (commit_body mid user tag version fp len)) (record { place = place_of mid.memory.recipes_end len; blob = bytes } ∷ [])) c.add_roomy.new.store (later h.cloud.0)) header_is got in
+    let same = subst (λ (x : CloudStore). Serves (list ++ command ∷ []) (with_record d (bodies.Commit (commit_body x user tag version fp len)) (record { place = place_of x.memory.recipes_end len; blob = bytes } ∷ [])) c.add_roomy.new.store (later number)) keeps.same here in
+    subst (λ (n : ℕ). Serves (list ++ command ∷ []) (with_record (chain_with_room store list chain n) (bodies.Commit (commit_body store user tag version fp len)) (record { place = place_of store.memory.recipes_end len; blob = bytes } ∷ [])) c.add_roomy.new.store (later number)) len_is same
+
+pub returns-in-Ok-add_roomy-clause-checkpoint_first : goal.returns-in-Ok-add_roomy-clause-checkpoint_first
+returns-in-Ok-add_roomy-clause-checkpoint_first g c list chain bytes p not =
+    let store = c.args.self.now in let header = store.header in let number = header.cloud.0 in
+    let user = c.args.user in let tag = c.args.tag in let version = c.args.version in let fp = c.args.fp in let len = c.args.len in let command = asked.Commit user tag version bytes in
+    let c0 = g.V.Shelf.cloud_at c.args.shelf.now number in
+    let s = p.serves in let k = s.known in
+    let mid = c.have_room.new.store in let keeps = c.in-Ok.ensures.same in
+    let at = g.V.Shelf.cloud_at c.have_room.new.shelf in let later = g.V.Shelf.cloud_at c.add_roomy.new.shelf in
+    let header_is : mid.header ≡ header = ap (λ (x : CloudStore). x.header) keeps.same in
+    let d = chain_with_room store list chain 89 in let c1 = at mid.header.cloud.0 in
+    let serves = subst (λ (h : Header). Serves list d mid (at h.cloud.0)) (sym header_is) (c.in-Ok.ensures.serves list chain s) in
+    let moved = commit_moved list chain d store mid c0 c1 keeps serves user tag version fp len (fps_in c.args.recipe.now.items) bytes p in
+    let near = ends_near header list chain store.commands store.region store.memory store.disk c0 s c.requires.settled.header.rooms c.requires.settled.region in
+    let blob : Placed = record { place = place_of store.memory.recipes_end len; blob = bytes } in
+    let small = staged_small store.disk.recipes blob p.recipes in
+    let few : len ≤ container_len = omega (arith, small, p.len_is) in
+    let fits = commit_fits header.shape number list user tag version bytes fp len store.memory.recipes_end p.sound p.fp_is c.requires.some few near.1 in
+    let len_is = sym (length-commit (commit_body store user tag version fp len) fits) in
+    let fresh = chain_next store list chain 89 (λ fits. not (subst (λ (n : ℕ). Fits store n) len_is fits)) in
+    record {
+      at = at number;
+      disk = mid.disk;
+      on =
+          subst (λ (e : Chain). IsOn header list e mid.disk (at number)) fresh
+          (subst (λ (h : Header). IsOn h list d mid.disk (at number)) header_is (c.in-Ok.ensures.serves list chain s).known.on);
+      until = c.have_room.ensures.only_journal list chain s;
+      since =
+          subst (λ (h : Header). KeepsOrAdds h list command (at h.cloud.0) (later h.cloud.0)) header_is (c.add_roomy.ensures.any_moment list d bytes moved);
+    }
+
+pub returns-in-Ok-add_roomy-clause-taken : goal.returns-in-Ok-add_roomy-clause-taken
+returns-in-Ok-add_roomy-clause-taken g c =
+    c.add_roomy.ensures.taken
+    ∙ ap (λ (x : CloudStore). with_commit (fps_in c.args.recipe.now.items) (commit_body x c.args.user c.args.tag c.args.version c.args.fp c.args.len) (memory_of x.memory)) c.in-Ok.ensures.same.same
+
+pub returns-in-Ok-add_roomy-clause-number : goal.returns-in-Ok-add_roomy-clause-number
+returns-in-Ok-add_roomy-clause-number g c =
+    c.in-Ok-add_roomy.ensures.number ∙ ap (λ (x : CloudStore). min (x.commands + 1) (2 ^ 64 - 1)) c.in-Ok.ensures.same.same
+
+pub returns-in-Err-Long-clause-long : goal.returns-in-Err-Long-clause-long
+returns-in-Err-Long-clause-long g c =
+    subst (λ (why : Unsettled). IfLong {A = Unit {0}} (Err why) (IsTooLong c.args.self.now 89)) c.in-Err-Long.field-0-is c.in-Err-Long.ensures.long
+
+pub returns-in-Ok-add_roomy-clause-chain : goal.returns-in-Ok-add_roomy-clause-chain
+returns-in-Ok-add_roomy-clause-chain g c =
+    let store = c.args.self.now in let header = store.header in let number = header.cloud.0 in
+    let c0 = g.V.Shelf.cloud_at c.args.shelf.now number in
+    let mid = c.have_room.new.store in let keeps = c.in-Ok.ensures.same in
+    let at = g.V.Shelf.cloud_at c.have_room.new.shelf in let later = g.V.Shelf.cloud_at c.add_roomy.new.shelf in
+    let header_is : mid.header ≡ header = ap (λ (x : CloudStore). x.header) keeps.same in
+    let grows = subst (λ (x : CloudStore). GrowsBy mid.disk (body_bytes (bodies.Commit (commit_body x c.args.user c.args.tag c.args.version c.args.fp c.args.len))) (at number) (later number)) keeps.same
+    (subst (λ (h : Header). GrowsBy mid.disk (body_bytes (bodies.Commit (commit_body mid c.args.user c.args.tag c.args.version c.args.fp c.args.len))) (at h.cloud.0) (later h.cloud.0)) header_is c.add_roomy.ensures.chain) in
+    grows_both store mid (body_bytes (bodies.Commit (commit_body store c.args.user c.args.tag c.args.version c.args.fp c.args.len))) c0 (at number) (later number) keeps.shares keeps.recipes c.requires.settled.disk.shares c.requires.settled.disk.recipes
+    (told_on c0 (at number) c.have_room.ensures.call.told) c.have_room.ensures.chain grows c.in-Ok.ensures.made
+
+pub returns-in-Err-clause-chain : goal.returns-in-Err-clause-chain
+returns-in-Err-clause-chain g c =
+    let store = c.args.self.now in let header = store.header in let number = header.cloud.0 in
+    let c0 = g.V.Shelf.cloud_at c.args.shelf.now number in
+    let mid = c.have_room.new.store in let keeps = c.in-Ok.ensures.same in
+    let at = g.V.Shelf.cloud_at c.have_room.new.shelf in let later = g.V.Shelf.cloud_at c.add_roomy.new.shelf in
+    let header_is : mid.header ≡ header = ap (λ (x : CloudStore). x.header) keeps.same in
+    let grows = subst (λ (x : CloudStore). GrowsBy mid.disk (body_bytes (bodies.Commit (commit_body x c.args.user c.args.tag c.args.version c.args.fp c.args.len))) (at number) (later number)) keeps.same
+    (subst (λ (h : Header). GrowsBy mid.disk (body_bytes (bodies.Commit (commit_body mid c.args.user c.args.tag c.args.version c.args.fp c.args.len))) (at h.cloud.0) (later h.cloud.0)) header_is c.add_roomy.ensures.chain) in
+    grows_both store mid (body_bytes (bodies.Commit (commit_body store c.args.user c.args.tag c.args.version c.args.fp c.args.len))) c0 (at number) (later number) keeps.shares keeps.recipes c.requires.settled.disk.shares c.requires.settled.disk.recipes
+    (told_on c0 (at number) c.have_room.ensures.call.told) c.have_room.ensures.chain grows c.in-Ok.ensures.made
+
+pub returns-in-Some-clause-chain : goal.returns-in-Some-clause-chain
+returns-in-Some-clause-chain g c =
+    let store = c.args.self.now in
+    grows_still store (body_bytes (bodies.Commit (commit_body store c.args.user c.args.tag c.args.version c.args.fp c.args.len))) (g.V.Shelf.cloud_at c.args.shelf.now store.header.cloud.0)
+
+pub returns-in-Some-clause-unadded : goal.returns-in-Some-clause-unadded
+returns-in-Some-clause-unadded g c = (ap (λ (d : Disk). record c.args.self.now { disk = d }) c.unstage.ensures.forgets, refl)
+
+pub returns-in-Some-clause-serves_still : goal.returns-in-Some-clause-serves_still
+returns-in-Some-clause-serves_still g c list chain cloud serves =
+    let store = c.args.self.now in let same = c.unstage.ensures.forgets in
+    serves_on list chain store c.unstage.new.self cloud cloud serves (c.unstage.ensures.on store.header list chain cloud serves.known.on) refl (ap (λ (d : Disk). d.shares.end) same) (ap (λ (d : Disk). d.recipes.end) same)
+
+pub returns-in-Err-Long-clause-chain : goal.returns-in-Err-Long-clause-chain
+returns-in-Err-Long-clause-chain g c =
+    let store = c.args.self.now in let number = store.header.cloud.0 in
+    grows_sums store (body_bytes (bodies.Commit (commit_body store c.args.user c.args.tag c.args.version c.args.fp c.args.len))) (g.V.Shelf.cloud_at c.args.shelf.now number) (g.V.Shelf.cloud_at c.have_room.new.shelf number) c.have_room.ensures.chain
+
+pub returns-in-Err-Failed-clause-chain : goal.returns-in-Err-Failed-clause-chain
+returns-in-Err-Failed-clause-chain g c =
+    let store = c.args.self.now in let number = store.header.cloud.0 in
+    grows_sums store (body_bytes (bodies.Commit (commit_body store c.args.user c.args.tag c.args.version c.args.fp c.args.len))) (g.V.Shelf.cloud_at c.args.shelf.now number) (g.V.Shelf.cloud_at c.have_room.new.shelf number) c.have_room.ensures.chain
+
+pub returns-in-Ok-add_roomy-clause-ends : goal.returns-in-Ok-add_roomy-clause-ends
+returns-in-Ok-add_roomy-clause-ends g c =
+    let keeps = c.in-Ok.ensures.same in let ends = c.in-Ok-add_roomy.ensures.ends in
+    record { shares = ends.shares ∙ ap logs.staged_end keeps.shares; recipes = ends.recipes ∙ ap logs.staged_end keeps.recipes }
+
+pub returns-in-Ok-add_roomy-clause-moments : goal.returns-in-Ok-add_roomy-clause-moments
+returns-in-Ok-add_roomy-clause-moments g c told fits =
+    let number = c.args.self.now.header.cloud.0 in let later = g.V.Shelf.cloud_at c.add_roomy.new.shelf in let disk = c.args.self.now.disk in
+    let at = g.V.Shelf.cloud_at c.have_room.new.shelf in
+    let still = c.have_room.ensures.untouched (fits) in
+    let run = subst (λ (x : CloudStore). IsTrue (at x.header.cloud.0).told → moment (later x.header.cloud.0) ≡ moment (at x.header.cloud.0) + flush_moments x.disk.shares + flush_moments x.disk.recipes + 4) still.0
+    c.in-Ok-add_roomy.ensures.moments in
+    subst (λ sh. IsTrue (g.V.Shelf.cloud_at sh number).told → moment (later number) ≡ moment (g.V.Shelf.cloud_at sh number) + flush_moments disk.shares + flush_moments disk.recipes + 4) still.1 run told
+
+pub returns-in-Err-Long-clause-any_moment : goal.returns-in-Err-Long-clause-any_moment
+returns-in-Err-Long-clause-any_moment g c list chain bytes p =
+    let store = c.args.self.now in let header = store.header in let number = header.cloud.0 in
+    let user = c.args.user in let tag = c.args.tag in let version = c.args.version in let fp = c.args.fp in let len = c.args.len in let command = asked.Commit user tag version bytes in
+    let c0 = g.V.Shelf.cloud_at c.args.shelf.now number in
+    let s = p.serves in let k = s.known in
+    images_kept header list command c0 (g.V.Shelf.cloud_at c.have_room.new.shelf number) (c.have_room.ensures.any_moment list chain s)

@@ -1,0 +1,10 @@
+pub mod Adding
+pub mod Checkpoints
+pub mod CloudAreas
+pub mod CloudDisk
+pub mod CloudMemory
+pub mod CommitJournal
+pub mod JournalHalves
+pub mod JournalStart
+pub mod Store
+pub mod CloudOpening

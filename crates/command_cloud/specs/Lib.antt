@@ -1,0 +1,15 @@
+pub mod BackupCommand
+pub mod CdEdges
+pub mod CloudAreas
+pub mod CloudMemory
+pub mod ShareServer
+pub mod CommitJournal
+pub mod JournalStart
+pub mod CloudStore
+pub mod Opened
+pub mod Opens
+pub mod Said
+pub mod ServeCommand
+pub mod Transcript
+pub mod Unhindered
+pub mod UserDedup

@@ -1,0 +1,2 @@
+-- What user_dedup says, for callers.
+pub use Rattle.cloud_opening.specs.UserDedup.command

@@ -1,6 +1,0 @@
-use Rattle.std.proofs.Common.{sym, ◌∙◌}
-use Rattle.half_journal.proofs.Same.{header_eq}
-use Rattle.half_journal.proofs.starts.is_same.Goals as goal
-
-pub returns-clause-same : goal.returns-clause-same
-returns-clause-same c e = header_eq c.args.one.now c.args.two.now (sym c.eq.ensures ∙ e)

@@ -1,2 +1,0 @@
--- What store_opening has proved, for callers.
-pub use Rattle.cloud_server.proofs.StoreOpening.OneStart

@@ -1,0 +1,3 @@
+-- What commit_journal says, for callers.
+pub use Rattle.share_server.specs.CommitJournal.Openings
+pub use Rattle.share_server.specs.CommitJournal.errors

@@ -1,3 +1,0 @@
--- What cloud_opening says, for callers.
-pub use Rattle.cloud_opening.specs.Opened
-pub use Rattle.cloud_opening.specs.Unhindered

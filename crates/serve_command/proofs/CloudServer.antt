@@ -1,2 +1,0 @@
--- What cloud_server has proved, for callers.
-pub use Rattle.cloud_server.proofs.NoCommands

@@ -1,2 +1,0 @@
--- What cloud_server has proved, for callers.
-pub use Rattle.local_link.proofs.CloudServer.NoCommands

@@ -1,0 +1,16 @@
+mod Appending
+mod Areas
+mod Bounds
+mod ByteLaws
+mod Copied
+mod Executed
+mod Headers
+pub mod NoCommands
+mod Openings
+mod Peers
+mod Refusing
+pub mod CloudOpening
+pub mod UserDedup
+pub mod Messages
+pub mod Recipe
+pub mod CdEdges

@@ -1,0 +1,2 @@
+-- What cloud_opening says, for callers.
+pub use Rattle.cloud_opening.specs.Synced

@@ -1,2 +1,0 @@
--- What store_opening says, for callers.
-pub use Rattle.store_opening.specs.Synced

@@ -1,5 +1,0 @@
-use Rattle.store_opening.proofs.OneOpening.{one_opening}
-use Rattle.store_opening.proofs.laws.law_of_openings.Goals as goal
-
-pub returns : goal.returns
-returns c = record { one = one_opening }

@@ -1,2 +1,0 @@
--- What cloud_areas says, for callers.
-pub use Rattle.cloud_disk.specs.CloudAreas.Standing

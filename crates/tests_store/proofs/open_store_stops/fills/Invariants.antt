@@ -1,5 +1,0 @@
-use Rattle.open_store.specs.Store.{IsSettled}
-use Rattle.tests_store.proofs.open_store_stops.fills.Given as goal
-
-abbrev pub invariant-loop : goal.invariant-loop
-invariant-loop l = IsSettled l.ground.store

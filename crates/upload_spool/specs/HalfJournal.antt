@@ -1,2 +1,0 @@
--- What half_journal says, for callers.
-pub use Rattle.half_journal.specs.declared.journal
