@@ -37,7 +37,7 @@ build() {
     log="$(mktemp)"
     # shellcheck disable=SC2064
     trap "rm -f '$log'" EXIT
-    echo "There is no program yet. Its ${#order[@]} crates are proved and built, which takes some 100 processor minutes the first time."
+    echo "There is no program yet. Its ${#order[@]} crates are proved and built, which takes some 75 processor minutes the first time."
     for name in "${order[@]}"; do
         at=$((at + 1))
         printf '  %2d of %d  %-18s' "$at" "${#order[@]}" "$name"
