@@ -26,33 +26,43 @@ place() {
     order+=("$1")
 }
 
-# Builds the program: each of its crates is proved, and then it is linked and run once.
+# Builds the program: its crates alone, without their tests and the edits that are to be refused, are proved in a copy, as many side by side
+# as there are processors; the program is then linked, and run once. Rattle keeps what is proved, so a build that was broken off goes on.
 build() {
-    local at=0 name log
+    local name at=0 processors
     command -v rt > /dev/null || {
         echo "there is no program at $CDSTORE, and no rt on the path to build it: install Rattle, or name a program by CDSTORE" >&2
         return 1
     }
+    processors="$(nproc)"
     place cdstore
-    log="$(mktemp)"
+    copy="$(mktemp -d)"
     # shellcheck disable=SC2064
-    trap "rm -f '$log'" EXIT
-    echo "There is no program yet. Its ${#order[@]} crates are proved and built, which takes some 75 processor minutes the first time."
+    trap "rm -rf '$copy'" EXIT
+    mkdir "$copy/.git" "$copy/crates"
+    cp "$top/HANDLES" "$copy"
     for name in "${order[@]}"; do
-        at=$((at + 1))
-        printf '  %2d of %d  %-18s' "$at" "${#order[@]}" "$name"
-        if [ "$name" = cdstore ]; then
-            (cd "$top/crates/cdstore" && rt run -- --version) > "$log" 2>&1
-        else
-            (cd "$top/crates/$name" && rt lib) > "$log" 2>&1
-        fi || {
-            printf "\n%s isn't proved:\n" "$name" >&2
-            tail -n 20 "$log" >&2
-            return 1
-        }
-        printf ' %3d:%02d\n' "$((SECONDS / 60))" "$((SECONDS % 60))"
+        echo "$name:${below[$name]}" >> "$copy/crates.txt"
+        cp -r "$top/crates/$name" "$copy/crates"
+        rm -rf "$copy/crates/$name/out" "$copy/crates/$name/must-fail"
     done
-    rm -f "$log"
+    echo "There is no program yet. Its ${#order[@]} crates are proved and built, which takes some 75 processor minutes the first time."
+    (
+        cd "$copy"
+        RT_JOBS="${RT_JOBS:-$((processors < 4 ? processors : 4))}" rt ci 2>&1 || touch "$copy/failed"
+    ) | tee "$copy/log" | while read -r name rest; do
+        [[ -n "${below[$name]+there}" && "$rest" =~ ^(proved$|is\ kept) ]] || continue
+        at=$((at + 1))
+        printf '  %2d of %d  %-18s %3d:%02d\n' "$at" "${#order[@]}" "$name" "$((SECONDS / 60))" "$((SECONDS % 60))"
+    done
+    [ ! -e "$copy/failed" ] || {
+        echo "the program isn't proved:" >&2
+        tail -n 40 "$copy/log" >&2
+        return 1
+    }
+    mkdir -p "$(dirname "$CDSTORE")"
+    cp "$copy/crates/cdstore/out/cdstore" "$CDSTORE"
+    rm -rf "$copy"
 }
 
 export CDSTORE="${CDSTORE:-$top/crates/cdstore/out/cdstore}"

@@ -95,5 +95,6 @@ pub trait Shelf {
         ensures total { faults self.new ≡ faults self.old };
 
     /// What a told cloud reads is one of its images.
-    ghost reads_image: { (shelf : Self) (number : ℕ) → IsTrue (cloud_at shelf number).told → IsImage (cloud_at shelf number).now (reads (cloud_at shelf number).now) };
+    ghost reads_image: { (shelf : Self) (number : ℕ) → IsTrue (cloud_at shelf number).told →
+        IsImage (cloud_at shelf number).now (reads (cloud_at shelf number).now) };
 }

@@ -49,7 +49,8 @@ pub fn lay_checkpoint<V: Shelf, R: CheckpointRecords>(
     ensures any_moment { KeepsOrSettles (state_of journal.old) header.now head.commands head.count head.region
         (R.to_come records.old) (V.cloud_at shelf.old cloud.0) (V.cloud_at shelf.new cloud.0) }
     ensures settled { HasSettled (state_of journal.old) (state_of journal.new) header.now
-        head.commands head.count head.region (R.to_come records.old) (V.cloud_at shelf.old cloud.0) (V.cloud_at shelf.new cloud.0) result }
+        head.commands head.count head.region (R.to_come records.old) (V.cloud_at shelf.old cloud.0)
+        (V.cloud_at shelf.new cloud.0) result }
     ensures others { OthersStay (V.cloud_at shelf.old cloud.0) (V.cloud_at shelf.new cloud.0) result }
     ensures stage { (state_of journal.new).stage ≡ stage_after AtEnd result }
     ensures gate { OnOk result ((state_of journal.new).current.gate + 1 ≡ 63 + records_len (R.to_come records.old)) }

@@ -125,8 +125,9 @@ pub record ReadsTold (header : Header) (old new : Cloud) (server : Option Server
 -- Only its cloud was touched, and nothing but the fate beside it; the shelf is the same one; the cloud went on from each peer that it stood
 -- for, by the reply that came, and without a reply it may have stayed; and whenever a crash came it left a list that the cloud might have settled
 -- as, or one with the command that the request adds. Whatever the cloud has, it isn't armed, its count of faults doesn't fall, and a reply that
--- came is one that some server gives to the request, Fault only where that count rose. Where the server was open and the request adds nothing, the reply is what its memory says; and so it is of a
--- told cloud whose areas open to a memory, whatever failed before.
+-- came is one that some server gives to the request, Fault only where that count rose. Where the server was open and
+-- the request adds nothing, the reply is what its memory says; and so it is of a told cloud whose areas open to a memory, whatever failed
+-- before.
 pub record PassesOn {V : Type 0} (clouds : V → ℕ → Cloud) (old : LocalLink V) (e : Exchange) (new : LocalLink V) : Type 0 where
   pub reached : e.cloud < old.servers.shape.n
   pub bytes : AreBytes e.content

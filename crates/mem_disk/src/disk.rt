@@ -24,7 +24,8 @@ pub struct MemDisk {
     pub synced: PerArea,
     pub ghost lie: { IsTrue (all_lie (log_of areas) notes.items) },
     pub ghost tracks: { IsTrue told → (area : Area) →
-        IsTracked (area_of areas area) (number_of synced area) (now_of nothing (history (log_of areas) notes.items) area) },
+        IsTracked (area_of areas area) (number_of synced area)
+        (now_of nothing (history (log_of areas) notes.items) area) },
 }
 
 // Adds a note where there is memory for it.

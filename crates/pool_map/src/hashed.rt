@@ -28,7 +28,8 @@ impl<K: Key, W> Model for HashTable<K, W> {
 
     ghost view = { λ t. t.pool };
 
-    ghost invariant = { λ t. IsHashed K.cmp K.word_of t.pool.slots t.chains.heads.items t.chains.next.items × (t.len ≡ count_by is_held t.pool.slots) };
+    ghost invariant = { λ t. IsHashed K.cmp K.word_of t.pool.slots t.chains.heads.items t.chains.next.items
+        × (t.len ≡ count_by is_held t.pool.slots) };
 }
 
 ghost use Rattle.std.specs.Prelude.{◌≡◌, length, replicate};

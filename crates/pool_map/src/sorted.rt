@@ -37,7 +37,8 @@ impl<K: Key, W> Model for SortedTable<K, W> {
 
     ghost view = { λ t. t.pool };
 
-    ghost invariant = { λ t. IsOrdered K.cmp t.pool.slots t.next.items × (t.len ≡ count_by is_held t.pool.slots) × IsHashed K.cmp K.word_of t.pool.slots t.chains.heads.items t.chains.next.items };
+    ghost invariant = { λ t. IsOrdered K.cmp t.pool.slots t.next.items × (t.len ≡ count_by is_held t.pool.slots)
+        × IsHashed K.cmp K.word_of t.pool.slots t.chains.heads.items t.chains.next.items };
 }
 
 ghost use Rattle.std.specs.Prelude.{◌≡◌, ◌+◌, ◌<◌, IfOk, IfErr, length, replicate, slice_index, slice_set};

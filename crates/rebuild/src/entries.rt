@@ -117,8 +117,10 @@ pub fn rebuild_entry<L: Link>(
         (EntryTold refill.shape refill.user refill.target.0 (serves L.tells link.old refill.target.0)
         (numbers_of clouds.now) (tag, version) result) }
     ensures hands_on { HandsOn (numbers_of clouds.now) result }
-    ensures asked { HasAskedToRebuild L.tells refill.target.0 (numbers_of clouds.now) link.old link.new (is_lost result) }
-    ensures lanes { BringsOwn L.tells refill.shape refill.user refill.target.0 (numbers_of clouds.now) link.old link.new }
+    ensures asked { HasAskedToRebuild L.tells refill.target.0 (numbers_of clouds.now) link.old
+        link.new (is_lost result) }
+    ensures lanes { BringsOwn L.tells refill.shape refill.user refill.target.0 (numbers_of clouds.now) link.old
+        link.new }
 {
     match find_version(
         alloc,

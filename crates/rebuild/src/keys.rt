@@ -78,8 +78,10 @@ pub fn rebuild_keys<L: Link>(
         (KeysTold refill.shape refill.user refill.target.0 (serves L.tells link.old refill.target.0)
         (numbers_of clouds.now) keys.now (progress_of rebuilt.old) (progress_of rebuilt.new) result) }
     ensures hands_on { HandsOn (numbers_of clouds.now) result }
-    ensures asked { HasAskedToRebuild L.tells refill.target.0 (numbers_of clouds.now) link.old link.new (is_lost result) }
-    ensures lanes { BringsOwn L.tells refill.shape refill.user refill.target.0 (numbers_of clouds.now) link.old link.new }
+    ensures asked { HasAskedToRebuild L.tells refill.target.0 (numbers_of clouds.now) link.old
+        link.new (is_lost result) }
+    ensures lanes { BringsOwn L.tells refill.shape refill.user refill.target.0 (numbers_of clouds.now) link.old
+        link.new }
     ensures counted { OnOk result (rebuilt.new.files + length rebuilt.new.skipped
         ≡ rebuilt.old.files + length rebuilt.old.skipped + length keys.now) }
 {

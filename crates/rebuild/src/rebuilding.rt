@@ -76,8 +76,10 @@ fn rebuild_pages<L: Link>(
         (λ turns before at after. RunsTo refill.shape refill.user refill.target.0
         (serves L.tells link.old refill.target.0) (numbers_of clouds.now) (whole rebuilt.new result) turns before at
         after) }
-    ensures asked { HasAskedToRebuild L.tells refill.target.0 (numbers_of clouds.now) link.old link.new (is_lost result) }
-    ensures lanes { BringsOwn L.tells refill.shape refill.user refill.target.0 (numbers_of clouds.now) link.old link.new }
+    ensures asked { HasAskedToRebuild L.tells refill.target.0 (numbers_of clouds.now) link.old
+        link.new (is_lost result) }
+    ensures lanes { BringsOwn L.tells refill.shape refill.user refill.target.0 (numbers_of clouds.now) link.old
+        link.new }
     ensures hands_on { HandsOn (numbers_of clouds.now) result }
 {
     let first = first_of(clouds);

@@ -30,9 +30,19 @@ impl<'a> Model for RecipeView<'a> {
 
     ghost Value = { Recipe };
 
-    ghost view = { λ v. record { name_len = v.name_len; name_share = v.name_share.now; file_len = v.file_len; items = items_in v.count v.items.now } };
+    ghost view = { λ v. record {
+      name_len = v.name_len;
+      name_share = v.name_share.now;
+      file_len = v.file_len;
+      items = items_in v.count v.items.now;
+    } };
 
-    ghost invariant = { λ v. LiesIn v.bytes.now v.count v.items.now (record { name_len = v.name_len; name_share = v.name_share.now; file_len = v.file_len; items = items_in v.count v.items.now }) };
+    ghost invariant = { λ v. LiesIn v.bytes.now v.count v.items.now (record {
+      name_len = v.name_len;
+      name_share = v.name_share.now;
+      file_len = v.file_len;
+      items = items_in v.count v.items.now;
+    }) };
 }
 
 // The item that bytes begin with.

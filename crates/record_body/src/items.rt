@@ -26,7 +26,11 @@ impl<'a> Model for KeptItems<'a> {
 
     ghost Value = { Walk };
 
-    ghost view = { λ w. record { body = w.body.now; at = w.at; items = read_items (times item_at w.count (drop w.at w.body.now)) } };
+    ghost view = { λ w. record {
+      body = w.body.now;
+      at = w.at;
+      items = read_items (times item_at w.count (drop w.at w.body.now));
+    } };
 
     ghost invariant = { λ w. AreItemsIn w.body.now w.at w.count };
 }

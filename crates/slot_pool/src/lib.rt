@@ -60,7 +60,8 @@ impl<T> Model for Pool<T> {
 
     ghost view = { λ p. record { slots = all_slots p.cells.items p.count; limits = p.limits.items } };
 
-    ghost invariant = { λ p. IsLaid p.cells.items p.count p.free.items p.used.items p.limits.items (vec_capacity p.cells) (vec_capacity p.free) × (p.empty ≡ Empty) };
+    ghost invariant = { λ p. IsLaid p.cells.items p.count p.free.items p.used.items p.limits.items
+        (vec_capacity p.cells) (vec_capacity p.free) × (p.empty ≡ Empty) };
 }
 
 impl<T> Content<T> {
