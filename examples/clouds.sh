@@ -9,7 +9,7 @@ set -eu
 top="$(cd "$(dirname "${BASH_SOURCE[0]}")/.." && pwd)"
 program="${CDSTORE:-$top/crates/cdstore/out/cdstore}"
 [ -x "$program" ] || {
-    echo "there is no program at $program: build it by 'rt run' in crates/cdstore, or name one by CDSTORE" >&2
+    echo "there is no program at $program: build it by examples/first_run.sh, or name one by CDSTORE" >&2
     exit 1
 }
 work="$(mktemp -d)"

@@ -50,8 +50,8 @@ build() {
     (
         cd "$copy"
         RT_JOBS="${RT_JOBS:-$((processors < 4 ? processors : 4))}" rt ci 2>&1 || touch "$copy/failed"
-    ) | tee "$copy/log" | while read -r name rest; do
-        [[ -n "${below[$name]+there}" && "$rest" =~ ^(proved$|is\ kept) ]] || continue
+    ) | tee "$copy/log" | while read -r mark name rest; do
+        [[ "$mark" = rt: && -n "$name" && -n "${below[$name]+there}" && "$rest" =~ ^(proved$|is\ kept) ]] || continue
         at=$((at + 1))
         printf '  %2d of %d  %-18s %3d:%02d\n' "$at" "${#order[@]}" "$name" "$((SECONDS / 60))" "$((SECONDS % 60))"
     done
