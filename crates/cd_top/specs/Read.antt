@@ -25,6 +25,17 @@ pub record Around : Type 0 where
   pub old : ℕ → Cloud
   pub new : ℕ → Cloud
 
+-- a call by the count of its sink, and the count and the clouds of its shelf, each before and after
+abbrev pub around_call : ℕ → ℕ → ℕ → ℕ → (ℕ → Cloud) → (ℕ → Cloud) → Around
+around_call sink sink_after total total_after old new = record {
+  sink_before = sink;
+  sink_after = sink_after;
+  total_before = total;
+  total_after = total_after;
+  old = old;
+  new = new;
+}
+
 -- the shelf alone
 abbrev pub outside : Around → Outside
 outside c = record {

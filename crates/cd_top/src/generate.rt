@@ -4,6 +4,7 @@ ghost use Rattle.std.specs.Prelude.{◌≡◌};
 ghost use Rattle.command_words.specs.Commands.{FitsSession};
 ghost use Rattle.command_words.specs.Views.{asked_session};
 ghost use Rattle.cd_top.specs.Generate.{IsGenerated};
+ghost use Rattle.cd_top.specs.Read.{around_call};
 
 use crate::ending::finish;
 use command_words::GenerateWords;
@@ -20,14 +21,10 @@ pub fn generate_in<K: Sink, V: Shelf>(
     shelf: &mut V,
 ) -> u8
     requires { FitsSession (asked_session asked.now) }
-    ensures { IsGenerated result (record {
-      sink_before = K.faults sink.old;
-      sink_after = K.faults sink.new;
-      total_before = V.faults shelf.old;
-      total_after = V.faults shelf.new;
-      old = V.cloud_at shelf.old;
-      new = V.cloud_at shelf.new;
-    }) (asked_session asked.now) (K.written sink.old) (K.written sink.new) }
+    ensures { IsGenerated result
+        (around_call (K.faults sink.old) (K.faults sink.new) (V.faults shelf.old) (V.faults shelf.new)
+        (V.cloud_at shelf.old) (V.cloud_at shelf.new)) (asked_session asked.now)
+        (K.written sink.old) (K.written sink.new) }
 {
     match shelf.root(asked.directory) {
         Ok(()) => {}

@@ -6,7 +6,7 @@ ghost use Rattle.two_worlds.specs.Transcript.Endings.{ending_text as text_of_end
 ghost use Rattle.read_command.specs.Ends.{CountsSink, IsOfOpening};
 ghost use Rattle.command_words.specs.Commands.{FitsRead};
 ghost use Rattle.command_words.specs.Views.{asked_read};
-ghost use Rattle.cd_top.specs.Read.{IsClosed, IsVersionRead, last_line as line_due, status_of as status_due};
+ghost use Rattle.cd_top.specs.Read.{IsClosed, IsVersionRead, around_call, last_line as line_due, status_of as status_due};
 
 use crate::ending::{LastErr, write_last};
 use command_words::ReadWords;
@@ -87,14 +87,10 @@ pub fn read_in<K: Sink, V: Shelf>(
     shelf: &mut V,
 ) -> u8
     requires { FitsRead (asked_read asked.now) }
-    ensures { IsVersionRead result (record {
-      sink_before = K.faults sink.old;
-      sink_after = K.faults sink.new;
-      total_before = V.faults shelf.old;
-      total_after = V.faults shelf.new;
-      old = V.cloud_at shelf.old;
-      new = V.cloud_at shelf.new;
-    }) (asked_read asked.now) (K.written sink.old) (K.written sink.new) }
+    ensures { IsVersionRead result
+        (around_call (K.faults sink.old) (K.faults sink.new) (V.faults shelf.old) (V.faults shelf.new)
+        (V.cloud_at shelf.old) (V.cloud_at shelf.new)) (asked_read asked.now)
+        (K.written sink.old) (K.written sink.new) }
 {
     match shelf.root(asked.directory) {
         Ok(()) => {}

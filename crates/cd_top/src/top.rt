@@ -6,7 +6,7 @@ ghost use Rattle.command_words.specs.Asked.{ForAudit, ForBackup, ForCheck, ForDe
 ghost use Rattle.command_words.specs.Asked.{ForMigrate, ForResume, ForServe, ForSpool};
 ghost use Rattle.command_words.specs.Commands.{IsAnyCommand, IsCommand};
 ghost use Rattle.command_words.specs.Views.{asked_of};
-ghost use Rattle.generated_session.specs.ReplayCore.Endings.{ReplayCall};
+ghost use Rattle.generated_session.specs.ReplayCore.Endings.{ReplayCall, replay_call};
 ghost use Rattle.cd_top.specs.Complete.{IsReplayUnhindered};
 ghost use Rattle.spool_command.specs.BackupCommand.Reading.{input_of};
 ghost use Rattle.spool_command.specs.BackupCommand.Writing.{output_of as output_by};
@@ -19,7 +19,7 @@ ghost use Rattle.cd_top.specs.Generate.{IsGenerated};
 ghost use Rattle.cd_top.specs.Migrate.{HasMigratedOrCause};
 ghost use Rattle.cd_top.specs.Serve.{HasServedOrCause, serving};
 ghost use Rattle.cd_top.specs.Spool.{Resumes, Spools, beside};
-ghost use Rattle.cd_top.specs.Read.{Around, IsVersionRead};
+ghost use Rattle.cd_top.specs.Read.{Around, IsVersionRead, around_call};
 ghost use Rattle.cd_top.specs.Reclaim.{HasReclaimedOrCause};
 ghost use Rattle.cd_top.specs.Replay.{IsReplay, IsReplayed};
 
@@ -45,18 +45,10 @@ fn replay_in<S: Source, K: Sink, V: Shelf>(
     sink: &mut K,
     shelf: &mut V,
 ) -> u8
-    ensures { IsReplayed result (record {
-      script = S.left source.old;
-      left = S.left source.new;
-      source_before = S.faults source.old;
-      source_after = S.faults source.new;
-      sink_before = K.faults sink.old;
-      sink_after = K.faults sink.new;
-      total_before = V.faults shelf.old;
-      total_after = V.faults shelf.new;
-      old = V.cloud_at shelf.old;
-      new = V.cloud_at shelf.new;
-    }) (K.written sink.old) (K.written sink.new) }
+    ensures { IsReplayed result
+        (replay_call (S.left source.old) (S.left source.new) (S.faults source.old) (S.faults source.new)
+        (K.faults sink.old) (K.faults sink.new) (V.faults shelf.old) (V.faults shelf.new)
+        (V.cloud_at shelf.old) (V.cloud_at shelf.new)) (K.written sink.old) (K.written sink.new) }
 {
     match shelf.root(directory) {
         Ok(()) => {}
@@ -77,26 +69,13 @@ fn carry_out<S: Source, K: Sink, V: Shelf, P: Ports>(
 ) -> u8
     requires { IsFit (asked_of command.now) }
     ensures { Promises (asked_of command.now) (record {
-      replayed = (ports.new ≡ ports.old) × IsReplayed result (record {
-        script = S.left source.old;
-        left = S.left source.new;
-        source_before = S.faults source.old;
-        source_after = S.faults source.new;
-        sink_before = K.faults sink.old;
-        sink_after = K.faults sink.new;
-        total_before = V.faults shelf.old;
-        total_after = V.faults shelf.new;
-        old = V.cloud_at shelf.old;
-        new = V.cloud_at shelf.new;
-      }) (K.written sink.old) (K.written sink.new);
-      read = λ asked. (source.new ≡ source.old) × (ports.new ≡ ports.old) × IsVersionRead result (record {
-        sink_before = K.faults sink.old;
-        sink_after = K.faults sink.new;
-        total_before = V.faults shelf.old;
-        total_after = V.faults shelf.new;
-        old = V.cloud_at shelf.old;
-        new = V.cloud_at shelf.new;
-      }) asked (K.written sink.old) (K.written sink.new);
+      replayed = (ports.new ≡ ports.old) × IsReplayed result
+          (replay_call (S.left source.old) (S.left source.new) (S.faults source.old) (S.faults source.new)
+          (K.faults sink.old) (K.faults sink.new) (V.faults shelf.old) (V.faults shelf.new)
+          (V.cloud_at shelf.old) (V.cloud_at shelf.new)) (K.written sink.old) (K.written sink.new);
+      read = λ asked. (source.new ≡ source.old) × (ports.new ≡ ports.old) × IsVersionRead result
+          (around_call (K.faults sink.old) (K.faults sink.new) (V.faults shelf.old) (V.faults shelf.new)
+          (V.cloud_at shelf.old) (V.cloud_at shelf.new)) asked (K.written sink.old) (K.written sink.new);
       served = λ asked. (source.new ≡ source.old) × HasServedOrCause result (serving asked
           (output_of (K.written sink.old) (K.written sink.new) (K.faults sink.old) (K.faults sink.new))
           (V.cloud_at shelf.old) (V.cloud_at shelf.new) (V.faults shelf.old) (V.faults shelf.new)
@@ -135,14 +114,9 @@ fn carry_out<S: Source, K: Sink, V: Shelf, P: Ports>(
       migrated = λ asked. (source.new ≡ source.old) × (ports.new ≡ ports.old) × HasMigratedOrCause result asked
           (clouds_of (V.cloud_at shelf.old) (V.cloud_at shelf.new) (V.faults shelf.old) (V.faults shelf.new))
           (output_by (K.written sink.old) (K.written sink.new) (K.faults sink.old) (K.faults sink.new));
-      generated = λ asked. (source.new ≡ source.old) × (ports.new ≡ ports.old) × IsGenerated result (record {
-        sink_before = K.faults sink.old;
-        sink_after = K.faults sink.new;
-        total_before = V.faults shelf.old;
-        total_after = V.faults shelf.new;
-        old = V.cloud_at shelf.old;
-        new = V.cloud_at shelf.new;
-      }) asked (K.written sink.old) (K.written sink.new);
+      generated = λ asked. (source.new ≡ source.old) × (ports.new ≡ ports.old) × IsGenerated result
+          (around_call (K.faults sink.old) (K.faults sink.new) (V.faults shelf.old) (V.faults shelf.new)
+          (V.cloud_at shelf.old) (V.cloud_at shelf.new)) asked (K.written sink.old) (K.written sink.new);
     }) }
 {
     match command {
@@ -241,42 +215,21 @@ pub fn run<S: Source, K: Sink, V: Shelf, P: Ports>(
     // A replay and a read connect to nothing.
     ensures unconnected { IsReplay (map string_bytes words.now) → ports.new ≡ ports.old }
     // What is written is a session's text, the disks and the replies are that session's, and the status has its cause.
-    ensures headline { IsReplay (map string_bytes words.now) → IsReplayed result (record {
-      script = S.left source.old;
-      left = S.left source.new;
-      source_before = S.faults source.old;
-      source_after = S.faults source.new;
-      sink_before = K.faults sink.old;
-      sink_after = K.faults sink.new;
-      total_before = V.faults shelf.old;
-      total_after = V.faults shelf.new;
-      old = V.cloud_at shelf.old;
-      new = V.cloud_at shelf.new;
-    }) (K.written sink.old) (K.written sink.new) }
+    ensures headline { IsReplay (map string_bytes words.now) → IsReplayed result
+        (replay_call (S.left source.old) (S.left source.new) (S.faults source.old) (S.faults source.new)
+        (K.faults sink.old) (K.faults sink.new) (V.faults shelf.old) (V.faults shelf.new)
+        (V.cloud_at shelf.old) (V.cloud_at shelf.new)) (K.written sink.old) (K.written sink.new) }
     // Where the source has a script, its clouds are empty and told, and no count rises, it is done or memory ran out.
-    ensures complete { IsReplay (map string_bytes words.now) → IsReplayUnhindered (record {
-      script = S.left source.old;
-      left = S.left source.new;
-      source_before = S.faults source.old;
-      source_after = S.faults source.new;
-      sink_before = K.faults sink.old;
-      sink_after = K.faults sink.new;
-      total_before = V.faults shelf.old;
-      total_after = V.faults shelf.new;
-      old = V.cloud_at shelf.old;
-      new = V.cloud_at shelf.new;
-    }) → (result ≡ 0) ⊎ (result ≡ 6) }
+    ensures complete { IsReplay (map string_bytes words.now) → IsReplayUnhindered
+        (replay_call (S.left source.old) (S.left source.new) (S.faults source.old) (S.faults source.new)
+        (K.faults sink.old) (K.faults sink.new) (V.faults shelf.old) (V.faults shelf.new)
+        (V.cloud_at shelf.old) (V.cloud_at shelf.new)) → (result ≡ 0) ⊎ (result ≡ 6) }
     // What is written is what the named clouds' disks give, or why they give nothing, and the status has its cause. The
     // source isn't touched.
     ensures read { (asked : AskedRead) → IsCommand (map string_bytes words.now) (ForRead asked)
-        → (source.new ≡ source.old) × (ports.new ≡ ports.old) × IsVersionRead result (record {
-          sink_before = K.faults sink.old;
-          sink_after = K.faults sink.new;
-          total_before = V.faults shelf.old;
-          total_after = V.faults shelf.new;
-          old = V.cloud_at shelf.old;
-          new = V.cloud_at shelf.new;
-        }) asked (K.written sink.old) (K.written sink.new) }
+        → (source.new ≡ source.old) × (ports.new ≡ ports.old) × IsVersionRead result
+        (around_call (K.faults sink.old) (K.faults sink.new) (V.faults shelf.old) (V.faults shelf.new)
+        (V.cloud_at shelf.old) (V.cloud_at shelf.new)) asked (K.written sink.old) (K.written sink.new) }
     // The cloud is served: its list goes on by the requests that came, and each line says how a connection ended. The
     // source isn't touched.
     ensures serve { (asked : AskedServe) → IsCommand (map string_bytes words.now) (ForServe asked)
@@ -350,14 +303,9 @@ pub fn run<S: Source, K: Sink, V: Shelf, P: Ports>(
     // none, and the status has its cause. Where nothing fails, it is made to its end or memory ran out. Source and ports
     // aren't touched.
     ensures generate { (asked : AskedSession) → IsCommand (map string_bytes words.now) (ForGenerate asked)
-        → (source.new ≡ source.old) × (ports.new ≡ ports.old) × IsGenerated result (record {
-          sink_before = K.faults sink.old;
-          sink_after = K.faults sink.new;
-          total_before = V.faults shelf.old;
-          total_after = V.faults shelf.new;
-          old = V.cloud_at shelf.old;
-          new = V.cloud_at shelf.new;
-        }) asked (K.written sink.old) (K.written sink.new) }
+        → (source.new ≡ source.old) × (ports.new ≡ ports.old) × IsGenerated result
+        (around_call (K.faults sink.old) (K.faults sink.new) (V.faults shelf.old) (V.faults shelf.new)
+        (V.cloud_at shelf.old) (V.cloud_at shelf.new)) asked (K.written sink.old) (K.written sink.new) }
 {
     law_of_words();
     let command = match read_words(alloc, words) {

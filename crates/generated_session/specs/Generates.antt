@@ -32,6 +32,17 @@ pub record Passing : Type 0 where
   pub old : ℕ → Cloud
   pub new : ℕ → Cloud
 
+-- a call by the count and the bytes of its sink, and the clouds, each before and after
+abbrev pub session_call : ℕ → ℕ → Option (List ℕ) → Option (List ℕ) → (ℕ → Cloud) → (ℕ → Cloud) → Passing
+session_call sink sink_after before after old new = record {
+  sink_before = sink;
+  sink_after = sink_after;
+  before = before;
+  after = after;
+  old = old;
+  new = new;
+}
+
 -- all its lines were answered
 pub record IsSessionWhole (order : Order) (run : Session) : Type 0 where
   pub opened : IsTrue run.opened

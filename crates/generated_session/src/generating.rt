@@ -6,7 +6,7 @@ ghost use Rattle.replay_core.specs.JournalStart.Ranges.{usual_rooms};
 ghost use Rattle.replay_core.specs.SessionModel.Vault.{Setting};
 ghost use Rattle.replay_core.specs.Opening.{IsEmpty, before_first};
 ghost use Rattle.replay_core.specs.Going.{IsReplayReady};
-ghost use Rattle.generated_session.specs.Generates.{Generates, GoesWell, IsDone};
+ghost use Rattle.generated_session.specs.Generates.{Generates, GoesWell, IsDone, session_call};
 ghost use Rattle.generated_session.specs.Progress.{start_of};
 
 use crate::carrying::{SessionBuffers, carry_all};
@@ -34,14 +34,9 @@ fn carry_session<K: Sink, V: Shelf>(
     ensures generates { (begun : ℕ → Cloud) (s : Setting)
         → IsReplayReady V.cloud_at (start_of begun) s link.old before_first None 0 None 0
         → s.rooms ≡ usual_rooms
-        → Generates result (record { seed = seed; files = files; pieces = pieces }) (record {
-          sink_before = K.faults sink.old;
-          sink_after = K.faults sink.new;
-          before = K.written sink.old;
-          after = K.written sink.new;
-          old = begun;
-          new = V.cloud_at link.new.shelf.now;
-        }) }
+        → Generates result (record { seed = seed; files = files; pieces = pieces })
+        (session_call (K.faults sink.old) (K.faults sink.new) (K.written sink.old) (K.written sink.new)
+        begun (V.cloud_at link.new.shelf.now)) }
     ensures same_reference { link.new.shelf.ghost_name ≡ link.old.shelf.ghost_name }
 {
     law_of_acknowledged();
@@ -88,14 +83,9 @@ fn make_session<K: Sink, V: Shelf>(
 ) -> ReplayEnd
     requires files { files ≤ 1000 }
     requires pieces { pieces ≤ 8192 }
-    ensures { Generates result (record { seed = seed; files = files; pieces = pieces }) (record {
-      sink_before = K.faults sink.old;
-      sink_after = K.faults sink.new;
-      before = K.written sink.old;
-      after = K.written sink.new;
-      old = V.cloud_at shelf.old;
-      new = V.cloud_at shelf.new;
-    }) }
+    ensures { Generates result (record { seed = seed; files = files; pieces = pieces })
+        (session_call (K.faults sink.old) (K.faults sink.new) (K.written sink.old) (K.written sink.new)
+        (V.cloud_at shelf.old) (V.cloud_at shelf.new)) }
 {
     law_of_acknowledged();
     law_of_own_replies();
@@ -136,22 +126,12 @@ pub fn generate<K: Sink, V: Shelf>(
     requires files { (1 ≤ files) × (files ≤ 1000) }
     requires pieces { (1 ≤ pieces) × (pieces ≤ 8192) }
     requires size { files * pieces ≤ 131072 }
-    ensures generates { Generates result (record { seed = seed; files = files; pieces = pieces }) (record {
-      sink_before = K.faults sink.old;
-      sink_after = K.faults sink.new;
-      before = K.written sink.old;
-      after = K.written sink.new;
-      old = V.cloud_at shelf.old;
-      new = V.cloud_at shelf.new;
-    }) }
-    ensures complete { GoesWell (record {
-      sink_before = K.faults sink.old;
-      sink_after = K.faults sink.new;
-      before = K.written sink.old;
-      after = K.written sink.new;
-      old = V.cloud_at shelf.old;
-      new = V.cloud_at shelf.new;
-    }) → IsDone result }
+    ensures generates { Generates result (record { seed = seed; files = files; pieces = pieces })
+        (session_call (K.faults sink.old) (K.faults sink.new) (K.written sink.old) (K.written sink.new)
+        (V.cloud_at shelf.old) (V.cloud_at shelf.new)) }
+    ensures complete { GoesWell
+        (session_call (K.faults sink.old) (K.faults sink.new) (K.written sink.old) (K.written sink.new)
+        (V.cloud_at shelf.old) (V.cloud_at shelf.new)) → IsDone result }
 {
     make_session(alloc, seed, files, pieces, sink, shelf)
 }

@@ -27,6 +27,21 @@ pub record ReplayCall : Type 0 where
   pub old : ℕ → Cloud
   pub new : ℕ → Cloud
 
+-- a replay by its source, the count of its sink, and the count and the clouds of its shelf, each before and after
+abbrev pub replay_call : Option (List ℕ) → Option (List ℕ) → ℕ → ℕ → ℕ → ℕ → ℕ → ℕ → (ℕ → Cloud) → (ℕ → Cloud) → ReplayCall
+replay_call script left source source_after sink sink_after total total_after old new = record {
+  script = script;
+  left = left;
+  source_before = source;
+  source_after = source_after;
+  sink_before = sink;
+  sink_after = sink_after;
+  total_before = total;
+  total_after = total_after;
+  old = old;
+  new = new;
+}
+
 pub data EndingLine : Type 0 where
   NoEnding : EndingLine
   DoneEnding : (events : ℕ) → EndingLine

@@ -5,7 +5,7 @@ ghost use Rattle.share_server.specs.CdBase.shape.Shape.{Shape};
 ghost use Rattle.two_worlds.specs.Session.Lines.{script_limit};
 ghost use Rattle.script_lines.specs.SessionModel.Vault.{Setting};
 ghost use Rattle.script_lines.specs.Jobs.{AreReached};
-ghost use Rattle.replay_core.specs.Endings.{ReplayCall};
+ghost use Rattle.replay_core.specs.Endings.{ReplayCall, replay_call};
 ghost use Rattle.replay_core.specs.Replayed.{HasReplayed};
 ghost use Rattle.replay_core.specs.Opening.{IsEmpty};
 ghost use Rattle.replay_core.specs.Going.{ReplayStart, call_of, IsReplayReady, HasCome};
@@ -124,18 +124,10 @@ pub fn replay<S: Source, K: Sink, V: Shelf>(
     sink: &mut K,
     shelf: &mut V,
 ) -> ReplayEnd
-    ensures { HasReplayed result (record {
-      script = S.left source.old;
-      left = S.left source.new;
-      source_before = S.faults source.old;
-      source_after = S.faults source.new;
-      sink_before = K.faults sink.old;
-      sink_after = K.faults sink.new;
-      total_before = V.faults shelf.old;
-      total_after = V.faults shelf.new;
-      old = V.cloud_at shelf.old;
-      new = V.cloud_at shelf.new;
-    }) (K.written sink.old) (K.written sink.new) }
+    ensures { HasReplayed result
+        (replay_call (S.left source.old) (S.left source.new) (S.faults source.old) (S.faults source.new)
+        (K.faults sink.old) (K.faults sink.new) (V.faults shelf.old) (V.faults shelf.new)
+        (V.cloud_at shelf.old) (V.cloud_at shelf.new)) (K.written sink.old) (K.written sink.new) }
 {
     law_of_acknowledged();
     law_of_own_replies();
