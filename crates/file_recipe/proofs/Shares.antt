@@ -8,12 +8,10 @@ use Rattle.std.proofs.lemmas.List.FromFn.{get_or-map-range_with_len, map-range_w
 use Rattle.rabin_chunker.specs.CdBase.shape.Shape.{Shape}
 use Rattle.caont_rs.specs.Package.{share}
 use Rattle.caont_rs.specs.ReedSolomon.Dispersal.{row}
-use Rattle.rabin_chunker.specs.Cuts.{ends}
-use Rattle.rabin_chunker.specs.Rule.{IsFirstEnd, IsCutFrom}
 use Rattle.recipe.specs.declared.items.Item.{Item}
-use Rattle.file_recipe.specs.FileRecipe.{parts_from, secrets, item_of, shares_at}
+use Rattle.file_recipe.specs.FileRecipe.{secrets, item_of, shares_at}
 use Rattle.file_recipe.specs.Clouds.{cloud_file, files_from}
-use Rattle.file_recipe.specs.Progress.{unshared, with_share, with_secrets, EachWithShare, EachWithSecrets}
+use Rattle.file_recipe.specs.Progress.{AreEnds, parts_behind, unshared, with_share, with_secrets, EachWithShare, EachWithSecrets}
 use Rattle.file_recipe.specs.declared.cloud_file.CloudFile.{CloudFile}
 
 -- ---- one secret's shares, cloud after cloud
@@ -63,24 +61,35 @@ no_secrets : (s : Shape) (j : ℕ) (f : CloudFile) → with_secrets s j f [] ≡
 no_secrets s j f = rw (append-nil f.recipe.items, append-nil f.shares) refl
 
 -- where the reader is: the secrets before are given, and those from here on are the rest
-pub record Along (s : Shape) (first : ℕ) (file es : List ℕ) (i start : ℕ) (before now : List CloudFile) : Type 0 where
-  pub cut : IsCutFrom file start (drop i es)
-  pub rest : drop i (secrets file) ≡ parts_from file start (drop i es)
-  pub each : EachWithSecrets s first (take i (secrets file)) before now
+pub record Along (s : Shape) (first base : ℕ) (part es : List ℕ) (i start : ℕ) (before now : List CloudFile) : Type 0 where
+  pub ends : AreEnds (base + length part) start (drop i es)
+  pub after : base ≤ start
+  pub rest : drop i (parts_behind base part base es) ≡ parts_behind base part start (drop i es)
+  pub each : EachWithSecrets s first (take i (parts_behind base part base es)) before now
 
-pub along_none : (s : Shape) (first : ℕ) (file es : List ℕ) (before : List CloudFile) → IsCutFrom file 0 (ends file) → es ≡ ends file → Along s first file es 0 0 before before
-unfolding secrets
-along_none s first file es before cut e = record {
-  cut = subst (λ (xs : List ℕ). IsCutFrom file 0 xs) (sym e) cut;
-  rest = ap (parts_from file 0) (sym e);
+pub along_none : (s : Shape) (first base : ℕ) (part es : List ℕ) (before : List CloudFile) → AreEnds (base + length part) base es → Along s first base part es 0 base before before
+along_none s first base part es before ends = record {
+  ends = ends;
+  after = omega arith;
+  rest = refl;
   each = λ j d lt. sym (no_secrets s (first + j) (get_or before j d));
 }
 
 pub here : (es : List ℕ) (i : ℕ) → i < length es → drop i es ≡ get_or es i 0 ∷ drop (i + 1) es
 here es i lt = rw (add-one, drop-cons es i 0 lt) refl
 
-pub next_end : (s : Shape) (first : ℕ) (file es : List ℕ) (i start : ℕ) (before now : List CloudFile) → Along s first file es i start before now → i < length es → IsFirstEnd file start (get_or es i 0)
-next_end s first file es i start before now h lt = let both = subst (λ (xs : List ℕ). IsCutFrom file start xs) (here es i lt) h.cut in both.0
+-- the next end, and those behind it
+record IsNextEnd (base : ℕ) (part es : List ℕ) (i start : ℕ) : Type 0 where
+  pub base_first : base ≤ start
+  pub after : start < get_or es i 0
+  pub few : get_or es i 0 ≤ start + 16384
+  pub within : get_or es i 0 ≤ base + length part
+  pub more : AreEnds (base + length part) (get_or es i 0) (drop (i + 1) es)
+
+next_end : (s : Shape) (first base : ℕ) (part es : List ℕ) (i start : ℕ) (before now : List CloudFile) → Along s first base part es i start before now → i < length es → IsNextEnd base part es i start
+next_end s first base part es i start before now h lt =
+    let all = subst (λ (xs : List ℕ). AreEnds (base + length part) start xs) (here es i lt) h.ends in
+    record { base_first = h.after; after = all.0; few = all.1; within = all.2; more = all.3 }
 
 first_is : {A : Type 0} (x y : A) (xs ys : List A) → x ∷ xs ≡ y ∷ ys → x ≡ y
 first_is x y xs ys e = cc
@@ -94,31 +103,34 @@ taken (x ∷ xs) ys (suc i) y e = let t = taken xs ys i y e in (ap (λ (zs : Lis
 one_taken : (xs ys : List (List ℕ)) (i : ℕ) (y : List ℕ) → drop i xs ≡ y ∷ ys → (take (i + 1) xs ≡ take i xs ++ y ∷ []) × (drop (i + 1) xs ≡ ys)
 one_taken xs ys i y e = let next : suc i ≡ i + 1 = omega arith in subst (λ (m : ℕ). (take m xs ≡ take i xs ++ y ∷ []) × (drop m xs ≡ ys)) next (taken xs ys i y e)
 
-pub along_more : (s : Shape) (first : ℕ) (file es : List ℕ) (i start len width : ℕ) (shares : List ℕ) (before mid now : List CloudFile) → Along s first file es i start before mid → i < length es → length mid ≡ length before → first + length before ≤ s.n
-    → len ≡ length (slice_range file start (get_or es i 0)) → ((j : ℕ) → j < s.n → row width j shares ≡ share s j (slice_range file start (get_or es i 0)))
-    → EachWithShare first len width shares mid now → Along s first file es (i + 1) (get_or es i 0) before now
-along_more s first file es i start len width shares before mid now h lt clouds within is rows step =
-    let secret : List ℕ = slice_range file start (get_or es i 0) in
-    let both = subst (λ (xs : List ℕ). IsCutFrom file start xs) (here es i lt) h.cut in
-    let t = one_taken (secrets file) (parts_from file (get_or es i 0) (drop (i + 1) es)) i secret (h.rest ∙ ap (parts_from file start) (here es i lt)) in
+pub along_more : (s : Shape) (first base : ℕ) (part es : List ℕ) (i start len width : ℕ) (shares : List ℕ) (before mid now : List CloudFile) → Along s first base part es i start before mid → i < length es → length mid ≡ length before → first + length before ≤ s.n
+    → len ≡ length (slice_range part (start - base) (get_or es i 0 - base)) → ((j : ℕ) → j < s.n → row width j shares ≡ share s j (slice_range part (start - base) (get_or es i 0 - base)))
+    → EachWithShare first len width shares mid now → Along s first base part es (i + 1) (get_or es i 0) before now
+along_more s first base part es i start len width shares before mid now h lt clouds within is rows step =
+    let all : List (List ℕ) = parts_behind base part base es in
+    let secret : List ℕ = slice_range part (start - base) (get_or es i 0 - base) in
+    let next = next_end s first base part es i start before mid h lt in
+    let t = one_taken all (parts_behind base part (get_or es i 0) (drop (i + 1) es)) i secret (h.rest ∙ ap (parts_behind base part start) (here es i lt)) in
     record {
-      cut = both.1;
+      ends = next.more;
+      after = omega (arith, next.base_first, next.after);
       rest = t.1;
       each = λ j d below.
           let f : CloudFile = get_or before j d in
           step j d (omega arith)
           ∙ ap (λ (g : CloudFile). with_share g len (row width (first + j) shares)) (h.each j d below)
-          ∙ ap (λ (n : ℕ). with_share (with_secrets s (first + j) f (take i (secrets file))) n (row width (first + j) shares)) is
-          ∙ ap (λ (b : List ℕ). with_share (with_secrets s (first + j) f (take i (secrets file))) (length secret) b) (rows (first + j) (omega arith))
-          ∙ one_secret s (first + j) f (take i (secrets file)) secret
+          ∙ ap (λ (n : ℕ). with_share (with_secrets s (first + j) f (take i all)) n (row width (first + j) shares)) is
+          ∙ ap (λ (b : List ℕ). with_share (with_secrets s (first + j) f (take i all)) (length secret) b) (rows (first + j) (omega arith))
+          ∙ one_secret s (first + j) f (take i all) secret
           ∙ ap (with_secrets s (first + j) f) (sym t.0);
     }
 
-pub along_all : (s : Shape) (first : ℕ) (file es : List ℕ) (i start : ℕ) (before now : List CloudFile) → Along s first file es i start before now → length es ≤ i → EachWithSecrets s first (secrets file) before now
-along_all s first file es i start before now h le =
-    let none : drop i (secrets file) ≡ [] = h.rest ∙ ap (parts_from file start) (drop_all i es le) in
-    let all : take i (secrets file) ≡ secrets file = sym (append-nil (take i (secrets file))) ∙ ap (λ (xs : List (List ℕ)). take i (secrets file) ++ xs) (sym none) ∙ take-append-drop i (secrets file) in
-    subst (λ (ts : List (List ℕ)). EachWithSecrets s first ts before now) all h.each
+pub along_all : (s : Shape) (first base : ℕ) (part es : List ℕ) (i start : ℕ) (before now : List CloudFile) → Along s first base part es i start before now → length es ≤ i → EachWithSecrets s first (parts_behind base part base es) before now
+along_all s first base part es i start before now h le =
+    let all : List (List ℕ) = parts_behind base part base es in
+    let none : drop i all ≡ [] = h.rest ∙ ap (parts_behind base part start) (drop_all i es le) in
+    let taken_all : take i all ≡ all = sym (append-nil (take i all)) ∙ ap (λ (xs : List (List ℕ)). take i all ++ xs) (sym none) ∙ take-append-drop i all in
+    subst (λ (ts : List (List ℕ)). EachWithSecrets s first ts before now) taken_all h.each
 
 -- ---- the clouds from the first one on
 

@@ -1,12 +1,23 @@
 -- What each cloud has of a file as its secrets are dispersed one after the other.
-use Rattle.std.specs.Prelude.{◌≡◌, ℕ, ◌+◌, ◌<◌, List, [], ◌∷◌, ◌++◌, length, map, slice_index_or}
+use Rattle.std.specs.Prelude.{◌≡◌, ℕ, ◌+◌, ◌-◌, ◌<◌, ◌≤◌, List, [], ◌∷◌, ◌++◌, length, map, slice_index_or, slice_range}
 use Rattle.std.specs.List.{flat_map}
 use Rattle.sha2.specs.Sha256.{sha256}
+use Rattle.rabin_chunker.specs.CdBase.Limits.{secret_limit}
 use Rattle.rabin_chunker.specs.CdBase.shape.Shape.{Shape}
 use Rattle.caont_rs.specs.Package.{share}
 use Rattle.caont_rs.specs.ReedSolomon.Dispersal.{row}
 use Rattle.file_recipe.specs.FileRecipe.{item_of}
 use Rattle.file_recipe.specs.declared.cloud_file.CloudFile.{CloudFile}
+
+-- Each of these places ends a part of 1 to 16,384 bytes, the first of which begins at `start`, and none lies behind the last.
+abbrev pub AreEnds : ℕ → ℕ → List ℕ → Type 0
+AreEnds last start [] = Unit {0}
+AreEnds last start (end ∷ ends) = (start < end) × (end ≤ start + secret_limit) × (end ≤ last) × AreEnds last end ends
+
+-- the parts of a file that end at these places, of which the first begins at `start`, where the bytes begin at `base`
+abbrev pub parts_behind : ℕ → List ℕ → ℕ → List ℕ → List (List ℕ)
+parts_behind base part start [] = []
+parts_behind base part start (end ∷ ends) = slice_range part (start - base) (end - base) ∷ parts_behind base part end ends
 
 -- what cloud j has before the first secret
 abbrev pub unshared : Shape → ℕ → List ℕ → List ℕ → CloudFile

@@ -1,15 +1,14 @@
 //! Dispersing a file.
 
-ghost use Rattle.std.specs.Prelude.{◌≡◌, ◌+◌, ◌*◌, ◌/◌, ◌≤◌, ◌<◌, ℕ, [], length, map, min, OnOk, IfOk, ◌-◌, ◌%◌, ◌≢◌};
+ghost use Rattle.std.specs.Prelude.{◌≡◌, ◌+◌, ◌*◌, ◌/◌, ◌≤◌, ◌<◌, ℕ, [], length, map, min, slice_range, OnOk, IfOk, ◌-◌, ◌%◌, ◌≢◌};
 ghost use Rattle.std.specs.List.{range_with_len};
 ghost use Rattle.rabin_chunker.specs.CdBase.Limits.{IsPath};
 ghost use Rattle.caont_rs.specs.ReedSolomon.Dispersal.{row};
 ghost use Rattle.rabin_chunker.specs.Cuts.{ends as ends_of_file};
 ghost use Rattle.caont_rs.specs.Package.{share};
 ghost use Rattle.recipe.specs.Spelling.{file_limit, item_limit};
-ghost use Rattle.file_recipe.specs.FileRecipe.{secrets};
 ghost use Rattle.file_recipe.specs.Clouds.{cloud_file, files_from, dispersed};
-ghost use Rattle.file_recipe.specs.Progress.{unshared, EachWithShare, EachWithSecrets, HasDigests};
+ghost use Rattle.file_recipe.specs.Progress.{AreEnds, parts_behind, unshared, EachWithShare, EachWithSecrets, HasDigests};
 
 use crate::{CloudFile, CloudFiles};
 use caont_rs::{Fp, disperse};
@@ -18,8 +17,8 @@ use rabin_chunker::{Bytes, Chunker, CloudNo, Ends, NoMemory, Shape, sha256, shar
 use recipe::{ITEM_LIMIT, Items, Recipe};
 use std::alloc::Global;
 
-// The ends of a file's secrets.
-fn ends_of(alloc: Global, file: &[u8]) -> Result<Ends, NoMemory>
+/// The ends of a file's secrets.
+pub fn ends_of(alloc: Global, file: &[u8]) -> Result<Ends, NoMemory>
     requires { length file.now ≤ file_limit }
     ensures { IfOk result (λ cuts. cuts ≡ ends_of_file file.now) }
 {
@@ -105,8 +104,8 @@ fn each_unshared(
     Ok(files)
 }
 
-// What the clouds from `first` on have before the first secret.
-fn unshared_files(
+/// What the clouds from `first` on have before the first secret.
+pub fn unshared_files(
     alloc: Global,
     shape: Shape,
     path: &[u8],
@@ -208,24 +207,35 @@ fn add_shares(
     Ok(())
 }
 
-// Disperses each secret of a file, and gives the clouds from `first` on their shares.
-fn add_secrets(
+// A secret that ends at a place, of bytes of which the first is the file's at `base`.
+fn part_at(part: &[u8], base: usize, start: usize, end: usize) -> &[u8]
+    requires after { base ≤ start }
+    requires some { start < end }
+    requires within { end ≤ base + length part.now }
+    ensures { result.now ≡ slice_range part.now (start - base) (end - base) }
+{
+    &part[start - base..end - base]
+}
+
+/// Disperses those secrets of a file that end at these places, and gives the clouds from `first` on their shares. The first of
+/// the secrets begins at `base`, and so do the bytes.
+pub fn add_secrets(
     alloc: Global,
     shape: Shape,
-    file: &[u8],
+    part: &[u8],
+    base: usize,
     ends: &[u64],
     first: usize,
     files: &mut [CloudFile],
 ) -> Result<(), NoMemory>
-    requires few { length file.now ≤ file_limit }
-    requires ends { ends.now ≡ ends_of_file file.now }
+    requires ends { AreEnds (base + length part.now) base ends.now }
     requires clouds { first + length files.old ≤ shape.n }
-    ensures { OnOk result (EachWithSecrets shape first (secrets file.now) files.old files.new) }
+    ensures { OnOk result (EachWithSecrets shape first (parts_behind base part.now base ends.now) files.old files.new) }
 {
     let mut shares = Bytes::new(alloc);
-    let mut start = 0;
+    let mut start = base;
     for end in ends {
-        let secret = &file[start..*end as usize];
+        let secret = part_at(part, base, start, *end as usize);
         disperse(shape, secret, &mut shares)?;
         let width = share_len(shape, secret.len() as u32) as usize;
         add_shares(files, first, secret.len() as u32, width, shares.as_slice())?;
@@ -254,6 +264,7 @@ fn disperse_from(
         alloc,
         shape,
         file,
+        0,
         ends.as_slice(),
         first,
         files.as_mut_slice(),

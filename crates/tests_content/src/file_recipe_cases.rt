@@ -1,7 +1,7 @@
 //! Tests of file_recipe.
 
 use cd_base::{Bytes, CloudNo, Fp, NoMemory, Shape, sha256};
-use file_recipe::{CloudFiles, disperse_file, disperse_for};
+use file_recipe::{CloudFiles, FileBytes, disperse_bytes, disperse_file, disperse_for};
 use recipe::RecipeView;
 use std::alloc::Global;
 use std::test::Fail;
@@ -12,6 +12,17 @@ fn dispersed(alloc: Global, path: &[u8], file: &[u8]) -> Result<CloudFiles, Fail
         return Err(Fail::new("no such file"));
     }
     Ok(disperse_file(alloc, shape, path, file)?)
+}
+
+// The same, of a file that is let go on the way.
+fn dispersed_and_gone(alloc: Global, path: &[u8], bytes: &[u8]) -> Result<CloudFiles, Fail> {
+    let shape = Shape::of(4, 3).unwrap_or(Shape { n: 4, k: 3 });
+    let mut file = FileBytes::new(alloc);
+    file.extend(bytes)?;
+    if !cd_base::is_path(path) || file.len() > 100_000 {
+        return Err(Fail::new("no such file"));
+    }
+    Ok(disperse_bytes(alloc, shape, path, file)?)
 }
 
 // The recipe's bytes at a cloud.
@@ -84,5 +95,17 @@ fn two_secrets(rt: HostRuntime) -> Result<(), Fail> {
         files.get(2).map(|file| file.shares.len()),
         Some(5_472 + 1_216)
     );
+    Ok(())
+}
+
+#[test]
+fn two_halves(rt: HostRuntime) -> Result<(), Fail> {
+    let mut file = Bytes::new(rt.alloc());
+    file.resize(60_000, 7)?;
+    let files = dispersed(rt.alloc(), b"a", file.as_slice())?;
+    let again = dispersed_and_gone(rt.alloc(), b"a", file.as_slice())?;
+    let one = files.get(3).map(|file| file.shares.as_slice());
+    let other = again.get(3).map(|file| file.shares.as_slice());
+    assert!(rt; one == other);
     Ok(())
 }
