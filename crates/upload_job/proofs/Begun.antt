@@ -20,9 +20,10 @@ use Rattle.file_recipe.proofs.Secrets.{IsSecret, secret_at, secrets_few}
 use Rattle.user_dedup.specs.Owning.{new_strings}
 use Rattle.upload_job.specs.declared.lane.VersionKey.{VersionKey}
 use Rattle.upload_job.specs.declared.lane.Lane.{Lane}
+use Rattle.upload_job.specs.declared.lane.LaneStage.{LaneStage}
 use Rattle.upload_job.specs.Upload.{FileVersion, work_of, wanted_for, in_batches}
 use Rattle.upload_job.specs.Lanes.{LaneView, begun, idle, lanes_begun, lane_begun}
-use Rattle.upload_job.specs.Index.{IsInShares, AreIn, AreNamed, AreLanes, IsBegun, IsIdle, IsAlone, EachNamed, EachBegun, pieces, shares_in, lane_in, lanes_in}
+use Rattle.upload_job.specs.Index.{IsInShares, AreIn, AreNamed, HasShares, IsLane, AreLanes, IsBegun, IsIdle, IsAlone, EachNamed, EachBegun, pieces, shares_in, lane_in, lanes_in}
 use Rattle.upload_job.proofs.Laning.{length-lanes_in}
 
 -- ---- one lane after the other
@@ -106,19 +107,23 @@ begun_in s v key j lane user tagged number is =
     let mark : key.tag ≡ record { 0 = tag s v.path } = ap (λ (b : List ℕ). let t : Tag = record { 0 = b } in t) tagged in
     let items : lane.items ≡ length (secrets v.file) = is.items ∙ length-map (secrets v.file) (item_of s j) in
     let wanted : shares_in (shares_at s j v.file) lane.wanted.items ≡ wanted_for s j v.file = is.wanted ∙ ap (new_strings []) (pieces_all s j (secrets v.file)) in
-    rw (is.recipe, items, is.shares, wanted, is.stage, mark, user, number) refl
+    rw (is.recipe, items, is.recalled, wanted, is.stage, mark, user, number) refl
 
 get-lanes_in : (key : VersionKey) (lanes : List Lane) (i : ℕ) (d : LaneView) (l : Lane) → i < length lanes → get_or (lanes_in key lanes) i d ≡ lane_in key (get_or lanes i l)
 get-lanes_in key [] i d l lt = absurd (omega arith)
 get-lanes_in key (m ∷ lanes) zero d l lt = refl
 get-lanes_in key (m ∷ lanes) (suc i) d l lt = get-lanes_in key lanes i d l (omega arith)
 
-are_from : (lanes : List Lane) → ((i : ℕ) (l : Lane) → i < length lanes → AreIn (get_or lanes i l).shares (get_or lanes i l).wanted.items) → AreLanes lanes
+are_from : (lanes : List Lane) → ((i : ℕ) (l : Lane) → i < length lanes → IsLane (get_or lanes i l)) → AreLanes lanes
 are_from [] each = tt
 are_from (l ∷ lanes) each = (each 0 l (omega arith), are_from lanes (λ i m lt. each (suc i) m (omega arith)))
 
-begun_inside : (k : ℕ) (f : CloudFile) (lane : Lane) → IsBegun k f lane → AreIn lane.shares lane.wanted.items
-begun_inside k f lane is = subst (λ (xs : List ℕ). AreIn xs lane.wanted.items) (sym is.shares) is.inside
+begun_inside : (k : ℕ) (f : CloudFile) (lane : Lane) → IsBegun k f lane → IsLane lane
+begun_inside k f lane is =
+    let has : lane.shares ≡ lane.recalled.bytes = is.shares ∙ sym is.recalled in (
+      subst (λ (xs : List ℕ). AreIn xs lane.wanted.items) (sym is.recalled) is.inside,
+      subst (λ (s : LaneStage). HasShares s lane.shares lane.recalled.bytes) (sym is.stage) has,
+    )
 
 -- an element of a list that has one
 some_of : {A : Type 0} (xs : List A) → 0 < length xs → A
@@ -149,8 +154,11 @@ idle_in s v key lane user tagged number is =
     let mark : key.tag ≡ record { 0 = tag s v.path } = ap (λ (b : List ℕ). let t : Tag = record { 0 = b } in t) tagged in
     rw (is.recipe, is.items, is.wanted, is.stage, mark, user, number) refl
 
-idle_inside : (lane : Lane) → IsIdle lane → AreIn lane.shares lane.wanted.items
-idle_inside lane is = subst (AreIn lane.shares) (sym is.wanted) (All-nil (IsInShares lane.shares))
+idle_inside : (lane : Lane) → IsIdle lane → IsLane lane
+idle_inside lane is = (
+  subst (AreIn lane.recalled.bytes) (sym is.wanted) (All-nil (IsInShares lane.recalled.bytes)),
+  subst (λ (s : LaneStage). HasShares s lane.shares lane.recalled.bytes) (sym is.stage) tt,
+)
 
 not_same : (a b : ℕ) (t : Bool) → eqb a b ≡ t → a ≢ b → eqb a b ≡ false
 not_same a b true e ne = absurd (ne (eqb-true a b e))

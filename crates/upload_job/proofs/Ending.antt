@@ -24,7 +24,7 @@ staged_in key (lane ∷ lanes) (suc i) = ap (λ (l : List LaneView). lane_in key
 
 staged_lanes : (lanes : List Lane) (i : ℕ) → AreLanes lanes → AreLanes (staged_at lanes i stages.Done)
 staged_lanes [] i are = are
-staged_lanes (lane ∷ lanes) zero are = are
+staged_lanes (lane ∷ lanes) zero are = ((are.0.0, tt), are.1)
 staged_lanes (lane ∷ lanes) (suc i) are = (are.0, staged_lanes lanes i are.1)
 
 pub done_in : (key : VersionKey) (lanes : List Lane) (clouds : List ℕ) → lanes_in key (done_at lanes clouds) ≡ entered_at (lanes_in key lanes) clouds

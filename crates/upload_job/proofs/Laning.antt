@@ -10,15 +10,15 @@ use Rattle.upload_job.specs.declared.lane.LaneStage.{LaneStage}
 use Rattle.upload_job.specs.declared.lane.LaneStage.TheVariants as stages
 use Rattle.upload_job.specs.declared.news.LaneNews.{LaneNews}
 use Rattle.upload_job.specs.declared.news.LaneErr.{LaneErr}
-use Rattle.upload_job.specs.Upload.{in_batches}
+use Rattle.upload_job.specs.Upload.{Work, in_batches}
 use Rattle.upload_job.specs.Lane.{LaneState, Done, onward, lane_request}
 use Rattle.upload_job.specs.Lanes.{LaneView, request_at, IsAsked, IsDoneAt, Answers, AnswersAt}
-use Rattle.upload_job.specs.Index.{AreIn, AreLanes, shares_in, lane_in, lanes_in, state_in, moved_to, next_in}
+use Rattle.upload_job.specs.Index.{HasShares, IsLane, AreLanes, shares_in, lane_in, lanes_in, state_in, moved_to, next_in}
 
 pub length-lanes_in : (key : VersionKey) (lanes : List Lane) → length (lanes_in key lanes) ≡ length lanes
 length-lanes_in key lanes = length-map lanes (lane_in key)
 
-pub inside_at : (lanes : List Lane) (i : ℕ) (l : Lane) → AreLanes lanes → i < length lanes → AreIn (get_or lanes i l).shares (get_or lanes i l).wanted.items
+pub inside_at : (lanes : List Lane) (i : ℕ) (l : Lane) → AreLanes lanes → i < length lanes → IsLane (get_or lanes i l)
 inside_at [] i l h lt = absurd (omega arith)
 inside_at (m ∷ lanes) zero l h lt = h.0
 inside_at (m ∷ lanes) (suc i) l h lt = inside_at lanes i l h.1 (omega arith)
@@ -43,12 +43,12 @@ asked_below (l ∷ lanes) (suc i) some = let lt = asked_below lanes i some in om
 pub record Moves (key : VersionKey) (l m : Lane) (state : LaneState) : Type 0 where
   pub recipe : m.recipe ≡ l.recipe
   pub items : m.items ≡ l.items
-  pub shares : m.shares ≡ l.shares
+  pub recalled : m.recalled.bytes ≡ l.recalled.bytes
   pub wanted : m.wanted ≡ l.wanted
-  pub stands : state_in (shares_in l.shares l.wanted.items) m.stage ≡ state
+  pub stands : state_in (shares_in l.recalled.bytes l.wanted.items) m.stage ≡ state
 
 moved : (key : VersionKey) (l m : Lane) (state : LaneState) → Moves key l m state → lane_in key m ≡ record { work = (lane_in key l).work; state = state }
-moved key l m state h = rw (h.recipe, h.items, h.shares, h.wanted, h.stands) refl
+moved key l m state h = rw (h.recipe, h.items, h.recalled, h.wanted, h.stands) refl
 
 answers_in : (key : VersionKey) (lanes : List Lane) (i : ℕ) (l m : Lane) (content : List ℕ) (result : Result LaneNews LaneErr) (state : LaneState) → i < length lanes
     → Answers (lane_in key (get_or lanes i l)) content result state → Moves key (get_or lanes i l) m state → AnswersAt (lanes_in key lanes) i content result (lanes_in key (set lanes i m))
@@ -56,14 +56,14 @@ answers_in key [] i l m content result state lt a n = absurd (omega arith)
 answers_in key (o ∷ lanes) zero l m content result state lt a n = (state, a, ap (λ (x : LaneView). x ∷ lanes_in key lanes) (moved key o m state n))
 answers_in key (o ∷ lanes) (suc i) l m content result state lt a n = (lanes_in key (set lanes i m), answers_in key lanes i l m content result state (omega arith) a n, refl)
 
-moves_to : (key : VersionKey) (l : Lane) (next : Option LaneStage) → Moves key l (moved_to l next) (next_in (shares_in l.shares l.wanted.items) (lane_in key l).state next)
-moves_to key l None = record { recipe = refl; items = refl; shares = refl; wanted = refl; stands = refl }
-moves_to key l (Some stage) = record { recipe = refl; items = refl; shares = refl; wanted = refl; stands = refl }
+moves_to : (key : VersionKey) (l : Lane) (next : Option LaneStage) → Moves key l (moved_to l next) (next_in (shares_in l.recalled.bytes l.wanted.items) (lane_in key l).state next)
+moves_to key l None = record { recipe = refl; items = refl; recalled = refl; wanted = refl; stands = refl }
+moves_to key l (Some stage) = record { recipe = refl; items = refl; recalled = refl; wanted = refl; stands = refl }
 
-lanes_set : (lanes : List Lane) (i : ℕ) (l m : Lane) → AreLanes lanes → i < length lanes → m.shares ≡ (get_or lanes i l).shares → m.wanted ≡ (get_or lanes i l).wanted → AreLanes (set lanes i m)
-lanes_set [] i l m h lt same e = absurd (omega arith)
-lanes_set (o ∷ lanes) zero l m h lt same e = (rw (same, e) h.0, h.1)
-lanes_set (o ∷ lanes) (suc i) l m h lt same e = (h.0, lanes_set lanes i l m h.1 (omega arith) same e)
+lanes_set : (lanes : List Lane) (i : ℕ) (m : Lane) → AreLanes lanes → i < length lanes → IsLane m → AreLanes (set lanes i m)
+lanes_set [] i m h lt is = absurd (omega arith)
+lanes_set (o ∷ lanes) zero m h lt is = (is, h.1)
+lanes_set (o ∷ lanes) (suc i) m h lt is = (h.0, lanes_set lanes i m h.1 (omega arith) is)
 
 pub others_stay : (old new : List LaneView) (i : ℕ) (content : List ℕ) (result : Result LaneNews LaneErr) → AnswersAt old i content result new → (j : ℕ) → (j ≡ i → ⊥) → slice_get new j ≡ slice_get old j
 others_stay [] new i content result h j ne = absurd h
@@ -88,7 +88,7 @@ done_state all stages.Refused = (λ e. cc, λ e. cc)
 done_here : (key : VersionKey) (lanes : List Lane) (i : ℕ) (l : Lane) → i < length lanes → ((get_or lanes i l).stage ≡ stages.Done) ↔ IsDoneAt (lanes_in key lanes) i
 done_here key [] i l lt = absurd (omega arith)
 done_here key (o ∷ lanes) zero l lt =
-    let at = done_state (shares_in o.shares o.wanted.items) o.stage in
+    let at = done_state (shares_in o.recalled.bytes o.wanted.items) o.stage in
     (at.1, at.0)
 done_here key (o ∷ lanes) (suc i) l lt = done_here key lanes i l (omega arith)
 
@@ -105,7 +105,7 @@ pub done_in : (key : VersionKey) (lanes : List Lane) → All (λ (l : Lane). l.s
 done_in key [] = (λ a. All-nil (λ (l : LaneView). l.state ≡ Done), λ a. All-nil (λ (l : Lane). l.stage ≡ stages.Done))
 done_in key (o ∷ lanes) =
     let rest = done_in key lanes in
-    let here = done_state (shares_in o.shares o.wanted.items) o.stage in (
+    let here = done_state (shares_in o.recalled.bytes o.wanted.items) o.stage in (
       λ a. let s = all_head (λ (l : Lane). l.stage ≡ stages.Done) o lanes a in All-cons (λ (l : LaneView). l.state ≡ Done) (lane_in key o) (lanes_in key lanes) (here.1 s.0) (rest.0 s.1),
       λ a. let s = all_head (λ (l : LaneView). l.state ≡ Done) (lane_in key o) (lanes_in key lanes) a in All-cons (λ (l : Lane). l.stage ≡ stages.Done) o lanes (here.0 s.0) (rest.1 s.1),
     )
@@ -126,8 +126,8 @@ asked_no (Some r) more before now out e h = absurd (let no : true ≡ false = sy
 pub below_seen : (key : VersionKey) (lanes : List Lane) (seen : List LaneView) (i : ℕ) → lanes_in key lanes ≡ seen → i < length seen → i < length lanes
 below_seen key lanes seen i view lt = let len = length-lanes_in key lanes in let same = ap (λ (ys : List LaneView). length ys) view in omega arith
 
-pub inside_here : (lanes : List Lane) (i : ℕ) (l : Lane) → AreLanes lanes → i < length lanes → l ≡ get_or lanes i l → AreIn l.shares l.wanted.items
-inside_here lanes i l are lt here = subst (λ (m : Lane). AreIn m.shares m.wanted.items) (sym here) (inside_at lanes i l are lt)
+pub inside_here : (lanes : List Lane) (i : ℕ) (l : Lane) → AreLanes lanes → i < length lanes → l ≡ get_or lanes i l → IsLane l
+inside_here lanes i l are lt here = subst IsLane (sym here) (inside_at lanes i l are lt)
 
 pub request_found : (key : VersionKey) (lanes : List Lane) (seen : List LaneView) (i : ℕ) (l : Lane) → lanes_in key lanes ≡ seen → i < length lanes → l ≡ get_or lanes i l → request_of (lane_in key l) ≡ request_at seen i
 request_found key lanes seen i l view lt here =
@@ -136,25 +136,35 @@ request_found key lanes seen i l view lt here =
 -- an answer to the lane at a place, which is moved there
 pub answered : (key : VersionKey) (lanes : List Lane) (seen : List LaneView) (i : ℕ) (l old m : Lane) (next : Option LaneStage) (content : List ℕ) (result : Result LaneNews LaneErr)
     → lanes_in key lanes ≡ seen → i < length lanes → l ≡ get_or lanes i l → old ≡ get_or lanes i old → m ≡ moved_to old next
-    → Answers (lane_in key l) content result (next_in (shares_in l.shares l.wanted.items) (lane_in key l).state next)
+    → Answers (lane_in key l) content result (next_in (shares_in l.recalled.bytes l.wanted.items) (lane_in key l).state next)
     → AnswersAt seen i content result (lanes_in key (set lanes i m))
 answered key lanes seen i l old m next content result view lt here there e h =
     let at : Lane = get_or lanes i l in
-    let one = subst (λ (o : Lane). Answers (lane_in key o) content result (next_in (shares_in o.shares o.wanted.items) (lane_in key o).state next)) here h in
+    let one = subst (λ (o : Lane). Answers (lane_in key o) content result (next_in (shares_in o.recalled.bytes o.wanted.items) (lane_in key o).state next)) here h in
     let same : m ≡ moved_to at next = e ∙ ap (λ (o : Lane). moved_to o next) (there ∙ get_or_default lanes i old l lt) in
     subst (λ (xs : List LaneView). AnswersAt xs i content result (lanes_in key (set lanes i m))) view
-    (answers_in key lanes i l m content result (next_in (shares_in at.shares at.wanted.items) (lane_in key at).state next) lt one
-    (subst (λ (o : Lane). Moves key at o (next_in (shares_in at.shares at.wanted.items) (lane_in key at).state next)) (sym same) (moves_to key at next)))
+    (answers_in key lanes i l m content result (next_in (shares_in at.recalled.bytes at.wanted.items) (lane_in key at).state next) lt one
+    (subst (λ (o : Lane). Moves key at o (next_in (shares_in at.recalled.bytes at.wanted.items) (lane_in key at).state next)) (sym same) (moves_to key at next)))
 
-moved-shares : (l : Lane) (next : Option LaneStage) → (moved_to l next).shares ≡ l.shares
-moved-shares l None = refl
-moved-shares l (Some stage) = refl
+-- a lane that has a request has its shares
+held : (w : Work) (all : List (List ℕ)) (stage : LaneStage) (shares recalled : List ℕ) → IsSome (lane_request w (state_in all stage)) → HasShares stage shares recalled → shares ≡ recalled
+held w all (stages.Bringing from) shares recalled some has = has
+held w all (stages.Sending from flags) shares recalled some has = has
+held w all stages.Done shares recalled some has = absurd (let no : false ≡ true = some in cc)
+held w all stages.Refused shares recalled some has = absurd (let no : false ≡ true = some in cc)
 
-moved-wanted : (l : Lane) (next : Option LaneStage) → (moved_to l next).wanted ≡ l.wanted
-moved-wanted l None = refl
-moved-wanted l (Some stage) = refl
+moved_is : (l : Lane) (next : Option LaneStage) → IsLane l → l.shares ≡ l.recalled.bytes → IsLane (moved_to l next)
+moved_is l None is e = is
+moved_is l (Some (stages.Bringing from)) is e = (is.0, e)
+moved_is l (Some (stages.Sending from flags)) is e = (is.0, e)
+moved_is l (Some stages.Done) is e = (is.0, tt)
+moved_is l (Some stages.Refused) is e = (is.0, tt)
 
-pub are_moved : (lanes : List Lane) (i : ℕ) (old m : Lane) (next : Option LaneStage) → AreLanes lanes → i < length lanes → old ≡ get_or lanes i old → m ≡ moved_to old next → AreLanes (set lanes i m)
-are_moved lanes i old m next are lt there e =
-    lanes_set lanes i old m are lt (ap (λ (o : Lane). o.shares) e ∙ moved-shares old next ∙ ap (λ (o : Lane). o.shares) there)
-    (ap (λ (o : Lane). o.wanted) e ∙ moved-wanted old next ∙ ap (λ (o : Lane). o.wanted) there)
+-- an answer to the lane at a place, which has a request
+pub are_moved : (key : VersionKey) (lanes : List Lane) (seen : List LaneView) (i : ℕ) (old m : Lane) (next : Option LaneStage) → lanes_in key lanes ≡ seen → IsSome (request_at seen i)
+    → AreLanes lanes → i < length lanes → old ≡ get_or lanes i old → m ≡ moved_to old next → AreLanes (set lanes i m)
+are_moved key lanes seen i old m next view some are lt there e =
+    let is : IsLane old = inside_here lanes i old are lt there in
+    let asks : IsSome (request_of (lane_in key old)) = subst (λ (r : Option Request). IsSome r) (sym (request_found key lanes seen i old view lt there)) some in
+    lanes_set lanes i m are lt
+    (subst IsLane (sym e) (moved_is old next is (held (lane_in key old).work (shares_in old.recalled.bytes old.wanted.items) old.stage old.shares old.recalled.bytes asks is.1)))

@@ -78,19 +78,29 @@ work_in key lane = record {
   version = key.version;
   recipe = lane.recipe;
   items = lane.items;
-  batches = in_batches (shares_in lane.shares lane.wanted.items);
+  batches = in_batches (shares_in lane.recalled.bytes lane.wanted.items);
 }
 
 abbrev pub lane_in : VersionKey → Lane → LaneView
-lane_in key lane = record { work = work_in key lane; state = state_in (shares_in lane.shares lane.wanted.items) lane.stage }
+lane_in key lane = record { work = work_in key lane; state = state_in (shares_in lane.recalled.bytes lane.wanted.items) lane.stage }
 
 abbrev pub lanes_in : VersionKey → List Lane → List LaneView
 lanes_in key lanes = map (lane_in key) lanes
 
--- in each lane the wanted shares lie in those of its cloud
+-- a lane that may still send shares has them
+abbrev pub HasShares : LaneStage → List ℕ → List ℕ → Type 0
+HasShares (stages.Bringing from) shares recalled = shares ≡ recalled
+HasShares (stages.Sending from flags) shares recalled = shares ≡ recalled
+HasShares stages.Done shares recalled = Unit {0}
+HasShares stages.Refused shares recalled = Unit {0}
+
+-- the wanted shares lie in those that the lane had at its beginning, and up to its end it has them
+abbrev pub IsLane : Lane → Type 0
+IsLane lane = AreIn lane.recalled.bytes lane.wanted.items × HasShares lane.stage lane.shares lane.recalled.bytes
+
 abbrev pub AreLanes : List Lane → Type 0
 AreLanes [] = Unit {0}
-AreLanes (lane ∷ lanes) = AreIn lane.shares lane.wanted.items × AreLanes lanes
+AreLanes (lane ∷ lanes) = IsLane lane × AreLanes lanes
 
 -- ---- a step of a lane
 
@@ -99,9 +109,30 @@ abbrev pub next_in : List (List ℕ) → LaneState → Option LaneStage → Lane
 next_in all state None = state
 next_in all state (Some stage) = state_in all stage
 
+-- whether a lane that stands there is at its end
+abbrev pub ends_at : LaneStage → Bool
+ends_at (stages.Bringing from) = false
+ends_at (stages.Sending from flags) = false
+ends_at stages.Done = true
+ends_at stages.Refused = true
+
+-- the shares that it keeps at this stage: none at its end
+abbrev pub kept_at : LaneStage → List ℕ → List ℕ
+kept_at (stages.Bringing from) shares = shares
+kept_at (stages.Sending from flags) shares = shares
+kept_at stages.Done shares = []
+kept_at stages.Refused shares = []
+
 abbrev pub moved_to : Lane → Option LaneStage → Lane
 moved_to lane None = lane
-moved_to lane (Some stage) = record { recipe = lane.recipe; items = lane.items; shares = lane.shares; wanted = lane.wanted; stage = stage }
+moved_to lane (Some stage) = record {
+  recipe = lane.recipe;
+  items = lane.items;
+  shares = kept_at stage lane.shares;
+  wanted = lane.wanted;
+  stage = stage;
+  recalled = lane.recalled;
+}
 
 -- the lanes, of which those of these numbers stand at this stage
 abbrev pub staged_at : List Lane → ℕ → LaneStage → List Lane
@@ -123,6 +154,7 @@ pub record IsBegun (k : ℕ) (f : CloudFile) (lane : Lane) : Type 0 where
   pub recipe : lane.recipe ≡ spelling f.recipe
   pub items : lane.items ≡ length f.recipe.items
   pub shares : lane.shares ≡ f.shares
+  pub recalled : lane.recalled.bytes ≡ f.shares
   pub wanted : shares_in f.shares lane.wanted.items ≡ new_strings [] (pieces k f.recipe.items f.shares)
   pub inside : AreIn f.shares lane.wanted.items
   pub stage : lane.stage ≡ stages.Bringing 0

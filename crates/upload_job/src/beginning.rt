@@ -5,6 +5,7 @@ ghost use Rattle.user_dedup.specs.Recipe.Spelling.{item_limit};
 ghost use Rattle.upload_job.specs.Index.{AreNamed, IsBegun, IsIdle, IsAlone, EachNamed, EachBegun};
 
 use crate::lane::{Lane, LaneStage};
+use crate::recalled::Recalled;
 use crate::wanted::wanted_of;
 use file_recipe::CloudFile;
 use std::alloc::Global;
@@ -23,12 +24,14 @@ fn lane_of(alloc: Global, shape: Shape, file: CloudFile) -> Result<Lane, NoMemor
     let mut recipe = Bytes::new(alloc);
     named.write(&mut recipe)?;
     let wanted = wanted_of(alloc, shape, named.items.as_slice(), shares.as_slice())?;
+    let recalled = Recalled::of(shares.as_slice());
     Ok(Lane {
         recipe,
         items: named.items.len() as u32,
         shares,
         wanted,
         stage: LaneStage::Bringing { from: 0 },
+        recalled,
     })
 }
 
@@ -42,6 +45,7 @@ fn idle_lane(alloc: Global) -> Lane
         shares: Bytes::new(alloc),
         wanted: Vec::new(alloc),
         stage: LaneStage::Refused,
+        recalled: Recalled::of(&[]),
     }
 }
 

@@ -5,13 +5,14 @@ use crate::lane::{Lane, VersionKey, are_done, end_lanes, is_done, move_lane};
 use crate::requests::put_request;
 use crate::turn::{Turn, turn_of};
 use crate::{LaneErr, LaneNews};
-use file_recipe::{disperse_file, disperse_for, tag_of};
+use file_recipe::{FileBytes, disperse_bytes, disperse_file, disperse_for, tag_of};
 use std::alloc::Global;
 use std::marker::Model;
 use std::mem;
 use user_dedup::{Bytes, CloudNo, Clouds, NoMemory, Shape, UserId, Version};
 
-/// A version of a file on its way to all clouds, or to one alone. It keeps the shares and the recipe of each cloud that it goes to.
+/// A version of a file on its way to all clouds, or to one alone. It keeps the recipe of each cloud that it goes to, and the shares
+/// until that cloud's lane is at its end.
 /// Contracts see a list of lanes, one for each cloud in the order of their numbers: what each has to bring, and where it stands.
 #[derive(Debug, Drop)]
 pub struct Job {
@@ -59,6 +60,32 @@ impl Job {
     {
         let tag = tag_of(alloc, shape, path)?;
         let files = disperse_file(alloc, shape, path, bytes)?;
+        let lanes = lanes_of(alloc, shape, files.into_vec())?;
+        Ok(Job {
+            alloc,
+            key: VersionKey { user, tag, version },
+            lanes,
+            spare: Bytes::new(alloc),
+        })
+    }
+
+    /// The same as `new` makes it, of a file whose bytes are let go while they are dispersed: file and shares together take some half of
+    /// the file less.
+    pub fn of_bytes(
+        alloc: Global,
+        shape: Shape,
+        user: UserId,
+        path: &[u8],
+        version: Version,
+        bytes: FileBytes,
+    ) -> Result<Job, NoMemory>
+        requires path { IsPath path.now }
+        requires few { length bytes ≤ file_limit }
+        ensures { IfOk result (λ job. job ≡ lanes_begun shape
+            (record { user = user; path = path.now; number = version; file = bytes })) }
+    {
+        let tag = tag_of(alloc, shape, path)?;
+        let files = disperse_bytes(alloc, shape, path, bytes)?;
         let lanes = lanes_of(alloc, shape, files.into_vec())?;
         Ok(Job {
             alloc,
@@ -117,7 +144,7 @@ impl Job {
         let tag = tag_of(alloc, shape, path)?;
         let files = disperse_file(alloc, shape, path, bytes)?;
         let mut lanes = lanes_of(alloc, shape, files.into_vec())?;
-        end_lanes(&mut lanes, committed.as_slice());
+        end_lanes(alloc, &mut lanes, committed.as_slice());
         Ok(Job {
             alloc,
             key: VersionKey { user, tag, version },
@@ -165,7 +192,7 @@ impl Job {
     {
         let place = lane.0 as usize;
         let Turn { result, next } = turn_of(self.alloc, &self.lanes[place], reply);
-        move_lane(&mut self.lanes[place], next);
+        move_lane(self.alloc, &mut self.lanes[place], next);
         result
     }
 

@@ -8,10 +8,12 @@ ghost use Rattle.upload_job.specs.Lane.{Asking, Sending, Committing, past_known,
 ghost use Rattle.user_dedup.specs.Messages.reply.Reply.TheVariants.{Known, Stored, Lacking};
 ghost use Rattle.upload_job.specs.declared.lane.LaneStage.TheVariants as stages;
 ghost use Rattle.user_dedup.specs.CdBase.Numbers.{numbers_of};
-ghost use Rattle.upload_job.specs.Index.{state_in, moved_to, staged_at, done_at, StepIs};
+ghost use Rattle.upload_job.specs.Index.{ends_at, state_in, moved_to, staged_at, done_at, StepIs};
 
 use crate::LaneNews;
+use crate::recalled::Recalled;
 use crate::wanted::{WantedShare, batch_at};
+use std::alloc::Global;
 use user_dedup::{Bytes, CloudNo, Reply, Tag, UserId, Version};
 
 /// The user, and the tag and version of the file.
@@ -40,11 +42,13 @@ pub enum LaneStage {
 pub struct Lane {
     pub recipe: Bytes,
     pub items: u32,
-    /// The cloud's shares, one after another.
+    /// The cloud's shares, one after another, which the lane lets go when it comes to its end.
     pub shares: Bytes,
     /// Which of them it is to have.
     pub wanted: Vec<WantedShare>,
     pub stage: LaneStage,
+    /// The shares that it had at its beginning.
+    pub recalled: Recalled,
 }
 
 /// What a reply tells, and where the lane stands next, if it moves.
@@ -310,12 +314,34 @@ pub fn step_of(lane: &Lane, reply: Reply) -> Option<Step>
     }
 }
 
-/// Moves the lane, where it is to move.
-pub fn move_lane(lane: &mut Lane, next: Option<LaneStage>)
+// Whether a lane that stands there is at its end.
+fn is_end(stage: &LaneStage) -> bool
+    ensures { result ≡ ends_at stage.now }
+{
+    match stage {
+        LaneStage::Done => true,
+        LaneStage::Refused => true,
+        LaneStage::Bringing { .. } => false,
+        LaneStage::Sending { .. } => false,
+    }
+}
+
+// Makes the lane stand there. At its end its shares are let go.
+fn stand(alloc: Global, lane: &mut Lane, stage: LaneStage)
+    ensures { lane.new ≡ moved_to lane.old (Some stage) }
+{
+    if is_end(&stage) {
+        lane.shares = Bytes::new(alloc);
+    }
+    lane.stage = stage;
+}
+
+/// Moves the lane, where it is to move. At its end its shares are let go.
+pub fn move_lane(alloc: Global, lane: &mut Lane, next: Option<LaneStage>)
     ensures { lane.new ≡ moved_to lane.old next }
 {
     match next {
-        Some(stage) => lane.stage = stage,
+        Some(stage) => stand(alloc, lane, stage),
         None => {}
     }
 }
@@ -340,19 +366,19 @@ pub fn are_done(lanes: &[Lane]) -> bool
 }
 
 // Ends the lane of this cloud: its version is entered.
-fn end_lane(lanes: &mut Vec<Lane>, cloud: CloudNo)
+fn end_lane(alloc: Global, lanes: &mut Vec<Lane>, cloud: CloudNo)
     requires { cloud.0 < length lanes.old.items }
     ensures { lanes.new.items ≡ staged_at lanes.old.items cloud.0 stages.Done }
 {
-    lanes[cloud.0 as usize].stage = LaneStage::Done;
+    stand(alloc, &mut lanes[cloud.0 as usize], LaneStage::Done);
 }
 
 /// Ends the lanes of these clouds: their version is entered.
-pub fn end_lanes(lanes: &mut Vec<Lane>, clouds: &[CloudNo])
+pub fn end_lanes(alloc: Global, lanes: &mut Vec<Lane>, clouds: &[CloudNo])
     requires { All (λ cloud. cloud < length lanes.old.items) (numbers_of clouds.now) }
     ensures { lanes.new.items ≡ done_at lanes.old.items (numbers_of clouds.now) }
 {
     for cloud in clouds {
-        end_lane(lanes, *cloud);
+        end_lane(alloc, lanes, *cloud);
     }
 }

@@ -7,11 +7,14 @@ mod job;
 mod lane;
 pub mod laws;
 mod news;
+mod recalled;
 mod requests;
 mod turn;
 mod wanted;
 
-pub use file_recipe::{CloudFile, CloudFiles, RecoverErr, disperse_file, recover, tag_of};
+pub use file_recipe::{
+    CloudFile, CloudFiles, FileBytes, RecoverErr, disperse_file, recover, tag_of,
+};
 pub use job::Job;
 pub use news::{LaneErr, LaneNews};
 pub use user_dedup::{

@@ -10,7 +10,7 @@ ghost use Rattle.user_dedup.specs.Messages.request.Request.TheVariants.{Query, P
 ghost use Rattle.upload_job.specs.declared.lane.LaneStage.TheVariants as stages;
 ghost use Rattle.upload_job.specs.Lane.{unflagged, lane_request};
 ghost use Rattle.upload_job.specs.Lanes.{IsAsked};
-ghost use Rattle.upload_job.specs.Index.{IsInShares, AreIn, share_in, shares_in, work_in, state_in};
+ghost use Rattle.upload_job.specs.Index.{IsInShares, AreIn, IsLane, share_in, shares_in, work_in, state_in};
 
 use crate::lane::{Lane, LaneStage, VersionKey, zeros};
 use crate::wanted::{WantedShare, batch_at};
@@ -109,9 +109,10 @@ fn put_commit(out: &mut Bytes, key: &VersionKey, recipe: &[u8]) -> Result<(), No
 // The request of a lane that asks, or enters the recipe.
 fn put_bringing(out: &mut Bytes, key: &VersionKey, lane: &Lane, from: usize) -> Result<(), NoMemory>
     requires empty { out.old ≡ [] }
-    requires inside { AreIn lane.now.shares lane.now.wanted.items }
+    requires inside { AreIn lane.now.recalled.bytes lane.now.wanted.items }
     ensures { OnOk result (IsAsked (lane_request (work_in key.now lane.now)
-        (state_in (shares_in lane.now.shares lane.now.wanted.items) (stages.Bringing from))) true out.old out.new) }
+        (state_in (shares_in lane.now.recalled.bytes lane.now.wanted.items) (stages.Bringing from)))
+        true out.old out.new) }
 {
     if from < lane.wanted.len() {
         put_query(out, key.user, batch_at(lane.wanted.as_slice(), from))
@@ -123,9 +124,9 @@ fn put_bringing(out: &mut Bytes, key: &VersionKey, lane: &Lane, from: usize) -> 
 /// Writes the lane's request into an empty list, where it has one.
 pub fn put_request(out: &mut Bytes, key: &VersionKey, lane: &Lane) -> Result<bool, NoMemory>
     requires empty { out.old ≡ [] }
-    requires inside { AreIn lane.now.shares lane.now.wanted.items }
+    requires is { IsLane lane.now }
     ensures { IfOk result (λ more. IsAsked (lane_request (work_in key.now lane.now)
-        (state_in (shares_in lane.now.shares lane.now.wanted.items) lane.now.stage)) more out.old out.new) }
+        (state_in (shares_in lane.now.recalled.bytes lane.now.wanted.items) lane.now.stage)) more out.old out.new) }
 {
     match &lane.stage {
         LaneStage::Bringing { from } => {

@@ -20,12 +20,12 @@ put_query-requires c = let few = batch_few c.args.from c.args.lane.now.wanted.it
 pub returns-then-from-len : goal.returns-then-from-len
 returns-then-from-len c =
     let ws : List WantedShare = c.args.lane.now.wanted.items in
-    let all : List (List ℕ) = shares_in c.args.lane.now.shares ws in
-    let len : length all ≡ length ws = length-map ws (share_in c.args.lane.now.shares) in
+    let all : List (List ℕ) = shares_in c.args.lane.now.recalled.bytes ws in
+    let len : length all ≡ length ws = length-map ws (share_in c.args.lane.now.recalled.bytes) in
     let some : c.args.from < length all = omega arith in
     let batch : c.batch_at.result.now ≡ take 256 (drop c.args.from ws) = c.batch_at.ensures ∙ ap (λ (xs : List WantedShare). take 256 (drop c.args.from xs)) c.as_slice.ensures.value in
     let fps : map (λ (w : WantedShare). w.fp) c.batch_at.result.now ≡ map fingerprint (take 256 (drop c.args.from all)) =
-    ap (map (λ (w : WantedShare). w.fp)) batch ∙ batch_fps c.args.lane.now.shares c.args.from ws (All-take (IsInShares c.args.lane.now.shares) 256 (drop c.args.from ws) (All-drop (IsInShares c.args.lane.now.shares) c.args.from ws c.requires.inside)) in
+    ap (map (λ (w : WantedShare). w.fp)) batch ∙ batch_fps c.args.lane.now.recalled.bytes c.args.from ws (All-take (IsInShares c.args.lane.now.recalled.bytes) 256 (drop c.args.from ws) (All-drop (IsInShares c.args.lane.now.recalled.bytes) c.args.from ws c.requires.inside)) in
     on_ok_weaker c.put_query.result
     (λ h. subst (λ (s : LaneState). IsAsked (lane_request (work_in c.args.key.now c.args.lane.now) s) true c.args.out.now c.put_query.new.out) (sym (onward_some all c.args.from some))
     (refl, into_none c.args.out.now c.put_query.new.out (request_bytes (Query c.args.key.now.user (map (λ (w : WantedShare). w.fp) c.batch_at.result.now))) c.requires.empty h ∙ ap (λ (fs : List Fp). request_bytes (Query c.args.key.now.user fs)) fps))
@@ -34,8 +34,8 @@ returns-then-from-len c =
 pub returns-else-from-len : goal.returns-else-from-len
 returns-else-from-len c =
     let ws : List WantedShare = c.args.lane.now.wanted.items in
-    let all : List (List ℕ) = shares_in c.args.lane.now.shares ws in
-    let len : length all ≡ length ws = length-map ws (share_in c.args.lane.now.shares) in
+    let all : List (List ℕ) = shares_in c.args.lane.now.recalled.bytes ws in
+    let len : length all ≡ length ws = length-map ws (share_in c.args.lane.now.recalled.bytes) in
     let none : length all ≤ c.args.from = omega arith in
     on_ok_weaker c.put_commit.result
     (λ h. subst (λ (s : LaneState). IsAsked (lane_request (work_in c.args.key.now c.args.lane.now) s) true c.args.out.now c.put_commit.new.out) (sym (onward_none all c.args.from none)) (

@@ -7,8 +7,8 @@ use Rattle.upload_job.proofs.job.Job.next.Goals as goal
 pub index-requires : goal.index-requires
 index-requires c = let below = below_seen c.self.inside.key c.self.inside.lanes.items c.args.self.now c.args.lane.0 c.self.view_is c.requires in omega arith
 
-pub put_request-requires-clause-inside : goal.put_request-requires-clause-inside
-put_request-requires-clause-inside c =
+pub put_request-requires-clause-is : goal.put_request-requires-clause-is
+put_request-requires-clause-is c =
     inside_here c.self.inside.lanes.items c.args.lane.0 c.index.result.now c.self.invariant (below_seen c.self.inside.key c.self.inside.lanes.items c.args.self.now c.args.lane.0 c.self.view_is c.requires) c.index.ensures
 
 pub returns-then-more-clause-request : goal.returns-then-more-clause-request
