@@ -14,7 +14,7 @@ ghost use Rattle.backup_command.specs.Steps.{LanesWent};
 use crate::halt::Halt;
 use crate::lanes::bring_lanes;
 use crate::news::{put_end, put_line};
-use lane_steps::Job;
+use lane_steps::{FileBytes, Job};
 use ports_link::{AskedClouds, Greeted, MeetErr, PortsLink, Refused, ReplyBuf, lines_of, meet_all};
 use std::alloc::Global;
 use transcript::{Bytes, Line, NoMemory, Ports, Shape, UserId, Version};
@@ -42,14 +42,14 @@ struct NamedVersion<'a> {
     version: Version,
 }
 
-// The job of a version of a file, whose bytes are dropped then.
+// The job of a version of a file, whose bytes are let go on the way.
 fn job_of(
     alloc: Global,
     shape: Shape,
     user: UserId,
     path: &[u8],
     version: Version,
-    file: Bytes,
+    file: FileBytes,
 ) -> Result<Job, NoMemory>
     requires path { IsPath path.now }
     requires few { length file ≤ file_limit }
@@ -63,7 +63,7 @@ fn job_of(
 {
     let _user = user.0;
     let _version = version.0;
-    Job::new(alloc, shape, user, path, version, file.as_slice())
+    Job::of_bytes(alloc, shape, user, path, version, file)
 }
 
 // Brings the lanes of a job to the clouds that were greeted, with their lines.
@@ -112,7 +112,7 @@ fn carry_greeted<P: Ports>(
     alloc: Global,
     named: &NamedVersion<'_>,
     greeted: &Greeted,
-    file: Bytes,
+    file: FileBytes,
     ports: &mut P,
     reply: &mut ReplyBuf,
     text: &mut Bytes,
@@ -168,7 +168,7 @@ pub fn carry<P: Ports>(
     path: &[u8],
     version: Version,
     addresses: &[String],
-    file: Bytes,
+    file: FileBytes,
     ports: &mut P,
     text: &mut Bytes,
 ) -> Result<bool, BackupErr>

@@ -11,7 +11,7 @@ mod writing;
 
 pub use backing::backup;
 pub use halt::Halt;
-pub use lane_steps::law_of_resumed_lanes;
+pub use lane_steps::{FileBytes, law_of_resumed_lanes};
 pub use lanes::{bring_one, next_line};
 pub use news::{put_lane, put_line};
 pub use ports_link::{

@@ -4,8 +4,9 @@ ghost use Rattle.std.specs.Prelude.{◌≤◌, length, IfOk};
 ghost use Rattle.lane_steps.specs.Recipe.Spelling.{file_limit};
 ghost use Rattle.backup_command.specs.Reading.{Reads, input_of};
 
+use lane_steps::FileBytes;
 use std::alloc::Global;
-use transcript::{Bytes, FILE_LIMIT, Failed, NoMemory, Source};
+use transcript::{FILE_LIMIT, Failed, NoMemory, Source};
 
 /// Why no file was read.
 #[derive(Clone, Copy, Debug, PartialEq, Eq)]
@@ -22,10 +23,10 @@ pub enum FileReadErr {
 const PIECE: usize = 65_536;
 
 /// Reads a source to its end. `TooLong` comes exactly where it has more bytes than a file may have.
-pub fn read_file<S: Source>(alloc: Global, source: &mut S) -> Result<Bytes, FileReadErr>
+pub fn read_file<S: Source>(alloc: Global, source: &mut S) -> Result<FileBytes, FileReadErr>
     ensures reads { Reads (input_of (S.left source.old) (S.faults source.old) (S.faults source.new)) result }
 {
-    let mut file = Bytes::new(alloc);
+    let mut file = FileBytes::new(alloc);
     let mut piece = [0; PIECE];
     'pieces: loop {
         let count = match source.read(&mut piece) {

@@ -18,6 +18,7 @@ pub use grammar::{
 pub use reading::{law_of_any_requests, law_of_ends, law_of_lane_requests, law_of_resumed_lanes};
 pub use step::step_lane;
 pub use upload_job::{
-    CloudFile, CloudFiles, Entries, Item, Items, Job, KEY_LIMIT, LaneNews, Link, Lost, MsgErr,
-    Recipe, RecoverErr, Reply, ReplyBuf, Request, RequestView, disperse_file, recover, tag_of,
+    CloudFile, CloudFiles, Entries, FileBytes, Item, Items, Job, KEY_LIMIT, LaneNews, Link, Lost,
+    MsgErr, Recipe, RecoverErr, Reply, ReplyBuf, Request, RequestView, disperse_file, recover,
+    tag_of,
 };
