@@ -6,7 +6,7 @@ ghost use Rattle.share_digests.specs.Digests.{HasAll, IsRightAt, place_at};
 use crate::order::{index_at, write_order};
 use crate::parts::parts_of;
 use hash_lanes::sha256_of_four;
-use message_fields::SharesView;
+use message_fields::{Fp, SharesView, sha256};
 
 // Puts the digests of four shares at their places: those whose places stand from an index of the order on.
 fn hash_four(parts: &[&[u8]], order: &[(usize, usize)], index: usize, digests: &mut [[u8; 32]])
@@ -31,6 +31,39 @@ fn hash_four(parts: &[&[u8]], order: &[(usize, usize)], index: usize, digests: &
     digests[fourth] = four[3];
 }
 
+// Puts the digest of one share at its place: the one that stands at an index of the order.
+fn hash_one(parts: &[&[u8]], order: &[(usize, usize)], index: usize, digests: &mut [[u8; 32]])
+    requires index { index < length order.now }
+    requires below { All (λ pair. pair.1 < length parts.now) order.now }
+    requires room { length digests.old ≡ length parts.now }
+    ensures kept { (place : ℕ) → IsRightAt (map (λ part. part.now) parts.now) digests.old place
+        → IsRightAt (map (λ part. part.now) parts.now) digests.new place }
+    ensures right { IsRightAt (map (λ part. part.now) parts.now) digests.new (place_at order.now index) }
+    ensures len { length digests.new ≡ length digests.old }
+{
+    let place = index_at(order, index);
+    let Fp(only) = sha256(parts[place]);
+    digests[place] = only;
+}
+
+// Puts the digests of four shares at their places, or of the last one alone where no other is left.
+fn hash_next(parts: &[&[u8]], order: &[(usize, usize)], index: usize, digests: &mut [[u8; 32]])
+    requires index { index < length order.now }
+    requires below { All (λ pair. pair.1 < length parts.now) order.now }
+    requires room { length digests.old ≡ length parts.now }
+    ensures kept { (place : ℕ) → IsRightAt (map (λ part. part.now) parts.now) digests.old place
+        → IsRightAt (map (λ part. part.now) parts.now) digests.new place }
+    ensures four { (i : ℕ) → index ≤ i → i < index + 4 → i < length order.now
+        → IsRightAt (map (λ part. part.now) parts.now) digests.new (place_at order.now i) }
+    ensures len { length digests.new ≡ length digests.old }
+{
+    if index + 1 == order.len() {
+        hash_one(parts, order, index, digests);
+        return;
+    }
+    hash_four(parts, order, index, digests);
+}
+
 // Puts the digest of each share at its place. The order has each of the places.
 fn hash_each(parts: &[&[u8]], order: &[(usize, usize)], digests: &mut [[u8; 32]])
     requires all { HasAll (length parts.now) order.now }
@@ -42,7 +75,7 @@ fn hash_each(parts: &[&[u8]], order: &[(usize, usize)], digests: &mut [[u8; 32]]
 {
     let mut index = 0;
     'fours: while index < order.len() {
-        hash_four(parts, order, index, digests);
+        hash_next(parts, order, index, digests);
         index += 4;
     }
 }

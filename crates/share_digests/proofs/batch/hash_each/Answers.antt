@@ -6,8 +6,8 @@ use Rattle.share_digests.proofs.batch.hash_each.Goals as goal
 
 pub fours-preserved : goal.fours-preserved
 fours-preserved c = λ i below less. elim (cases_lt i c.fours.index) [
-  | inl before ↦ c.hash_four.ensures.kept _ (c.fours.invariant i before less)
-  | inr from ↦ c.hash_four.ensures.four i from below less
+  | inl before ↦ c.hash_next.ensures.kept _ (c.fours.invariant i before less)
+  | inr from ↦ c.hash_next.ensures.four i from below less
 ]
 
 pub returns-clause-right : goal.returns-clause-right
