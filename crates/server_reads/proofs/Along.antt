@@ -48,12 +48,16 @@ WhenHeld a m all P = IsTrue a.told → (shape : Shape) (cloud : ℕ) (list : Lis
 abbrev pub WhenAgreed : (a : Cloud) (log : State) (P : Type 0) → Type 0
 WhenAgreed a log P = IsTrue a.told → Agrees log (a.now log.area).read → P
 
+-- of a told cloud that keeps the list they are the first n shares of the list
+abbrev pub IsHeldSoFar : (a : Cloud) (log : State) (m : Memory) (all : List Fp) (n : ℕ) (old out : List ℕ) → Type 0
+IsHeldSoFar a log m all n old out = WhenAgreed a log (WhenHeld a m all (λ list. out ≡ old ++ flat_map share_bytes (strings_for list (take n all))))
+
 -- the first n shares stand there
 pub record Along (a b : ℕ → Cloud) (number before mid : ℕ) (log0 log : State) (m : Memory) (all : List Fp) (n : ℕ) (old out : List ℕ) : Type 0 where
   pub only : OnlyRead a b number before mid
   pub log_is : ReadsLog log0 log (a number) (b number)
   pub sent : HasSentShares (take n all) old out
-  pub held : WhenAgreed (a number) log0 (WhenHeld (a number) m all (λ list. out ≡ old ++ flat_map share_bytes (strings_for list (take n all))))
+  pub held : IsHeldSoFar (a number) log0 m all n old out
   pub few : length out ≤ length old + n * 8212
 
 pub begun : (a : ℕ → Cloud) (number now : ℕ) (log : State) (m : Memory) (all : List Fp) (out : List ℕ) → Along a a number now now log log m all 0 out out
@@ -68,7 +72,7 @@ begun a number now log m all out = record {
 flat_push : (ss : List (List ℕ)) (s : List ℕ) → flat_map share_bytes (ss ++ s ∷ []) ≡ flat_map share_bytes ss ++ share_bytes s
 flat_push ss s = flat_map-append share_bytes ss (s ∷ []) ∙ ap (λ l. flat_map share_bytes ss ++ l) (append-nil (share_bytes s))
 
-one_behind : (old out out' : List ℕ) (ss : List (List ℕ)) (s : List ℕ) → out ≡ old ++ flat_map share_bytes ss → out' ≡ out ++ share_bytes s → out' ≡ old ++ flat_map share_bytes (ss ++ s ∷ [])
+pub one_behind : (old out out' : List ℕ) (ss : List (List ℕ)) (s : List ℕ) → out ≡ old ++ flat_map share_bytes ss → out' ≡ out ++ share_bytes s → out' ≡ old ++ flat_map share_bytes (ss ++ s ∷ [])
 one_behind old out out' ss s first next =
     next ∙ ap (λ l. l ++ share_bytes s) first ∙ append_assoc old (flat_map share_bytes ss) (share_bytes s) ∙ ap (λ l. old ++ l) (sym (flat_push ss s))
 
@@ -111,7 +115,7 @@ held_by_step a b number before mid log0 log m all n fp at P only log_is area amo
           (subst (λ (l : List ℕ). IsAt l (record { place = h.place.at; blob = h.string })) (sym (same_area a b number before mid log0 log only log_is area)) h.lies),
     )
 
-few_more : (old out out' : List ℕ) (fp : Fp) (n : ℕ) → length out ≤ length old + n * 8212 → SentOne fp out out' → length out' ≤ length old + (n + 1) * 8212
+pub few_more : (old out out' : List ℕ) (fp : Fp) (n : ℕ) → length out ≤ length old + n * 8212 → SentOne fp out out' → length out' ≤ length old + (n + 1) * 8212
 few_more old out out' fp n few one =
     let head : List ℕ = to_be_bytes w32 (length one.share) in
     let four : length head ≡ 4 = refl in
@@ -121,23 +125,34 @@ few_more old out out' fp n few one =
 pub sent_one : (fp : Fp) (old out share : List ℕ) (len : ℕ) → out ≡ old ++ share_bytes share → length share ≡ len → 1 ≤ len → len ≤ 8208 → fingerprint share ≡ fp → SentOne fp old out
 sent_one fp old out share len bytes long some few named = record { share = share; bytes = bytes; range = (omega arith, omega arith); named = named }
 
+-- what a step says of a blob that lies at its place, where the log agrees with the told cloud's area
+abbrev pub StepHolds : Cloud → State → Option Place → Fp → (Placed → Type 0) → Type 0
+StepHolds b log at fp P = IsTrue b.told → Agrees log (b.now log.area).read → AtStep at fp (b.now log.area).read P
+
+pub held_more : (a b : ℕ → Cloud) (number before mid : ℕ) (log0 log : State) (m : Memory) (all : List Fp) (n : ℕ) (old out out' : List ℕ) (fp : Fp) (at : Option Place)
+    → log0.area ≡ Shares → slice_get all n ≡ Some fp → Contains all fp → IsPlaceOf m fp at
+    → OnlyRead a b number before mid → ReadsLog log0 log (a number) (b number)
+    → IsHeldSoFar (a number) log0 m all n old out → StepHolds (b number) log at fp (λ blob. out' ≡ out ++ share_bytes blob.blob)
+    → IsHeldSoFar (a number) log0 m all (n + 1) old out'
+held_more a b number before mid log0 log m all n old out out' fp at area get among place only log_is held step t agreed told shape cloud list user k own =
+    let kept = log_is.agrees t agreed in
+    let h = held_by_step a b number before mid log0 log m all n fp at (λ s. out' ≡ out ++ share_bytes s) only log_is area among place (λ is_told. step is_told kept) told shape cloud list user k own in
+    let strings = strings_for list (take n all) in
+    one_behind old out out' strings h.0 (held t agreed told shape cloud list user k own) h.2
+    ∙ ap (λ s. old ++ flat_map share_bytes (strings ++ s ∷ [])) (sym (ap (λ (o : Option (List ℕ)). unwrap_or o []) h.1))
+    ∙ ap (λ l. old ++ flat_map share_bytes l) (sym (map_push (λ (f : Fp). unwrap_or (held_string list f) []) (take n all) fp) ∙ ap (strings_for list) (sym (one_more all n fp get)))
+
 pub more : (a b c : ℕ → Cloud) (number before mid now : ℕ) (log0 log log' : State) (m : Memory) (all : List Fp) (n : ℕ) (old out out' : List ℕ) (fp : Fp) (at : Option Place)
     → log0.area ≡ Shares → slice_get all n ≡ Some fp → Contains all fp → IsPlaceOf m fp at
     → Along a b number before mid log0 log m all n old out
     → HasReadCloud b c number mid now ok_answer → ReadsLog log log' (b number) (c number) → SentOne fp out out'
-    → (IsTrue (b number).told → Agrees log ((b number).now log.area).read → AtStep at fp ((b number).now log.area).read (λ blob. out' ≡ out ++ share_bytes blob.blob))
+    → StepHolds (b number) log at fp (λ blob. out' ≡ out ++ share_bytes blob.blob)
     → Along a c number before now log0 log' m all (n + 1) old out'
 more a b c number before mid now log0 log log' m all n old out out' fp at area get among place along read log_same one step = record {
   only = only_then a b c number before mid now along.only (ok_read b c number mid now read);
   log_is = log_twice log0 log log' (a number) (b number) (c number) along.only.call.told along.log_is log_same;
   sent = subst (λ l. HasSentShares l old out') (sym (one_more all n fp get)) (sent_more (take n all) fp old out out' along.sent one);
-  held = λ t agreed told shape cloud list user k own.
-      let kept = along.log_is.agrees t agreed in
-      let h = held_by_step a b number before mid log0 log m all n fp at (λ s. out' ≡ out ++ share_bytes s) along.only along.log_is area among place (λ is_told. step is_told kept) told shape cloud list user k own in
-      let strings = strings_for list (take n all) in
-      one_behind old out out' strings h.0 (along.held t agreed told shape cloud list user k own) h.2
-      ∙ ap (λ s. old ++ flat_map share_bytes (strings ++ s ∷ [])) (sym (ap (λ (o : Option (List ℕ)). unwrap_or o []) h.1))
-      ∙ ap (λ l. old ++ flat_map share_bytes l) (sym (map_push (λ (f : Fp). unwrap_or (held_string list f) []) (take n all) fp) ∙ ap (strings_for list) (sym (one_more all n fp get)));
+  held = held_more a b number before mid log0 log m all n old out out' fp at area get among place along.only along.log_is along.held step;
   few = few_more old out out' fp n along.few one;
 }
 

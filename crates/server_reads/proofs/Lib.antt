@@ -1,4 +1,6 @@
 pub mod Along
+pub mod Copied
+pub mod Trying
 pub mod Calling
 pub mod MemoryProofs
 pub mod Held

@@ -12,6 +12,7 @@ pub mod laws;
 mod listing;
 mod owning;
 mod sending;
+mod together;
 
 pub use blobs::{BlobStop, read_blob};
 pub use cd_edges::{Area, Failed, Ports, Shelf, Sink, Source, write_all};

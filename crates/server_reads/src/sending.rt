@@ -31,6 +31,7 @@ ghost use Rattle.server_reads.specs.Steps.{KeepsRemembered, SentOne, HasSentShar
 
 use crate::blobs::{BlobStop, nothing_at, read_blob};
 use crate::owning::{first_foreign, fp_at};
+use crate::together::put_together;
 use cd_edges::{Failed, Shelf};
 use cloud_memory::{CloudMemory, CloudNo, Fp, Log, Place, UserId};
 use messages::{
@@ -171,8 +172,8 @@ fn put_each<V: Shelf>(
     Ok(())
 }
 
-// The reply Shares, with the share of each fingerprint, or else why one isn't there.
-fn put_shares<V: Shelf>(
+// The reply Shares, with the share of each fingerprint, one read and hashed after another, or else why one isn't there.
+fn put_one_by_one<V: Shelf>(
     memory: &CloudMemory,
     log: &mut Log,
     shelf: &mut V,
@@ -208,6 +209,49 @@ fn put_shares<V: Shelf>(
     match put_each(memory, log, shelf, cloud, fps, buffer, reply) {
         Ok(()) => Ok(()),
         Err(stop) => Err(stop),
+    }
+}
+
+// The same, read one after another and hashed together; and where one isn't there that way, one by one.
+fn put_shares<V: Shelf>(
+    memory: &CloudMemory,
+    log: &mut Log,
+    shelf: &mut V,
+    cloud: CloudNo,
+    fps: &FpsView<'_>,
+    buffer: &mut [u8],
+    reply: &mut ReplyBuf,
+) -> Result<(), BlobStop>
+    requires batch { IsBatch fps.now }
+    requires area { log.old.area ≡ areas.Shares }
+    requires buffer { share_limit ≤ length buffer.old }
+    ensures ok { OnOk result (SentAll fps.now reply.new) }
+    ensures rotten { IfRotten result (λ named found. Contains fps.now named
+        × IsFoundShare (V.cloud_at shelf.old cloud.0) (memory_of memory.now) named found) }
+    ensures whole { IsTrue (V.cloud_at shelf.old cloud.0).told → (shape : Shape) (number : ℕ) (list : List Command)
+        → (user : UserId) → KeepsRemembered (reads (V.cloud_at shelf.old cloud.0).now) shape number list
+        (memory_of memory.now)
+        → All (Contains (user_view shape list user).own) fps.now
+        → IfRotten result (λ named found. ⊥) }
+    ensures held { IsTrue (V.cloud_at shelf.old cloud.0).told
+        → Agrees log.old ((V.cloud_at shelf.old cloud.0).now log.old.area).read
+        → (shape : Shape) (number : ℕ) (list : List Command)
+        → (user : UserId) → KeepsRemembered (reads (V.cloud_at shelf.old cloud.0).now) shape number list
+        (memory_of memory.now)
+        → All (Contains (user_view shape list user).own) fps.now
+        → OnOk result (reply.new ≡ reply_bytes
+        (replies.Shares (map (λ fp. unwrap_or (held_string list fp) []) fps.now))) }
+    ensures log { ReadsLog log.old log.new (V.cloud_at shelf.old cloud.0) (V.cloud_at shelf.new cloud.0) }
+    ensures reads { HasReadCloud (V.cloud_at shelf.old) (V.cloud_at shelf.new) cloud.0 (V.faults shelf.old)
+        (V.faults shelf.new) result }
+{
+    match put_together(memory, log, shelf, cloud, fps, buffer, reply) {
+        Ok(true) => Ok(()),
+        Ok(false) => match put_one_by_one(memory, log, shelf, cloud, fps, buffer, reply) {
+            Ok(()) => Ok(()),
+            Err(stop) => Err(stop),
+        },
+        Err(Failed) => Err(BlobStop::Failed),
     }
 }
 

@@ -1,5 +1,5 @@
 use Rattle.server_reads.proofs.Along.{shares_kind, held_spelled}
-use Rattle.server_reads.proofs.sending.put_shares.Goals as goal
+use Rattle.server_reads.proofs.sending.put_one_by_one.Goals as goal
 
 pub returns-in-Ok-clause-ok : goal.returns-in-Ok-clause-ok
 returns-in-Ok-clause-ok g c =
