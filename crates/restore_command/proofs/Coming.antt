@@ -26,8 +26,9 @@ use Rattle.subset_restore.proofs.Elements.{all_of, contains_back, contains_front
 use Rattle.restore_command.proofs.Lists.{Apart, apart}
 use Rattle.restore_command.specs.Calls.{RestoreCall, named_in}
 use Rattle.restore_command.specs.Spoken.{none_ended}
-use Rattle.restore_command.specs.Tried.{AreRefused, CameBy, FileFrom, IsFetch, IsStop, NotFrom}
+use Rattle.restore_command.specs.Tried.{AreCounted, AreRefused, CameBy, FileFrom, IsFetch, IsStop, NotFrom}
 use Rattle.restore_command.proofs.Choosing.{Chosen, choose, same_lines}
+use Rattle.restore_command.proofs.Counting.{counted_over}
 use Rattle.restore_command.proofs.Lines.{AreReachedBy, numbers_in}
 use Rattle.restore_command.proofs.Saying.{stop_fresh}
 use Rattle.restore_command.proofs.Walking.{wanted, walk, walked_none, stop_on, fetch_on, choice_rises, open_line}
@@ -158,11 +159,12 @@ module _ {P : Type 0} (tells : P → Telling) (faults : P → ℕ) (start : Port
             (subst (λ (b : List ℕ). Brought greeted.shape came.subset b file) none came.brought);
         from = tells came.mid.ports.now;
         count = faults came.mid.ports.now;
+        counted = subst (λ (n : ℕ). AreCounted n came.tries (faults came.mid.ports.now)) since
+            (counted_over t talk (wanted tells faults start greeted call bytes first reach rises) bytes start came.mid
+            came.tries came.refused);
         later = subst (λ (n : ℕ). faults came.mid.ports.now ≤ n) until came.restored.asked.later;
         refused = λ told.
             let s = speak told in
-            subst (λ (n : ℕ). AreRefused call greeted behind n came.tries (tells came.mid.ports.now)
-            (faults came.mid.ports.now)) since
             (walk tells faults start greeted call bytes first reach rises s.0 s.1 came.front came.tries came.gone within
             came.mid came.refused).refused;
         fetched = fetched;
@@ -190,14 +192,15 @@ module _ {P : Type 0} (tells : P → Telling) (faults : P → ℕ) (start : Port
     first_is = came.first_is;
     gone = came.gone;
     each = came.each;
+    counted = subst (λ (n : ℕ). AreCounted call.faults_before came.tries n) until
+        (subst (λ (n : ℕ). AreCounted n came.tries (faults end.ports.now)) since
+        (counted_over t talk (wanted tells faults start greeted call bytes first reach rises) bytes start end came.tries
+        came.refused));
     refused = λ told.
         let s = speak told in
-        subst (λ (n : ℕ). AreRefused call greeted behind call.faults_before came.tries call.after n) until
-        (subst (λ (n : ℕ). AreRefused call greeted behind n came.tries call.after (faults end.ports.now)) since
-        (subst (λ (u : Telling). AreRefused call greeted behind (faults start.ports.now) came.tries u
-        (faults end.ports.now)) last
+        subst (λ (u : Telling). AreRefused call greeted behind came.tries u) last
         (walk tells faults start greeted call bytes first reach rises s.0 s.1 choices came.tries came.gone (λ x has. has) end
-        came.refused).refused));
+        came.refused).refused;
     exact = λ told few.
         let s = speak told in
         let only = one_only few in

@@ -1,6 +1,7 @@
 pub mod Batches
 pub mod Choosing
 pub mod Coming
+pub mod Counting
 pub mod Items
 pub mod Lines
 pub mod Lists

@@ -32,18 +32,13 @@ use Rattle.restore_command.proofs.Lists.{apart}
 
 -- ---- refusals, one after another
 
-refused_on : (call : RestoreCall) (greeted : Greeted) (a b c : Telling) (m n o : ℕ) (tries : List Try) (x : Try)
-    → AreRefused call greeted a m tries b n → IsRestoreRefused call greeted b n x c o
-    → AreRefused call greeted a m (tries ++ x ∷ []) c o
-refused_on call greeted a b c m n o [] x all one = (
-  c,
-  o,
-  subst (λ (t : Telling). IsRestoreRefused call greeted t m x c o) all.0
-      (subst (λ (k : ℕ). IsRestoreRefused call greeted b k x c o) all.1 one),
-  (refl, refl),
-)
-refused_on call greeted a b c m n o (y ∷ tries) x all one =
-    (all.0, all.1, all.2, refused_on call greeted all.0 b c all.1 n o tries x all.3 one)
+refused_on : (call : RestoreCall) (greeted : Greeted) (a b c : Telling) (tries : List Try) (x : Try)
+    → AreRefused call greeted a tries b → IsRestoreRefused call greeted b x c
+    → AreRefused call greeted a (tries ++ x ∷ []) c
+refused_on call greeted a b c [] x all one =
+    (c, subst (λ (t : Telling). IsRestoreRefused call greeted t x c) all one, refl)
+refused_on call greeted a b c (y ∷ tries) x all one =
+    (all.0, all.1, refused_on call greeted all.0 b c tries x all.2 one)
 
 -- the last of them
 pub record Last {L : Type 0} (t : LinkTelling L) (talk : L → ℕ → Talk → Type 0) (s : Sought) (bytes : List ℕ)
@@ -193,8 +188,7 @@ module _ {P : Type 0} (tells : P → Telling) (faults : P → ℕ) (start : Port
         → (before : Talk) × talk l cloud before
     pub unended : (cloud : ℕ) → Contains (clouds_of items) cloud → (HasRefused tries cloud → ⊥)
         → (line_of l.lines.items.items cloud).ended ≡ false
-    pub refused : AreRefused call greeted (tells start.ports.now) (faults start.ports.now) tries (tells l.ports.now)
-        (faults l.ports.now)
+    pub refused : AreRefused call greeted (tells start.ports.now) tries (tells l.ports.now)
 
   module _ (told : IsTrue (tells start.ports.now).told) (talks : HaveTalks (tells start.ports.now) items) where
     pub walked_none : Walked [] start
@@ -209,7 +203,7 @@ module _ {P : Type 0} (tells : P → Telling) (faults : P → ℕ) (start : Port
       unended = λ cloud has not.
           let at = line_at items cloud has in
           subst (λ (n : ℕ). (line_of start.lines.items.items n).ended ≡ false) at.is (open_line at.line at.has);
-      refused = (refl, refl);
+      refused = refl;
     }
 
     -- one restore, behind some
@@ -300,8 +294,8 @@ module _ {P : Type 0} (tells : P → Telling) (faults : P → ℕ) (start : Port
               open_on tells faults (IsUnread e) one.readable.0 l new one.readable.1 (subst IsTrue (sym w.keeps.told) told)
               cloud at.line.1 on (λ is. not (x, contains_end tries x, unread_refuses e cloud plain is))
               (w.unended cloud has (λ refused. not (refused_more tries x cloud refused)));
-          refused = refused_on call greeted (tells start.ports.now) (tells l.ports.now) (tells new.ports.now)
-              (faults start.ports.now) (faults l.ports.now) (faults new.ports.now) tries x w.refused (record {
+          refused = refused_on call greeted (tells start.ports.now) (tells l.ports.now) (tells new.ports.now) tries x
+              w.refused (record {
                 lines = chosen.lines;
                 clouds = chosen.clouds;
                 among = chosen.among;
@@ -309,8 +303,6 @@ module _ {P : Type 0} (tells : P → Telling) (faults : P → ℕ) (start : Port
                     (λ said. stop_fresh call greeted.shape (tells l.ports.now) (tells new.ports.now) chosen.lines _ e
                     (λ line has. fresh_in tries l w subset chosen free line has)
                     (stop_on tries l new w subset chosen free (Err e) bytes one among rising e said)) one.said;
-                lost = one.asked.lost;
-                later = one.asked.later;
                 others = others_on tries l new w subset chosen free (Err e) bytes one;
               });
         }

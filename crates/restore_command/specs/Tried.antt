@@ -42,30 +42,36 @@ abbrev pub Heard : RestoreErr → Type 0 → Type 0
 Heard e P = let came : Result (Unit {0}) RestoreErr = Err e in Unlost came P
 
 -- A restore from a choice of the clouds was refused: by what was said with these, none of whose lines had ended before;
--- or since an ask was lost, and then the ports' count of faults rose. Every port but theirs is as it was.
-pub record IsRestoreRefused (call : RestoreCall) (greeted : Greeted) (before : Telling) (count : ℕ) (x : Try)
-    (after : Telling)
-    (count_after : ℕ) : Type 0 where
+-- or since an ask was lost. Every port but theirs is as it was.
+pub record IsRestoreRefused (call : RestoreCall) (greeted : Greeted) (before : Telling) (x : Try) (after : Telling)
+    : Type 0 where
   pub lines : List (CloudNo × ℕ)
   pub clouds : clouds_of lines ≡ x.subset
   pub among : All (Contains greeted.lines.items) lines
   pub stopped : Heard x.refusal (IsStop call greeted.shape lines none_ended before after x.refusal)
-  pub lost : is_loss x.refusal ≡ true → Rose count count_after
-  pub later : count ≤ count_after
   pub others : (port : ℕ) → ¬ Contains (ports_of lines) port → after.port port ≡ before.port port
 
 -- one such restore after another
-abbrev pub AreRefused : RestoreCall → Greeted → Telling → ℕ → List Try → Telling → ℕ → Type 0
-AreRefused call greeted before count [] after count_after = (after ≡ before) × (count_after ≡ count)
-AreRefused call greeted before count (x ∷ tries) after count_after =
-    (mid : Telling) × (between : ℕ) × IsRestoreRefused call greeted before count x mid between
-    × AreRefused call greeted mid between tries after count_after
+abbrev pub AreRefused : RestoreCall → Greeted → Telling → List Try → Telling → Type 0
+AreRefused call greeted before [] after = after ≡ before
+AreRefused call greeted before (x ∷ tries) after =
+    (mid : Telling) × IsRestoreRefused call greeted before x mid × AreRefused call greeted mid tries after
+
+-- ---- counts
+
+-- How often the ports had failed, from before these tries to behind them, whatever they tell: the count fell in none, rose
+-- in each that was lost, and stayed between them.
+abbrev pub AreCounted : ℕ → List Try → ℕ → Type 0
+AreCounted count [] after = after ≡ count
+AreCounted count (x ∷ tries) after = (between : ℕ) × (count ≤ between) × (is_loss x.refusal ≡ true → Rose count between)
+    × AreCounted between tries after
 
 -- ---- all of them
 
 -- The file came from k of the clouds, these ones: the first choice in order from which it wasn't refused and of which
--- none had refused. Where the ports tell their bytes: what was said in the restores before, and then from some time on
--- with these clouds alone, which is how the file is fetched. With no more than k clouds it is all that was said.
+-- none had refused. The ports' count of faults rose in each try that was lost. Where the ports tell their bytes: what was
+-- said in the restores before, and then from some time on with these clouds alone, which is how the file is fetched. With
+-- no more than k clouds it is all that was said.
 pub record FileFrom (call : RestoreCall) (greeted : Greeted) (behind : Telling) (bytes : List ℕ) : Type 0 where
   pub tries : List Try
   pub front : List (List ℕ)
@@ -78,14 +84,16 @@ pub record FileFrom (call : RestoreCall) (greeted : Greeted) (behind : Telling) 
   pub brought : Brought greeted.shape (clouds_of chosen) [] bytes
   pub from : Telling
   pub count : ℕ
+  pub counted : AreCounted call.faults_before tries count
   pub later : count ≤ call.faults_after
-  pub refused : IsTrue call.before.told → AreRefused call greeted behind call.faults_before tries from count
+  pub refused : IsTrue call.before.told → AreRefused call greeted behind tries from
   pub fetched : IsTrue call.before.told → IsFetch call greeted.shape chosen from call.after bytes
   pub exact : IsTrue call.before.told → length greeted.lines.items ≡ greeted.shape.k
       → IsFetch call greeted.shape greeted.lines.items behind call.after bytes
 
 -- The file came from no k of the clouds: each choice was refused or holds a cloud that had refused, and the error is
--- that of the first one. Where the ports tell their bytes: what was said in each of these restores.
+-- that of the first one. The ports' count of faults rose in each that was lost. Where the ports tell their bytes: what was
+-- said in each of these restores.
 pub record NotFrom (call : RestoreCall) (greeted : Greeted) (behind : Telling) (e : RestoreErr) : Type 0 where
   pub tries : List Try
   pub first : List ℕ
@@ -96,8 +104,8 @@ pub record NotFrom (call : RestoreCall) (greeted : Greeted) (behind : Telling) (
   pub gone : GoneThrough (subsets greeted.shape.k (clouds_of greeted.lines.items)) tries
   pub each : All (λ subset. WasTried tries subset ⊎ HoldsRefuser tries subset)
       (subsets greeted.shape.k (clouds_of greeted.lines.items))
-  pub refused : IsTrue call.before.told
-      → AreRefused call greeted behind call.faults_before tries call.after call.faults_after
+  pub counted : AreCounted call.faults_before tries call.faults_after
+  pub refused : IsTrue call.before.told → AreRefused call greeted behind tries call.after
   pub exact : IsTrue call.before.told → length greeted.lines.items ≡ greeted.shape.k
       → Heard e (IsStop call greeted.shape greeted.lines.items none_ended behind call.after e)
 

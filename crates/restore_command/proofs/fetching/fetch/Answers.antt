@@ -1,4 +1,4 @@
-use Rattle.std.proofs.Common.{◌≡◌, ℕ, List, length, refl, sym, subst, IsTrue}
+use Rattle.std.proofs.Common.{◌≡◌, ℕ, length, refl, sym, subst, IsTrue}
 use Rattle.ports_link.specs.CdEdges.Ports.{Telling}
 use Rattle.ports_link.specs.Hellos.{hello}
 use Rattle.ports_link.specs.Messages.request.Request.TheVariants as requests
