@@ -9,8 +9,8 @@ use Rattle.cloud_areas.specs.ContainerLog.Kept.{KeepsBelow}
 use Rattle.cloud_areas.specs.ContainerLog.States.{State}
 use Rattle.commit_journal.specs.JournalHalves.Journals.{Where, with_body, HasChain, IsEither}
 use Rattle.commit_journal.specs.States as journals
-use Rattle.cloud_disk.specs.Held.{HasFronts}
-use Rattle.cloud_disk.specs.Disk.{Disk, IsGrown}
+use Rattle.cloud_disk.specs.Held.{HasFronts, IsFlushed, AreFlushed}
+use Rattle.cloud_disk.specs.Disk.{Disk, IsGrown, IsGrownBy}
 use Rattle.cloud_disk.proofs.Adding.{chain_there}
 use Rattle.cloud_disk.proofs.Both.{as_read}
 
@@ -57,6 +57,34 @@ journal_still (Err e) area c0 c1 c2 is first others = tt
 journal_still (Ok v) area c0 c1 c2 is first others =
     let away : (other : Area) → other ≢ Recipes → c2.now other ≡ c1.now other = subst (λ (a : Area). (other : Area) → other ≢ a → c2.now other ≡ c1.now other) is others in
     away Journal (λ e. cc) ∙ first
+
+-- both areas, one behind the other
+pub both_flushed : {T E : Type 0} (r : Result T E) (shares recipes : State) (c0 c1 c2 : Cloud) → shares.area ≡ Shares → recipes.area ≡ Recipes
+    → IsFlushed shares (c0.now shares.area) (c1.now shares.area) → ((other : Area) → other ≢ shares.area → c1.now other ≡ c0.now other)
+    → OnOk r (IsFlushed recipes (c1.now recipes.area) (c2.now recipes.area)) → OnOk r ((other : Area) → other ≢ recipes.area → c2.now other ≡ c1.now other)
+    → OnOk r (AreFlushed shares recipes c0 c2)
+both_flushed (Err e) shares recipes c0 c1 c2 is_shares is_recipes first away second further = tt
+both_flushed (Ok v) shares recipes c0 c1 c2 is_shares is_recipes first away second further =
+    let one = subst (λ (a : Area). IsFlushed shares (c0.now a) (c1.now a)) is_shares first in
+    let two = subst (λ (a : Area). IsFlushed recipes (c1.now a) (c2.now a)) is_recipes second in
+    let from_first : (other : Area) → other ≢ Shares → c1.now other ≡ c0.now other = subst (λ (a : Area). (other : Area) → other ≢ a → c1.now other ≡ c0.now other) is_shares away in
+    let from_second : (other : Area) → other ≢ Recipes → c2.now other ≡ c1.now other = subst (λ (a : Area). (other : Area) → other ≢ a → c2.now other ≡ c1.now other) is_recipes further in
+    record {
+      in_shares = subst (λ (s : Store). IsFlushed shares (c0.now Shares) s) (sym (from_second Shares (λ e. cc))) one;
+      in_recipes = subst (λ (s : Store). IsFlushed recipes s (c2.now Recipes)) (from_first Recipes (λ e. cc)) two;
+    }
+
+-- both areas and the record
+pub grown_by : {T E : Type 0} (r : Result T E) (disk new : Disk) (body : List ℕ) (c0 c1 c2 : Cloud) → AreFlushed disk.shares disk.recipes c0 c1 → c1.now Journal ≡ c0.now Journal
+    → ((w : Where) → journals.IsJournalEnded disk.journal (c1.now Journal) w → OnOk r (journals.IsJournalEnded new.journal (c2.now Journal) (with_body w body)))
+    → OnOk r ((other : Area) → other ≢ Journal → c2.now other ≡ c1.now other)
+    → OnOk r (IsGrownBy disk new body c0 c2)
+grown_by (Err e) disk new body c0 c1 c2 both same added others = tt
+grown_by (Ok v) disk new body c0 c1 c2 both same added others = record {
+  chain = λ w ended. added w (subst (λ (s : Store). journals.IsJournalEnded disk.journal s w) (sym same) ended);
+  shares = subst (λ (s : Store). IsFlushed disk.shares (c0.now Shares) s) (sym (others Shares (λ e. cc))) both.in_shares;
+  recipes = subst (λ (s : Store). IsFlushed disk.recipes (c0.now Recipes) s) (sym (others Recipes (λ e. cc))) both.in_recipes;
+}
 
 module _ (disk : Disk) (body : List ℕ) (c0 : Cloud) (w : Where) (ended : journals.IsJournalEnded disk.journal (c0.now Journal) w) where
   still : (image : Image) → HasFronts disk.shares disk.recipes c0 image → IsGrown disk c0 w (with_body w body) image

@@ -9,8 +9,8 @@ use Rattle.cloud_areas.specs.ContainerLog.Caches.{Kept, AreOf}
 use Rattle.cloud_areas.specs.ContainerLog.Kept.{KeepsBelow}
 use Rattle.cloud_areas.specs.ContainerLog.Places.{end_of_laid}
 use Rattle.cloud_areas.specs.ContainerLog.Laying.{Placed, lengths, placed, IsAt}
-use Rattle.cloud_areas.specs.ContainerLog.States.{State, after_flush, Agrees}
-use Rattle.cloud_disk.specs.Held.{LogHolds, AreBelow, LieIn, with_staged, write_moments, flush_moments}
+use Rattle.cloud_areas.specs.ContainerLog.States.{State, HasStaged, after_flush, Agrees}
+use Rattle.cloud_disk.specs.Held.{LogHolds, AreBelow, LieIn, IsFlushed, with_staged, with_written, write_moments, flush_moments}
 use Rattle.cloud_disk.proofs.Blobs.{placed_below, below_more, below_both, lie_both, end_behind, crashed_all, stay_all}
 
 -- a cloud of a shelf that didn't change
@@ -62,6 +62,22 @@ flushed (Ok v) old new c0 c1 blobs staged h log end nothing written lie stay agr
     by_staged (b ∷ bs) e =
         let is : c1.now old.area ≡ stable (overwritten (c0.now old.area).read old.end old.staged) = written (λ none. let no : b ∷ bs ≡ [] = sym e ∙ none in cc) in
         is ∙ ap (λ (s : Store). stable s.read) (sym is)
+
+-- the area itself, whatever lies in it
+pub area_flushed : {T E : Type 0} (r : Result T E) (log : State) (c0 c1 : Cloud)
+    → (log.staged ≡ [] → c1 ≡ c0)
+    → (log.staged ≢ [] → OnOk r (c1.now log.area ≡ stable (overwritten (c0.now log.area).read log.end log.staged)))
+    → ((staged : List (List ℕ)) → HasStaged log staged → OnOk r (All (IsAt (c1.now log.area).read) (placed log.end staged)))
+    → ((b : Placed) → b.place + length b.blob ≤ log.end → IsAt (c0.now log.area).read b → OnOk r (IsAt (c1.now log.area).read b))
+    → OnOk r (IsFlushed log (c0.now log.area) (c1.now log.area))
+area_flushed (Err e) log c0 c1 nothing written lie stay = tt
+area_flushed (Ok v) log c0 c1 nothing written lie stay = record { is = by_staged log.staged refl; laid = lie; kept = stay }
+  where
+    by_staged : (bytes : List ℕ) → log.staged ≡ bytes → c1.now log.area ≡ with_written (c0.now log.area) log.end bytes
+    by_staged [] e = ap (λ (c : Cloud). c.now log.area) (nothing e)
+    by_staged (b ∷ bs) e =
+        let is : c1.now log.area ≡ stable (overwritten (c0.now log.area).read log.end log.staged) = written (λ none. let no : b ∷ bs ≡ [] = sym e ∙ none in cc) in
+        is ∙ ap (λ (l : List ℕ). stable (overwritten (c0.now log.area).read log.end l)) e
 
 -- its moments
 pub moments_of : {T E : Type 0} (r : Result T E) (old : State) (c0 c1 : Cloud)

@@ -1,5 +1,5 @@
 -- What the disk's half of a server is, and that it stands for a list of commands.
-use Rattle.std.specs.Prelude.{◌≡◌, ◌⊎◌, ℕ, ◌+◌, ◌≤◌, IsTrue, List, [], ◌∷◌, ◌++◌, length}
+use Rattle.std.specs.Prelude.{◌≡◌, ◌⊎◌, ℕ, ◌+◌, ◌≤◌, IsTrue, List, [], ◌∷◌, ◌++◌, length, Result, OnOk}
 use Rattle.commit_journal.specs.CdEdges.area.Area.{Area}
 use Rattle.commit_journal.specs.CdEdges.area.Area.TheVariants.{Journal, Shares, Recipes}
 use Rattle.commit_journal.specs.CdEdges.Disk.{Areas, Image, Cloud, LeavesOnly, reads}
@@ -18,6 +18,7 @@ use Rattle.cloud_areas.specs.UserDedup.Dedup.{IsSound}
 use Rattle.cloud_areas.specs.Placing.{region_start, greatest_end, shares_placed, shares_in, recipes_in, places_of}
 use Rattle.cloud_areas.specs.Chains.{IsRecord, laid_shares, BothHaveRoom}
 use Rattle.cloud_areas.specs.Standing.{Chain, where_of, region_in, IsChain, Holds, StandsFor}
+use Rattle.cloud_disk.specs.Held.{IsFlushed}
 
 -- the journal and the two logs
 pub record Disk : Type 0 where
@@ -114,6 +115,18 @@ IsGrown disk old w next image = IsEither w next (image Journal) × KeepsBelow di
 abbrev pub KeepsOrGrows : Disk → List ℕ → Cloud → Cloud → Type 0
 KeepsOrGrows disk body old new = IsTrue old.told → disk.shares.area ≡ Shares → disk.recipes.area ≡ Recipes
     → (w : Where) → journals.IsJournalEnded disk.journal (old.now Journal) w → LeavesOnly old new (IsGrown disk old w (with_body w body))
+
+-- A record was added, whatever the records say: the chain that was read has it as its last one, and all of the journal is on the disk; and
+-- what was staged in both logs stands behind their ends, on the disk too.
+pub record IsGrownBy (old new : Disk) (body : List ℕ) (before after : Cloud) : Type 0 where
+  pub chain : (w : Where) → journals.IsJournalEnded old.journal (before.now Journal) w → journals.IsJournalEnded new.journal (after.now Journal) (with_body w body)
+  pub shares : IsFlushed old.shares (before.now Shares) (after.now Shares)
+  pub recipes : IsFlushed old.recipes (before.now Recipes) (after.now Recipes)
+
+-- Where the cloud is told, and the two logs are those of the shares and the recipes: after Ok the record was added.
+abbrev pub HasGrown : {T E : Type 0} → Disk → Disk → List ℕ → Cloud → Cloud → Result T E → Type 0
+HasGrown old new body before after result = IsTrue before.told → old.shares.area ≡ Shares → old.recipes.area ≡ Recipes
+    → OnOk result (IsGrownBy old new body before after)
 
 -- What lies in front of the ends of both logs lies there still.
 pub record KeepsFronts (disk : Disk) (old new : Cloud) : Type 0 where

@@ -2,7 +2,7 @@
 use Rattle.std.specs.Prelude.{◌≡◌, ℕ, ◌+◌, ◌≤◌, List, [], ◌∷◌, ◌++◌, length, All, OnOk, Result, IsTrue}
 use Rattle.commit_journal.specs.CdEdges.area.Area.{Area}
 use Rattle.commit_journal.specs.CdEdges.area.Area.TheVariants.{Journal, Shares, Recipes}
-use Rattle.commit_journal.specs.CdEdges.Disk.{Areas, Image, Cloud, LeavesOnly, IsAtArea, MayLeave}
+use Rattle.commit_journal.specs.CdEdges.Disk.{Store, Areas, Image, Cloud, LeavesOnly, IsAtArea, MayLeave, overwritten}
 use Rattle.commit_journal.specs.CdEdges.Shelf.{stable}
 use Rattle.cloud_areas.specs.ContainerLog.Laying.{Placed, placed, IsAt}
 use Rattle.cloud_areas.specs.ContainerLog.Kept.{KeepsBelow}
@@ -58,6 +58,27 @@ write_moments (byte ∷ bytes) = 2
 -- the moments of a flush
 abbrev pub flush_moments : State → ℕ
 flush_moments log = write_moments log.staged
+
+-- the area with these bytes written at this end, and synced; where there are none, as it was
+abbrev pub with_written : Store → ℕ → List ℕ → Store
+with_written store end [] = store
+with_written store end (byte ∷ bytes) = stable (overwritten store.read end (byte ∷ bytes))
+
+-- What was staged in the log stands behind its end in this area, and is on the disk with all of the area; where nothing was, the area is as
+-- it was. Each blob that was staged lies at its place, and each that lay in front of the end lies there still.
+pub record IsFlushed (log : State) (before after : Store) : Type 0 where
+  pub is : after ≡ with_written before log.end log.staged
+  pub laid : (staged : List (List ℕ)) → HasStaged log staged → LieIn (placed log.end staged) after.read
+  pub kept : (b : Placed) → IsBelow log.end b → IsAt before.read b → IsAt after.read b
+
+-- The same of both areas.
+pub record AreFlushed (shares recipes : State) (old new : Cloud) : Type 0 where
+  pub in_shares : IsFlushed shares (old.now Shares) (new.now Shares)
+  pub in_recipes : IsFlushed recipes (old.now Recipes) (new.now Recipes)
+
+-- Whatever lies in both areas: after Ok what was staged lies there too, synced.
+abbrev pub FlushBoth : {T E : Type 0} → State → State → Cloud → Cloud → Result T E → Type 0
+FlushBoth shares recipes old new result = IsTrue old.told → shares.area ≡ Shares → recipes.area ≡ Recipes → OnOk result (AreFlushed shares recipes old new)
 
 -- Whatever blobs lie there: each image since has them.
 abbrev pub KeepsBlobs : State → Cloud → Cloud → Type 0

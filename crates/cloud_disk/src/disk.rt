@@ -24,7 +24,7 @@ ghost use Rattle.cloud_areas.specs.Standing.{Chain};
 ghost use Rattle.cloud_areas.specs.Adding.{with_record};
 ghost use Rattle.cloud_disk.specs.Held.{flush_moments};
 ghost use Rattle.cloud_disk.specs.Disk.{Disk, regions_end, empty_log, ended_at, without_staged, IsOn, AreEnds, Stages};
-ghost use Rattle.cloud_disk.specs.Disk.{IsPrepared, KeepsOrAdds, KeepsOrGrows, KeepsFronts, EndsBehind, SameRooms};
+ghost use Rattle.cloud_disk.specs.Disk.{IsPrepared, KeepsOrAdds, KeepsOrGrows, HasGrown, KeepsFronts, EndsBehind, SameRooms};
 ghost use Rattle.cloud_disk.specs.Lending.{LendsJournal, LendsShares, LendsRecipes};
 
 use crate::flush::flush_both;
@@ -235,7 +235,8 @@ impl CloudDisk {
     /// Adds a command: writes what is staged for it, shares and then recipes, and then the record that `body` is. After Ok the
     /// disk stands for the list with the command. Whenever a crash comes, and after Failed too, the cloud stands for the list
     /// or for the list with the command. Whatever the journal's records say, each image since has the chain that was read, or
-    /// that with this record, and keeps what lies below the ends of both logs.
+    /// that with this record, and keeps what lies below the ends of both logs; and after Ok this record is the chain's last
+    /// one and what was staged lies behind both ends, all of it on the disk.
     ///
     /// The device calls are a write and a sync of each area for which something was staged, and a write and a sync of the
     /// record with the next gate, closed, and of its own gate: each raises the cloud's moment by one. Failed comes only where
@@ -271,6 +272,8 @@ impl CloudDisk {
 
         // whatever the records say
         ensures chain { KeepsOrGrows self.old body.now (V.cloud_at shelf.old cloud.0) (V.cloud_at shelf.new cloud.0) }
+        ensures grown { HasGrown self.old self.new body.now (V.cloud_at shelf.old cloud.0)
+            (V.cloud_at shelf.new cloud.0) result }
         ensures none { HasStaged self.new.shares [] × HasStaged self.new.recipes [] }
         ensures ends { OnOk result (EndsBehind self.old self.new body.now) }
         ensures stage { self.new.journal.stage ≡ stage_after AtEnd result }

@@ -5,7 +5,8 @@ ghost use Rattle.commit_journal.specs.CdEdges.area.Area.{Area};
 ghost use Rattle.commit_journal.specs.CdEdges.Disk.{moment, LeavesOnly};
 ghost use Rattle.commit_journal.specs.CdEdges.Shelf.{IsCall, HasFailed, KeepsCounts};
 ghost use Rattle.cloud_areas.specs.ContainerLog.States.{HasStaged, staged_end, after_flush, KeepsEarlier};
-ghost use Rattle.cloud_disk.specs.Held.{flush_moments, KeepsBlobs, HasFlushed, KeepBoth, HaveFlushed, KeepFronts, KeepsJournal};
+ghost use Rattle.cloud_disk.specs.Held.{flush_moments, IsFlushed, KeepsBlobs, HasFlushed, KeepBoth, HaveFlushed};
+ghost use Rattle.cloud_disk.specs.Held.{FlushBoth, KeepFronts, KeepsJournal};
 
 use cloud_areas::Log;
 use commit_journal::{Area, CloudNo, Failed, Shelf};
@@ -17,6 +18,9 @@ fn flush_log<V: Shelf>(log: &mut Log, shelf: &mut V, cloud: CloudNo) -> Result<(
         → LeavesOnly (V.cloud_at shelf.old cloud.0) (V.cloud_at shelf.new cloud.0)
         (KeepsEarlier log.old (V.cloud_at shelf.old cloud.0)) }
     ensures held { HasFlushed log.old log.new (V.cloud_at shelf.old cloud.0) (V.cloud_at shelf.new cloud.0) result }
+    ensures whole { IsTrue (V.cloud_at shelf.old cloud.0).told
+        → OnOk result (IsFlushed log.old ((V.cloud_at shelf.old cloud.0).now log.old.area)
+        ((V.cloud_at shelf.new cloud.0).now log.old.area)) }
     ensures others { IsTrue (V.cloud_at shelf.old cloud.0).told
         → OnOk result ((other : Area) → other ≢ log.old.area
         → (V.cloud_at shelf.new cloud.0).now other ≡ (V.cloud_at shelf.old cloud.0).now other) }
@@ -47,6 +51,8 @@ pub(crate) fn flush_both<V: Shelf>(
     ensures fronts { KeepFronts shares.old recipes.old
         (V.cloud_at shelf.old cloud.0) (V.cloud_at shelf.new cloud.0) }
     ensures journal { KeepsJournal shares.old recipes.old
+        (V.cloud_at shelf.old cloud.0) (V.cloud_at shelf.new cloud.0) result }
+    ensures whole { FlushBoth shares.old recipes.old
         (V.cloud_at shelf.old cloud.0) (V.cloud_at shelf.new cloud.0) result }
     ensures held { HaveFlushed shares.old recipes.old shares.new recipes.new
         (V.cloud_at shelf.old cloud.0) (V.cloud_at shelf.new cloud.0) result }

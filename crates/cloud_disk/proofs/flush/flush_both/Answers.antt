@@ -7,7 +7,7 @@ use Rattle.commit_journal.specs.CdEdges.Disk.{moment}
 use Rattle.cloud_disk.specs.Held.{LogHolds, flush_moments, with_staged}
 use Rattle.cloud_disk.proofs.Holding.{by_log}
 use Rattle.cloud_disk.proofs.Both.{shares_flushed, first_images, both_images, both_held, moments_on, failed_later, counts_kept}
-use Rattle.cloud_disk.proofs.Grown.{fronts_first, fronts_second, journal_still}
+use Rattle.cloud_disk.proofs.Grown.{fronts_first, fronts_second, journal_still, both_flushed}
 use Rattle.cloud_disk.proofs.flush.flush_both.Goals as goal
 
 pub returns-in-Err-clause-any_moment : goal.returns-in-Err-clause-any_moment
@@ -83,3 +83,11 @@ returns-in-Ok-clause-journal g c told is_shares is_recipes =
     let told1 = told_on c0 c1 c.flush_log.ensures.call.told told in
     let others = subst (λ (a : Area). (other : Area) → other ≢ a → c1.now other ≡ c0.now other) is_shares (c.in-Ok.ensures.others told) in
     journal_still c.flush_log-in-Ok.result c.args.recipes.now.area c0 c1 c2 is_recipes (others Journal (λ e. cc)) (c.flush_log-in-Ok.ensures.others told1)
+
+pub returns-in-Ok-clause-whole : goal.returns-in-Ok-clause-whole
+returns-in-Ok-clause-whole g c told is_shares is_recipes =
+    let number = c.args.cloud.0 in
+    let c0 = g.V.Shelf.cloud_at c.args.shelf.now number in let c1 = g.V.Shelf.cloud_at c.flush_log.new.shelf number in let c2 = g.V.Shelf.cloud_at c.flush_log-in-Ok.new.shelf number in
+    let told1 = told_on c0 c1 c.flush_log.ensures.call.told told in
+    both_flushed c.flush_log-in-Ok.result c.args.shares.now c.args.recipes.now c0 c1 c2 is_shares is_recipes (c.in-Ok.ensures.whole told) (c.in-Ok.ensures.others told)
+    (c.flush_log-in-Ok.ensures.whole told1) (c.flush_log-in-Ok.ensures.others told1)

@@ -10,12 +10,12 @@ use Rattle.cloud_areas.specs.Placing.{shares_in}
 use Rattle.cloud_areas.specs.Chains.{laid_shares}
 use Rattle.cloud_areas.specs.Standing.{where_of}
 use Rattle.cloud_disk.specs.Held.{flush_moments}
-use Rattle.cloud_disk.specs.Disk.{Disk, IsPrepared, KeepsOrGrows, KeepsFronts, SameRooms}
+use Rattle.cloud_disk.specs.Disk.{Disk, IsPrepared, KeepsOrGrows, HasGrown, KeepsFronts, SameRooms}
 use Rattle.cloud_disk.proofs.Both.{moments_after, failed_later, counts_kept}
 use Rattle.cloud_disk.proofs.Standing.{logs_hold}
 use Rattle.cloud_disk.proofs.Adding.{OneMore, while_flushed, while_added, still_ended, added_on}
 use Rattle.cloud_disk.proofs.Fronts.{fronts_kept}
-use Rattle.cloud_disk.proofs.Grown.{grown_flushed, grown_added}
+use Rattle.cloud_disk.proofs.Grown.{grown_flushed, grown_added, grown_by}
 use Rattle.cloud_disk.proofs.disk.CloudDisk.add.Goals as goal
 
 pub returns-in-Err-clause-any_moment : goal.returns-in-Err-clause-any_moment
@@ -136,3 +136,15 @@ returns-in-Ok-clause-chain g c =
     let same = c.in-Ok.ensures.journal told is_shares is_recipes in
     grown_added disk body c0 w ended c1 c2 (c.flush_both.ensures.fronts told is_shares is_recipes) (g.met.V.Shelf.reads_image c.flush_both.new.shelf number told1 Journal)
     (c.append.ensures.any_moment told1 w (subst (λ (s : Store). journals.IsJournalEnded disk.journal s w) (sym same) ended)))
+
+pub returns-in-Ok-clause-grown : goal.returns-in-Ok-clause-grown
+returns-in-Ok-clause-grown g c =
+    let number = c.args.cloud.0 in let inside = c.self.inside in let body = c.args.body.now in
+    let disk : Disk = record { journal = journals.state_of inside.journal; shares = inside.shares; recipes = inside.recipes } in
+    let new : Disk = record { journal = journals.state_of c.append.new.self; shares = c.flush_both.new.shares; recipes = c.flush_both.new.recipes } in
+    let c0 = g.V.Shelf.cloud_at c.args.shelf.now number in let c1 = g.V.Shelf.cloud_at c.flush_both.new.shelf number in let c2 = g.V.Shelf.cloud_at c.append.new.shelf number in
+    subst (λ (d : Disk). HasGrown d new body c0 c2 c.append.result) c.self.view_is
+    (λ told is_shares is_recipes.
+    let told1 = told_on c0 c1 c.flush_both.ensures.call.told told in
+    grown_by c.append.result disk new body c0 c1 c2 (c.in-Ok.ensures.whole told is_shares is_recipes) (c.in-Ok.ensures.journal told is_shares is_recipes)
+    (c.append.ensures.added told1) (c.append.ensures.others told1))
