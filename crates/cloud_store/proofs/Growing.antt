@@ -12,7 +12,8 @@ use Rattle.checkpoints.specs.CloudDisk.Disk as disks
 use Rattle.checkpoints.proofs.DiskProofs.Grown.{below}
 use Rattle.checkpoints.proofs.InPlace.{ended_still}
 use Rattle.cloud_store.specs.declared.store.CloudStore.{CloudStore}
-use Rattle.cloud_store.specs.Adding.{summed, IsOneOf, IsLeftOf, KeepsOrSums, HasRoomMade, KeepsOrGrows}
+use Rattle.checkpoints.specs.CloudDisk.Held.{IsFlushed}
+use Rattle.cloud_store.specs.Adding.{summed, IsOneOf, IsLeftOf, KeepsOrSums, HasRoomMade, KeepsOrGrows, HasGrown}
 
 -- nothing was done
 pub sums_still : (s : CloudStore) (c0 : Cloud) → KeepsOrSums s c0 c0
@@ -69,3 +70,26 @@ module _ (s mid : CloudStore) (body : List ℕ) (c0 c1 c2 : Cloud) (shares : mid
   grows_both made told w ended =
       let m = made told w ended in
       joined c0 c1 c2 _ (grows_sums s body c0 c1 sums told w ended) (after told w m.0 m.1)
+
+-- ---- after Ok
+
+-- what an add leaves of the disk
+abbrev pub DiskHasGrown : disks.Disk → disks.Disk → List ℕ → Cloud → Cloud → Type 0
+DiskHasGrown old new body before after = IsTrue before.told → old.shares.area ≡ Shares → old.recipes.area ≡ Recipes → disks.IsGrownBy old new body before after
+
+module _ (s mid new : CloudStore) (body : List ℕ) (c0 c1 c2 : Cloud) (shares : mid.disk.shares ≡ s.disk.shares) (recipes : mid.disk.recipes ≡ s.disk.recipes)
+    (is_shares : s.disk.shares.area ≡ Shares) (is_recipes : s.disk.recipes.area ≡ Recipes) (told1 : IsTrue c0.told → IsTrue c1.told) where
+  from_chain : (w : Where) → disks.IsGrownBy mid.disk new.disk body c1 c2 → IsJournalEnded mid.disk.journal (c1.now Journal) w ⊎ IsJournalEnded mid.disk.journal (c1.now Journal) (summed s w)
+      → IsJournalEnded new.disk.journal (c2.now Journal) (with_body w body) ⊎ IsJournalEnded new.disk.journal (c2.now Journal) (with_body (summed s w) body)
+  from_chain w by (inl ended) = inl (by.chain w ended)
+  from_chain w by (inr ended) = inr (by.chain (summed s w) ended)
+
+  pub grown_both : HasRoomMade {T = Unit {0}} {E = Unit {0}} s mid c0 c1 (Ok tt) → DiskHasGrown mid.disk new.disk body c1 c2 → HasGrown s new body c0 c2
+  grown_both made grown told w ended =
+      let m = made told w ended in
+      let by = grown (told1 told) (subst (λ (l : logs.State). l.area ≡ Shares) (sym shares) is_shares) (subst (λ (l : logs.State). l.area ≡ Recipes) (sym recipes) is_recipes) in
+      record {
+        chain = from_chain w by m.0;
+        shares = subst (λ (l : logs.State). IsFlushed l (c0.now Shares) (c2.now Shares)) shares (subst (λ (a : Store). IsFlushed mid.disk.shares a (c2.now Shares)) (m.1 Shares (λ e. cc)) by.shares);
+        recipes = subst (λ (l : logs.State). IsFlushed l (c0.now Recipes) (c2.now Recipes)) recipes (subst (λ (a : Store). IsFlushed mid.disk.recipes a (c2.now Recipes)) (m.1 Recipes (λ e. cc)) by.recipes);
+      }

@@ -33,7 +33,7 @@ use Rattle.checkpoints.proofs.MemoryProofs.Lists.{strings_more, among_found}
 use Rattle.checkpoints.proofs.MemoryProofs.Puts.{place_for, placed_more}
 use Rattle.cloud_store.specs.declared.store.CloudStore.{CloudStore}
 use Rattle.cloud_store.specs.Store.{Serves}
-use Rattle.cloud_store.specs.Adding.{IsPut, unplaced}
+use Rattle.cloud_store.specs.Adding.{IsPut, share_at, unplaced}
 use Rattle.cloud_store.proofs.Stepping.{place_after}
 
 -- ---- strings that are found
@@ -181,6 +181,12 @@ pub put_lays : (list : List Command) (user : UserId) (news : List New) (strings 
 put_lays list user news strings m of apart none =
     all_laid user (strings_in (list ++ asked.Put user strings ∷ [])) m news strings (strings_in list) of.fps of.lens (strings_more list (asked.Put user strings)) none
     ∙ ap (placed m.shares_end) (fresh_are m user news strings of.fps apart)
+
+-- its record gives each of these strings that has no place yet the place where it is laid
+pub shares_given : (user : UserId) (news : List New) (strings : List (List ℕ)) (m : Memory) → AreOf news strings → AreApart news
+    → map (share_at strings) (places_given (parts_of user m news)) ≡ placed m.shares_end (unplaced m.places strings)
+shares_given user news strings m of apart =
+    all_laid user strings m news strings [] of.fps of.lens refl (λ fp free. refl) ∙ ap (placed m.shares_end) (fresh_are m user news strings of.fps apart)
 
 -- what has no place isn't held
 pub none_held : (list : List Command) (m : Memory) → ((fp : Fp) → IsSome (get m.places fp.0) ↔ Contains (map fingerprint (strings_in list)) fp)

@@ -1,5 +1,5 @@
 -- One command more in an open store: when it may be added, and what comes of it.
-use Rattle.std.specs.Prelude.{◌≡◌, ◌≢◌, ◌⊎◌, ℕ, ◌+◌, ◌<◌, ◌≤◌, List, [], ◌∷◌, ◌++◌, length, IsTrue, is_some, Some, Result, Ok, Err, OnOk, if◌then◌else◌}
+use Rattle.std.specs.Prelude.{◌≡◌, ◌≢◌, ◌⊎◌, ℕ, ◌+◌, ◌<◌, ◌≤◌, List, [], ◌∷◌, ◌++◌, length, find, unwrap_or, IsTrue, is_some, Some, Result, Ok, Err, OnOk, if◌then◌else◌}
 use Rattle.std.specs.FinMap.{FinMap, get}
 use Rattle.recipe.specs.CdBase.Order.{fp_cmp}
 use Rattle.recipe.specs.CdBase.place.Place.{Place}
@@ -23,7 +23,7 @@ use Rattle.checkpoints.specs.RecordBody.body.CommitBody.{CommitBody}
 use Rattle.checkpoints.specs.RecordBody.Spelling as bodies
 use Rattle.checkpoints.specs.RecordBody.Spelling.{Body, body_bytes}
 use Rattle.checkpoints.specs.UserDedup.file_list.FileEntry.{FileEntry}
-use Rattle.checkpoints.specs.UserDedup.Cloud.{fingerprint}
+use Rattle.checkpoints.specs.UserDedup.Cloud.{fingerprint, has_fingerprint}
 use Rattle.checkpoints.specs.UserDedup.Pages.{entry_at}
 use Rattle.checkpoints.specs.UserDedup.Requests.{fps_of}
 use Rattle.checkpoints.specs.UserDedup.command.Command.{Command}
@@ -33,6 +33,7 @@ use Rattle.checkpoints.specs.UserDedup.Cloud.{user_view}
 use Rattle.checkpoints.specs.CloudAreas.Adding.{with_record}
 use Rattle.checkpoints.specs.CloudAreas.Standing.{Chain}
 use Rattle.checkpoints.specs.CloudDisk.Disk.{Disk, IsOn, KeepsOrAdds, Stages, shares_laid, without_staged}
+use Rattle.checkpoints.specs.CloudDisk.Held.{IsFlushed}
 use Rattle.checkpoints.specs.CloudMemory.rooms.Full.{Full}
 use Rattle.checkpoints.specs.CloudMemory.rooms.New.{New}
 use Rattle.checkpoints.specs.CloudMemory.News.{AreOf}
@@ -144,6 +145,18 @@ IsLeftOf s old w body image = IsOneOf s w body (image Journal) × KeepsBelow s.d
 abbrev pub KeepsOrGrows : CloudStore → List ℕ → Cloud → Cloud → Type 0
 KeepsOrGrows s body old new = IsTrue old.told → (w : Where) → IsJournalEnded s.disk.journal (old.now Journal) w → LeavesOnly old new (IsLeftOf s old w body)
 
+-- The record was added to this chain, or to the memory's checkpoint in its place, as the last one, and all of the journal is on the disk. What
+-- was staged in both logs stands behind their ends, on the disk too; what lay in front of the ends lies there still.
+pub record IsGrownFrom (w : Where) (old new : CloudStore) (body : List ℕ) (before after : Cloud) : Type 0 where
+  pub chain : IsJournalEnded new.disk.journal (after.now Journal) (with_body w body) ⊎ IsJournalEnded new.disk.journal (after.now Journal) (with_body (summed old w) body)
+  pub shares : IsFlushed old.disk.shares (before.now Shares) (after.now Shares)
+  pub recipes : IsFlushed old.disk.recipes (before.now Recipes) (after.now Recipes)
+
+-- Whatever the chain that was read says: the record was added to it.
+abbrev pub HasGrown : CloudStore → CloudStore → List ℕ → Cloud → Cloud → Type 0
+HasGrown old new body before after = IsTrue before.told → (w : Where) → IsJournalEnded old.disk.journal (before.now Journal) w
+    → IsGrownFrom w old new body before after
+
 -- ---- a Put
 
 -- Each share has from 1 to 8,208 bytes.
@@ -162,6 +175,10 @@ put_record s user news = bodies.Put user (parts_of user (memory_of s.memory) new
 abbrev pub unplaced : FinMap fp_cmp Place → List (List ℕ) → List (List ℕ)
 unplaced places [] = []
 unplaced places (string ∷ strings) = if is_some (get places (fingerprint string).0) then unplaced places strings else string ∷ unplaced places strings
+
+-- the place that a record gives to a fingerprint, with the first of these strings that has it
+abbrev pub share_at : List (List ℕ) → Fp × Place → Placed
+share_at strings x = record { place = x.1.at; blob = unwrap_or (find (has_fingerprint x.0) strings) [] }
 
 -- The Put of these strings is to be added: the store serves the list, which is sound with it too; these are the strings' fingerprints and
 -- lengths; and just those that get a place are staged, in their order.

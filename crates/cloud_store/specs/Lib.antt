@@ -8,3 +8,4 @@ pub mod JournalHalves
 pub mod JournalStart
 pub mod Store
 pub mod CloudOpening
+pub mod RecordBody

@@ -5,7 +5,7 @@ ghost use Rattle.std.specs.Prelude.{◌≡◌, ◌≤◌, ℕ, List, [], ◌∷�
 ghost use Rattle.recipe.specs.CdBase.Limits.{recipe_limit};
 ghost use Rattle.checkpoints.specs.CdEdges.Disk.{Cloud, moment};
 ghost use Rattle.checkpoints.specs.CloudDisk.Held.{flush_moments};
-ghost use Rattle.checkpoints.specs.CloudDisk.Disk.{KeepsOrGrows as GrowsBy};
+ghost use Rattle.checkpoints.specs.CloudDisk.Disk.{KeepsOrGrows as GrowsBy, HasGrown as DiskGrows};
 ghost use Rattle.std.specs.FinMap.{get};
 ghost use Rattle.checkpoints.specs.CdEdges.Shelf.{IsCall, HasFailed, KeepsCounts};
 ghost use Rattle.checkpoints.specs.ContainerLog.Places.{place_of};
@@ -27,7 +27,7 @@ ghost use Rattle.checkpoints.specs.CloudAreas.Adding.{with_record};
 ghost use Rattle.checkpoints.specs.CloudMemory.Steps.{with_commit};
 ghost use Rattle.cloud_store.specs.Store.{IsOpen, IsSettled, Serves, Fits};
 ghost use Rattle.cloud_store.specs.Adding.{IsCommit, commit_body, ServesMore, MadeFirst, unstaged, NoneStaged};
-ghost use Rattle.cloud_store.specs.Adding.{EndBehind, Unmoved, KeepsOrGrows};
+ghost use Rattle.cloud_store.specs.Adding.{EndBehind, Unmoved, KeepsOrGrows, HasGrown};
 ghost use Rattle.cloud_store.specs.Adding.{OnAdded, MatchFull, MatchFailed, NotLong, WhenLong, IsTooLong, stage_after};
 
 use crate::room::have_room;
@@ -76,6 +76,9 @@ fn add_roomy<V: Shelf>(
         (memory_of store.old.memory) }
     ensures chain { GrowsBy store.old.disk (body_bytes (bodies.Commit (commit_body store.old user tag version fp len)))
         (V.cloud_at shelf.old store.old.header.cloud.0) (V.cloud_at shelf.new store.old.header.cloud.0) }
+    ensures grown { DiskGrows store.old.disk store.new.disk
+        (body_bytes (bodies.Commit (commit_body store.old user tag version fp len)))
+        (V.cloud_at shelf.old store.old.header.cloud.0) (V.cloud_at shelf.new store.old.header.cloud.0) result }
     ensures ends { OnOk result (EndBehind store.old store.new) }
     ensures moments { IsTrue (V.cloud_at shelf.old store.old.header.cloud.0).told
         → OnOk result (moment (V.cloud_at shelf.new store.old.header.cloud.0)
@@ -175,6 +178,9 @@ impl CloudStore {
         ensures chain { KeepsOrGrows self.old (body_bytes (bodies.Commit
             (commit_body self.old user tag version fp len)))
             (V.cloud_at shelf.old self.old.header.cloud.0) (V.cloud_at shelf.new self.old.header.cloud.0) }
+        ensures grown { OnAdded result (HasGrown self.old self.new
+            (body_bytes (bodies.Commit (commit_body self.old user tag version fp len)))
+            (V.cloud_at shelf.old self.old.header.cloud.0) (V.cloud_at shelf.new self.old.header.cloud.0)) }
         ensures ends { OnAdded result (EndBehind self.old self.new) }
         ensures moments { IsTrue (V.cloud_at shelf.old self.old.header.cloud.0).told → Fits self.old 89
             → OnAdded result (moment (V.cloud_at shelf.new self.old.header.cloud.0)

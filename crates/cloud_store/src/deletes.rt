@@ -4,7 +4,7 @@ ghost use Rattle.std.specs.Prelude.{◌+◌, ◌-◌, min};
 ghost use Rattle.std.specs.Prelude.{◌≡◌, ◌<◌, ◌^◌, ℕ, List, [], ◌∷◌, ◌++◌, length, IsSome, Some, IsTrue, OnOk, OnErr};
 ghost use Rattle.checkpoints.specs.CdEdges.Disk.{moment};
 ghost use Rattle.checkpoints.specs.CloudDisk.Held.{flush_moments};
-ghost use Rattle.checkpoints.specs.CloudDisk.Disk.{KeepsOrGrows as GrowsBy};
+ghost use Rattle.checkpoints.specs.CloudDisk.Disk.{KeepsOrGrows as GrowsBy, HasGrown as DiskGrows};
 ghost use Rattle.std.specs.FinMap.{get};
 ghost use Rattle.checkpoints.specs.CdEdges.Shelf.{IsCall, HasFailed, KeepsCounts};
 ghost use Rattle.checkpoints.specs.FileIndex.Files.{key_of};
@@ -28,7 +28,7 @@ ghost use Rattle.checkpoints.specs.CloudMemory.Memory.{Remembers};
 ghost use Rattle.checkpoints.specs.CloudMemory.Steps.{without_entry};
 ghost use Rattle.cloud_store.specs.Store.{IsOpen, IsSettled, Serves, Fits};
 ghost use Rattle.cloud_store.specs.Adding.{IsDelete, ServesMore, MadeFirst, NoneStaged};
-ghost use Rattle.cloud_store.specs.Adding.{EndBehind, Unmoved, KeepsOrGrows};
+ghost use Rattle.cloud_store.specs.Adding.{EndBehind, Unmoved, KeepsOrGrows, HasGrown};
 ghost use Rattle.cloud_store.specs.Adding.{OnAdded, MatchFull, MatchFailed, NotLong, WhenLong, IsTooLong, stage_after};
 
 use crate::room::have_room;
@@ -94,6 +94,10 @@ fn add_roomy<V: Shelf>(
     ensures chain { GrowsBy store.old.disk (body_bytes (bodies.Delete
         (record { user = user; tag = tag; version = version })))
         (V.cloud_at shelf.old store.old.header.cloud.0) (V.cloud_at shelf.new store.old.header.cloud.0) }
+    ensures grown { DiskGrows store.old.disk store.new.disk
+        (body_bytes (bodies.Delete
+        (record { user = user; tag = tag; version = version })))
+        (V.cloud_at shelf.old store.old.header.cloud.0) (V.cloud_at shelf.new store.old.header.cloud.0) result }
     ensures ends { OnOk result (EndBehind store.old store.new) }
     ensures moments { IsTrue (V.cloud_at shelf.old store.old.header.cloud.0).told
         → OnOk result (moment (V.cloud_at shelf.new store.old.header.cloud.0)
@@ -169,6 +173,10 @@ impl CloudStore {
         ensures chain { KeepsOrGrows self.old (body_bytes (bodies.Delete
             (record { user = user; tag = tag; version = version })))
             (V.cloud_at shelf.old self.old.header.cloud.0) (V.cloud_at shelf.new self.old.header.cloud.0) }
+        ensures grown { OnAdded result (HasGrown self.old self.new
+            (body_bytes (bodies.Delete
+            (record { user = user; tag = tag; version = version })))
+            (V.cloud_at shelf.old self.old.header.cloud.0) (V.cloud_at shelf.new self.old.header.cloud.0)) }
         ensures ends { OnAdded result (EndBehind self.old self.new) }
         ensures moments { IsTrue (V.cloud_at shelf.old self.old.header.cloud.0).told → Fits self.old 45
             → OnAdded result (moment (V.cloud_at shelf.new self.old.header.cloud.0)

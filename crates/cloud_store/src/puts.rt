@@ -4,7 +4,7 @@ ghost use Rattle.std.specs.Prelude.{◌+◌, ◌-◌, ◌^◌, min};
 ghost use Rattle.std.specs.Prelude.{◌≡◌, ◌<◌, ◌≤◌, ℕ, List, [], ◌∷◌, ◌++◌, length, All, Some, None, IsTrue, OnOk, OnErr};
 ghost use Rattle.checkpoints.specs.CdEdges.Disk.{Cloud, moment};
 ghost use Rattle.checkpoints.specs.CloudDisk.Held.{flush_moments};
-ghost use Rattle.checkpoints.specs.CloudDisk.Disk.{KeepsOrGrows as GrowsBy};
+ghost use Rattle.checkpoints.specs.CloudDisk.Disk.{KeepsOrGrows as GrowsBy, HasGrown as DiskGrows};
 ghost use Rattle.checkpoints.specs.CdEdges.Shelf.{IsCall, HasFailed, KeepsCounts};
 ghost use Rattle.checkpoints.specs.UserDedup.Dedup.{FullRoom};
 ghost use Rattle.checkpoints.specs.UserDedup.command.Command.{Command};
@@ -21,7 +21,7 @@ ghost use Rattle.checkpoints.specs.CloudAreas.Adding.{with_record};
 ghost use Rattle.checkpoints.specs.CloudMemory.Steps.{parts_of, with_put};
 ghost use Rattle.cloud_store.specs.Store.{IsOpen, IsSettled, Serves, Fits};
 ghost use Rattle.cloud_store.specs.Adding.{IsShareNew, HasFp, IsPut, put_record, ServesMore, MadeFirst, unstaged, NoneStaged};
-ghost use Rattle.cloud_store.specs.Adding.{EndBehind, Unmoved, KeepsOrGrows};
+ghost use Rattle.cloud_store.specs.Adding.{EndBehind, Unmoved, KeepsOrGrows, HasGrown};
 ghost use Rattle.cloud_store.specs.Adding.{OnAdded, MatchFull, MatchFailed, NotLong, WhenLong, IsTooLong, stage_after};
 
 use crate::room::have_room;
@@ -59,6 +59,9 @@ fn add_roomy<V: Shelf>(
         ≡ with_put user (parts_of user (memory_of store.old.memory) news.now) (memory_of store.old.memory) }
     ensures chain { GrowsBy store.old.disk (body_bytes (put_record store.old user news.now))
         (V.cloud_at shelf.old store.old.header.cloud.0) (V.cloud_at shelf.new store.old.header.cloud.0) }
+    ensures grown { DiskGrows store.old.disk store.new.disk
+        (body_bytes (put_record store.old user news.now))
+        (V.cloud_at shelf.old store.old.header.cloud.0) (V.cloud_at shelf.new store.old.header.cloud.0) result }
     ensures ends { OnOk result (EndBehind store.old store.new) }
     ensures moments { IsTrue (V.cloud_at shelf.old store.old.header.cloud.0).told
         → OnOk result (moment (V.cloud_at shelf.new store.old.header.cloud.0)
@@ -151,6 +154,9 @@ impl CloudStore {
             ≡ with_put user (parts_of user (memory_of self.old.memory) news.now) (memory_of self.old.memory)) }
         ensures chain { KeepsOrGrows self.old (body_bytes (put_record self.old user news.now))
             (V.cloud_at shelf.old self.old.header.cloud.0) (V.cloud_at shelf.new self.old.header.cloud.0) }
+        ensures grown { OnAdded result (HasGrown self.old self.new
+            (body_bytes (put_record self.old user news.now))
+            (V.cloud_at shelf.old self.old.header.cloud.0) (V.cloud_at shelf.new self.old.header.cloud.0)) }
         ensures ends { OnAdded result (EndBehind self.old self.new) }
         ensures moments { IsTrue (V.cloud_at shelf.old self.old.header.cloud.0).told
             → Fits self.old (length (body_bytes (put_record self.old user news.now)))

@@ -10,7 +10,8 @@ ghost use Rattle.checkpoints.specs.RecordBody.Spelling.{Body, Put, body_bytes};
 ghost use Rattle.checkpoints.specs.UserDedup.command.Command.{Command};
 ghost use Rattle.checkpoints.specs.CloudAreas.Adding.{with_record};
 ghost use Rattle.checkpoints.specs.CloudAreas.Standing.{Chain};
-ghost use Rattle.checkpoints.specs.CloudDisk.Disk.{IsOn, IsPrepared, KeepsOrAdds, KeepsOrGrows, KeepsFronts, EndsBehind, SameRooms};
+ghost use Rattle.checkpoints.specs.CloudDisk.Disk.{IsOn, IsPrepared, KeepsOrAdds, KeepsOrGrows, HasGrown, KeepsFronts};
+ghost use Rattle.checkpoints.specs.CloudDisk.Disk.{EndsBehind, SameRooms};
 ghost use Rattle.cloud_store.specs.Store.{IsOpen, IsSettled, Fits};
 ghost use Rattle.checkpoints.specs.CommitJournal.journal.Stage.TheVariants.{AtEnd};
 ghost use Rattle.checkpoints.specs.CommitJournal.Outcomes.{stage_after};
@@ -61,6 +62,8 @@ pub(crate) fn add_record<V: Shelf>(store: &mut CloudStore, shelf: &mut V) -> Res
         (V.cloud_at shelf.new store.old.header.cloud.0)) }
     ensures chain { KeepsOrGrows store.old.disk store.old.body (V.cloud_at shelf.old store.old.header.cloud.0)
         (V.cloud_at shelf.new store.old.header.cloud.0) }
+    ensures grown { HasGrown store.old.disk store.new.disk store.old.body
+        (V.cloud_at shelf.old store.old.header.cloud.0) (V.cloud_at shelf.new store.old.header.cloud.0) result }
     ensures moments { IsTrue (V.cloud_at shelf.old store.old.header.cloud.0).told
         → OnOk result (moment (V.cloud_at shelf.new store.old.header.cloud.0)
         ≡ moment (V.cloud_at shelf.old store.old.header.cloud.0) + flush_moments store.old.disk.shares

@@ -33,7 +33,7 @@ use Rattle.checkpoints.proofs.CdEdges.Moments.{told_on}
 use Rattle.checkpoints.specs.ContainerLog.States as logs
 use Rattle.checkpoints.specs.CloudDisk.Held.{flush_moments}
 use Rattle.checkpoints.specs.CloudDisk.Disk.{KeepsOrGrows as GrowsBy}
-use Rattle.cloud_store.proofs.Growing.{grows_both, grows_sums, grows_still}
+use Rattle.cloud_store.proofs.Growing.{grows_both, grown_both, DiskHasGrown, grows_sums, grows_still}
 use Rattle.checkpoints.specs.CloudDisk.Disk.{Disk}
 use Rattle.cloud_store.proofs.Keeping.{serves_on}
 use Rattle.cloud_store.proofs.store.CloudStore.add_commit.Goals as goal
@@ -267,3 +267,15 @@ returns-in-Err-Long-clause-any_moment g c list chain bytes p =
     let c0 = g.V.Shelf.cloud_at c.args.shelf.now number in
     let s = p.serves in let k = s.known in
     images_kept header list command c0 (g.V.Shelf.cloud_at c.have_room.new.shelf number) (c.have_room.ensures.any_moment list chain s)
+
+pub returns-in-Ok-add_roomy-clause-grown : goal.returns-in-Ok-add_roomy-clause-grown
+returns-in-Ok-add_roomy-clause-grown g c =
+    let store = c.args.self.now in let header = store.header in let number = header.cloud.0 in
+    let c0 = g.V.Shelf.cloud_at c.args.shelf.now number in
+    let mid = c.have_room.new.store in let keeps = c.in-Ok.ensures.same in let new = c.add_roomy.new.store in
+    let at = g.V.Shelf.cloud_at c.have_room.new.shelf in let later = g.V.Shelf.cloud_at c.add_roomy.new.shelf in
+    let header_is : mid.header ≡ header = ap (λ (x : CloudStore). x.header) keeps.same in
+    let grown = subst (λ (x : CloudStore). DiskHasGrown mid.disk new.disk (body_bytes (bodies.Commit (commit_body x c.args.user c.args.tag c.args.version c.args.fp c.args.len))) (at number) (later number)) keeps.same
+    (subst (λ (h : Header). DiskHasGrown mid.disk new.disk (body_bytes (bodies.Commit (commit_body mid c.args.user c.args.tag c.args.version c.args.fp c.args.len))) (at h.cloud.0) (later h.cloud.0)) header_is c.in-Ok-add_roomy.ensures.grown) in
+    grown_both store mid new (body_bytes (bodies.Commit (commit_body store c.args.user c.args.tag c.args.version c.args.fp c.args.len))) c0 (at number) (later number) keeps.shares keeps.recipes c.requires.settled.disk.shares c.requires.settled.disk.recipes
+    (told_on c0 (at number) c.have_room.ensures.call.told) c.in-Ok.ensures.made grown

@@ -26,7 +26,7 @@ use Rattle.checkpoints.proofs.CdEdges.Moments.{told_on}
 use Rattle.checkpoints.specs.ContainerLog.States as logs
 use Rattle.checkpoints.specs.CloudDisk.Held.{flush_moments}
 use Rattle.checkpoints.specs.CloudDisk.Disk.{KeepsOrGrows as GrowsBy}
-use Rattle.cloud_store.proofs.Growing.{grows_both, grows_sums}
+use Rattle.cloud_store.proofs.Growing.{grows_both, grown_both, DiskHasGrown, grows_sums}
 use Rattle.cloud_store.proofs.store.CloudStore.add_delete.Goals as goal
 
 pub returns-in-Err-Long-clause-never_long : goal.returns-in-Err-Long-clause-never_long
@@ -176,3 +176,15 @@ pub returns-in-Err-Failed-clause-any_moment : goal.returns-in-Err-Failed-clause-
 returns-in-Err-Failed-clause-any_moment g c list chain entry p =
     let header = c.args.self.now.header in let number = header.cloud.0 in
     images_kept header list (asked.Delete c.args.user c.args.tag c.args.version) (g.V.Shelf.cloud_at c.args.shelf.now number) (g.V.Shelf.cloud_at c.have_room.new.shelf number) (c.have_room.ensures.any_moment list chain p.serves)
+
+pub returns-in-Ok-add_roomy-clause-grown : goal.returns-in-Ok-add_roomy-clause-grown
+returns-in-Ok-add_roomy-clause-grown g c =
+    let store = c.args.self.now in let header = store.header in let number = header.cloud.0 in
+    let c0 = g.V.Shelf.cloud_at c.args.shelf.now number in
+    let mid = c.have_room.new.store in let keeps = c.in-Ok.ensures.same in let new = c.add_roomy.new.store in
+    let at = g.V.Shelf.cloud_at c.have_room.new.shelf in let later = g.V.Shelf.cloud_at c.add_roomy.new.shelf in
+    let header_is : mid.header ≡ header = ap (λ (x : CloudStore). x.header) keeps.same in
+    let grown = subst (λ (x : CloudStore). DiskHasGrown mid.disk new.disk (body_bytes (bodies.Delete (record { user = c.args.user; tag = c.args.tag; version = c.args.version }))) (at number) (later number)) keeps.same
+    (subst (λ (h : Header). DiskHasGrown mid.disk new.disk (body_bytes (bodies.Delete (record { user = c.args.user; tag = c.args.tag; version = c.args.version }))) (at h.cloud.0) (later h.cloud.0)) header_is c.in-Ok-add_roomy.ensures.grown) in
+    grown_both store mid new (body_bytes (bodies.Delete (record { user = c.args.user; tag = c.args.tag; version = c.args.version }))) c0 (at number) (later number) keeps.shares keeps.recipes c.requires.settled.disk.shares c.requires.settled.disk.recipes
+    (told_on c0 (at number) c.have_room.ensures.call.told) c.in-Ok.ensures.made grown

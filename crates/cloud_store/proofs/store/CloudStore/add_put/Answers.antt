@@ -28,7 +28,7 @@ use Rattle.checkpoints.proofs.CdEdges.Moments.{told_on}
 use Rattle.checkpoints.specs.ContainerLog.States as logs
 use Rattle.checkpoints.specs.CloudDisk.Held.{flush_moments}
 use Rattle.checkpoints.specs.CloudDisk.Disk.{KeepsOrGrows as GrowsBy}
-use Rattle.cloud_store.proofs.Growing.{grows_both, grows_sums, grows_still}
+use Rattle.cloud_store.proofs.Growing.{grows_both, grown_both, DiskHasGrown, grows_sums, grows_still}
 use Rattle.checkpoints.specs.CloudDisk.Disk.{Disk}
 use Rattle.cloud_store.proofs.Keeping.{serves_on}
 use Rattle.checkpoints.specs.RecordBody.Spelling.{body_bytes}
@@ -265,3 +265,15 @@ returns-in-Err-clause-call g c =
     let header_is : c.have_room.new.store.header ≡ c.args.self.now.header = ap (λ (x : CloudStore). x.header) keeps.same in
     called_twice _ _ _ _ _ _ _ c.have_room.ensures.call
     (subst (λ (h : Header). IsCall (g.V.Shelf.cloud_at c.have_room.new.shelf) (g.V.Shelf.cloud_at c.add_roomy.new.shelf) h.cloud.0 (g.V.Shelf.faults c.have_room.new.shelf) (g.V.Shelf.faults c.add_roomy.new.shelf)) header_is c.add_roomy.ensures.call)
+
+pub returns-in-Ok-add_roomy-clause-grown : goal.returns-in-Ok-add_roomy-clause-grown
+returns-in-Ok-add_roomy-clause-grown g c =
+    let store = c.args.self.now in let header = store.header in let number = header.cloud.0 in
+    let c0 = g.V.Shelf.cloud_at c.args.shelf.now number in
+    let mid = c.have_room.new.store in let keeps = c.in-Ok.ensures.same in let new = c.add_roomy.new.store in
+    let at = g.V.Shelf.cloud_at c.have_room.new.shelf in let later = g.V.Shelf.cloud_at c.add_roomy.new.shelf in
+    let header_is : mid.header ≡ header = ap (λ (x : CloudStore). x.header) keeps.same in
+    let grown = subst (λ (x : CloudStore). DiskHasGrown mid.disk new.disk (body_bytes (put_record x c.args.user c.args.news.now)) (at number) (later number)) keeps.same
+    (subst (λ (h : Header). DiskHasGrown mid.disk new.disk (body_bytes (put_record mid c.args.user c.args.news.now)) (at h.cloud.0) (later h.cloud.0)) header_is c.in-Ok-add_roomy.ensures.grown) in
+    grown_both store mid new (body_bytes (put_record store c.args.user c.args.news.now)) c0 (at number) (later number) keeps.shares keeps.recipes c.requires.settled.disk.shares c.requires.settled.disk.recipes
+    (told_on c0 (at number) c.have_room.ensures.call.told) c.in-Ok.ensures.made grown
