@@ -9,9 +9,14 @@ use Rattle.audit_base.specs.CdEdges.area.Area.{Area}
 use Rattle.audit_base.specs.CdEdges.area.Area.TheVariants.{Shares, Recipes}
 use Rattle.audit_base.specs.CdEdges.Disk.{Image}
 use Rattle.audit_base.specs.Whole.{Tables, stored_at}
+use Rattle.container_log.specs.Places.{container_len}
 use Rattle.blob_audit.specs.declared.errors.ReadErr.{ReadErr}
 use Rattle.blob_audit.specs.declared.held.Held.{Held}
 use Rattle.blob_audit.specs.Steps.{PlacedRead, EntryRead}
+
+-- the bytes of a window: those of a container
+abbrev pub window_len : ℕ
+window_len = container_len
 
 -- as much as there is of what was asked for is in front of the window
 pub record IsHeldInWindow (area : List ℕ) (held : Held) (window : List ℕ) : Type 0 where

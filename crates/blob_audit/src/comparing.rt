@@ -2,7 +2,7 @@
 
 ghost use Rattle.std.specs.Prelude.{◌≡◌, ◌≤◌, false, length};
 ghost use Rattle.audit_base.specs.Whole.{tables_of};
-ghost use Rattle.blob_audit.specs.Holding.{ShareAlong, EntryAlong};
+ghost use Rattle.blob_audit.specs.Holding.{window_len, ShareAlong, EntryAlong};
 ghost use Rattle.blob_audit.specs.Steps.{lacks_memory, IsOnlyRead};
 
 use crate::ReadErr;
@@ -20,12 +20,12 @@ pub(crate) fn compare_share<V: Shelf>(
     held: &mut Held,
     window: &mut [u8],
 ) -> Result<(), ReadErr>
-    requires window { length window.old ≡ 4194304 }
-    requires count { held.old.count ≤ 4194304 }
+    requires window { length window.old ≡ window_len }
+    requires count { held.old.count ≤ window_len }
     ensures read { IsOnlyRead (ShareAlong fp.0 place held.old window.old held.new window.new)
         (V.cloud_at shelf.old) (V.cloud_at shelf.new) cloud.0 (V.faults shelf.old) (V.faults shelf.new) result }
     ensures memory { lacks_memory result ≡ false }
-    ensures count { held.new.count ≤ 4194304 }
+    ensures count { held.new.count ≤ window_len }
 {
     if place.len as usize <= WINDOW {
         match hold(shelf, cloud, Area::Shares, place, held, window) {
@@ -56,13 +56,13 @@ pub(crate) fn compare_entry<V: Shelf>(
     held: &mut Held,
     window: &mut [u8],
 ) -> Result<(), ReadErr>
-    requires window { length window.old ≡ 4194304 }
-    requires count { held.old.count ≤ 4194304 }
+    requires window { length window.old ≡ window_len }
+    requires count { held.old.count ≤ window_len }
     ensures read { IsOnlyRead (EntryAlong shape
         (tables_of memory.now) user entry held.old window.old held.new window.new)
         (V.cloud_at shelf.old) (V.cloud_at shelf.new) cloud.0 (V.faults shelf.old) (V.faults shelf.new) result }
     ensures memory { lacks_memory result ≡ false }
-    ensures count { held.new.count ≤ 4194304 }
+    ensures count { held.new.count ≤ window_len }
 {
     let place = Place {
         at: entry.at,

@@ -2,7 +2,7 @@
 
 ghost use Rattle.std.specs.Prelude.{◌≡◌, ◌↔◌, ◌+◌, ◌≤◌, List, ℕ, length, IfOk, IfErr, IsTrue};
 ghost use Rattle.audit_base.specs.Whole.{stored_at};
-ghost use Rattle.blob_audit.specs.Holding.{IsHeldInWindow, Covers};
+ghost use Rattle.blob_audit.specs.Holding.{window_len, IsHeldInWindow, Covers};
 ghost use Rattle.blob_audit.specs.Steps.{IsFault, IsOnlyRead};
 
 use crate::ReadErr;
@@ -31,9 +31,9 @@ fn lies_in(held: &Held, place: &Place) -> bool
 
 // How many bytes a new window has: those to the end of the container, or as many as the blob has.
 fn asked_at(place: &Place) -> u32
-    requires { place.now.len ≤ 4194304 }
+    requires { place.now.len ≤ window_len }
     ensures least { place.now.len ≤ result }
-    ensures most { result ≤ 4194304 }
+    ensures most { result ≤ window_len }
 {
     let room = WINDOW as u64 - place.at % WINDOW as u64;
     (room as u32).max(place.len)
@@ -49,15 +49,15 @@ pub(crate) fn hold<V: Shelf>(
     held: &mut Held,
     window: &mut [u8],
 ) -> Result<(), ReadErr>
-    requires window { length window.old ≡ 4194304 }
-    requires small { place.len ≤ 4194304 }
-    requires count { held.old.count ≤ 4194304 }
+    requires window { length window.old ≡ window_len }
+    requires small { place.len ≤ window_len }
+    requires count { held.old.count ≤ window_len }
     ensures read { IsOnlyRead (λ image r. IsHeldInWindow (image area) held.old window.old
         → IfOk r (λ u. IsHeldInWindow (image area) held.new window.new))
         (V.cloud_at shelf.old) (V.cloud_at shelf.new) cloud.0 (V.faults shelf.old) (V.faults shelf.new) result }
     ensures fault { IfErr result IsFault }
     ensures covers { IfOk result (λ u. Covers held.new place) }
-    ensures count { held.new.count ≤ 4194304 }
+    ensures count { held.new.count ≤ window_len }
 {
     if lies_in(held, &place) {
         return Ok(());

@@ -4,6 +4,7 @@ ghost use Rattle.std.specs.Prelude.{◌≡◌, ◌↔◌, ◌<◌, ◌^◌, List
 ghost use Rattle.audit_base.specs.CdBase.ids.UserId.{UserId as User};
 ghost use Rattle.audit_base.specs.UserDedup.Cloud.{fingerprint};
 ghost use Rattle.audit_base.specs.Whole.{Tables, tables_of};
+ghost use Rattle.blob_audit.specs.Holding.{window_len};
 ghost use Rattle.blob_audit.specs.Steps.{has_fault, lacks_memory, AreFoundBytes, IsWhole, IsFine, IsOwnRecipe};
 ghost use Rattle.blob_audit.specs.Steps.{JudgedAs};
 
@@ -91,7 +92,7 @@ pub(crate) fn judge_entry(
 
 /// Compares what lies at the place of an entry that is too long for a recipe.
 pub(crate) fn judge_long(shape: Option<Shape>, entry: Entry, found: &Found) -> Result<(), ReadErr>
-    requires { 4194304 < entry.len }
+    requires { window_len < entry.len }
     ensures judged { (t : Tables) (user : User) (bytes : List ℕ) → AreFoundBytes bytes found.now
         → JudgedAs (IsFine shape t user entry bytes) entry.fp (fingerprint bytes) result }
     ensures calm { has_fault result ≡ false }

@@ -2,15 +2,17 @@
 
 ghost use Rattle.std.specs.Prelude.{◌≡◌, ◌+◌, ◌≤◌, ◌<◌, ◌^◌, length, IfOk, IfErr};
 ghost use Rattle.audit_base.specs.Whole.{stored_at};
+ghost use Rattle.blob_audit.specs.Holding.{window_len};
 ghost use Rattle.blob_audit.specs.Steps.{IsFault, IsOnlyRead, IsFrontOfBuffer, IsTaken, AreFoundBytes, IsWholeLength};
 ghost use Rattle.blob_audit.specs.Steps.{FoundRead};
 
 use crate::ReadErr;
 use audit_base::{Area, CloudNo, Failed, Fp, Place, Shelf};
+use container_log::CONTAINER;
 use sha2::{Digest, Sha256};
 
 /// The bytes of a window: those of a container.
-pub(crate) const WINDOW: usize = 4_194_304;
+pub(crate) const WINDOW: usize = CONTAINER as usize;
 
 /// What lies at a place: how many bytes, and their SHA-256.
 #[derive(Clone, Copy, Debug)]
@@ -91,7 +93,7 @@ fn hash_pieces<V: Shelf>(
     len: usize,
     window: &mut [u8],
 ) -> Result<Found, ReadErr>
-    requires window { length window.old ≡ 4194304 }
+    requires window { length window.old ≡ window_len }
     requires small { len < 2 ^ 32 }
     requires within { at + len < 2 ^ 64 }
     ensures read { IsOnlyRead (FoundRead area (record { at = at; len = len }))
@@ -122,7 +124,7 @@ pub(crate) fn hash_long<V: Shelf>(
     place: Place,
     window: &mut [u8],
 ) -> Result<Found, ReadErr>
-    requires window { length window.old ≡ 4194304 }
+    requires window { length window.old ≡ window_len }
     ensures read { IsOnlyRead (FoundRead area place)
         (V.cloud_at shelf.old) (V.cloud_at shelf.new) cloud.0 (V.faults shelf.old) (V.faults shelf.new) result }
     ensures fault { IfErr result IsFault }

@@ -5,7 +5,7 @@ ghost use Rattle.audit_base.specs.CdEdges.Disk.{reads};
 ghost use Rattle.audit_base.specs.CdEdges.Shelf.{IsCall, HasFailed, KeepsCounts, Stays};
 ghost use Rattle.audit_base.specs.Whole.{tables_of};
 ghost use Rattle.blob_audit.specs.declared.errors.ReadErr.TheVariants as answers;
-ghost use Rattle.blob_audit.specs.Holding.{HasAll};
+ghost use Rattle.blob_audit.specs.Holding.{window_len, HasAll};
 ghost use Rattle.blob_audit.specs.Reading.{StoredIs, GoodIs, OnReadFault};
 ghost use Rattle.blob_audit.specs.Steps.{lacks_memory, IsOnlyRead, BothRead};
 
@@ -28,7 +28,7 @@ fn read_both<V: Shelf>(
 ) -> Result<(), ReadErr>
     requires shares { HasAll (length memory.now.shares.place_slots) shares.now }
     requires files { HasAll (length memory.now.files.slots) files.now }
-    requires window { length window.old ≡ 4194304 }
+    requires window { length window.old ≡ window_len }
     ensures read { IsOnlyRead (BothRead shape memory.now)
         (V.cloud_at shelf.old) (V.cloud_at shelf.new) cloud.0 (V.faults shelf.old) (V.faults shelf.new) result }
     ensures memory { lacks_memory result ≡ false }
@@ -41,7 +41,7 @@ fn read_both<V: Shelf>(
 
 // The memory of a window.
 fn window(alloc: Global) -> Result<Vec<u8>, NoMemory>
-    ensures { IfOk result (λ window. length window.items ≡ 4194304) }
+    ensures { IfOk result (λ window. length window.items ≡ window_len) }
 {
     Ok(vec![in alloc; 0u8; WINDOW]?)
 }

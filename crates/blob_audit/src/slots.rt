@@ -5,7 +5,7 @@ ghost use Rattle.audit_base.specs.CdEdges.area.Area.TheVariants.{Shares, Recipes
 ghost use Rattle.pool_map.specs.Slots.{slot_of};
 ghost use Rattle.audit_base.specs.CloudMemory.Live.{live_at};
 ghost use Rattle.audit_base.specs.Whole.{tables_of};
-ghost use Rattle.blob_audit.specs.Holding.{Along, HasAll};
+ghost use Rattle.blob_audit.specs.Holding.{window_len, Along, HasAll};
 ghost use Rattle.blob_audit.specs.Steps.{lacks_memory, IsOnlyRead, ShareRead, FileRead, SharesRead, FilesRead};
 
 use crate::ReadErr;
@@ -22,13 +22,13 @@ fn read_share<V: Shelf>(
     held: &mut Held,
     window: &mut [u8],
 ) -> Result<(), ReadErr>
-    requires window { length window.old ≡ 4194304 }
-    requires count { held.old.count ≤ 4194304 }
+    requires window { length window.old ≡ window_len }
+    requires count { held.old.count ≤ window_len }
     ensures read { IsOnlyRead (Along Shares (ShareRead (live_at memory.now.shares slot))
         held.old window.old held.new window.new)
         (V.cloud_at shelf.old) (V.cloud_at shelf.new) cloud.0 (V.faults shelf.old) (V.faults shelf.new) result }
     ensures memory { lacks_memory result ≡ false }
-    ensures count { held.new.count ≤ 4194304 }
+    ensures count { held.new.count ≤ window_len }
 {
     match memory.live_share(slot) {
         Some((fp, place)) => compare_share(shelf, cloud, fp, place, held, window),
@@ -46,14 +46,14 @@ fn read_file<V: Shelf>(
     held: &mut Held,
     window: &mut [u8],
 ) -> Result<(), ReadErr>
-    requires window { length window.old ≡ 4194304 }
-    requires count { held.old.count ≤ 4194304 }
+    requires window { length window.old ≡ window_len }
+    requires count { held.old.count ≤ window_len }
     ensures read { IsOnlyRead (Along Recipes
         (FileRead shape (tables_of memory.now) (slot_of memory.now.files.slots slot))
         held.old window.old held.new window.new)
         (V.cloud_at shelf.old) (V.cloud_at shelf.new) cloud.0 (V.faults shelf.old) (V.faults shelf.new) result }
     ensures memory { lacks_memory result ≡ false }
-    ensures count { held.new.count ≤ 4194304 }
+    ensures count { held.new.count ≤ window_len }
 {
     match memory.live_file(slot) {
         Some((user, _, _, entry)) => {
@@ -72,7 +72,7 @@ pub(crate) fn read_shares<V: Shelf>(
     window: &mut [u8],
 ) -> Result<(), ReadErr>
     requires all { HasAll (length memory.now.shares.place_slots) order.now }
-    requires window { length window.old ≡ 4194304 }
+    requires window { length window.old ≡ window_len }
     ensures read { IsOnlyRead (SharesRead memory.now)
         (V.cloud_at shelf.old) (V.cloud_at shelf.new) cloud.0 (V.faults shelf.old) (V.faults shelf.new) result }
     ensures memory { lacks_memory result ≡ false }
@@ -103,7 +103,7 @@ pub(crate) fn read_files<V: Shelf>(
     window: &mut [u8],
 ) -> Result<(), ReadErr>
     requires all { HasAll (length memory.now.files.slots) order.now }
-    requires window { length window.old ≡ 4194304 }
+    requires window { length window.old ≡ window_len }
     ensures read { IsOnlyRead (FilesRead shape memory.now)
         (V.cloud_at shelf.old) (V.cloud_at shelf.new) cloud.0 (V.faults shelf.old) (V.faults shelf.new) result }
     ensures memory { lacks_memory result ≡ false }
