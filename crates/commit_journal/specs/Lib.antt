@@ -5,5 +5,6 @@ pub mod JournalStart
 pub mod Leaving
 pub mod Openings
 pub mod Outcomes
+pub mod Pieces
 pub mod States
 pub mod Turning

@@ -6,6 +6,7 @@ ghost use Rattle.journal_halves.specs.CdEdges.Shelf.{IsCall, HasFailed, KeepsCou
 ghost use Rattle.journal_halves.specs.Halves.{half_len};
 ghost use Rattle.journal_halves.specs.Journals.{IsClosedAt, IsOpenAt};
 ghost use Rattle.commit_journal.specs.Leaving.{KeepsStanding, LeavesWrite, HasClosed, HasWritten, OthersStay, IsLater, IsSpared, IsLaterOpen};
+ghost use Rattle.commit_journal.specs.Pieces.{piece_len};
 
 use crate::piece::Piece;
 use journal_halves::{Area, CloudNo, Failed, HALF_LEN, Shelf, write_synced};
@@ -89,7 +90,7 @@ pub(crate) fn write_last<V: Shelf>(
     at: u64,
     waiting: &mut Piece,
 ) -> Result<(), Failed>
-    requires { length waiting.old < 4194304 }
+    requires { length waiting.old < piece_len }
     ensures any_moment { LeavesWrite at (waiting.old ++ 0 ∷ [])
         (V.cloud_at shelf.old cloud.0) (V.cloud_at shelf.new cloud.0) }
     ensures written { HasWritten at (waiting.old ++ 0 ∷ [])

@@ -37,7 +37,7 @@ pub struct Journal {
     // What the checkpoint that is laid begins with.
     pub(crate) next: Start,
     pub(crate) writer: CheckpointWriter,
-    ghost limited: { limit ≤ 134217728 },
+    ghost limited: { limit ≤ half_len },
 }
 
 impl Journal {

@@ -2,6 +2,7 @@
 
 ghost use Rattle.std.specs.Prelude.{◌≡◌, ◌+◌, ◌≤◌, ◌++◌, [], length, IfOk};
 ghost use Rattle.journal_halves.specs.Records.{sized};
+ghost use Rattle.commit_journal.specs.Pieces.{piece_len};
 
 use journal_halves::NoMemory;
 use std::alloc::Global;
@@ -18,12 +19,13 @@ pub struct Piece {
 
 impl Model for Piece {
     ghost use Rattle.std.specs.Prelude.{ℕ, ◌≤◌, List, length, vec_capacity};
+    ghost use Rattle.commit_journal.specs.Pieces.{piece_len};
 
     ghost Value = { List ℕ };
 
     ghost view = { λ p. p.bytes.items };
 
-    ghost invariant = { λ p. (length p.bytes.items ≤ 4194304) × (4194304 ≤ vec_capacity p.bytes) };
+    ghost invariant = { λ p. (length p.bytes.items ≤ piece_len) × (piece_len ≤ vec_capacity p.bytes) };
 }
 
 impl Piece {
@@ -58,7 +60,7 @@ impl Piece {
 
     /// Appends bytes. It takes no memory.
     pub fn put(&mut self, bytes: &[u8])
-        requires { length self.old + length bytes.now ≤ 4194304 }
+        requires { length self.old + length bytes.now ≤ piece_len }
         ensures { self.new ≡ self.old ++ bytes.now }
     {
         let _ = self.bytes.extend_from_slice(bytes);
@@ -67,7 +69,7 @@ impl Piece {
     /// Appends the length of a body, in four bytes, and the body.
     pub fn put_sized(&mut self, body: &[u8])
         requires few { length body.now ≤ 65535 }
-        requires room { length self.old + length body.now + 4 ≤ 4194304 }
+        requires room { length self.old + length body.now + 4 ≤ piece_len }
         ensures { self.new ≡ self.old ++ sized body.now }
     {
         self.put(&(body.len() as u32).to_be_bytes());

@@ -7,6 +7,7 @@ ghost use Rattle.journal_halves.specs.Records.{sized};
 ghost use Rattle.journal_halves.specs.JournalStart.Ranges.{IsStart};
 ghost use Rattle.journal_halves.specs.JournalStart.Spelling.{start_bytes, records_of};
 ghost use Rattle.journal_halves.specs.Halves.{half_len};
+ghost use Rattle.commit_journal.specs.Pieces.{piece_len};
 
 use crate::PIECE;
 use crate::area::{close, first_place, write_last, write_piece};
@@ -25,8 +26,8 @@ pub struct CheckpointWriter {
     // The bytes that come next. One place is left for the closed gate.
     pub(crate) waiting: Piece,
     ghost is_half: { half ≤ 1 },
-    ghost few: { length waiting < 4194304 },
-    ghost within: { written + length waiting + 2 ≤ 134217728 },
+    ghost few: { length waiting < piece_len },
+    ghost within: { written + length waiting + 2 ≤ half_len },
 }
 
 impl CheckpointWriter {
@@ -128,7 +129,7 @@ impl CheckpointWriter {
         requires to_come { 1 ≤ (state_of self.old).left }
         requires some { 1 ≤ length body.now }
         requires few { length body.now ≤ 65535 }
-        requires room { used_of (state_of self.old) + length body.now + 5 ≤ 134217728 }
+        requires room { used_of (state_of self.old) + length body.now + 5 ≤ half_len }
 
         ensures any_moment { KeepsLaid (state_of self.old)
             (V.cloud_at shelf.old cloud.0) (V.cloud_at shelf.new cloud.0) }
@@ -162,7 +163,7 @@ impl CheckpointWriter {
         ensures still { IsLaidStill (state_of self.old) (state_of self.new)
             (V.cloud_at shelf.old cloud.0) (V.cloud_at shelf.new cloud.0) result }
         ensures others { OthersStay (V.cloud_at shelf.old cloud.0) (V.cloud_at shelf.new cloud.0) result }
-        ensures room { OnOk result (length (state_of self.new).waiting + len + 5 < 4194304) }
+        ensures room { OnOk result (length (state_of self.new).waiting + len + 5 < piece_len) }
         ensures used { used_of (state_of self.new) ≡ used_of (state_of self.old) }
         ensures left { (state_of self.new).left ≡ (state_of self.old).left }
         ensures call { IsCall (V.cloud_at shelf.old) (V.cloud_at shelf.new) cloud.0
@@ -186,8 +187,8 @@ impl CheckpointWriter {
     fn add(&mut self, body: &[u8])
         requires to_come { 1 ≤ (state_of self.old).left }
         requires few { length body.now ≤ 65535 }
-        requires room { length (state_of self.old).waiting + length body.now + 5 < 4194304 }
-        requires within { used_of (state_of self.old) + length body.now + 5 ≤ 134217728 }
+        requires room { length (state_of self.old).waiting + length body.now + 5 < piece_len }
+        requires within { used_of (state_of self.old) + length body.now + 5 ≤ half_len }
         ensures { state_of self.new ≡ record (state_of self.old) {
           waiting = (state_of self.old).waiting ++ 1 ∷ sized body.now;
           left = (state_of self.old).left - 1;

@@ -2,7 +2,7 @@
 use Rattle.std.specs.Prelude.{◌≡◌, ◌≢◌, ℕ, ◌<◌, List, ◌∷◌, ◌++◌, length}
 use Rattle.journal_halves.specs.declared.frame.Frame.{Frame}
 use Rattle.journal_halves.specs.declared.frame.Frame.TheVariants.{Closed, Record, BadLength, Short}
-use Rattle.journal_halves.specs.Records.{IsJournalBody, sized, NoRecord}
+use Rattle.journal_halves.specs.Records.{IsJournalBody, window_len, sized, NoRecord}
 
 -- a gate that is closed
 pub record IsClosed (ahead : List ℕ) : Type 0 where
@@ -27,7 +27,7 @@ pub record HasBadLength (ahead : List ℕ) : Type 0 where
 
 -- nothing, or an open gate before too few bytes
 pub record IsCutOff (ahead : List ℕ) : Type 0 where
-  pub few : length ahead < 65541
+  pub few : length ahead < window_len
   pub opened : 0 < length ahead → (tail : List ℕ) × (ahead ≡ 1 ∷ tail)
   pub none : NoRecord ahead
 

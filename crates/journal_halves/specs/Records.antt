@@ -7,6 +7,10 @@ pub record IsJournalBody (body : List ℕ) : Type 0 where
   pub some : 1 ≤ length body
   pub few : length body ≤ 65535
 
+-- as many bytes as the longest record has, with its own gate and the next one
+abbrev pub window_len : ℕ
+window_len = 65541
+
 -- four bytes of length, and the body
 abbrev pub sized : List ℕ → List ℕ
 sized body = to_be_bytes w32 (length body) ++ body

@@ -4,7 +4,7 @@ ghost use Rattle.std.specs.Prelude.{◌≡◌, ℕ, ◌≤◌, List, length, tak
 ghost use Rattle.journal_start.specs.Ranges.{IsStart};
 ghost use Rattle.cd_edges.specs.declared.area.Area.{Area};
 ghost use Rattle.cd_edges.specs.Shelf.{IsCall, HasFailed, KeepsCounts, Stays};
-ghost use Rattle.journal_halves.specs.Records.{is_begun};
+ghost use Rattle.journal_halves.specs.Records.{window_len, is_begun};
 ghost use Rattle.journal_halves.specs.Halves.{half_of};
 ghost use Rattle.journal_start.specs.declared.start.Start.{Start};
 ghost use Rattle.journal_halves.specs.Findings.{LookIs, FindIs, OnFault};
@@ -30,7 +30,7 @@ fn begins(bytes: &[u8]) -> bool
 // What a half begins with, by what was read of it.
 fn judge(half: u8, ahead: &[u8]) -> Result<Option<Start>, FindErr>
     requires { half ≤ 1 }
-    ensures looks { (journal : List ℕ) → ahead.now ≡ take 65541 (half_of half journal) → LookIs journal half result }
+    ensures looks { (journal : List ℕ) → ahead.now ≡ take window_len (half_of half journal) → LookIs journal half result }
     ensures start { IfOk result (λ found. IfSome found (IsStart half)) }
     ensures handled { OnFault result ⊥ (Unit {0}) }
 {
@@ -54,7 +54,7 @@ fn look<V: Shelf>(
     window: &mut [u8],
 ) -> Result<Option<Start>, FindErr>
     requires half { half ≤ 1 }
-    requires window { length window.old ≡ 65541 }
+    requires window { length window.old ≡ window_len }
     ensures found { IsTrue (V.cloud_at shelf.old cloud.0).told
         → LookIs ((V.cloud_at shelf.old cloud.0).now Area.Journal).read half result }
     ensures start { IfOk result (λ found. IfSome found (IsStart half)) }
@@ -122,7 +122,7 @@ fn answer<V: Shelf>(shelf: &mut V, cloud: CloudNo, choice: Choice) -> Result<Fou
 /// the cloud's count of faults rose. Nothing told changes. What is found is a start of its half, whatever the cloud tells: its
 /// header and its rooms are allowed ones.
 pub fn find<V: Shelf>(shelf: &mut V, cloud: CloudNo, window: &mut [u8]) -> Result<Found, FindErr>
-    requires { length window.old ≡ 65541 }
+    requires { length window.old ≡ window_len }
     ensures found { IsTrue (V.cloud_at shelf.old cloud.0).told
         → FindIs ((V.cloud_at shelf.old cloud.0).now Area.Journal).read result }
     ensures start { IfOk result (λ found. IsStart found.half found.start) }

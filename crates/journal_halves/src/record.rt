@@ -4,8 +4,9 @@ ghost use Rattle.std.specs.Prelude.{◌≡◌, ℕ, ◌+◌, ◌≤◌, List, le
 ghost use Rattle.journal_halves.specs.Outcomes.{DamageIs};
 ghost use Rattle.journal_halves.specs.declared.errors.RecordErr.TheVariants.{Damaged};
 ghost use Rattle.journal_start.specs.Reading.{IsPlaced};
-ghost use Rattle.journal_halves.specs.Records.{is_begun};
+ghost use Rattle.journal_halves.specs.Records.{window_len, is_begun};
 ghost use Rattle.journal_halves.specs.Frames.{IsRecord};
+ghost use Rattle.journal_halves.specs.Halves.{half_len};
 ghost use Rattle.journal_start.specs.Ranges.{IsStart};
 ghost use Rattle.journal_start.specs.Spelling.{start_bytes};
 ghost use Rattle.journal_halves.specs.Findings.{IsStartDamage, IsFaultAt};
@@ -63,7 +64,7 @@ fn body_in(ahead: &[u8], len: usize) -> &[u8]
 pub fn read_start(half: u8, ahead: &[u8]) -> Result<Start, HalfDamage>
     ensures small { IfErr result (λ damage. damage.at ≤ 65540) }
     ensures is_start { IfOk result (λ start. IsStart half start) }
-    ensures start { (rest : List ℕ) → ahead.now ≡ take 65541 rest → length rest ≤ 134217728 → is_begun rest ≡ true
+    ensures start { (rest : List ℕ) → ahead.now ≡ take window_len rest → length rest ≤ half_len → is_begun rest ≡ true
         → MatchResult result
         (λ start. IsStart half start × IsRecord rest (start_bytes start))
         (λ damage. IsStartDamage half rest damage.at damage.byte) }

@@ -4,7 +4,7 @@ ghost use Rattle.std.specs.Prelude.{◌≡◌, ◌≢◌, ◌⊎◌, ℕ, ◌+�
 ghost use Rattle.cd_edges.specs.declared.area.Area.{Area};
 ghost use Rattle.cd_edges.specs.Disk.{moment};
 ghost use Rattle.cd_edges.specs.Shelf.{IsCall, HasFailed, KeepsCounts, Stays};
-ghost use Rattle.journal_halves.specs.Records.{framed};
+ghost use Rattle.journal_halves.specs.Records.{window_len, framed};
 ghost use Rattle.journal_start.specs.Ranges.{IsStart};
 ghost use Rattle.journal_halves.specs.Halves.{half_len};
 ghost use Rattle.journal_halves.specs.Findings.{FindIs, OnFault};
@@ -28,12 +28,12 @@ pub struct HalfRecords {
     pub(crate) body_len: usize,
     pub(crate) body_at: u64,
     ghost is_half: { half ≤ 1 },
-    ghost window: { vec_len buffer ≡ 65541 },
-    ghost filled_in: { filled ≤ 65541 },
+    ghost window: { vec_len buffer ≡ window_len },
+    ghost filled_in: { filled ≤ window_len },
     ghost from_in: { from ≤ filled },
-    ghost body_in: { body_from + body_len ≤ 65541 },
-    ghost gate_in: { gate + 1 ≤ 134217728 },
-    ghost ahead_in: { gate + filled ≤ 134217728 + from },
+    ghost body_in: { body_from + body_len ≤ window_len },
+    ghost gate_in: { gate + 1 ≤ half_len },
+    ghost ahead_in: { gate + filled ≤ half_len + from },
 }
 
 // Puts the length, the body and a closed gate in front of a buffer.
@@ -234,7 +234,7 @@ impl HalfRecords {
     fn load<V: Shelf>(&mut self, shelf: &mut V, cloud: CloudNo) -> Result<(), Failed>
         ensures ahead { IsTrue (V.cloud_at shelf.old cloud.0).told → OnOk result
             ((state_of self.new).ahead
-            ≡ take 65541 (rest_of (state_of self.old) ((V.cloud_at shelf.old cloud.0).now Area.Journal))) }
+            ≡ take window_len (rest_of (state_of self.old) ((V.cloud_at shelf.old cloud.0).now Area.Journal))) }
         ensures rest { (self.new.half ≡ self.old.half) × (self.new.gate ≡ self.old.gate) }
         ensures stays { Stays (V.cloud_at shelf.old cloud.0) (V.cloud_at shelf.new cloud.0) }
         ensures call { IsCall (V.cloud_at shelf.old) (V.cloud_at shelf.new) cloud.0
