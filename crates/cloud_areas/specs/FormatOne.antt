@@ -8,6 +8,7 @@ use Rattle.user_dedup.specs.CdBase.ids.UserId.{UserId}
 use Rattle.user_dedup.specs.CdBase.ids.Version.{Version}
 use Rattle.user_dedup.specs.CdBase.rooms.Room.TheVariants as names
 use Rattle.user_dedup.specs.CdBase.shape.Shape.{Shape}
+use Rattle.journal_halves.specs.CdBase.Limits.{greatest_rooms}
 use Rattle.journal_halves.specs.CdEdges.area.Area.TheVariants.{Journal, Shares, Recipes}
 use Rattle.journal_halves.specs.CdEdges.Disk.{Image}
 use Rattle.container_log.specs.Laying.{Placed, lengths, placed, IsAt}
@@ -133,11 +134,11 @@ all_files shape list = sum_by (λ (n : ℕ). files_of shape list (user_at n)) (u
 
 -- After each command the list is within the greatest rooms that format 1 had.
 pub record IsWithinGreatest (shape : Shape) (list : List Command) : Type 0 where
-  pub fps : length (laid_strings list) ≤ 262144
-  pub owners : (before after : List Command) → list ≡ before ++ after → all_owners shape before ≤ 524288
-  pub files : (before after : List Command) → list ≡ before ++ after → all_files shape before ≤ 16384
-  pub shares : strings_end list ≤ 8589934592
-  pub recipes : laid_end list ≤ 1073741824
+  pub fps : length (laid_strings list) ≤ greatest_rooms.fps
+  pub owners : (before after : List Command) → list ≡ before ++ after → all_owners shape before ≤ greatest_rooms.owners
+  pub files : (before after : List Command) → list ≡ before ++ after → all_files shape before ≤ greatest_rooms.files
+  pub shares : strings_end list ≤ greatest_rooms.shares
+  pub recipes : laid_end list ≤ greatest_rooms.recipes
 
 -- ---- what a migration refuses
 

@@ -55,9 +55,13 @@ HasPlace records fp = (place : Place) × Contains (shares_in records) (fp, place
 
 -- ---- places
 
--- a region of an area of blobs begins here
+-- the bytes of a region of an area of blobs
+abbrev pub region_len : ℕ
+region_len = 34359738368
+
+-- a region begins here
 abbrev pub region_start : ℕ → ℕ
-region_start region = region * 34359738368
+region_start region = region * region_len
 
 abbrev pub end_of : Place → ℕ
 end_of p = p.at + p.len

@@ -4,6 +4,7 @@
 
 pub mod laws;
 pub mod peers;
+mod regions;
 
 pub use container_log::{CONTAINER, Log, LogFull};
 pub use journal_halves::UserRooms;
@@ -11,4 +12,5 @@ pub use record_body::{
     BodyBuf, BodyErr, BodyView, CommitBody, DeleteBody, FoundItem, FoundKept, KeptItem, KeptItems,
     PutItem, PutItems, SpentBody,
 };
+pub use regions::{LEAST_RECIPES, LEAST_SHARES, REGION_LEN};
 pub use user_dedup::{Link, Lost};
