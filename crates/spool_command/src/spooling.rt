@@ -17,7 +17,7 @@ use crate::going::go_on;
 use crate::interruption::Interruption;
 use crate::writing::{Unspooled, write_end};
 use backup_command::{
-    AskedClouds, FileReadErr, MeetErr, ReplyBuf, meet_all, read_file, write_too_long,
+    AskedClouds, FileBytes, FileReadErr, MeetErr, ReplyBuf, meet_all, read_file, write_too_long,
 };
 use std::alloc::Global;
 use upload_spool::{
@@ -40,7 +40,7 @@ fn start<V: Shelf>(
     alloc: Global,
     shape: Shape,
     file: &SpooledFile<'_>,
-    bytes: Bytes,
+    bytes: FileBytes,
     shelf: &mut V,
 ) -> Result<(Spool, Job), SpoolErr>
     requires path { IsPath file.now.path.now }
@@ -77,7 +77,7 @@ fn carry<P: Ports, V: Shelf>(
     alloc: Global,
     file: &SpooledFile<'_>,
     addresses: &[String],
-    bytes: Bytes,
+    bytes: FileBytes,
     shelf: &mut V,
     ports: &mut P,
     text: &mut Bytes,
