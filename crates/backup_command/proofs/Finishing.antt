@@ -1,5 +1,5 @@
 -- What became of a file, by what became of it at the clouds that were greeted.
-use Rattle.std.proofs.Common.{◌≡◌, ℕ, Bool, List, [], length, Ok, Err, IsTrue, sym, ◌∙◌, ap, subst}
+use Rattle.std.proofs.Common.{◌≡◌, inl, inr, ℕ, Bool, List, [], length, Ok, Err, IsTrue, sym, ◌∙◌, ap, subst}
 use Rattle.std.specs.List.{Contains}
 use Rattle.std.specs.Prelude.{Result}
 use Rattle.transcript.specs.CdBase.ids.UserId.{UserId}
@@ -21,6 +21,8 @@ use Rattle.backup_command.specs.Lanes.{numbered}
 use Rattle.lane_steps.specs.UploadJob.Lanes.{LaneView, lanes_begun}
 use Rattle.backup_command.specs.BackedUp.{BackupCall, Met, version_of}
 use Rattle.backup_command.specs.Steps.{AreGreetedOn, BringsFile, Carries, IsCarryLost, IsNumbered}
+use Rattle.backup_command.specs.Reading.{Input, IsFileRead}
+use Rattle.backup_command.specs.Sends.{IsAskOn, SendsOn, SendsOwn, HasSentOwn}
 use Rattle.backup_command.proofs.Ordering.{numbered_by, long_numbered}
 
 -- the lanes of the version that a call is about
@@ -35,6 +37,21 @@ at_call call user path version file shape u p v P has =
     (record { user = user; path = x; number = call.version; file = file }))) (sym p)
     (subst (λ (x : Version). P (lanes_begun shape
     (record { user = user; path = path; number = x; file = file }))) (sym v) has))
+
+-- the requests of the lanes of that version
+pub sent_at_call : (call : BackupCall) (user : UserId) (path : List ℕ) (version : Version) (file : List ℕ) (shape : Shape)
+    (dialled : List ℕ) (job : List LaneView) (old new : Telling) → call.user ≡ user → call.path ≡ path → call.version ≡ version
+    → job ≡ lanes_begun shape (record { user = user; path = path; number = version; file = file })
+    → SendsOn (IsAskOn (numbered 0 dialled) job) old new
+    → SendsOn (IsAskOn (numbered 0 dialled) (lanes_begun shape (version_of call file))) old new
+sent_at_call call user path version file shape dialled job old new u p v begun sends =
+    at_call call user path version file shape u p v (λ views. SendsOn (IsAskOn (numbered 0 dialled) views) old new)
+    (subst (λ (views : List LaneView). SendsOn (IsAskOn (numbered 0 dialled) views) old new) begun sends)
+
+-- of the file that was read
+pub sent_of_file : (call : BackupCall) (input : Input) (file : List ℕ) → IsFileRead input file → SendsOwn call file → HasSentOwn call input
+sent_of_file call input file reads (inl hellos) = inl hellos
+sent_of_file call input file reads (inr lanes) = inr (file, reads, lanes)
 
 pub carried : (call : BackupCall) (file : List ℕ) (dialled : List ℕ) (shape : Shape) (behind : Telling)
     (result : Result Bool BackupErr) (text : List ℕ) → Met call dialled shape behind

@@ -1,5 +1,7 @@
 pub mod Leaving
 pub mod Walking
+pub mod Pieces
+pub mod LaneAsks
 pub mod Working
 pub mod Reaching
 pub mod Joining
@@ -10,3 +12,4 @@ pub mod LaneSteps
 pub mod UserDedup
 pub mod Transcript
 pub mod CdEdges
+pub mod PortLaws

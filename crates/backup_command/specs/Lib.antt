@@ -6,6 +6,7 @@ pub mod Lanes
 pub mod PortsLink
 pub mod Reading
 pub mod Said
+pub mod Sends
 pub mod Steps
 pub mod Texts
 pub mod Transcript

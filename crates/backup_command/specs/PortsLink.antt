@@ -4,6 +4,7 @@ pub use Rattle.ports_link.specs.Hellos
 pub use Rattle.ports_link.specs.Lines
 pub use Rattle.ports_link.specs.Meeting
 pub use Rattle.ports_link.specs.Refusals
+pub use Rattle.ports_link.specs.Sending
 pub use Rattle.ports_link.specs.Tells
 pub use Rattle.ports_link.specs.declared.greeting
 pub use Rattle.ports_link.specs.declared.judging

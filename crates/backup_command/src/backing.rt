@@ -4,6 +4,7 @@ ghost use Rattle.std.specs.Prelude.{◌≡◌, ◌≤◌, ◌⊎◌, length, IsT
 ghost use Rattle.transcript.specs.CdBase.Limits.{IsPath};
 ghost use Rattle.backup_command.specs.BackedUp.{IsBackedUp, OnlyDialled};
 ghost use Rattle.backup_command.specs.Reading.{input_of};
+ghost use Rattle.backup_command.specs.Sends.{HasSentOwn};
 ghost use Rattle.backup_command.specs.Writing.{output_of};
 
 use crate::carrying::{BackupErr, carry};
@@ -71,6 +72,19 @@ pub fn backup<S: Source, K: Sink, P: Ports>(
 
     // Ports that were open before are as they were.
     ensures others { IsTrue (P.tells ports.old).told → OnlyDialled (P.tells ports.old) (P.tells ports.new) }
+
+    // Whatever came of it, want of memory too: nothing was sent but Hellos and the requests of the job of the source's bytes, those of
+    // each lane on its cloud's port, or pieces of them.
+    ensures sends { IsTrue (P.tells ports.old).told → HasSentOwn (record {
+      user = user;
+      path = path.now;
+      version = version;
+      addresses = length addresses.now;
+      before = P.tells ports.old;
+      after = P.tells ports.new;
+      faults_before = P.faults ports.old;
+      faults_after = P.faults ports.new;
+    }) (input_of (S.left source.old) (S.faults source.old) (S.faults source.new)) }
     ensures told { (P.tells ports.new).told ≡ (P.tells ports.old).told }
     ensures later { P.faults ports.old ≤ P.faults ports.new }
     ensures numbers { (result ≡ 0) ⊎ (result ≡ 2) ⊎ (result ≡ 3) ⊎ (result ≡ 4) ⊎ (result ≡ 6) ⊎ (result ≡ 8)

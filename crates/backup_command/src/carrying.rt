@@ -7,7 +7,9 @@ ghost use Rattle.transcript.specs.CdEdges.Causes.{Rose};
 ghost use Rattle.lane_steps.specs.Recipe.Spelling.{file_limit};
 ghost use Rattle.lane_steps.specs.UploadJob.Lanes.{lanes_begun};
 ghost use Rattle.lane_steps.specs.Reached.{IsReached};
-ghost use Rattle.backup_command.specs.BackedUp.{BackupCall, OnlyDialled};
+ghost use Rattle.backup_command.specs.BackedUp.{BackupCall, OnlyDialled, version_of};
+ghost use Rattle.backup_command.specs.Lanes.{numbered};
+ghost use Rattle.backup_command.specs.Sends.{IsAskOn, SendsOn, SendsOwn};
 ghost use Rattle.backup_command.specs.Steps.{AreGreetedOn, BringsFile, Carries, IfLost, IsCarryLost, IsNumbered};
 ghost use Rattle.backup_command.specs.Steps.{LanesWent};
 
@@ -83,6 +85,9 @@ fn bring_all<P: Ports>(
     ensures others { (dialled : List ℕ) → AreGreetedOn (P.tells ports.old) dialled greeted.now.lines.items
         → IsTrue (P.tells ports.old).told → (port : ℕ) → ¬ Contains dialled port
         → (P.tells ports.new).port port ≡ (P.tells ports.old).port port }
+    ensures sends { (dialled : List ℕ) → AreGreetedOn (P.tells ports.old) dialled greeted.now.lines.items
+        → IsTrue (P.tells ports.old).told
+        → SendsOn (IsAskOn (numbered 0 dialled) job.old) (P.tells ports.old) (P.tells ports.new) }
     ensures told { (P.tells ports.new).told ≡ (P.tells ports.old).told }
     ensures later { P.faults ports.old ≤ P.faults ports.new }
     ensures lost { IfLost result (Rose (P.faults ports.old) (P.faults ports.new)) }
@@ -128,6 +133,11 @@ fn carry_greeted<P: Ports>(
     ensures others { (dialled : List ℕ) → AreGreetedOn (P.tells ports.old) dialled greeted.now.lines.items
         → IsTrue (P.tells ports.old).told → (port : ℕ) → ¬ Contains dialled port
         → (P.tells ports.new).port port ≡ (P.tells ports.old).port port }
+    ensures sends { (call : BackupCall) (dialled : List ℕ) → call.user ≡ named.now.user
+        → call.path ≡ named.now.path.now → call.version ≡ named.now.version
+        → AreGreetedOn (P.tells ports.old) dialled greeted.now.lines.items → IsTrue (P.tells ports.old).told
+        → SendsOn (IsAskOn (numbered 0 dialled) (lanes_begun greeted.now.shape (version_of call file)))
+        (P.tells ports.old) (P.tells ports.new) }
     ensures told { (P.tells ports.new).told ≡ (P.tells ports.old).told }
     ensures later { P.faults ports.old ≤ P.faults ports.new }
     ensures lost { IsCarryLost result → Rose (P.faults ports.old) (P.faults ports.new) }
@@ -188,6 +198,16 @@ pub fn carry<P: Ports>(
       faults_after = P.faults ports.new;
     }) file result text.new }
     ensures others { IsTrue (P.tells ports.old).told → OnlyDialled (P.tells ports.old) (P.tells ports.new) }
+    ensures sends { IsTrue (P.tells ports.old).told → SendsOwn (record {
+      user = user;
+      path = path.now;
+      version = version;
+      addresses = length addresses.now;
+      before = P.tells ports.old;
+      after = P.tells ports.new;
+      faults_before = P.faults ports.old;
+      faults_after = P.faults ports.new;
+    }) file }
     ensures told { (P.tells ports.new).told ≡ (P.tells ports.old).told }
     ensures later { P.faults ports.old ≤ P.faults ports.new }
 {

@@ -7,8 +7,10 @@ ghost use Rattle.transcript.specs.CdEdges.Ports.{Telling};
 ghost use Rattle.ports_link.specs.Tells.{telling};
 ghost use Rattle.ports_link.specs.UserDedup.Link.{SaysNothingElse};
 ghost use Rattle.lane_steps.specs.Reached.{IsReached};
+ghost use Rattle.lane_steps.specs.Runs.{lane_at};
 ghost use Rattle.backup_command.specs.Steps.{AreReady, IfLost, IsCloudReady, LaneGoes, LanesWent, KeepsOtherPorts};
 ghost use Rattle.backup_command.specs.Steps.{Talked, ports_of};
+ghost use Rattle.backup_command.specs.Sends.{IsAskOf, IsAskOn, SendsFor, SendsOn};
 
 use crate::halt::Halt;
 use crate::news::put_lane;
@@ -27,7 +29,8 @@ pub fn next_line(lines: &[(CloudNo, u32)]) -> Option<((CloudNo, u32), &[(CloudNo
 }
 
 /// Brings the lane of one cloud to its end, with its lines behind the text. It stops where the ports fail, and where memory
-/// runs out. `told` has the news of its replies then, and of no other lane.
+/// runs out. `told` has the news of its replies then, and of no other lane. Whatever becomes of it, nothing was sent but pieces
+/// of the lane's own requests, on its cloud's port.
 pub fn bring_one<P: Ports>(
     link: &mut PortsLink<'_, P>,
     job: &mut Job,
@@ -45,6 +48,7 @@ pub fn bring_one<P: Ports>(
         → LaneGoes behind (P.tells link.new.ports.now) (lane, port) job.old result job.new text.old text.new }
     ensures leaves { KeepsOtherPorts P.tells lane.0 link.old link.new }
     ensures talks { OnOk result (SaysNothingElse (Talked P.tells) lane.0 link.old link.new) }
+    ensures sends { SendsFor P.tells lane.0 (IsAskOf (lane_at job.old lane.0).work) link.old link.new }
     ensures reaches { (telling P.tells P.faults).reaches link.new ≡ (telling P.tells P.faults).reaches link.old }
     ensures reached { IsReached link.old.shape job.new }
     ensures works { map (λ lane. lane.work) job.new ≡ map (λ lane. lane.work) job.old }
@@ -77,6 +81,8 @@ pub fn bring_lanes<P: Ports>(
     ensures others { (behind : Telling) → AreReady behind P.tells link.old lines.now
         → IsTrue behind.told → (port : ℕ) → ¬ Contains (ports_of lines.now) port
         → (P.tells link.new.ports.now).port port ≡ (P.tells link.old.ports.now).port port }
+    ensures sends { (behind : Telling) → AreReady behind P.tells link.old lines.now → IsTrue behind.told
+        → SendsOn (IsAskOn lines.now job.old) (P.tells link.old.ports.now) (P.tells link.new.ports.now) }
     ensures told { (P.tells link.new.ports.now).told ≡ (P.tells link.old.ports.now).told }
     ensures same_reference { link.new.ports.ghost_name ≡ link.old.ports.ghost_name }
     ensures later { P.faults link.old.ports.now ≤ P.faults link.new.ports.now }

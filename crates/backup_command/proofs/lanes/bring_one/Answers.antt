@@ -3,6 +3,8 @@ use Rattle.lane_steps.specs.UploadJob.news.LaneNews.{LaneNews}
 use Rattle.lane_steps.specs.Steps.{Finishes}
 use Rattle.ports_link.specs.Tells.{telling}
 use Rattle.backup_command.specs.Steps.{Talked, Puts}
+use Rattle.backup_command.proofs.LaneAsks.{reached_own}
+use Rattle.backup_command.proofs.Pieces.{sends_all}
 use Rattle.backup_command.proofs.Reaching.{reached_len}
 use Rattle.backup_command.proofs.Walking.{goes, leaves_all, talks_all, lost_all}
 use Rattle.backup_command.proofs.Working.{works_all}
@@ -55,3 +57,9 @@ returns-clause-works g c =
     works_all g.P.Ports.tells g.P.Ports.faults c.args.lane.0 c.args.job.now c.finish_lane-came.new.job c.args.link.now
     c.finish_lane-came.new.link c.finish_lane-came.result c.clear.new.self.items c.finish_lane-came.new.told.items
     c.finish_lane-came.ensures.finishes
+
+pub returns-clause-sends : goal.returns-clause-sends
+returns-clause-sends g c =
+    sends_all g.P.Ports.tells g.P.Ports.faults c.args.lane.0 c.args.job.now c.finish_lane-came.new.job c.args.link.now
+    c.finish_lane-came.new.link c.finish_lane-came.result c.clear.new.self.items c.finish_lane-came.new.told.items
+    (reached_own c.args.link.now.shape c.args.job.now c.requires.reached c.args.lane.0) c.finish_lane-came.ensures.finishes

@@ -1,0 +1,2 @@
+-- What ports_link has proved, for callers.
+pub use Rattle.ports_link.proofs.Sending
