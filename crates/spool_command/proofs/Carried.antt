@@ -1,14 +1,14 @@
 -- What came of a file, by what came of its meeting, of its spool and of its lanes.
-use Rattle.std.proofs.Common.{◌≡◌, ◌≢◌, inl, inr, ◌↔◌, ℕ, Bool, IsTrue, List, [], ◌∷◌, length, Ok, Err, Some, None, refl, sym, ap, ◌∙◌, subst}
-use Rattle.std.specs.Prelude.{Result, Option}
+use Rattle.std.proofs.Common.{◌≡◌, inl, inr, ◌↔◌, ℕ, Bool, IsTrue, List, [], Err, refl, sym, subst}
+use Rattle.std.specs.Prelude.{Result}
 use Rattle.std.specs.List.{Contains}
 use Rattle.upload_spool.specs.CdBase.ids.CloudNo.{CloudNo}
 use Rattle.upload_spool.specs.CdBase.shape.Shape.{Shape}
 use Rattle.upload_spool.specs.CdEdges.area.Area.TheVariants.{Journal}
 use Rattle.upload_spool.specs.CdEdges.Causes.{Rose}
-use Rattle.upload_spool.specs.CdEdges.Disk.{Cloud, Image, IsImage, LeavesOnly, reads}
+use Rattle.upload_spool.specs.CdEdges.Disk.{Cloud, Image, reads}
 use Rattle.upload_spool.specs.CdEdges.Ports.{Telling}
-use Rattle.upload_spool.specs.CdEdges.Shelf.{HasFailed, KeepsCounts, Stays}
+use Rattle.upload_spool.specs.CdEdges.Shelf.{HasFailed, KeepsCounts}
 use Rattle.upload_spool.proofs.CdEdges.Moments.{started, weaker, joined}
 use Rattle.backup_command.specs.PortsLink.judging.AskedClouds.TheVariants as asked
 use Rattle.backup_command.specs.PortsLink.meeting.MeetErr.{MeetErr}
@@ -20,15 +20,15 @@ use Rattle.upload_spool.specs.UploadJob.Upload.{FileVersion}
 use Rattle.upload_spool.specs.declared.error.SpoolErr.{SpoolErr}
 use Rattle.upload_spool.specs.declared.error.SpoolErr.TheVariants as spool_errors
 use Rattle.upload_spool.specs.declared.spool.Spool.{Spool}
-use Rattle.upload_spool.specs.Spools.{SpoolFor, IsBegunOr}
-use Rattle.upload_spool.specs.States.{SpoolState, BeginsIs, IsSpool, LeavesJob, NoOpenJob, OnFault, first_filled}
+use Rattle.upload_spool.specs.Spools.{IsBegunOr}
+use Rattle.upload_spool.specs.States.{SpoolState, BeginsIs, IsSpool, LeavesJob, OnFault}
 use Rattle.backup_command.specs.BackedUp.{AreDone, Met}
 use Rattle.backup_command.specs.Lanes.{numbered}
 use Rattle.spool_command.specs.declared.interruption.Interruption.{Interruption}
 use Rattle.spool_command.specs.declared.interruption.Interruption.TheVariants.{Ports, Shelf, Memory}
 use Rattle.spool_command.specs.declared.writing.Unspooled.TheVariants.{Interrupted}
 use Rattle.spool_command.specs.Going.{GoneOn, HeldOn, WentOn}
-use Rattle.spool_command.specs.Noted.{IfPorts, IfShelf, IsAlong}
+use Rattle.spool_command.specs.Noted.{IfPorts, IfShelf}
 use Rattle.spool_command.specs.Spooled.{CarriesSpool, IsSpoolKept, IsOwnOr, IsUnbegun, LeavesOwn, SpoolOutside, SparesFilled, SpooledOn, call_for, unmet_as}
 
 -- ---- nothing was begun

@@ -16,7 +16,9 @@ use Rattle.upload_spool.specs.UploadJob.Upload.{FileVersion}
 use Rattle.backup_command.specs.Transcript.line.Line.{Line}
 use Rattle.backup_command.specs.PortsLink.greeting.Greeted.{Greeted}
 use Rattle.backup_command.specs.PortsLink.judging.AskedClouds.TheVariants.{Backup}
+use Rattle.backup_command.specs.PortsLink.Hellos.{hello}
 use Rattle.backup_command.specs.PortsLink.Meeting.{MeetsAll}
+use Rattle.backup_command.specs.PortsLink.Sending.{SendsOnly}
 use Rattle.upload_spool.specs.declared.error.SpoolErr.TheVariants as spool_errors
 use Rattle.upload_spool.specs.Opens.{IsOpenedSpool, OpensIs, answer_of, rising}
 use Rattle.upload_spool.specs.Spools.{FitsKept, SpoolFor}
@@ -26,6 +28,7 @@ use Rattle.upload_spool.proofs.Again.{found_again}
 use Rattle.upload_spool.proofs.Jobs.{job_resumed}
 use Rattle.backup_command.specs.BackedUp.{AreDone}
 use Rattle.backup_command.specs.Lanes.{numbered}
+use Rattle.backup_command.specs.Sends.{IsAskOn, SendsOn}
 use Rattle.backup_command.specs.Steps.{AreGreetedOn}
 use Rattle.backup_command.proofs.Finishing.{have_met}
 use Rattle.spool_command.specs.declared.interruption.Interruption.{Interruption}
@@ -34,7 +37,7 @@ use Rattle.spool_command.specs.declared.writing.Unspooled.{Unspooled}
 use Rattle.spool_command.specs.declared.writing.Unspooled.TheVariants.{Undialled, Unheard, Refused, Unkept, Interrupted}
 use Rattle.spool_command.specs.Going.{WentOn}
 use Rattle.spool_command.specs.Noted.{IfPorts, IfShelf, LanesNoted}
-use Rattle.spool_command.specs.Resumed.{CarriesResumed, GoesKept, HasFoundJob, HasNoJob, IsCleared, IsOldOrEmptied, IsSpoolUnopened, KeptOn, KeptSince, MetAndWent, any_version}
+use Rattle.spool_command.specs.Resumed.{CarriesResumed, GoesKept, HasFoundJob, HasNoJob, HasSentKept, IsCleared, IsOldOrEmptied, IsSpoolUnopened, KeptOn, KeptSince, MetAndWent, SendsKept, SendsKeptOr, any_version}
 use Rattle.spool_command.specs.Spooled.{SpoolOutside, call_for}
 
 -- each lane came to its end and is committed
@@ -146,6 +149,12 @@ met_and_went out behind faults greeted meets came text told same on goes others 
       (subst (λ (l : List (CloudNo × ℕ)). GoesKept greeted.shape behind out.after faults out.faults_after l out.folder out.left came text) on.lines_are goes);
 }
 
+-- what was sent, behind the Hellos
+pub sent_kept : (out : SpoolOutside) (behind : Telling) (greeted : Greeted) (meets : MeetsAll Backup out.addresses out.before behind (Ok greeted)) → behind.told ≡ out.before.told
+    → SendsOnly (λ content. content ≡ hello) out.before behind → SendsKeptOr greeted.shape meets.0 behind out.after out.folder → HasSentKept out
+sent_kept out behind greeted meets told hellos (inl same) = inl (subst (λ (t : Telling). SendsOnly (λ content. content ≡ hello) out.before t) (sym same) hellos)
+sent_kept out behind greeted meets told hellos (inr kept) = inr (greeted.shape, meets.0, behind, have_met (call_for out any_version) behind greeted meets told, kept)
+
 pub resumed : (out : SpoolOutside) (came : Result (Option Bool) Unspooled) (text : List ℕ) → MetAndWent out came text → CarriesResumed out came text
 resumed out (Ok kept) text w = w
 resumed out (Err Undialled) text w = absurd w.goes
@@ -180,6 +189,17 @@ module _ (shape : Shape) (c0 c1 c2 : Cloud) (same : c1.told ≡ c0.told) (spared
       (subst (λ (p : Option (Spool × List LaneView)). IsTrue c0.told → OpensIs shape (reads c0.now) (answer_of (Ok p))) is_some found) opened_is.shape_is
       (subst (λ (p : Option (Spool × List LaneView)). IsTrue c0.told → (u : FileVersion) (lanes : List CloudNo) → FitsKept u → SpoolFor (reads c0.now) shape u lanes
       → IfSome p (λ (y : Spool × List LaneView). IsSpool (state_of y.0) u lanes c1)) is_some kept) w
+
+  pub kept_sends : (dialled : List ℕ) (behind now : Telling) → SendsOn (IsAskOn (numbered 0 dialled) x.1) behind now → SendsKept shape dialled behind now c0
+  kept_sends dialled behind now sends = record {
+    v = opened_is.v;
+    state = state_of x.0;
+    of = opened_is.of;
+    views = x.1;
+    views_are = opened_is.job_is;
+    opens = subst (λ (p : Option (Spool × List LaneView)). IsTrue c0.told → OpensIs shape (reads c0.now) (answer_of (Ok p))) is_some found;
+    sends = sends;
+  }
 
 -- why it stopped
 pub stopped_by : (shape : Shape) (behind now : Telling) (before later total total_later : ℕ) (clouds : List (CloudNo × ℕ)) (c0 c1 c2 : Cloud) (why : Interruption) (text : List ℕ) → c1.faults ≡ c0.faults

@@ -14,7 +14,9 @@ use Rattle.upload_spool.specs.UploadJob.Upload.{FileVersion}
 use Rattle.backup_command.specs.Transcript.line.Line.{Line}
 use Rattle.backup_command.specs.PortsLink.judging.AskedClouds.TheVariants as asked
 use Rattle.backup_command.specs.PortsLink.meeting.MeetErr.TheVariants as unmet
+use Rattle.backup_command.specs.PortsLink.Hellos.{hello}
 use Rattle.backup_command.specs.PortsLink.Meeting.{MeetsAll}
+use Rattle.backup_command.specs.PortsLink.Sending.{SendsOnly}
 use Rattle.upload_spool.specs.declared.error.SpoolErr.{SpoolErr}
 use Rattle.upload_spool.specs.declared.error.SpoolErr.TheVariants as spool_errors
 use Rattle.upload_spool.specs.Opens.{OpensIs, rising}
@@ -22,6 +24,7 @@ use Rattle.upload_spool.specs.Spools.{FitsKept, SpoolFor}
 use Rattle.upload_spool.specs.States.{SpoolState, IsOf}
 use Rattle.backup_command.specs.BackedUp.{AreDone, Met}
 use Rattle.backup_command.specs.Lanes.{numbered}
+use Rattle.backup_command.specs.Sends.{IsAskOn, SendsOn}
 use Rattle.backup_command.specs.Writing.{Output}
 use Rattle.spool_command.specs.declared.interruption.Interruption.{Interruption}
 use Rattle.spool_command.specs.declared.interruption.Interruption.TheVariants.{Ports, Shelf, Memory}
@@ -107,6 +110,23 @@ GoesKept shape behind now faults later clouds folder left (Err Undialled) text =
 GoesKept shape behind now faults later clouds folder left (Err Unheard) text = ⊥
 GoesKept shape behind now faults later clouds folder left (Err (Refused why)) text = ⊥
 
+-- ---- what was sent
+
+-- Behind the Hellos nothing but pieces of the requests of the job was sent that is kept for clouds of this shape, those of each lane on
+-- its cloud's port alone.
+pub record SendsKept (shape : Shape) (dialled : List ℕ) (behind now : Telling) (folder : Cloud) : Type 0 where
+  pub v : FileVersion
+  pub state : SpoolState
+  pub of : IsOf state v
+  pub views : List LaneView
+  pub views_are : views ≡ lanes_resumed shape v (rising shape state.noted)
+  pub opens : IsTrue folder.told → OpensIs shape (reads folder.now) (Ok (Some (state, views)))
+  pub sends : SendsOn (IsAskOn (numbered 0 dialled) views) behind now
+
+-- The same, or nothing was sent.
+abbrev pub SendsKeptOr : Shape → List ℕ → Telling → Telling → Cloud → Type 0
+SendsKeptOr shape dialled behind now folder = (now ≡ behind) ⊎ SendsKept shape dialled behind now folder
+
 -- ---- the whole
 
 -- no version of a file: what a meeting says doesn't depend on one
@@ -137,6 +157,12 @@ pub record MetAndWent (out : SpoolOutside) (came : Result (Option Bool) Unspoole
   pub goes : GoesKept shape behind out.after out.faults_before out.faults_after (numbered 0 dialled) out.folder out.left came text
   pub found : IsTrue out.folder.told → (u : FileVersion) (lanes : List CloudNo) → FitsKept u → SpoolFor (reads out.folder.now) shape u lanes → HasFoundJob came
   pub others : IsTrue behind.told → (port : ℕ) → ¬ Contains dialled port → out.after.port port ≡ behind.port port
+
+-- Nothing but pieces of Hellos was sent; or all clouds replied as asked, and then nothing but pieces of the requests of the kept job.
+abbrev pub HasSentKept : SpoolOutside → Type 0
+HasSentKept out = SendsOnly (λ content. content ≡ hello) out.before out.after
+    ⊎ ((shape : Shape) × (dialled : List ℕ) × (behind : Telling) × Met (call_for out any_version) dialled shape behind
+    × SendsKept shape dialled behind out.after out.folder)
 
 -- Memory ran out before all clouds were met: the folder is as before.
 pub record IsLackedUnmet (out : SpoolOutside) : Type 0 where

@@ -1,5 +1,5 @@
 -- What backing up with a spool promises.
-use Rattle.std.specs.Prelude.{◌≡◌, ◌≢◌, ◌⊎◌, ◌↔◌, ℕ, Bool, IsTrue, List, [], length, Option, Some, None, Result, Ok, Err}
+use Rattle.std.specs.Prelude.{◌≡◌, ◌≢◌, ◌⊎◌, ◌↔◌, ℕ, Bool, IsTrue, List, [], Option, Some, None, Result, Ok, Err}
 use Rattle.std.specs.List.{Contains}
 use Rattle.upload_spool.specs.CdBase.ids.CloudNo.{CloudNo}
 use Rattle.upload_spool.specs.CdBase.shape.Shape.{Shape}
@@ -59,6 +59,10 @@ call_for out v = record {
 
 abbrev pub version_for : SpooledFile → List ℕ → FileVersion
 version_for file bytes = record { user = file.user; path = file.path.now; number = file.version; file = bytes }
+
+-- the backup of this version, to so many addresses
+abbrev pub call_of : SpoolOutside → SpooledFile → BackupCall
+call_of out file = call_for out (version_for file [])
 
 -- Why nothing was begun, by the folder's areas, before and after it.
 abbrev pub IsUnbegun : Cloud → Cloud → SpoolErr → Type 0

@@ -10,6 +10,8 @@ ghost use Rattle.backup_command.specs.PortsLink.Tells.{telling};
 ghost use Rattle.backup_command.specs.LaneSteps.Reached.{IsReached};
 ghost use Rattle.upload_spool.specs.UploadJob.Upload.{FileVersion};
 ghost use Rattle.upload_spool.specs.States.{state_of, IsOf, IsJobOf};
+ghost use Rattle.backup_command.specs.Lanes.{numbered};
+ghost use Rattle.backup_command.specs.Sends.{IsAskOn, SendsOn};
 ghost use Rattle.backup_command.specs.Steps.{AreGreetedOn, AreReady, IsNumbered, ports_of};
 ghost use Rattle.spool_command.specs.Noted.{IfPorts, IfShelf, NotedWent, halted_as};
 
@@ -62,6 +64,8 @@ pub fn bring_noted<P: Ports, V: Shelf>(
     ensures others { (behind : Telling) → AreReady behind P.tells link.old lines.now
         → IsTrue behind.told → (port : ℕ) → ¬ Contains (ports_of lines.now) port
         → (P.tells link.new.ports.now).port port ≡ (P.tells link.old.ports.now).port port }
+    ensures sends { (behind : Telling) → AreReady behind P.tells link.old lines.now → IsTrue behind.told
+        → SendsOn (IsAskOn lines.now job.old) (P.tells link.old.ports.now) (P.tells link.new.ports.now) }
     ensures told { (P.tells link.new.ports.now).told ≡ (P.tells link.old.ports.now).told }
     ensures same_reference { link.new.ports.ghost_name ≡ link.old.ports.ghost_name }
     ensures later { P.faults link.old.ports.now ≤ P.faults link.new.ports.now }
@@ -115,6 +119,9 @@ pub fn bring_greeted<P: Ports, V: Shelf>(
     ensures others { (dialled : List ℕ) → AreGreetedOn (P.tells ports.old) dialled greeted.now.lines.items
         → IsTrue (P.tells ports.old).told → (port : ℕ) → ¬ Contains dialled port
         → (P.tells ports.new).port port ≡ (P.tells ports.old).port port }
+    ensures sends { (dialled : List ℕ) → AreGreetedOn (P.tells ports.old) dialled greeted.now.lines.items
+        → IsTrue (P.tells ports.old).told
+        → SendsOn (IsAskOn (numbered 0 dialled) job.old) (P.tells ports.old) (P.tells ports.new) }
     ensures told { (P.tells ports.new).told ≡ (P.tells ports.old).told }
     ensures later { P.faults ports.old ≤ P.faults ports.new }
     ensures lost { IfPorts result (Rose (P.faults ports.old) (P.faults ports.new)) }

@@ -8,6 +8,8 @@ ghost use Rattle.upload_spool.specs.CommitJournal.journal.Stage.{Stage};
 ghost use Rattle.backup_command.specs.LaneSteps.Reached.{IsReached};
 ghost use Rattle.upload_spool.specs.UploadJob.Upload.{FileVersion};
 ghost use Rattle.upload_spool.specs.States.{state_of, IsOf, IsJobOf};
+ghost use Rattle.backup_command.specs.Lanes.{numbered};
+ghost use Rattle.backup_command.specs.Sends.{IsAskOn, SendsOn};
 ghost use Rattle.backup_command.specs.Steps.{AreGreetedOn, IsNumbered};
 ghost use Rattle.backup_command.specs.Texts.{text_of};
 ghost use Rattle.spool_command.specs.Noted.{IfPorts, IfShelf};
@@ -118,6 +120,9 @@ pub fn go_on<P: Ports, V: Shelf>(
     ensures others { (dialled : List ℕ) → AreGreetedOn (P.tells ports.old) dialled greeted.now.lines.items
         → IsTrue (P.tells ports.old).told → (port : ℕ) → ¬ Contains dialled port
         → (P.tells ports.new).port port ≡ (P.tells ports.old).port port }
+    ensures sends { (dialled : List ℕ) → AreGreetedOn (P.tells ports.old) dialled greeted.now.lines.items
+        → IsTrue (P.tells ports.old).told
+        → SendsOn (IsAskOn (numbered 0 dialled) job.old) (P.tells ports.old) (P.tells ports.new) }
     ensures told { (P.tells ports.new).told ≡ (P.tells ports.old).told }
     ensures later { P.faults ports.old ≤ P.faults ports.new }
     ensures lost { IfPorts result (Rose (P.faults ports.old) (P.faults ports.new)) }

@@ -7,7 +7,7 @@ ghost use Rattle.upload_spool.specs.CdEdges.Shelf.{IsCall, HasFailed, Stays};
 ghost use Rattle.backup_command.specs.PortsLink.Dialled.{OnlyDialled};
 ghost use Rattle.backup_command.specs.Steps.{AreGreetedOn, IsNumbered};
 ghost use Rattle.backup_command.specs.Writing.{output_of};
-ghost use Rattle.spool_command.specs.Resumed.{CarriesResumed, Clears, GoesKept, IsResumed};
+ghost use Rattle.spool_command.specs.Resumed.{CarriesResumed, Clears, GoesKept, HasSentKept, IsResumed, SendsKeptOr};
 
 use crate::bringing::LaneBuffers;
 use crate::going::go_on;
@@ -81,6 +81,9 @@ fn go_on_kept<P: Ports, V: Shelf>(
     ensures others { (dialled : List ℕ) → AreGreetedOn (P.tells ports.old) dialled greeted.now.lines.items
         → IsTrue (P.tells ports.old).told → (port : ℕ) → ¬ Contains dialled port
         → (P.tells ports.new).port port ≡ (P.tells ports.old).port port }
+    ensures sends { (dialled : List ℕ) → AreGreetedOn (P.tells ports.old) dialled greeted.now.lines.items
+        → IsTrue (P.tells ports.old).told
+        → SendsKeptOr greeted.now.shape dialled (P.tells ports.old) (P.tells ports.new) (V.cloud_at shelf.old 0) }
     ensures told { (P.tells ports.new).told ≡ (P.tells ports.old).told }
     ensures later { P.faults ports.old ≤ P.faults ports.new }
     ensures call { IsCall (V.cloud_at shelf.old) (V.cloud_at shelf.new) 0 (V.faults shelf.old) (V.faults shelf.new) }
@@ -139,6 +142,15 @@ fn carry<P: Ports, V: Shelf>(
       left = V.cloud_at shelf.new 0;
     }) result text.new }
     ensures others { IsTrue (P.tells ports.old).told → OnlyDialled (P.tells ports.old) (P.tells ports.new) }
+    ensures sends { IsTrue (P.tells ports.old).told → HasSentKept (record {
+      addresses = length addresses.now;
+      before = P.tells ports.old;
+      after = P.tells ports.new;
+      faults_before = P.faults ports.old;
+      faults_after = P.faults ports.new;
+      folder = V.cloud_at shelf.old 0;
+      left = V.cloud_at shelf.new 0;
+    }) }
     ensures told { (P.tells ports.new).told ≡ (P.tells ports.old).told }
     ensures later { P.faults ports.old ≤ P.faults ports.new }
     ensures call { IsCall (V.cloud_at shelf.old) (V.cloud_at shelf.new) 0 (V.faults shelf.old) (V.faults shelf.new) }
@@ -194,6 +206,18 @@ pub fn resume<V: Shelf, K: Sink, P: Ports>(
     })
         (output_of (K.written sink.old) (K.written sink.new) (K.faults sink.old) (K.faults sink.new)) }
     ensures others { IsTrue (P.tells ports.old).told → OnlyDialled (P.tells ports.old) (P.tells ports.new) }
+
+    // Whatever came of it, want of memory too: nothing was sent but Hellos and the requests of the kept job, those of each lane on its
+    // cloud's port, or pieces of them.
+    ensures sends { IsTrue (P.tells ports.old).told → HasSentKept (record {
+      addresses = length addresses.now;
+      before = P.tells ports.old;
+      after = P.tells ports.new;
+      faults_before = P.faults ports.old;
+      faults_after = P.faults ports.new;
+      folder = V.cloud_at shelf.old 0;
+      left = V.cloud_at shelf.new 0;
+    }) }
     ensures told { (P.tells ports.new).told ≡ (P.tells ports.old).told }
     ensures later { P.faults ports.old ≤ P.faults ports.new }
     ensures call { IsCall (V.cloud_at shelf.old) (V.cloud_at shelf.new) 0 (V.faults shelf.old) (V.faults shelf.new) }

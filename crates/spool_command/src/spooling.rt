@@ -9,6 +9,7 @@ ghost use Rattle.backup_command.specs.LaneSteps.Reached.{IsReached};
 ghost use Rattle.upload_spool.specs.States.{IsBegunSpool, LeavesJob, state_of};
 ghost use Rattle.backup_command.specs.PortsLink.Dialled.{OnlyDialled};
 ghost use Rattle.backup_command.specs.Reading.{input_of};
+ghost use Rattle.backup_command.specs.Sends.{HasSentOwn, SendsOwn};
 ghost use Rattle.backup_command.specs.Writing.{output_of};
 ghost use Rattle.spool_command.specs.Spooled.{CarriesSpool, IsSpoolKept, IsSpooled, IsUnbegun, SparesFilled, unmet_as, version_for};
 
@@ -98,6 +99,16 @@ fn carry<P: Ports, V: Shelf>(
     }) (version_for file.now bytes) result text.new }
     ensures spared { SparesFilled (V.cloud_at shelf.old 0) (V.cloud_at shelf.new 0) }
     ensures others { IsTrue (P.tells ports.old).told → OnlyDialled (P.tells ports.old) (P.tells ports.new) }
+    ensures sends { IsTrue (P.tells ports.old).told → SendsOwn (record {
+      user = file.now.user;
+      path = file.now.path.now;
+      version = file.now.version;
+      addresses = length addresses.now;
+      before = P.tells ports.old;
+      after = P.tells ports.new;
+      faults_before = P.faults ports.old;
+      faults_after = P.faults ports.new;
+    }) bytes }
     ensures told { (P.tells ports.new).told ≡ (P.tells ports.old).told }
     ensures later { P.faults ports.old ≤ P.faults ports.new }
     ensures call { IsCall (V.cloud_at shelf.old) (V.cloud_at shelf.new) 0 (V.faults shelf.old) (V.faults shelf.new) }
@@ -190,6 +201,19 @@ pub fn spool<S: Source, V: Shelf, K: Sink, P: Ports>(
         (output_of (K.written sink.old) (K.written sink.new) (K.faults sink.old) (K.faults sink.new)) }
     ensures spared { SparesFilled (V.cloud_at shelf.old 0) (V.cloud_at shelf.new 0) }
     ensures others { IsTrue (P.tells ports.old).told → OnlyDialled (P.tells ports.old) (P.tells ports.new) }
+
+    // Whatever came of it, want of memory too: nothing was sent but Hellos and the requests of the job of the source's bytes, those of
+    // each lane on its cloud's port, or pieces of them.
+    ensures sends { IsTrue (P.tells ports.old).told → HasSentOwn (record {
+      user = file.entry.user;
+      path = file.entry.path.now;
+      version = file.entry.version;
+      addresses = length addresses.now;
+      before = P.tells ports.old;
+      after = P.tells ports.new;
+      faults_before = P.faults ports.old;
+      faults_after = P.faults ports.new;
+    }) (input_of (S.left source.old) (S.faults source.old) (S.faults source.new)) }
     ensures told { (P.tells ports.new).told ≡ (P.tells ports.old).told }
     ensures later { P.faults ports.old ≤ P.faults ports.new }
     ensures call { IsCall (V.cloud_at shelf.old) (V.cloud_at shelf.new) 0 (V.faults shelf.old) (V.faults shelf.new) }

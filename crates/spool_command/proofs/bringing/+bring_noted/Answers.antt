@@ -9,6 +9,8 @@ use Rattle.upload_spool.specs.States.{state_of, IsJobOf}
 use Rattle.backup_command.specs.PortsLink.Tells.{telling}
 use Rattle.backup_command.specs.Steps.{AreReady, IsCloudReady, ports_of}
 use Rattle.backup_command.proofs.Joining.{rest_ready, not_first, not_later, not_here}
+use Rattle.backup_command.specs.Sends.{IsAskOn, SendsOn}
+use Rattle.backup_command.proofs.Pieces.{first_line, later_lines, on_none, on_twice}
 use Rattle.backup_command.proofs.Reaching.{reached_len}
 use Rattle.spool_command.specs.declared.interruption.Interruption.{Interruption}
 use Rattle.spool_command.specs.Noted.{NotedWent}
@@ -169,3 +171,53 @@ bring_noted-requires g t c κs within =
         ),
       ),
     )
+
+pub returns-in_default-clause-sends : goal.returns-in_default-clause-sends
+returns-in_default-clause-sends g t c = λ behind ready told. on_none (IsAskOn c.args.lines.now c.args.job.now) (g.P.Ports.tells c.args.link.now.ports.now)
+
+pub returns-in-Err-clause-sends : goal.returns-in-Err-clause-sends
+returns-in-Err-clause-sends g t c = λ behind ready told.
+    let tells = g.P.Ports.tells in
+    let old = c.args.link.now in
+    let new = c.bring_one.new.link in
+    let line : CloudNo × ℕ = c.in-Some.line in
+    let rest = c.in-Some.more.now in
+    let e = c.in-Some.ensures in
+    let r = subst (AreReady behind tells old) e ready in
+    let first = All-head (IsCloudReady behind tells old) line rest r.each in
+    subst (λ (ls : List (CloudNo × ℕ)). SendsOn (IsAskOn ls c.args.job.now) (tells old.ports.now) (tells new.ports.now)) (sym e)
+    (first_line line rest c.args.job.now (tells old.ports.now) (tells new.ports.now)
+    (c.in-Err.ensures.sends (subst IsTrue (sym r.told) told) line.1 first.port))
+
+pub returns-in-Err-note_lane-clause-sends : goal.returns-in-Err-note_lane-clause-sends
+returns-in-Err-note_lane-clause-sends g t c = λ behind ready told.
+    let tells = g.P.Ports.tells in
+    let old = c.args.link.now in
+    let new = c.bring_one.new.link in
+    let line : CloudNo × ℕ = c.in-Some.line in
+    let rest = c.in-Some.more.now in
+    let e = c.in-Some.ensures in
+    let r = subst (AreReady behind tells old) e ready in
+    let first = All-head (IsCloudReady behind tells old) line rest r.each in
+    subst (λ (ls : List (CloudNo × ℕ)). SendsOn (IsAskOn ls c.args.job.now) (tells old.ports.now) (tells new.ports.now)) (sym e)
+    (first_line line rest c.args.job.now (tells old.ports.now) (tells new.ports.now)
+    (c.in-Ok.ensures.sends (subst IsTrue (sym r.told) told) line.1 first.port))
+
+pub returns-clause-sends : goal.returns-clause-sends
+returns-clause-sends g t c = λ behind ready told.
+    let tells = g.P.Ports.tells in
+    let old = c.args.link.now in
+    let mid = c.bring_one.new.link in
+    let new = c.bring_noted.new.link in
+    let line : CloudNo × ℕ = c.in-Some.line in
+    let rest = c.in-Some.more.now in
+    let e = c.in-Some.ensures in
+    let r = subst (AreReady behind tells old) e ready in
+    let next = rest_ready tells behind old mid line rest r c.in-Ok.ensures.leaves c.in-Ok.ensures.talks in
+    let first = All-head (IsCloudReady behind tells old) line rest r.each in
+    subst (λ (ls : List (CloudNo × ℕ)). SendsOn (IsAskOn ls c.args.job.now) (tells old.ports.now) (tells new.ports.now)) (sym e)
+    (on_twice (IsAskOn (line ∷ rest) c.args.job.now) (tells old.ports.now) (tells mid.ports.now) (tells new.ports.now)
+    (first_line line rest c.args.job.now (tells old.ports.now) (tells mid.ports.now)
+    (c.in-Ok.ensures.sends (subst IsTrue (sym r.told) told) line.1 first.port))
+    (later_lines line rest c.args.job.now c.bring_one.new.job (tells mid.ports.now) (tells new.ports.now) c.in-Ok.ensures.works
+    (c.bring_noted.ensures.sends behind next told)))

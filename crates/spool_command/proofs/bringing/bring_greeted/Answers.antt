@@ -15,6 +15,8 @@ use Rattle.spool_command.proofs.Notes.{lacked_same}
 use Rattle.spool_command.proofs.Silent.{lacked_lanes}
 use Rattle.backup_command.proofs.Ordering.{are_ready, few_dialled, have_ports, lines_reach, numbered_below}
 use Rattle.backup_command.proofs.Ordering.{ports_numbered}
+use Rattle.backup_command.specs.Sends.{IsAskOn, SendsOn}
+use Rattle.backup_command.proofs.Pieces.{on_none}
 use Rattle.spool_command.proofs.bringing.bring_greeted.Goals as goal
 
 pub bring_noted-came-requires-clause-below : goal.bring_noted-came-requires-clause-below
@@ -136,3 +138,31 @@ returns-in-Err-clause-went g c = λ dialled on.
       shape = refl;
       keeps = lacked_same state state (g.V.Shelf.cloud_at c.args.shelf.now 0) refl;
     }
+
+pub returns-in-Err-clause-sends : goal.returns-in-Err-clause-sends
+returns-in-Err-clause-sends g c = λ dialled on told. on_none (IsAskOn (numbered 0 dialled) c.args.job.now) (g.P.Ports.tells c.args.ports.now)
+
+pub returns-clause-sends : goal.returns-clause-sends
+returns-clause-sends g c = λ dialled on told.
+    let tells = g.P.Ports.tells in
+    let old = c.of-link.result in
+    let new = c.bring_noted-came.new.link in
+    let same : new.ports.ghost_name ≡ old.ports.ghost_name = c.bring_noted-came.ensures.same_reference in
+    let back : new.ports.now ≡ c.ports-1.given.0 = search rules in
+    let here : tells old.ports.now ≡ tells c.args.ports.now = ap tells c.of-link.ensures.ports in
+    let lines : old.lines.items.items ≡ lines_for (numbered 0 dialled) =
+    ap (λ l. l.items.items) c.of-link.ensures.lines ∙ c.in-Ok.ensures
+    ∙ ap lines_for (c.as_slice.ensures.value ∙ on.lines_are) in
+    let n = c.requires.numbered in
+    let few : length dialled ≤ 256 = few_dialled dialled n.0 c.args.greeted.now.shape.n (sym on.lines_are
+    ∙ n.1) n.2 c.args.greeted.now.shape.few in
+    let all = c.as_slice-2.ensures.value ∙ on.lines_are in
+    let ready : AreReady (tells c.args.ports.now) tells old c.as_slice-2.result.now =
+    subst (λ (ls : List (CloudNo × ℕ)). AreReady (tells c.args.ports.now) tells old ls) (sym all)
+    (are_ready tells old (tells c.args.ports.now) dialled here lines few
+    (subst (λ (ls : List (CloudNo × ℕ)). AreGreetedOn (tells c.args.ports.now) dialled ls) on.lines_are on)) in
+    let Is = IsAskOn (numbered 0 dialled) c.args.job.now in
+    subst (λ (p : g.row.P.Denot). SendsOn Is (tells c.args.ports.now) (tells p)) back
+    (subst (λ (p : g.row.P.Denot). SendsOn Is (tells p) (tells new.ports.now)) c.of-link.ensures.ports
+    (subst (λ (ls : List (CloudNo × ℕ)). SendsOn (IsAskOn ls c.args.job.now) (tells old.ports.now) (tells new.ports.now)) all
+    (c.bring_noted-came.ensures.sends (tells c.args.ports.now) ready told)))

@@ -3,6 +3,9 @@ use Rattle.upload_spool.specs.CdEdges.Causes.{Rose}
 use Rattle.backup_command.specs.Transcript.line.Line.TheVariants as lines
 use Rattle.upload_spool.specs.States.{state_of}
 use Rattle.backup_command.specs.Texts.{text_of}
+use Rattle.backup_command.specs.Lanes.{numbered}
+use Rattle.backup_command.specs.Sends.{IsAskOn}
+use Rattle.backup_command.proofs.Pieces.{on_none}
 use Rattle.spool_command.proofs.Ends.{ended, failed_behind, lacked_first, no_ports, stopped}
 use Rattle.spool_command.proofs.Silent.{lacked_lanes}
 use Rattle.spool_command.proofs.going.go_on.Goals as goal
@@ -42,3 +45,6 @@ returns-clause-failed g c =
     let faults = g.V.Shelf.faults in
     failed_behind (cloud_at c.args.shelf.now) (cloud_at c.bring_greeted.new.shelf) (cloud_at c.end_job.new.shelf) (faults c.args.shelf.now) (faults c.bring_greeted.new.shelf) (faults c.end_job.new.shelf) c.end_job.result
     c.bring_greeted.ensures.call c.end_job.ensures.failed
+
+pub returns-in-Err-clause-sends : goal.returns-in-Err-clause-sends
+returns-in-Err-clause-sends g c = λ dialled on told. on_none (IsAskOn (numbered 0 dialled) c.args.job.now) (g.P.Ports.tells c.args.ports.now)

@@ -1,8 +1,10 @@
-use Rattle.std.proofs.Common.{[], length, IsTrue, refl, sym, ◌∙◌, subst, inl}
+use Rattle.std.proofs.Common.{◌≡◌, [], length, IsTrue, refl, sym, ◌∙◌, subst, inl}
+use Rattle.backup_command.specs.PortsLink.Hellos.{hello}
 use Rattle.backup_command.specs.PortsLink.Meeting.{Lacks}
+use Rattle.backup_command.proofs.PortLaws.Sending.{sends_none}
 use Rattle.backup_command.proofs.Finishing.{are_numbered, greeted_on, only_dialled}
 use Rattle.spool_command.specs.Spooled.{SpoolOutside}
-use Rattle.spool_command.proofs.Kept.{met_and_went, resumed}
+use Rattle.spool_command.proofs.Kept.{met_and_went, resumed, sent_kept}
 use Rattle.spool_command.proofs.resuming.carry.Goals as goal
 
 pub go_on_kept-requires-clause-numbered : goal.go_on_kept-requires-clause-numbered
@@ -57,3 +59,39 @@ pub returns-in-Err-clause-carries : goal.returns-in-Err-clause-carries
 returns-in-Err-clause-carries g c =
     let t = g.P.Ports.tells c.args.ports.now in
     inl (record { folder_is = refl; meets = ([], Lacks [] t t [] (λ told. record { next = tt; others = λ port none. refl }) refl) })
+
+pub returns-in-Err-clause-sends : goal.returns-in-Err-clause-sends
+returns-in-Err-clause-sends g c = λ told. inl (sends_none (λ content. content ≡ hello) (g.P.Ports.tells c.args.ports.now))
+
+pub returns-in-Err-Undialled-clause-sends : goal.returns-in-Err-Undialled-clause-sends
+returns-in-Err-Undialled-clause-sends g c = λ told. inl (c.meet_all.ensures.sends told)
+
+pub returns-in-Err-Refused-clause-sends : goal.returns-in-Err-Refused-clause-sends
+returns-in-Err-Refused-clause-sends g c = λ told. inl (c.meet_all.ensures.sends told)
+
+pub returns-in-Err-Lost-clause-sends : goal.returns-in-Err-Lost-clause-sends
+returns-in-Err-Lost-clause-sends g c = λ told. inl (c.meet_all.ensures.sends told)
+
+pub returns-in-Err-NoMemory-clause-sends : goal.returns-in-Err-NoMemory-clause-sends
+returns-in-Err-NoMemory-clause-sends g c = λ told. inl (c.meet_all.ensures.sends told)
+
+pub returns-clause-sends : goal.returns-clause-sends
+returns-clause-sends g c = λ told.
+    let tells = g.P.Ports.tells in
+    let faults = g.P.Ports.faults in
+    let behind = tells c.meet_all.new.ports in
+    let greeted = c.in-Ok-meet_all.greeted in
+    let meets = c.in-Ok-meet_all.ensures.meets in
+    let same = c.in-Ok-meet_all.ensures.told in
+    let out : SpoolOutside = record {
+      addresses = length c.args.addresses.now;
+      before = tells c.args.ports.now;
+      after = tells c.go_on_kept.new.ports;
+      faults_before = faults c.args.ports.now;
+      faults_after = faults c.go_on_kept.new.ports;
+      folder = g.V.Shelf.cloud_at c.args.shelf.now 0;
+      left = g.V.Shelf.cloud_at c.go_on_kept.new.shelf 0;
+    } in
+    sent_kept out behind greeted meets same (c.in-Ok-meet_all.ensures.sends told)
+    (c.go_on_kept.ensures.sends meets.0 (greeted_on out.addresses out.before behind greeted meets same c.in-Ok-meet_all.ensures.talks)
+    (subst IsTrue (sym same) told))

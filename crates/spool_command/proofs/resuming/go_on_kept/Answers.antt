@@ -1,4 +1,4 @@
-use Rattle.std.proofs.Common.{ℕ, Bool, IsTrue, List, Ok, Err, refl, sym, subst}
+use Rattle.std.proofs.Common.{inl, inr, ℕ, Bool, IsTrue, List, Ok, Err, refl, sym, subst}
 use Rattle.std.specs.Prelude.{IfSome, Option, Result}
 use Rattle.upload_spool.specs.CdEdges.Causes.{Rose}
 use Rattle.upload_spool.specs.CdEdges.Disk.{reads}
@@ -7,7 +7,7 @@ use Rattle.upload_spool.specs.Opens.{OpensIs, IsOpenedSpool, answer_of}
 use Rattle.upload_spool.specs.declared.spool.Spool.{Spool}
 use Rattle.spool_command.specs.declared.writing.Unspooled.{Unspooled}
 use Rattle.spool_command.specs.Resumed.{GoesKept}
-use Rattle.spool_command.proofs.Kept.{kept_by, no_job, not_cleared, opened_own, stopped_by}
+use Rattle.spool_command.proofs.Kept.{kept_by, kept_sends, no_job, not_cleared, opened_own, stopped_by}
 use Rattle.spool_command.proofs.resuming.go_on_kept.Goals as goal
 use Rattle.spool_command.proofs.resuming.go_on_kept.Goals.{in-Ok, in-Err-clear}
 
@@ -57,3 +57,25 @@ returns-clause-goes g c = λ dialled on.
     c.in-Err-go_on.why c.go_on.new.text opened.counts.cloud c.in-Err-go_on.ensures.lost c.in-Err-go_on.ensures.failed
     (kept_by shape c0 c1 c2 opened.call.told opened.spared c.in-Ok-Some.opened c.in-Ok-Some.field-0 c.in-Ok-Some.field-0-is opened.found opened.kept opened.spool (tells c.args.ports.now) (tells c.go_on.new.ports) items
     (Err c.in-Err-go_on.why) c.go_on.new.text (c.in-Err-go_on.ensures.went dialled on))
+
+pub returns-in-Ok-go_on-clause-sends : goal.returns-in-Ok-go_on-clause-sends
+returns-in-Ok-go_on-clause-sends g c = λ dialled on told.
+    let cloud_at = g.V.Shelf.cloud_at in
+    let opened = c.in-Ok-Some.ensures in
+    inr (kept_sends c.args.greeted.now.shape (cloud_at c.args.shelf.now 0) (cloud_at c.open.new.shelf 0) (cloud_at c.go_on.new.shelf 0) opened.call.told opened.spared c.in-Ok-Some.opened c.in-Ok-Some.field-0 c.in-Ok-Some.field-0-is
+    opened.found opened.kept opened.spool dialled (g.P.Ports.tells c.args.ports.now) (g.P.Ports.tells c.go_on.new.ports)
+    (c.in-Ok-go_on.ensures.sends dialled on told))
+
+pub returns-clause-sends : goal.returns-clause-sends
+returns-clause-sends g c = λ dialled on told.
+    let cloud_at = g.V.Shelf.cloud_at in
+    let opened = c.in-Ok-Some.ensures in
+    inr (kept_sends c.args.greeted.now.shape (cloud_at c.args.shelf.now 0) (cloud_at c.open.new.shelf 0) (cloud_at c.go_on.new.shelf 0) opened.call.told opened.spared c.in-Ok-Some.opened c.in-Ok-Some.field-0 c.in-Ok-Some.field-0-is
+    opened.found opened.kept opened.spool dialled (g.P.Ports.tells c.args.ports.now) (g.P.Ports.tells c.go_on.new.ports)
+    (c.in-Err-go_on.ensures.sends dialled on told))
+
+pub returns-in-Ok-None-clause-sends : goal.returns-in-Ok-None-clause-sends
+returns-in-Ok-None-clause-sends g c = λ dialled on told. inl refl
+
+pub returns-in-Err-clause-sends : goal.returns-in-Err-clause-sends
+returns-in-Err-clause-sends g c = λ dialled on told. inl refl

@@ -1,10 +1,13 @@
-use Rattle.std.proofs.Common.{◌≡◌, inl, ℕ, Bool, length, IsTrue, Ok, Err, refl, sym, ◌∙◌, subst}
+use Rattle.std.proofs.Common.{◌≡◌, inl, inr, ℕ, Bool, length, IsTrue, Ok, Err, refl, sym, ◌∙◌, subst}
 use Rattle.upload_spool.specs.CdBase.shape.Shape.{Shape}
 use Rattle.upload_spool.specs.CdEdges.Causes.{Rose}
 use Rattle.upload_spool.proofs.CdEdges.Calls.{failed_after}
 use Rattle.upload_spool.specs.States.{IsJobOf, state_of}
 use Rattle.upload_spool.proofs.Jobs.{job_begun}
-use Rattle.backup_command.proofs.Finishing.{are_numbered, greeted_on, have_met, only_dialled}
+use Rattle.backup_command.specs.BackedUp.{BackupCall}
+use Rattle.backup_command.specs.PortsLink.Hellos.{hello}
+use Rattle.backup_command.proofs.PortLaws.Sending.{sends_none}
+use Rattle.backup_command.proofs.Finishing.{are_numbered, greeted_on, have_met, only_dialled, sent_at_call}
 use Rattle.spool_command.specs.declared.writing.Unspooled.{Unspooled}
 use Rattle.spool_command.specs.Noted.{IfPorts}
 use Rattle.spool_command.specs.Spooled.{CarriesSpool, SpoolOutside, call_for, version_for}
@@ -208,3 +211,72 @@ returns-clause-others g c = λ told.
             ∙ d.others port none;
       },
     )
+
+pub returns-in-Err-clause-sends : goal.returns-in-Err-clause-sends
+returns-in-Err-clause-sends g c = λ told. inl (sends_none (λ content. content ≡ hello) (g.P.Ports.tells c.args.ports.now))
+
+pub returns-in-Err-meet_all-clause-sends : goal.returns-in-Err-meet_all-clause-sends
+returns-in-Err-meet_all-clause-sends g c = λ told. inl (c.meet_all.ensures.sends told)
+
+pub returns-in-Err-start-clause-sends : goal.returns-in-Err-start-clause-sends
+returns-in-Err-start-clause-sends g c = λ told. inl (c.meet_all.ensures.sends told)
+
+pub returns-in-Ok-go_on-clause-sends : goal.returns-in-Ok-go_on-clause-sends
+returns-in-Ok-go_on-clause-sends g c = λ told.
+    let tells = g.P.Ports.tells in
+    let faults = g.P.Ports.faults in
+    let behind = tells c.meet_all.new.ports in
+    let greeted = c.in-Ok-meet_all.greeted in
+    let meets = c.in-Ok-meet_all.ensures.meets in
+    let same = c.in-Ok-meet_all.ensures.told in
+    let file = c.args.file.now in
+    let call : BackupCall = record {
+      user = file.user;
+      path = file.path.now;
+      version = file.version;
+      addresses = length c.args.addresses.now;
+      before = tells c.args.ports.now;
+      after = tells c.go_on.new.ports;
+      faults_before = faults c.args.ports.now;
+      faults_after = faults c.go_on.new.ports;
+    } in
+    inr (record {
+      dialled = meets.0;
+      shape = c.in-Ok-meet_all.greeted.shape;
+      behind = behind;
+      met = have_met call behind greeted meets same;
+      sends = sent_at_call call file.user file.path.now file.version c.args.bytes greeted.shape meets.0 _ behind call.after refl refl refl
+          c.in-Ok-start.ensures.job
+          (c.in-Ok-go_on.ensures.sends meets.0 (greeted_on call.addresses call.before behind greeted meets same c.in-Ok-meet_all.ensures.talks)
+          (subst IsTrue (sym same) told));
+    })
+
+pub returns-clause-sends : goal.returns-clause-sends
+returns-clause-sends g c = λ told.
+    let tells = g.P.Ports.tells in
+    let faults = g.P.Ports.faults in
+    let behind = tells c.meet_all.new.ports in
+    let greeted = c.in-Ok-meet_all.greeted in
+    let meets = c.in-Ok-meet_all.ensures.meets in
+    let same = c.in-Ok-meet_all.ensures.told in
+    let file = c.args.file.now in
+    let call : BackupCall = record {
+      user = file.user;
+      path = file.path.now;
+      version = file.version;
+      addresses = length c.args.addresses.now;
+      before = tells c.args.ports.now;
+      after = tells c.go_on.new.ports;
+      faults_before = faults c.args.ports.now;
+      faults_after = faults c.go_on.new.ports;
+    } in
+    inr (record {
+      dialled = meets.0;
+      shape = c.in-Ok-meet_all.greeted.shape;
+      behind = behind;
+      met = have_met call behind greeted meets same;
+      sends = sent_at_call call file.user file.path.now file.version c.args.bytes greeted.shape meets.0 _ behind call.after refl refl refl
+          c.in-Ok-start.ensures.job
+          (c.in-Err-go_on.ensures.sends meets.0 (greeted_on call.addresses call.before behind greeted meets same c.in-Ok-meet_all.ensures.talks)
+          (subst IsTrue (sym same) told));
+    })

@@ -1,6 +1,6 @@
 use Rattle.std.proofs.Common.{◌≡◌, ◌<◌, ◌≤◌, ◌^◌, ℕ, List, [], length, sym, subst, rules}
 use Rattle.upload_spool.specs.Recipe.Spelling.{file_limit}
-use Rattle.upload_spool.specs.UploadJob.Lanes.{LaneView, lanes_begun}
+use Rattle.upload_spool.specs.UploadJob.Lanes.{lanes_begun}
 use Rattle.backup_command.specs.LaneSteps.Reached.{IsReached, Begun}
 use Rattle.upload_spool.specs.States.{IsBegunSpool, IsSpool, LeavesJob, state_of}
 use Rattle.spool_command.specs.Spooled.{version_for}

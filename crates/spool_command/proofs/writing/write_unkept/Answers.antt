@@ -1,6 +1,6 @@
 use Rattle.std.proofs.Common.{List, ℕ, ◌++◌, ap, ◌∙◌, subst}
 use Rattle.backup_command.specs.Writing.{HasWrittenOrCause, output_of}
-use Rattle.spool_command.specs.Writing.{refusal_status, refusal_text}
+use Rattle.spool_command.specs.Writing.{refusal_text}
 use Rattle.spool_command.proofs.writing.write_unkept.Goals as goal
 
 pub returns-in-Ok : goal.returns-in-Ok
