@@ -11,6 +11,11 @@ use crate::{MemArea, Note, PerArea};
 use cd_edges::{Area, NoMemory};
 use std::alloc::Global;
 
+// Where the journal's second half begins, and the second region of an area of blobs.
+const SECOND_HALF: u64 = 134_217_728;
+
+const SECOND_REGION: u64 = 34_359_738_368;
+
 /// The three areas.
 #[derive(Drop)]
 pub struct MemAreas {
@@ -34,9 +39,9 @@ impl MemAreas {
         ensures log { IfOk result (λ areas. (area : Area) → log_of areas area ≡ []) }
     {
         Ok(MemAreas {
-            journal: MemArea::of(alloc, room, 134_217_728)?,
-            shares: MemArea::of(alloc, room, 34_359_738_368)?,
-            recipes: MemArea::of(alloc, room, 34_359_738_368)?,
+            journal: MemArea::of(alloc, room, SECOND_HALF)?,
+            shares: MemArea::of(alloc, room, SECOND_REGION)?,
+            recipes: MemArea::of(alloc, room, SECOND_REGION)?,
         })
     }
 
