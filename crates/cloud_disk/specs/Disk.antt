@@ -28,7 +28,7 @@ pub record Disk : Type 0 where
 
 -- where region 1, the last one, ends
 abbrev pub regions_end : ℕ
-regions_end = 68719476736
+regions_end = region_start 2
 
 -- a log that ends where its area begins, with nothing staged and nothing kept
 abbrev pub empty_log : Area → logs.State

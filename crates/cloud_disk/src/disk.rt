@@ -29,7 +29,7 @@ ghost use Rattle.cloud_disk.specs.Lending.{LendsJournal, LendsShares, LendsRecip
 
 use crate::flush::flush_both;
 use cloud_areas::laws::law_of_one_more;
-use cloud_areas::{Log, LogFull};
+use cloud_areas::{Log, LogFull, REGION_LEN};
 use commit_journal::{
     Area, CloudNo, Failed, Journal, NoMemory, Shelf, Stage, UserRooms, half_limit,
 };
@@ -40,7 +40,7 @@ use std::marker::Model;
 const KEPT: u32 = 4;
 
 // Where region 1 ends, the last one: no log goes on behind it.
-const REGIONS_END: u64 = 68_719_476_736;
+const REGIONS_END: u64 = 2 * REGION_LEN;
 
 /// A cloud's journal in two halves and the logs of its shares and recipes, seen together. On a cloud they stand for a list of
 /// commands.

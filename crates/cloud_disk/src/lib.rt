@@ -12,7 +12,9 @@ pub use cloud_areas::laws::{
     law_of_standing,
 };
 pub use cloud_areas::peers::law_of_peers;
-pub use cloud_areas::{BodyBuf, CommitBody, DeleteBody, Log, LogFull, PutItem};
+pub use cloud_areas::{
+    BodyBuf, CommitBody, DeleteBody, LEAST_RECIPES, LEAST_SHARES, Log, LogFull, PutItem, REGION_LEN,
+};
 pub use commit_journal::{
     Area, Bytes, CloudNo, Failed, FindErr, Found, HALF_LEN, Header, Journal, NoMemory, OpenErr,
     Place, RECIPE_LIMIT, RecordErr, Room, Shape, Shelf, Sink, Stage, Start, UserId, UserRooms,
