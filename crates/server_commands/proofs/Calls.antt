@@ -10,11 +10,10 @@ use Rattle.server_reads.proofs.CdEdges.Moments.{weaker, told_on}
 use Rattle.cloud_store.specs.CommitJournal.States as journals
 use Rattle.cloud_store.specs.JournalHalves.Journals.{Where}
 use Rattle.cloud_store.specs.declared.store.CloudStore.{CloudStore}
-use Rattle.cloud_store.specs.Adding.{IsLeftOf}
+use Rattle.cloud_store.specs.Adding.{IsLeftOf, KeepsOrGrows}
 use Rattle.server_reads.specs.Reading.{HasReadCloud}
 use Rattle.server_reads.specs.declared.blobs.BlobStop.{BlobStop}
 use Rattle.server_reads.specs.declared.blobs.BlobStop.TheVariants as stops
-use Rattle.server_commands.specs.Executing.{GrowsBehind}
 use Rattle.server_commands.specs.Steps.{Calls}
 
 abbrev pub ok_result : Result (Unit {0}) Failed
@@ -83,14 +82,11 @@ pub stays_still : (a : Cloud) → Stays a a
 stays_still a = record { armed = refl; past = refl; now = refl }
 
 -- what a store adds behind what it has, where only a read was made before
-pub grows_read : (s mid : CloudStore) (a b c : Cloud) → mid.disk.journal ≡ s.disk.journal → ((w : Where) (body : List ℕ) (image : Image) → IsLeftOf mid b w body image → IsLeftOf s a w body image)
-    → Stays a b → b.told ≡ a.told → GrowsBehind mid b c → GrowsBehind s a c
-grows_read s mid a b c journal left stays told grows = record {
-  body = grows.body;
-  chain = λ is w ended.
-      since_read a b c (IsLeftOf s a w grows.body) stays
-      (weaker b c (IsLeftOf mid b w grows.body) (IsLeftOf s a w grows.body)
-      (grows.chain (told_on a b told is) w
-      (subst (λ (j : journals.JournalState). journals.IsJournalEnded j (b.now Journal) w) (sym journal) (subst (λ (x : Areas). journals.IsJournalEnded s.disk.journal (x Journal) w) (sym stays.now) ended)))
-      (λ image. left w grows.body image));
-}
+pub grows_read : (s mid : CloudStore) (body : List ℕ) (a b c : Cloud) → mid.disk.journal ≡ s.disk.journal → ((w : Where) (image : Image) → IsLeftOf mid b w body image → IsLeftOf s a w body image)
+    → Stays a b → b.told ≡ a.told → KeepsOrGrows mid body b c → KeepsOrGrows s body a c
+grows_read s mid body a b c journal left stays told grows is w ended =
+    since_read a b c (IsLeftOf s a w body) stays
+    (weaker b c (IsLeftOf mid b w body) (IsLeftOf s a w body)
+    (grows (told_on a b told is) w
+    (subst (λ (j : journals.JournalState). journals.IsJournalEnded j (b.now Journal) w) (sym journal) (subst (λ (x : Areas). journals.IsJournalEnded s.disk.journal (x Journal) w) (sym stays.now) ended)))
+    (λ image. left w image))

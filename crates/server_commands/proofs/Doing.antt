@@ -2,7 +2,7 @@
 use Rattle.std.proofs.Common.{◌≡◌, inl, inr, ℕ, List, [], ◌∷◌, ◌++◌, Option, Some, None, Result, Ok, Err, IsTrue, refl, sym, ap, ◌∙◌, subst, append-nil}
 use Rattle.std.specs.Prelude.{OnOk, option_to_list}
 use Rattle.server_reads.specs.CdBase.ids.Fp.{Fp}
-use Rattle.server_reads.specs.CdEdges.area.Area.TheVariants.{Shares, Recipes}
+use Rattle.server_reads.specs.CdEdges.area.Area.TheVariants.{Journal, Shares, Recipes}
 use Rattle.server_reads.specs.CdEdges.Disk.{Areas, Cloud, Image, IsImage, reads}
 use Rattle.server_reads.specs.CdEdges.Shelf.{Stays}
 use Rattle.server_reads.proofs.CdEdges.Moments.{stayed, weaker}
@@ -21,13 +21,17 @@ use Rattle.cloud_store.specs.CloudDisk.Disk.{KeepsOrAdds, StandsForEither}
 use Rattle.cloud_store.proofs.DiskProofs.Standing.{images_on}
 use Rattle.server_reads.specs.CloudMemory.Memory.{Memory}
 use Rattle.server_reads.specs.CloudMemory.Rooms.{memory_of}
+use Rattle.cloud_store.specs.CommitJournal.States.{IsJournalEnded}
+use Rattle.cloud_store.specs.JournalHalves.Journals.{Where}
 use Rattle.cloud_store.specs.declared.store.CloudStore.{CloudStore}
 use Rattle.cloud_store.specs.Store.{ServesSome}
 use Rattle.server_reads.specs.Found.{IsOther, IsFoundRecipe, IsFoundShare}
 use Rattle.server_commands.specs.Executing.{Executes, ForServed, GrowsBehind, LeavesBoth}
+use Rattle.server_commands.specs.Growing.{Adds, GoesOn}
 use Rattle.server_commands.specs.Leaving.{LeavesAll, IsSteady, IsFound}
 use Rattle.server_commands.specs.Serving.{serves, IsServedByList, IsServedOrNot, Gives}
 use Rattle.server_commands.specs.Steps.{Calls, IsLeftSettled, Does}
+use Rattle.server_commands.proofs.Grown.{goes_still}
 
 -- ---- outcomes
 
@@ -155,8 +159,10 @@ module _ {T E : Type 0} (r : Result T E) where
         → ForServed old (before old.header.cloud.0) (λ list. OnOk r (IsServedByList old new (after old.header.cloud.0) list request content))
         → ((named found : Fp) → OnOk r (IsReply content (replies.Rotten named found) → IsFound (before old.header.cloud.0) (memory_of old.memory) request named found))
         → ((answer : Reply) → LeavesAll request answer → OnOk r (IsReply content answer → Same × (new ≡ old)))
-        → OnOk r (Gives old.header.shape request content) → Executes Same old new before after f0 f1 request content r
-    stays_executes leaves both calls served rotten untouched kind =
+        → OnOk r (Gives old.header.shape request content)
+        → OnOk r (new.disk.journal ≡ old.disk.journal) → ((answer : Reply) → Adds (memory_of old.memory) request answer → OnOk r (IsReply content answer → ⊥))
+        → Executes Same old new before after f0 f1 request content r
+    stays_executes leaves both calls served rotten untouched kind journal asks =
         let c0 = before old.header.cloud.0 in let c1 = after old.header.cloud.0 in
         record {
           ready = leaves.ready;
@@ -168,6 +174,7 @@ module _ {T E : Type 0} (r : Result T E) where
           served = served;
           stays = λ list some none. both;
           behind = inl both.cloud;
+          grown = λ told w ended. goes_still r w old new c0 c1 request content journal both.cloud asks ended;
           steady = λ has. both;
           spared = λ named found. always (IsReply content (replies.Rotten named found) → LeavesBoth old new c0 c1) (λ is. both);
           rotten = rotten;
@@ -183,11 +190,14 @@ module _ {T E : Type 0} (r : Result T E) where
 
     -- a request that adds its command where the store serves a list
     pub adds_executes : IsLeftSettled old new r → ForServed old (before old.header.cloud.0) (λ list. Does old new (before old.header.cloud.0) (after old.header.cloud.0) list request content r)
-        → GrowsBehind old (before old.header.cloud.0) (after old.header.cloud.0) → Calls before after old.header.cloud.0 f0 f1 r → (IsSteady (memory_of old.memory) request → ⊥)
+        → GrowsBehind old (before old.header.cloud.0) (after old.header.cloud.0) request
+        → (IsTrue (before old.header.cloud.0).told → (w : Where) → IsJournalEnded old.disk.journal ((before old.header.cloud.0).now Journal) w
+        → OnOk r (GoesOn w old new (before old.header.cloud.0) (after old.header.cloud.0) request content))
+        → Calls before after old.header.cloud.0 f0 f1 r → (IsSteady (memory_of old.memory) request → ⊥)
         → ((named found : Fp) → OnOk r (IsReply content (replies.Rotten named found) → ⊥))
         → ((answer : Reply) → LeavesAll request answer → OnOk r (IsReply content answer → Same × (new ≡ old)))
         → OnOk r (Gives old.header.shape request content) → Executes Same old new before after f0 f1 request content r
-    adds_executes leaves does behind calls no_entry never untouched kind =
+    adds_executes leaves does behind grown calls no_entry never untouched kind =
         let c0 = before old.header.cloud.0 in let c1 = after old.header.cloud.0 in
         record {
           ready = leaves.ready;
@@ -199,6 +209,7 @@ module _ {T E : Type 0} (r : Result T E) where
           served = λ list some. (does list some).served;
           stays = λ list some none. (does list some).stays none;
           behind = inr behind;
+          grown = grown;
           steady = λ has. absurd (no_entry has);
           spared = λ named found. when_ok (IsReply content (replies.Rotten named found) → ⊥) (IsReply content (replies.Rotten named found) → LeavesBoth old new c0 c1) (λ no is. absurd (no is)) (never named found);
           rotten = λ named found. when_ok (IsReply content (replies.Rotten named found) → ⊥) (IsReply content (replies.Rotten named found) → IsFound c0 (memory_of old.memory) request named found) (λ no is. absurd (no is)) (never named found);

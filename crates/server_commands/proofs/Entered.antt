@@ -1,7 +1,9 @@
 -- A Commit of a version that has no entry: its recipe is staged, and the command added.
-use Rattle.std.proofs.Common.{◌≡◌, ◌≢◌, ℕ, ◌+◌, ◌≤◌, max, List, [], ◌∷◌, length, Option, None, Result, Ok, Err, sym, ap, ◌∙◌, subst, arith}
+use Rattle.std.proofs.Common.{◌≡◌, ◌≢◌, ℕ, ◌+◌, ◌≤◌, max, List, [], ◌∷◌, ◌++◌, length, Option, None, Result, Ok, Err, refl, sym, ap, ◌∙◌, subst, arith, length-append}
 use Rattle.std.specs.Prelude.{OnOk, IsSome}
-use Rattle.std.proofs.lemmas.List.Elements.{All-nil}
+use Rattle.std.specs.List.{flat_map}
+use Rattle.std.specs.Int.{w16, w32, w64, to_be_bytes}
+use Rattle.std.proofs.lemmas.List.Elements.{All-nil, All-cons}
 use Rattle.server_reads.specs.CdBase.Limits.{recipe_limit}
 use Rattle.server_reads.specs.CdBase.ids.Fp.{Fp}
 use Rattle.server_reads.specs.CdBase.ids.Tag.{Tag}
@@ -9,6 +11,7 @@ use Rattle.server_reads.specs.CdBase.ids.UserId.{UserId}
 use Rattle.server_reads.specs.CdBase.ids.Version.{Version}
 use Rattle.server_reads.specs.CdBase.rooms.Room.{Room}
 use Rattle.server_reads.specs.CdBase.rooms.Room.TheVariants as rooms
+use Rattle.server_reads.specs.CdBase.shape.Shape.{Shape}
 use Rattle.server_reads.specs.CdEdges.Disk.{Cloud}
 use Rattle.server_reads.specs.ContainerLog.Places.{place_of}
 use Rattle.server_reads.specs.ContainerLog.States.{State, HasStaged, need_of}
@@ -23,7 +26,7 @@ use Rattle.server_reads.specs.Messages.reply.Reply.TheVariants as replies
 use Rattle.server_reads.specs.Messages.Requests.{FitsRequest}
 use Rattle.server_reads.specs.Messages.Replies.{IsReply}
 use Rattle.server_reads.specs.Recipe.recipe.Recipe.{Recipe}
-use Rattle.server_reads.specs.Recipe.Spelling.{IsRecipe, spelling}
+use Rattle.server_reads.specs.Recipe.Spelling.{IsRecipe, item, spelling}
 use Rattle.server_reads.specs.UserDedup.command.Command.{Command}
 use Rattle.server_reads.specs.UserDedup.command.Command.TheVariants as commands
 use Rattle.server_reads.specs.UserDedup.Cloud.{fingerprint, user_view}
@@ -35,16 +38,21 @@ use Rattle.server_reads.specs.CloudMemory.Memory.{Remembers}
 use Rattle.server_reads.specs.CloudMemory.Rooms.{memory_of}
 use Rattle.cloud_store.specs.declared.store.CloudStore.{CloudStore}
 use Rattle.cloud_store.specs.Store.{EndsMeet, Serves}
-use Rattle.cloud_store.specs.Adding.{NoneStaged, IsCommit, EndBehind, unstaged}
+use Rattle.cloud_store.specs.JournalHalves.Journals.{Where}
+use Rattle.cloud_store.specs.RecordBody.Spelling as bodies
+use Rattle.cloud_store.specs.RecordBody.Spelling.{body_bytes}
+use Rattle.cloud_store.specs.Adding.{NoneStaged, IsCommit, EndBehind, IsGrownFrom, KeepsOrGrows, commit_body, unstaged}
 use Rattle.cloud_store.proofs.Held.{recipe_staged}
 use Rattle.server_reads.specs.Allowed.{Replies}
 use Rattle.server_reads.specs.Found.{HasNone}
 use Rattle.server_reads.proofs.Held.{none_there}
-use Rattle.server_commands.specs.Executing.{IsStoreReady, GrowsBehind, Executes}
+use Rattle.server_commands.specs.Executing.{IsStoreReady, Executes}
+use Rattle.server_commands.specs.Growing.{IsAdded, commit_record}
 use Rattle.server_commands.specs.Serving.{IsServedByList}
-use Rattle.server_commands.specs.Steps.{Calls, IsLeftSettled, Does, HasRecipeStaged, IsOfNew, IsAnsweredNew, staging}
-use Rattle.server_commands.proofs.Commits.{answers_commit, fps_spelled, new_never_rotten, new_leaves, new_gives}
+use Rattle.server_commands.specs.Steps.{Calls, IsLeftSettled, Does, GoesBehind, HasRecipeStaged, IsOfNew, IsAnsweredNew, staging}
+use Rattle.server_commands.proofs.Commits.{answers_commit, few_bytes, fps_spelled, new_never_rotten, new_leaves, new_gives}
 use Rattle.server_commands.proofs.Doing.{adds_executes}
+use Rattle.server_commands.proofs.Grown.{IsFilled, goes_on, is_added}
 
 -- ---- staging
 
@@ -83,13 +91,24 @@ is_commit s list c cloud user tag version fp len r serves fits answered is fp_is
 
 -- ---- all of it
 
+spelled_some : (r : Recipe) → 1 ≤ length (spelling r)
+spelled_some r =
+    let rest = r.name_share ++ (to_be_bytes w64 r.file_len ++ (to_be_bytes w32 (length r.items) ++ flat_map item r.items)) in
+    omega (arith, length-append (to_be_bytes w16 r.name_len) rest)
+
+-- the record by the recipe's fingerprint and length
+pub record_as : (s : CloudStore) (user : UserId) (tag : Tag) (version : Version) (recipe : List ℕ) (fp : Fp) (len : ℕ) (P : List ℕ → Type 0) → fingerprint recipe ≡ fp → length recipe ≡ len
+    → P (body_bytes (bodies.Commit (commit_body s user tag version fp len))) → P (body_bytes (commit_record s user tag version recipe))
+record_as s user tag version recipe fp len P fp_is len_is p = subst P (λ i. body_bytes (bodies.Commit (commit_body s user tag version (sym fp_is i) (sym len_is i)))) p
+
 module _ (user : UserId) (tag : Tag) (version : Version) where
   -- what adding the Commit leaves of a store that has its recipe staged
   pub record Enters {T E : Type 0} (Same : Type 0) (x new : CloudStore) (b c : ℕ → Cloud) (f1 f2 : ℕ) (recipe content : List ℕ) (r : Result T E) : Type 0 where
     pub leaves : IsLeftSettled x new r
     pub does : (list : List Command) (chain : Chain) → Serves list chain x (b x.header.cloud.0) → IsAnsweredNew x.header list user tag version recipe
         → Does x new (b x.header.cloud.0) (c x.header.cloud.0) list (requests.Commit user tag version recipe) content r
-    pub behind : GrowsBehind x (b x.header.cloud.0) (c x.header.cloud.0)
+    pub behind : KeepsOrGrows x (body_bytes (commit_record x user tag version recipe)) (b x.header.cloud.0) (c x.header.cloud.0)
+    pub goes : GoesBehind x new (body_bytes (commit_record x user tag version recipe)) (b x.header.cloud.0) (c x.header.cloud.0) (IsReply content replies.Committed) r
     pub some : OnOk r (Replies content IsOfNew)
     pub full : (room : Room) (used need limit : ℕ) → room ≢ rooms.Journal → OnOk r (IsReply content (replies.Full room used need limit) → Same × (new ≡ unstaged x))
     pub calls : Calls b c x.header.cloud.0 f1 f2 r
@@ -117,6 +136,13 @@ module _ (user : UserId) (tag : Tag) (version : Version) where
   full_then (Err e) P Same old new recipe none f = tt
   full_then (Ok v) P Same old new recipe none f = λ p. let u = f p in (u.0, u.1 ∙ unstaged_is old recipe none)
 
+  commit_added : (w : Where) (old new : CloudStore) (a c : Cloud) (shape : Shape) (r : Recipe) → IsRecipe shape (spelling r) r → IsStoreReady old
+      → IsGrownFrom w (staging old (spelling r)) new (body_bytes (commit_record old user tag version (spelling r))) a c → IsAdded w old new a c (requests.Commit user tag version (spelling r))
+  commit_added w old new a c shape r is ready g =
+      is_added w old new a c (requests.Commit user tag version (spelling r)) (commit_record old user tag version (spelling r)) old.disk.shares (staging old (spelling r)).disk.recipes
+      refl ready.meet refl refl ready.none.shares (recipe_has old (spelling r) ready (few_bytes shape r (spelling r) is refl)) (All-nil IsFilled)
+      (All-cons IsFilled (spelling r) [] (spelled_some r) (All-nil IsFilled)) refl g.chain g.shares g.recipes
+
   pub entered : {T E : Type 0} (rs : Result T E) (Same : Type 0) (old x new : CloudStore) (a c : ℕ → Cloud) (f0 f2 : ℕ) (r : Recipe) (content : List ℕ) → x ≡ staging old (spelling r)
       → IsStoreReady old → IsRecipe old.header.shape (spelling r) r → HasNone (memory_of old.memory) (key_of user.0 tag.0 version.0)
       → ((list : List Command) → Remembers old.header.shape list (memory_of old.memory) → first_lacking (user_view old.header.shape list user).own (fps_in r.items) ≡ None)
@@ -137,7 +163,13 @@ module _ (user : UserId) (tag : Tag) (version : Version) where
             (none_there shape list (memory_of old.memory) user tag version some.serves.known.remembers none);
       }) in
       does_staged old new (a n) (c n) (spelling r) list (requests.Commit user tag version (spelling r)) content rs d)
-      (record { body = e.behind.body; chain = e.behind.chain })
+      (record { body = commit_record old user tag version (spelling r); is = refl; chain = e.behind })
+      (λ told w ended.
+      goes_on rs w (staging old (spelling r)) old new (a n) (a n) (c n) (requests.Commit user tag version (spelling r)) content
+      (body_bytes (commit_record old user tag version (spelling r))) (IsReply content replies.Committed)
+      (λ answer adds is_said. subst (IsReply content) adds.0 is_said)
+      (commit_added w old new (a n) (c n) shape r is ready)
+      (e.goes told w ended))
       e.calls
       (none_has _ none)
       (new_never_rotten content rs e.some)

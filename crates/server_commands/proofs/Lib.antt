@@ -7,6 +7,7 @@ pub mod Doing
 pub mod Entered
 pub mod Enterings
 pub mod EntryLaws
+pub mod Grown
 pub mod OfCloudStore
 pub mod Picking
 pub mod Puts

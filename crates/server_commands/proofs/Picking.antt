@@ -71,7 +71,7 @@ unplaced_more places (x ∷ picked) s = by_test (is_some (get places (fingerprin
     by_test false true e = ap (λ l. x ∷ l) e
     by_test false false e = ap (λ l. x ∷ l) e
 
-unplaced_range : (places : FinMap fp_cmp Place) (picked : List (List ℕ)) → All IsShare picked → All IsShare (unplaced places picked)
+pub unplaced_range : (places : FinMap fp_cmp Place) (picked : List (List ℕ)) → All IsShare picked → All IsShare (unplaced places picked)
 unplaced_range places [] all = All-nil IsShare
 unplaced_range places (s ∷ picked) all = by_test (is_some (get places (fingerprint s).0)) (unplaced_range places picked (All-tail IsShare s picked all))
   where

@@ -1,20 +1,22 @@
 -- What a Put does, by what its exits leave.
-use Rattle.std.proofs.Common.{◌≡◌, ◌≢◌, ℕ, ◌<◌, ◌≤◌, ◌^◌, List, [], ◌∷◌, ◌++◌, length, drop, map, Result, Ok, Err, refl, sym, ap, ◌∙◌, subst, arith}
-use Rattle.std.specs.Prelude.{OnOk}
+use Rattle.std.proofs.Common.{◌≡◌, ◌≢◌, ◌⊎◌, ℕ, ◌<◌, ◌≤◌, ◌^◌, List, [], ◌∷◌, ◌++◌, length, drop, map, Result, Ok, Err, refl, sym, ap, ◌∙◌, subst, arith}
+use Rattle.std.specs.Prelude.{All, OnOk}
 use Rattle.std.specs.Int.{w16, to_be_bytes, from_be_bytes}
 use Rattle.std.proofs.lemmas.List.{nil_from_length}
+use Rattle.std.proofs.lemmas.List.Elements.{All-nil, All-cons, All-head, All-tail}
 use Rattle.std.proofs.lemmas.Nat.{from_be_bytes-to_be_bytes_2}
 use Rattle.server_reads.specs.CdBase.ids.UserId.{UserId}
 use Rattle.server_reads.specs.CdBase.ids.Fp.{Fp}
 use Rattle.server_reads.specs.CdBase.rooms.Room.{Room}
 use Rattle.server_reads.specs.CdBase.rooms.Room.TheVariants as names
 use Rattle.server_reads.specs.CdBase.shape.Shape.{Shape}
+use Rattle.server_reads.specs.CdEdges.area.Area.TheVariants.{Journal}
 use Rattle.server_reads.specs.CdEdges.Disk.{Cloud}
-use Rattle.server_reads.specs.ContainerLog.Laying.{laid}
+use Rattle.server_reads.specs.ContainerLog.Laying.{laid, placed}
 use Rattle.server_reads.specs.ContainerLog.States.{State, HasStaged}
 use Rattle.cloud_store.specs.CommitJournal.journal.Stage.TheVariants.{AtEnd}
 use Rattle.cloud_store.specs.JournalStart.rooms.UserRooms.{UserRooms}
-use Rattle.server_reads.specs.MessageFields.Shares.{AreShares}
+use Rattle.server_reads.specs.MessageFields.Shares.{IsShare, AreShares}
 use Rattle.server_reads.specs.Messages.request.Request.{Request}
 use Rattle.server_reads.specs.Messages.request.Request.TheVariants as requests
 use Rattle.server_reads.specs.Messages.reply.Reply.{Reply}
@@ -31,21 +33,29 @@ use Rattle.server_reads.specs.CloudMemory.cloud.CloudMemory.{CloudMemory}
 use Rattle.server_reads.specs.CloudMemory.rooms.New.{New}
 use Rattle.server_reads.specs.CloudMemory.Memory.{Memory}
 use Rattle.server_reads.specs.CloudMemory.Rooms.{memory_of}
+use Rattle.server_reads.specs.CloudMemory.Steps.{parts_of}
+use Rattle.cloud_store.specs.CloudAreas.Placing.{places_given}
+use Rattle.cloud_store.specs.CommitJournal.States.{IsJournalEnded}
+use Rattle.cloud_store.specs.JournalHalves.Journals.{Where, with_body}
+use Rattle.cloud_store.specs.RecordBody.Spelling.{body_bytes}
 use Rattle.cloud_store.specs.declared.store.CloudStore.{CloudStore}
 use Rattle.cloud_store.specs.Store.{IsSettled, EndsMeet, Serves}
-use Rattle.cloud_store.specs.Adding.{NoneStaged, Unmoved, IsPut, unplaced, unstaged}
-use Rattle.cloud_store.proofs.Held.{is_put}
+use Rattle.cloud_store.specs.Adding.{NoneStaged, Unmoved, IsPut, IsGrownFrom, KeepsOrGrows, put_record, share_at, summed, unplaced, unstaged}
+use Rattle.cloud_store.proofs.Held.{is_put, shares_given}
 use Rattle.cloud_store.proofs.Keeping.{serves_on}
 use Rattle.server_reads.specs.Allowed.{Replies}
-use Rattle.server_commands.specs.Entering.{Stores, new_of, news_of}
-use Rattle.server_commands.specs.Executing.{IsStoreReady, GrowsBehind, Executes}
+use Rattle.server_commands.specs.Entering.{Stores, new_of, news_of, unowned}
+use Rattle.server_commands.specs.Executing.{IsStoreReady, Executes}
+use Rattle.server_commands.specs.Growing.{IsAdded, StoresSome}
 use Rattle.server_commands.specs.Leaving.{StoresNothing}
 use Rattle.server_commands.specs.Picked.{Picked, with_shares}
 use Rattle.server_commands.specs.Serving.{serves, IsServedByList, IsGiven, Gives}
-use Rattle.server_commands.specs.Steps.{Calls, IsLeftSettled, Does, HasNewsStaged}
+use Rattle.server_commands.specs.Steps.{Calls, IsLeftSettled, Does, GoesBehind, HasNewsStaged}
 use Rattle.server_commands.proofs.Calls.{ok_result, no_calls, stays_still}
 use Rattle.server_commands.proofs.Contents.{one_kind}
 use Rattle.server_commands.proofs.Doing.{served_only, served_still, adding, stays_executes, adds_executes}
+use Rattle.server_commands.proofs.Grown.{IsFilled, goes_on, is_added, put_said}
+use Rattle.server_commands.proofs.Picking.{unplaced_range}
 use Rattle.server_commands.proofs.Storing.{as_many, not_all_owned}
 
 -- ---- what a list answers
@@ -68,6 +78,10 @@ some_or_none content n some one none =
     let e : from_be_bytes w16 (to_be_bytes w16 n) ≡ from_be_bytes w16 (to_be_bytes w16 0) = ap (λ (l : List ℕ). from_be_bytes w16 (drop 1 l)) (sym one.spelled ∙ none.spelled) in
     let few : n ≤ 256 = one.fits in
     omega (arith, e, from_be_bytes-to_be_bytes_2 n (omega (arith, few)), from_be_bytes-to_be_bytes_2 0 (omega arith))
+
+stored_none : (content : List ℕ) (answer : Reply) → StoresSome answer → IsReply content (replies.Stored 0) → IsReply content answer → ⊥
+stored_none content (replies.Stored count) some none is = some_or_none content count some is none
+stored_none content answer some none is = elim some [ ]
 
 module _ (rooms : UserRooms) (m new : Memory) (user : UserId) (news : List New) (content : List ℕ) where
   stores_not : (reply : Reply) (a : ℕ) (rest : List ℕ) → 131 ≢ a → 140 ≢ a → IsReply content reply → Stores rooms m new user news reply → content ≡ a ∷ rest → ⊥
@@ -148,9 +162,15 @@ none_new Same old new a f user sent news content same ready p few content_is =
         fault = λ e. let no : replies.Stored 0 ≡ replies.Fault = e in cc;
         damaged = λ at byte e. let no : replies.Stored 0 ≡ replies.Damaged at byte = e in cc;
       };
-    }))
+    })
+    refl
+    (λ answer some other. stored_none content answer some content_is other))
 
 -- ---- some are
+
+filled : (strings : List (List ℕ)) → All IsShare strings → All IsFilled strings
+filled [] range = All-nil IsFilled
+filled (s ∷ ss) range = All-cons IsFilled s ss (All-head IsShare s ss range).0 (filled ss (All-tail IsShare s ss range))
 
 shares_serve : (s : CloudStore) (bytes : List ℕ) (list : List Command) (c : Chain) (cloud : Cloud) → Serves list c s cloud → Serves list c (with_shares s bytes) cloud
 shares_serve s bytes list c cloud serves =
@@ -196,10 +216,26 @@ module _ (user : UserId) (sent : List (List ℕ)) (news : List New) where
     pub does : (list : List Command) (chain : Chain) (strings : List (List ℕ)) → IsPut list chain x user news strings (a x.header.cloud.0)
         → strings ≡ new_strings (user_view x.header.shape list user).own sent
         → Does x new (a x.header.cloud.0) (c x.header.cloud.0) list (requests.Put user sent) content r
-    pub behind : GrowsBehind x (a x.header.cloud.0) (c x.header.cloud.0)
+    pub behind : KeepsOrGrows x (body_bytes (put_record x user news)) (a x.header.cloud.0) (c x.header.cloud.0)
+    pub goes : GoesBehind x new (body_bytes (put_record x user news)) (a x.header.cloud.0) (c x.header.cloud.0) ((count : ℕ) × IsReply content (replies.Stored count)) r
     pub stores : OnOk r (Replies content (Stores x.header.rooms (memory_of x.memory) (memory_of new.memory) user news))
     pub full : (room : Room) (used need limit : ℕ) → room ≢ names.Journal → OnOk r (IsReply content (replies.Full room used need limit) → Same × (new ≡ unstaged x))
     pub calls : Calls a c x.header.cloud.0 f0 f1 r
+
+  put_added : (w : Where) (old x new : CloudStore) (bytes : List ℕ) (a c : Cloud) → IsStoreReady old → Picked old x user sent news
+      → HasStaged (with_shares old bytes).disk.shares (unplaced (memory_of old.memory).places (unowned (memory_of old.memory) user sent))
+      → IsGrownFrom w (with_shares old bytes) new (body_bytes (put_record old user news)) a c → IsAdded w old new a c (requests.Put user sent)
+  put_added w old x new bytes a c ready p staged g =
+      let m = memory_of old.memory in
+      let news_are : news ≡ news_of m user sent = p.lens ∙ ap (map new_of) p.by_memory in
+      let range : All IsShare (unplaced m.places (unowned m user sent)) = unplaced_range m.places (unowned m user sent) (subst (All IsShare) p.by_memory p.range) in
+      is_added w old new a c (requests.Put user sent) (put_record old user (news_of m user sent)) (with_shares old bytes).disk.shares old.disk.recipes refl ready.meet refl refl
+      staged ready.none.recipes (filled (unplaced m.places (unowned m user sent)) range) (All-nil IsFilled)
+      (subst (λ (l : List New). map (share_at (unowned m user sent)) (places_given (parts_of user m l)) ≡ placed m.shares_end (unplaced m.places (unowned m user sent))) news_are
+      (subst (λ (l : List (List ℕ)). map (share_at l) (places_given (parts_of user m news)) ≡ placed m.shares_end (unplaced m.places l)) p.by_memory (shares_given user news p.strings m p.are_of p.fresh.apart)))
+      (subst (λ (l : List New). IsJournalEnded new.disk.journal (c.now Journal) (with_body w (body_bytes (put_record old user l)))
+      ⊎ IsJournalEnded new.disk.journal (c.now Journal) (with_body (summed old w) (body_bytes (put_record old user l)))) news_are g.chain)
+      g.shares g.recipes
 
   pub added : {T E : Type 0} (r : Result T E) (Same : Type 0) (old x new : CloudStore) (a c : ℕ → Cloud) (f0 f1 : ℕ) (content : List ℕ) → IsStoreReady old → AreShares sent → user.0 < 2 ^ 32
       → Picked old x user sent news → 1 ≤ length news → Adds Same x new a c f0 f1 content r → Executes Same old new a c f0 f1 (requests.Put user sent) content r
@@ -220,7 +256,16 @@ module _ (user : UserId) (sent : List (List ℕ)) (news : List New) where
       does_staged old new (a n) (c n) bytes list (requests.Put user sent) content r
       (e.does list served.c p.strings
       (is_put list served.c (with_shares old bytes) (a n) user news p.strings (shares_serve old bytes list served.c (a n) served.serves) p.are_of p.fresh sound staged ready.none.recipes) new_is))
-      (record { body = e.behind.body; chain = e.behind.chain })
+      (record {
+        body = put_record old user (news_of m user sent);
+        is = refl;
+        chain = subst (λ (l : List New). KeepsOrGrows old (body_bytes (put_record old user l)) (a n) (c n)) (p.lens ∙ ap (map new_of) p.by_memory) e.behind;
+      })
+      (λ told w ended.
+      goes_on r w (with_shares old bytes) old new (a n) (a n) (c n) (requests.Put user sent) content (body_bytes (put_record old user news)) ((count : ℕ) × IsReply content (replies.Stored count))
+      (put_said content)
+      (put_added w old x new bytes (a n) (c n) ready p (subst (λ (l : List (List ℕ)). HasStaged (with_shares old bytes).disk.shares (unplaced m.places l)) p.by_memory staged))
+      (e.goes told w ended))
       e.calls
       (not_all_owned m user sent p.strings p.by_memory (omega (arith, some, many)))
       (put_never_rotten old.header.rooms m (memory_of new.memory) user news content r e.stores)

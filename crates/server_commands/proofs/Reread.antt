@@ -11,12 +11,12 @@ use Rattle.server_reads.specs.ContainerLog.Kept.{KeepsBelow}
 use Rattle.server_reads.specs.Messages.request.Request.{Request}
 use Rattle.server_reads.specs.UserDedup.command.Command.{Command}
 use Rattle.cloud_store.specs.declared.store.CloudStore.{CloudStore}
-use Rattle.cloud_store.specs.Adding.{NoneStaged, IsOneOf}
+use Rattle.cloud_store.specs.Adding.{NoneStaged, IsOneOf, KeepsOrGrows}
 use Rattle.cloud_store.specs.Store.{IsSettled, IsOpen, closed}
 use Rattle.server_reads.specs.declared.blobs.BlobStop.{BlobStop}
 use Rattle.server_reads.specs.declared.blobs.BlobStop.TheVariants as stops
 use Rattle.server_reads.specs.Reading.{UnlessFailed}
-use Rattle.server_commands.specs.Executing.{IsStoreReady, GrowsBehind, LeavesBoth}
+use Rattle.server_commands.specs.Executing.{IsStoreReady, LeavesBoth}
 use Rattle.server_commands.specs.Serving.{IsServedByList, IsServedOrNot}
 use Rattle.server_commands.specs.Steps.{IsLeftSettled, Does, HasOnlyReadRecipes}
 use Rattle.server_commands.proofs.Calls.{failed_result, ok_result, since_read, stays_twice, grows_read}
@@ -49,10 +49,10 @@ module _ (old : CloudStore) (kept : List Kept) (new : CloudStore) (a b c : Cloud
       by (Err e) s = tt
       by (Ok v) s = record { reply = s.reply; next = s.next }
 
-  pub behind_read : b.told ≡ a.told → GrowsBehind (keeping old kept) b c → GrowsBehind old a c
-  behind_read told grows =
-      grows_read old (keeping old kept) a b c refl
-      (λ w body image left. subst (λ (s : Areas). IsOneOf old w body (image Journal) × KeepsBelow old.disk.shares.end (s Shares) (image Shares) × KeepsBelow old.disk.recipes.end (s Recipes) (image Recipes)) stays.now left)
+  pub behind_read : (body : List ℕ) → b.told ≡ a.told → KeepsOrGrows (keeping old kept) body b c → KeepsOrGrows old body a c
+  behind_read body told grows =
+      grows_read old (keeping old kept) body a b c refl
+      (λ w image left. subst (λ (s : Areas). IsOneOf old w body (image Journal) × KeepsBelow old.disk.shares.end (s Shares) (image Shares) × KeepsBelow old.disk.recipes.end (s Recipes) (image Recipes)) stays.now left)
       stays told grows
 
 -- ---- the read failed

@@ -1,6 +1,7 @@
 -- One request that may add a command, executed by an open store.
-use Rattle.std.specs.Prelude.{◌≡◌, ◌⊎◌, ℕ, List, None, Result, OnOk, OnErr}
+use Rattle.std.specs.Prelude.{◌≡◌, ◌⊎◌, ℕ, List, Some, None, IsTrue, Result, OnOk, OnErr}
 use Rattle.server_reads.specs.CdBase.ids.Fp.{Fp}
+use Rattle.server_reads.specs.CdEdges.area.Area.TheVariants.{Journal}
 use Rattle.server_reads.specs.CdEdges.Disk.{Cloud}
 use Rattle.server_reads.specs.CdEdges.Shelf.{IsCall, HasFailed, KeepsCounts, Stays}
 use Rattle.server_reads.specs.Messages.request.Request.{Request}
@@ -9,10 +10,14 @@ use Rattle.server_reads.specs.Messages.reply.Reply.TheVariants as replies
 use Rattle.server_reads.specs.Messages.Replies.{IsReply}
 use Rattle.server_reads.specs.UserDedup.command.Command.{Command}
 use Rattle.cloud_store.specs.CloudAreas.Peers.{ImagesSince}
+use Rattle.cloud_store.specs.CommitJournal.States.{IsJournalEnded}
+use Rattle.cloud_store.specs.JournalHalves.Journals.{Where}
+use Rattle.cloud_store.specs.RecordBody.Spelling.{Body, body_bytes}
 use Rattle.server_reads.specs.CloudMemory.Rooms.{memory_of}
 use Rattle.cloud_store.specs.declared.store.CloudStore.{CloudStore}
 use Rattle.cloud_store.specs.Store.{IsOpen, IsSettled, EndsMeet, ServesSome}
 use Rattle.cloud_store.specs.Adding.{NoneStaged, KeepsOrGrows}
+use Rattle.server_commands.specs.Growing.{record_of, GoesOn}
 use Rattle.server_commands.specs.Leaving.{LeavesAll, IsSteady, IsFound}
 use Rattle.server_commands.specs.Serving.{serves, IsServedByList, IsServedOrNot, Gives}
 
@@ -27,11 +32,12 @@ pub record IsStoreReady (s : CloudStore) : Type 0 where
 abbrev pub ForServed : CloudStore → Cloud → (List Command → Type 0) → Type 0
 ForServed s cloud P = (list : List Command) → ServesSome list s cloud → P list
 
--- Whatever the records say: each image since has the chain that was read, or the memory's checkpoint in its place, or one of the two with one
--- record more; and all that lay below the ends of both logs.
-pub record GrowsBehind (old : CloudStore) (before after : Cloud) : Type 0 where
-  pub body : List ℕ
-  pub chain : KeepsOrGrows old body before after
+-- Whatever the records say: each image since has the chain that was read, or the memory's checkpoint in its place, or one of the two with the
+-- request's record; and all that lay below the ends of both logs.
+pub record GrowsBehind (old : CloudStore) (before after : Cloud) (request : Request) : Type 0 where
+  pub body : Body
+  pub is : record_of old request ≡ Some body
+  pub chain : KeepsOrGrows old (body_bytes body) before after
 
 -- The cloud's areas and the memory stay.
 pub record LeavesBoth (old new : CloudStore) (before after : Cloud) : Type 0 where
@@ -52,7 +58,9 @@ pub record Executes {T E : Type 0} (Same : Type 0) (old new : CloudStore) (befor
   pub served : ForServed old (before old.header.cloud.0) (λ list. OnOk result (IsServedByList old new (after old.header.cloud.0) list request content))
   pub stays : ForServed old (before old.header.cloud.0) (λ list. (serves old list request).adds ≡ None → LeavesBoth old new (before old.header.cloud.0) (after old.header.cloud.0))
   -- whatever the cloud has
-  pub behind : Stays (before old.header.cloud.0) (after old.header.cloud.0) ⊎ GrowsBehind old (before old.header.cloud.0) (after old.header.cloud.0)
+  pub behind : Stays (before old.header.cloud.0) (after old.header.cloud.0) ⊎ GrowsBehind old (before old.header.cloud.0) (after old.header.cloud.0) request
+  pub grown : IsTrue (before old.header.cloud.0).told → (w : Where) → IsJournalEnded old.disk.journal ((before old.header.cloud.0).now Journal) w
+      → OnOk result (GoesOn w old new (before old.header.cloud.0) (after old.header.cloud.0) request content)
   pub steady : IsSteady (memory_of old.memory) request → LeavesBoth old new (before old.header.cloud.0) (after old.header.cloud.0)
   pub spared : (named found : Fp) → OnOk result (IsReply content (replies.Rotten named found) → LeavesBoth old new (before old.header.cloud.0) (after old.header.cloud.0))
   pub rotten : (named found : Fp) → OnOk result (IsReply content (replies.Rotten named found) → IsFound (before old.header.cloud.0) (memory_of old.memory) request named found)

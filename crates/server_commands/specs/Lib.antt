@@ -7,7 +7,9 @@ pub mod Entering
 pub mod Executing
 pub mod FileIndex
 pub mod Frames
+pub mod Growing
 pub mod CommitJournal
+pub mod JournalHalves
 pub mod JournalStart
 pub mod Leaving
 pub mod MessageFields

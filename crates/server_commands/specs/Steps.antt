@@ -1,10 +1,11 @@
 -- What the steps of a request leave. No public clause cites this module.
-use Rattle.std.specs.Prelude.{[], ◌∷◌, bytes_eq, if◌then◌else◌, ◌≡◌, ℕ, List, None, Some, Result, OnOk, OnErr}
+use Rattle.std.specs.Prelude.{[], ◌∷◌, bytes_eq, if◌then◌else◌, ◌≡◌, ℕ, List, None, Some, IsTrue, Result, OnOk, OnErr}
 use Rattle.server_reads.specs.CdBase.ids.Tag.{Tag}
 use Rattle.server_reads.specs.CdBase.ids.UserId.{UserId}
 use Rattle.server_reads.specs.CdBase.ids.Version.{Version}
 use Rattle.server_reads.specs.CdBase.rooms.Room.TheVariants as rooms
 use Rattle.server_reads.specs.CdBase.shape.Shape.{Shape}
+use Rattle.server_reads.specs.CdEdges.area.Area.TheVariants.{Journal}
 use Rattle.server_reads.specs.CdEdges.Disk.{Cloud}
 use Rattle.server_reads.specs.CdEdges.Shelf.{IsCall, HasFailed, KeepsCounts}
 use Rattle.server_reads.specs.ContainerLog.States.{HasStaged, with_blob}
@@ -29,7 +30,9 @@ use Rattle.server_reads.specs.CloudMemory.Memory.{Memory}
 use Rattle.server_reads.specs.CloudMemory.News.{AreOf}
 use Rattle.server_reads.specs.CloudMemory.Steps.{without_entry}
 use Rattle.server_reads.specs.CloudMemory.Rooms.{memory_of}
-use Rattle.cloud_store.specs.Adding.{NoneStaged, unplaced}
+use Rattle.cloud_store.specs.Adding.{NoneStaged, unplaced, IsGrownFrom}
+use Rattle.cloud_store.specs.CommitJournal.States.{IsJournalEnded}
+use Rattle.cloud_store.specs.JournalHalves.Journals.{Where}
 use Rattle.server_reads.specs.declared.blobs.BlobStop.{BlobStop}
 use Rattle.server_reads.specs.Reading.{IfRotten}
 use Rattle.server_commands.specs.Executing.{IsStoreReady, LeavesBoth}
@@ -58,6 +61,19 @@ pub record Does {T E : Type 0} (old new : CloudStore) (before after : Cloud) (li
   pub any_moment : ImagesSince before after old.header (IsServedOrNot old list request)
   pub served : OnOk result (IsServedByList old new after list request content)
   pub stays : (serves old list request).adds ≡ None → LeavesBoth old new before after
+
+-- ---- whatever the records say
+
+-- The journal was read to its end, with this chain, and is so then too. Where the command was acknowledged its record was added.
+pub record LeavesRead (w : Where) (old new : CloudStore) (body : List ℕ) (before after : Cloud) (Acknowledged : Type 0) : Type 0 where
+  pub next : Where
+  pub ended : IsJournalEnded new.disk.journal (after.now Journal) next
+  pub grown : Acknowledged → IsGrownFrom w old new body before after
+
+-- Whatever the chain that was read says.
+abbrev pub GoesBehind : {T E : Type 0} → CloudStore → CloudStore → List ℕ → Cloud → Cloud → Type 0 → Result T E → Type 0
+GoesBehind old new body before after Acknowledged result = IsTrue before.told → (w : Where) → IsJournalEnded old.disk.journal (before.now Journal) w
+    → OnOk result (LeavesRead w old new body before after Acknowledged)
 
 -- ---- reading
 

@@ -20,11 +20,14 @@ ghost use Rattle.server_reads.specs.CloudMemory.Memory.{Remembers};
 ghost use Rattle.server_reads.specs.CloudMemory.Rooms.{memory_of};
 ghost use Rattle.server_reads.specs.CloudMemory.Sharing.{AreOwned};
 ghost use Rattle.cloud_store.specs.Store.{Serves};
-ghost use Rattle.cloud_store.specs.Adding.{unstaged};
+ghost use Rattle.cloud_store.specs.RecordBody.Spelling.{body_bytes};
+ghost use Rattle.cloud_store.specs.Adding.{unstaged, KeepsOrGrows};
 ghost use Rattle.server_reads.specs.Allowed.{Replies};
 ghost use Rattle.server_commands.specs.Entering.{Commits, Enters};
-ghost use Rattle.server_commands.specs.Executing.{IsStoreReady, GrowsBehind, Executes};
-ghost use Rattle.server_commands.specs.Steps.{Calls, IsLeftSettled, Does, HasRecipeStaged, IsOfNew, by_recipe, staging, IsAnsweredNew};
+ghost use Rattle.server_commands.specs.Executing.{IsStoreReady, Executes};
+ghost use Rattle.server_commands.specs.Growing.{commit_record};
+ghost use Rattle.server_commands.specs.Steps.{Calls, IsLeftSettled, Does, GoesBehind, HasRecipeStaged, IsOfNew, by_recipe};
+ghost use Rattle.server_commands.specs.Steps.{staging, IsAnsweredNew};
 
 use crate::reading::read_entry;
 use crate::refusing::refuse_long;
@@ -128,8 +131,13 @@ fn add_staged<V: Shelf>(
         → Does store.old store.new (V.cloud_at shelf.old store.old.header.cloud.0)
         (V.cloud_at shelf.new store.old.header.cloud.0) list
         (requests.Commit key.user key.tag key.version (spelling recipe.now)) reply.new result }
-    ensures behind { GrowsBehind store.old (V.cloud_at shelf.old store.old.header.cloud.0)
-        (V.cloud_at shelf.new store.old.header.cloud.0) }
+    ensures behind { KeepsOrGrows store.old
+        (body_bytes (commit_record store.old key.user key.tag key.version (spelling recipe.now)))
+        (V.cloud_at shelf.old store.old.header.cloud.0) (V.cloud_at shelf.new store.old.header.cloud.0) }
+    ensures goes { GoesBehind store.old store.new
+        (body_bytes (commit_record store.old key.user key.tag key.version (spelling recipe.now)))
+        (V.cloud_at shelf.old store.old.header.cloud.0) (V.cloud_at shelf.new store.old.header.cloud.0)
+        (IsReply reply.new replies.Committed) result }
     ensures some { OnOk result (Replies reply.new IsOfNew) }
     ensures commits { OnOk result (Replies reply.new (Commits store.old.header.rooms (memory_of store.old.memory)
         (memory_of store.new.memory) key.user key.tag key.version (fps_in recipe.now.items) (spelling recipe.now))) }

@@ -5,17 +5,22 @@ ghost use Rattle.std.specs.FinMap.{get};
 ghost use Rattle.server_reads.specs.CdBase.Limits.{recipe_limit};
 ghost use Rattle.server_reads.specs.FileIndex.Files.{key_of};
 ghost use Rattle.server_reads.specs.Messages.request.Request.TheVariants as requests;
+ghost use Rattle.server_reads.specs.Messages.reply.Reply.TheVariants as replies;
+ghost use Rattle.server_reads.specs.Messages.Replies.{IsReply};
 ghost use Rattle.server_reads.specs.UserDedup.command.Command.{Command};
 ghost use Rattle.server_reads.specs.UserDedup.file_list.FileEntry.{FileEntry};
 ghost use Rattle.server_reads.specs.UserDedup.Cloud.{user_view};
 ghost use Rattle.server_reads.specs.UserDedup.Pages.{entry_at};
 ghost use Rattle.cloud_store.specs.CloudAreas.Standing.{Chain};
 ghost use Rattle.server_reads.specs.CloudMemory.Rooms.{memory_of};
+ghost use Rattle.cloud_store.specs.RecordBody.Spelling as bodies;
+ghost use Rattle.cloud_store.specs.RecordBody.Spelling.{body_bytes};
 ghost use Rattle.cloud_store.specs.Store.{Serves};
+ghost use Rattle.cloud_store.specs.Adding.{KeepsOrGrows};
 ghost use Rattle.server_reads.specs.Allowed.{Replies};
 ghost use Rattle.server_commands.specs.Entering.{Enters};
-ghost use Rattle.server_commands.specs.Executing.{IsStoreReady, GrowsBehind, Executes};
-ghost use Rattle.server_commands.specs.Steps.{Calls, IsLeftSettled, Does, IsOfDelete, Forgets};
+ghost use Rattle.server_commands.specs.Executing.{IsStoreReady, Executes};
+ghost use Rattle.server_commands.specs.Steps.{Calls, IsLeftSettled, Does, GoesBehind, IsOfDelete, Forgets};
 
 use crate::reading::read_entry;
 use crate::refusing::refuse_long;
@@ -48,8 +53,13 @@ fn forget<V: Shelf>(
         → file.recipe ≡ recipe.now
         → Does store.old store.new (V.cloud_at shelf.old store.old.header.cloud.0)
         (V.cloud_at shelf.new store.old.header.cloud.0) list (requests.Delete user tag version) reply.new result }
-    ensures behind { GrowsBehind store.old (V.cloud_at shelf.old store.old.header.cloud.0)
-        (V.cloud_at shelf.new store.old.header.cloud.0) }
+    ensures behind { KeepsOrGrows store.old
+        (body_bytes (bodies.Delete (record { user = user; tag = tag; version = version })))
+        (V.cloud_at shelf.old store.old.header.cloud.0) (V.cloud_at shelf.new store.old.header.cloud.0) }
+    ensures goes { GoesBehind store.old store.new
+        (body_bytes (bodies.Delete (record { user = user; tag = tag; version = version })))
+        (V.cloud_at shelf.old store.old.header.cloud.0) (V.cloud_at shelf.new store.old.header.cloud.0)
+        (IsReply reply.new replies.Deleted) result }
     ensures some { OnOk result (Replies reply.new IsOfDelete) }
     ensures forgets { OnOk result (Replies reply.new (Forgets store.old.header.shape (memory_of store.old.memory)
         (memory_of store.new.memory) user (key_of user.0 tag.0 version.0) recipe.now)) }

@@ -13,11 +13,12 @@ ghost use Rattle.server_reads.specs.UserDedup.Owning.{new_strings};
 ghost use Rattle.cloud_store.specs.CloudAreas.Standing.{Chain};
 ghost use Rattle.server_reads.specs.CloudMemory.News.{AreNewTo};
 ghost use Rattle.server_reads.specs.CloudMemory.Rooms.{memory_of};
-ghost use Rattle.cloud_store.specs.Adding.{IsPut, IsShareNew, unstaged};
+ghost use Rattle.cloud_store.specs.RecordBody.Spelling.{body_bytes};
+ghost use Rattle.cloud_store.specs.Adding.{IsPut, IsShareNew, put_record, unstaged, KeepsOrGrows};
 ghost use Rattle.server_reads.specs.Allowed.{Replies};
 ghost use Rattle.server_commands.specs.Entering.{Stores, Enters};
-ghost use Rattle.server_commands.specs.Executing.{IsStoreReady, GrowsBehind, Executes};
-ghost use Rattle.server_commands.specs.Steps.{Calls, IsLeftSettled, Does, HasNewsStaged};
+ghost use Rattle.server_commands.specs.Executing.{IsStoreReady, Executes};
+ghost use Rattle.server_commands.specs.Steps.{Calls, IsLeftSettled, Does, GoesBehind, HasNewsStaged};
 
 use crate::news::collect;
 use crate::refusing::refuse_long;
@@ -45,8 +46,11 @@ fn add_news<V: Shelf>(
         → strings ≡ new_strings (user_view store.old.header.shape list user).own sent
         → Does store.old store.new (V.cloud_at shelf.old store.old.header.cloud.0)
         (V.cloud_at shelf.new store.old.header.cloud.0) list (requests.Put user sent) reply.new result }
-    ensures behind { GrowsBehind store.old (V.cloud_at shelf.old store.old.header.cloud.0)
-        (V.cloud_at shelf.new store.old.header.cloud.0) }
+    ensures behind { KeepsOrGrows store.old (body_bytes (put_record store.old user news.now))
+        (V.cloud_at shelf.old store.old.header.cloud.0) (V.cloud_at shelf.new store.old.header.cloud.0) }
+    ensures goes { GoesBehind store.old store.new (body_bytes (put_record store.old user news.now))
+        (V.cloud_at shelf.old store.old.header.cloud.0) (V.cloud_at shelf.new store.old.header.cloud.0)
+        ((count : ℕ) × IsReply reply.new (replies.Stored count)) result }
     ensures stores { OnOk result (Replies reply.new
         (Stores store.old.header.rooms (memory_of store.old.memory) (memory_of store.new.memory) user news.now)) }
     ensures full { (room : Room) (used need limit : ℕ) → room ≢ rooms.Journal

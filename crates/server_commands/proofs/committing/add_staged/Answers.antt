@@ -1,4 +1,4 @@
-use Rattle.std.proofs.Common.{rules, ◌≡◌, List, Some, None, Err, refl, sym, ap, subst, arith}
+use Rattle.std.proofs.Common.{rules, ◌≡◌, ℕ, List, Some, None, Err, refl, sym, ap, subst, arith}
 use Rattle.server_reads.specs.CdEdges.Shelf.{Stays}
 use Rattle.server_reads.specs.Messages.Requests.{FitsRequest}
 use Rattle.server_reads.specs.Messages.request.Request.TheVariants as requests
@@ -20,7 +20,12 @@ use Rattle.server_commands.proofs.Calls.{ok_result, failed_result, stays_still}
 use Rattle.server_commands.proofs.Commits.{few_bytes, only_journal}
 use Rattle.server_commands.proofs.Doing.{adds_does, stays_does, served_added, served_full, full_reply}
 use Rattle.server_commands.proofs.Enterings.{new_commits, full_commits, long_commits}
-use Rattle.server_commands.proofs.Entered.{is_commit}
+use Rattle.server_commands.proofs.Contents.{one_kind}
+use Rattle.server_commands.proofs.Grown.{read_added, read_full}
+use Rattle.server_commands.proofs.Entered.{is_commit, record_as}
+use Rattle.server_commands.specs.Growing.{commit_record}
+use Rattle.cloud_store.specs.Adding.{IsGrownFrom, KeepsOrGrows}
+use Rattle.cloud_store.specs.RecordBody.Spelling.{body_bytes}
 use Rattle.server_commands.proofs.committing.add_staged.Goals as goal
 
 pub add_commit-requires-clause-short : goal.add_commit-requires-clause-short
@@ -102,3 +107,46 @@ returns-in-Err-Long-clause-commits g c =
     let u = subst (λ (why : Unadded). WhenLong (Err why) (Unmoved old new)) c.in-Err-Long.field-0-is c.in-Err-Long.ensures.unmoved in
     long_commits old.header.rooms (memory_of old.memory) (memory_of new.memory) c.args.key.user c.args.key.tag c.args.key.version (fps_in c.args.recipe.now.items) (spelling c.args.recipe.now)
     c.args.fp c.args.len c.requires.fp c.requires.len c.requires.new c.requires.owned c.refuse_long.new.reply _ _ _ (ap memory_of u.memory) c.refuse_long.ensures
+
+pub returns-in-Ok-clause-behind : goal.returns-in-Ok-clause-behind
+returns-in-Ok-clause-behind g c =
+    let old = c.args.store.now in let key = c.args.key in let number = old.header.cloud.0 in
+    record_as old key.user key.tag key.version (spelling c.args.recipe.now) c.args.fp c.args.len
+    (λ (b : List ℕ). KeepsOrGrows old b (g.V.Shelf.cloud_at c.args.shelf.now number) (g.V.Shelf.cloud_at c.add_commit.new.shelf number)) c.requires.fp c.requires.len c.add_commit.ensures.chain
+
+pub returns-in-Err-Full-clause-behind : goal.returns-in-Err-Full-clause-behind
+returns-in-Err-Full-clause-behind g c =
+    let old = c.args.store.now in let key = c.args.key in let number = old.header.cloud.0 in
+    record_as old key.user key.tag key.version (spelling c.args.recipe.now) c.args.fp c.args.len
+    (λ (b : List ℕ). KeepsOrGrows old b (g.V.Shelf.cloud_at c.args.shelf.now number) (g.V.Shelf.cloud_at c.add_commit.new.shelf number)) c.requires.fp c.requires.len c.add_commit.ensures.chain
+
+pub returns-in-Err-Long-clause-behind : goal.returns-in-Err-Long-clause-behind
+returns-in-Err-Long-clause-behind g c =
+    let old = c.args.store.now in let key = c.args.key in let number = old.header.cloud.0 in
+    record_as old key.user key.tag key.version (spelling c.args.recipe.now) c.args.fp c.args.len
+    (λ (b : List ℕ). KeepsOrGrows old b (g.V.Shelf.cloud_at c.args.shelf.now number) (g.V.Shelf.cloud_at c.add_commit.new.shelf number)) c.requires.fp c.requires.len c.add_commit.ensures.chain
+
+pub returns-in-Err-Failed-clause-behind : goal.returns-in-Err-Failed-clause-behind
+returns-in-Err-Failed-clause-behind g c =
+    let old = c.args.store.now in let key = c.args.key in let number = old.header.cloud.0 in
+    record_as old key.user key.tag key.version (spelling c.args.recipe.now) c.args.fp c.args.len
+    (λ (b : List ℕ). KeepsOrGrows old b (g.V.Shelf.cloud_at c.args.shelf.now number) (g.V.Shelf.cloud_at c.add_commit.new.shelf number)) c.requires.fp c.requires.len c.add_commit.ensures.chain
+
+pub returns-in-Ok-clause-goes : goal.returns-in-Ok-clause-goes
+returns-in-Ok-clause-goes g c told w ended =
+    let old = c.args.store.now in let key = c.args.key in let number = old.header.cloud.0 in let recipe = spelling c.args.recipe.now in
+    let c0 = g.V.Shelf.cloud_at c.args.shelf.now number in let c1 = g.V.Shelf.cloud_at c.add_commit.new.shelf number in
+    read_added w old c.add_commit.new.self (body_bytes (commit_record old key.user key.tag key.version recipe)) c0 c1 _
+    (record_as old key.user key.tag key.version recipe c.args.fp c.args.len (λ (b : List ℕ). IsGrownFrom w old c.add_commit.new.self b c0 c1) c.requires.fp c.requires.len
+    (c.in-Ok.ensures.grown told w ended))
+
+pub returns-in-Err-Full-clause-goes : goal.returns-in-Err-Full-clause-goes
+returns-in-Err-Full-clause-goes g c told w ended =
+    let old = c.args.store.now in let key = c.args.key in let number = old.header.cloud.0 in
+    let un = subst (λ (why : Unadded). MatchFull (Err why) (Unit {0}) (λ f. (c.add_commit.new.self ≡ unstaged old) × (c.add_commit.new.shelf ≡ c.args.shelf.now))) c.in-Err-Full.field-0-is c.in-Err-Full.ensures.unadded in
+    read_full w old c.add_commit.new.self (body_bytes (commit_record old key.user key.tag key.version (spelling c.args.recipe.now))) (g.V.Shelf.cloud_at c.args.shelf.now number) (g.V.Shelf.cloud_at c.add_commit.new.shelf number)
+    _ (ap (λ (s : CloudStore). s.disk.journal) un.0) (ap (λ s. g.V.Shelf.cloud_at s number) un.1)
+    (λ said. omega (arith, one_kind c.write_full.new.out 140 132 _ _ c.write_full.ensures.spelled said.spelled)) ended
+
+pub returns-in-Err-Long-clause-goes : goal.returns-in-Err-Long-clause-goes
+returns-in-Err-Long-clause-goes g c told w ended = absurd (subst (λ (why : Unadded). NotLong (Err why)) c.in-Err-Long.field-0-is c.in-Err-Long.ensures.never_long)

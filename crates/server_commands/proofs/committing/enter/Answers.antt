@@ -20,7 +20,7 @@ returns-clause-does g c =
     (at c.args.shelf.now) (at c.add_staged.new.shelf) (faults c.args.shelf.now) (faults c.add_staged.new.shelf) c.args.recipe.now c.add_staged.new.reply
     (c.stage.ensures.staged ∙ ap (staging old) c.bytes-bytes.ensures)
     c.requires.ready c.requires.recipe c.requires.new c.requires.lacks c.stage.ensures.serves
-    (record { leaves = e.leaves; does = e.does; behind = e.behind; some = e.some; full = e.full; calls = e.calls })
+    (record { leaves = e.leaves; does = e.does; behind = e.behind; goes = e.goes; some = e.some; full = e.full; calls = e.calls })
 
 pub returns-clause-enters : goal.returns-clause-enters
 returns-clause-enters g c =

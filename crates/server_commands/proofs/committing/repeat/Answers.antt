@@ -16,7 +16,7 @@ returns-in-Ok-clause-does g c =
     let old = c.args.store.now in let at = g.V.Shelf.cloud_at in let faults = g.V.Shelf.faults in
     compared c.args.key.user c.args.key.tag c.args.key.version (c.read_entry.new.shelf ≡ c.args.shelf.now) old c.read_entry.new.store
     (at c.args.shelf.now) (at c.read_entry.new.shelf) (faults c.args.shelf.now) (faults c.read_entry.new.shelf) c.args.recipe.now c.put_compared.new.reply c.in-Ok.ensures.store c.requires.ready
-    c.split_at.result.0.now _ c.requires.owned c.in-Ok.ensures.reads
+    c.split_at.result.0.now _ c.args.entry.now c.requires.there c.requires.owned c.in-Ok.ensures.reads
     (λ list chain serves. c.in-Ok.ensures.there list chain c.args.key.user c.args.key.tag c.args.key.version serves c.requires.there)
     c.split_at.ensures.front c.put_compared.ensures
 
@@ -34,7 +34,7 @@ returns-in-Err-Rotten-clause-does g c =
     let old = c.args.store.now in let at = g.V.Shelf.cloud_at in let faults = g.V.Shelf.faults in
     rotten c.args.key.user c.args.key.tag c.args.key.version (c.read_entry.new.shelf ≡ c.args.shelf.now) old c.read_entry.new.store
     (at c.args.shelf.now) (at c.read_entry.new.shelf) (faults c.args.shelf.now) (faults c.read_entry.new.shelf) c.args.recipe.now c.write_rotten.new.out c.in-Err-Rotten.ensures.store c.requires.ready
-    c.in-Err-Rotten.field-0 c.in-Err-Rotten.named c.in-Err-Rotten.found _ c.in-Err-Rotten.field-0-is c.in-Err-Rotten.ensures.reads
+    c.in-Err-Rotten.field-0 c.in-Err-Rotten.named c.in-Err-Rotten.found _ c.args.entry.now c.requires.there c.in-Err-Rotten.field-0-is c.in-Err-Rotten.ensures.reads
     (λ list chain serves. c.in-Err-Rotten.ensures.there list chain c.args.key.user c.args.key.tag c.args.key.version serves c.requires.there)
     (c.in-Err-Rotten.ensures.rotten (memory_of old.memory) (key_of c.args.key.user.0 c.args.key.tag.0 c.args.key.version.0) c.requires.there)
     (rotten_is c.write_rotten.new.out _ _ c.in-Err-Rotten.named c.in-Err-Rotten.found c.write_rotten.ensures c.in-Err-Rotten.named-is c.in-Err-Rotten.found-is)

@@ -27,10 +27,10 @@ returns-in-Ok-clause-does g c =
     let old = c.args.store.now in let at = g.V.Shelf.cloud_at in let faults = g.V.Shelf.faults in
     deleted c.args.user c.args.tag c.args.version (c.forget.new.shelf ≡ c.args.shelf.now) old c.read_entry.new.store c.forget.new.store
     (at c.args.shelf.now) (at c.read_entry.new.shelf) (at c.forget.new.shelf) (faults c.args.shelf.now) (faults c.read_entry.new.shelf) (faults c.forget.new.shelf) _ c.forget.new.reply
-    c.forget.result c.split_at.result.0.now c.args.entry.now c.requires.there c.in-Ok.ensures.store c.in-Ok.ensures.reads
+    c.forget.result c.split_at.result.0.now c.args.entry.now c.requires.ready c.requires.there c.in-Ok.ensures.store c.in-Ok.ensures.reads
     (λ list chain serves. c.in-Ok.ensures.there list chain c.args.user c.args.tag c.args.version serves c.requires.there)
     c.split_at.ensures.front
-    (record { leaves = c.forget.ensures.leaves; does = c.forget.ensures.does; behind = c.forget.ensures.behind; some = c.forget.ensures.some; calls = c.forget.ensures.calls })
+    (record { leaves = c.forget.ensures.leaves; does = c.forget.ensures.does; behind = c.forget.ensures.behind; goes = c.forget.ensures.goes; some = c.forget.ensures.some; calls = c.forget.ensures.calls })
 
 pub returns-in-Err-Failed-clause-does : goal.returns-in-Err-Failed-clause-does
 returns-in-Err-Failed-clause-does g c =

@@ -11,6 +11,9 @@ use Rattle.server_commands.proofs.Calls.{ok_result, failed_result}
 use Rattle.server_commands.proofs.Doing.{adds_does}
 use Rattle.server_commands.proofs.Deletions.{deleted_served, is_delete}
 use Rattle.server_commands.proofs.Enterings.{full_forgets}
+use Rattle.cloud_store.specs.RecordBody.Spelling as bodies
+use Rattle.cloud_store.specs.RecordBody.Spelling.{body_bytes}
+use Rattle.server_commands.proofs.Grown.{read_added}
 use Rattle.server_commands.proofs.deleting.forget.Goals as goal
 
 pub returns-in-Ok-clause-does : goal.returns-in-Ok-clause-does
@@ -45,3 +48,12 @@ returns-in-Err-Long-clause-forgets g c =
     let u = subst (λ (why : Unadded). WhenLong (Err why) (Unmoved old new)) c.in-Err-Long.field-0-is c.in-Err-Long.ensures.unmoved in
     full_forgets old.header.shape (memory_of old.memory) (memory_of new.memory) c.args.user (key_of c.args.user.0 c.args.tag.0 c.args.version.0) c.args.recipe.now c.refuse_long.new.reply _ _ _
     (ap memory_of u.memory) c.refuse_long.ensures
+
+pub returns-in-Ok-clause-goes : goal.returns-in-Ok-clause-goes
+returns-in-Ok-clause-goes g c told w ended =
+    let old = c.args.store.now in let number = old.header.cloud.0 in
+    read_added w old c.add_delete.new.self (body_bytes (bodies.Delete (record { user = c.args.user; tag = c.args.tag; version = c.args.version }))) (g.V.Shelf.cloud_at c.args.shelf.now number) (g.V.Shelf.cloud_at c.add_delete.new.shelf number)
+    _ (c.in-Ok.ensures.grown told w ended)
+
+pub returns-in-Err-Long-clause-goes : goal.returns-in-Err-Long-clause-goes
+returns-in-Err-Long-clause-goes g c told w ended = absurd (subst (λ (why : Unadded). NotLong (Err why)) c.in-Err-Long.field-0-is c.in-Err-Long.ensures.never_long)

@@ -19,6 +19,10 @@ use Rattle.server_reads.specs.UserDedup.Dedup.{answer_over}
 use Rattle.server_commands.proofs.Calls.{ok_result, failed_result, stays_still}
 use Rattle.server_commands.proofs.Commits.{only_journal}
 use Rattle.server_commands.proofs.Doing.{adding, adds_does, stays_does, served_added, served_full, full_reply}
+use Rattle.server_commands.proofs.Contents.{one_kind}
+use Rattle.server_commands.proofs.Grown.{read_added, read_full}
+use Rattle.cloud_store.specs.Adding.{put_record}
+use Rattle.cloud_store.specs.RecordBody.Spelling.{body_bytes}
 use Rattle.server_commands.proofs.Puts.{answers_put, leaves_added, unstaged_meets, unmoved_meets, long_stores}
 use Rattle.server_commands.proofs.Storing.{as_many, news_met, stored_is}
 use Rattle.server_commands.proofs.putting.add_news.Goals as goal
@@ -122,3 +126,22 @@ returns-in-Err-Long-clause-stores g c =
     let old = c.args.store.now in let new = c.add_put.new.self in
     let u = subst (λ (why : Unadded). WhenLong (Err why) (Unmoved old new)) c.in-Err-Long.field-0-is c.in-Err-Long.ensures.unmoved in
     long_stores old.header.rooms (memory_of old.memory) (memory_of new.memory) c.args.user c.args.news.now c.refuse_long.new.reply _ _ _ c.requires.some (ap memory_of u.memory) c.refuse_long.ensures
+
+pub returns-in-Ok-clause-goes : goal.returns-in-Ok-clause-goes
+returns-in-Ok-clause-goes g c told w ended =
+    let old = c.args.store.now in let number = old.header.cloud.0 in
+    read_added w old c.add_put.new.self (body_bytes (put_record old c.args.user c.args.news.now)) (g.V.Shelf.cloud_at c.args.shelf.now number) (g.V.Shelf.cloud_at c.add_put.new.shelf number)
+    _ (c.in-Ok.ensures.grown told w ended)
+
+pub returns-in-Err-Full-clause-goes : goal.returns-in-Err-Full-clause-goes
+returns-in-Err-Full-clause-goes g c told w ended =
+    let old = c.args.store.now in let number = old.header.cloud.0 in
+    let un = subst (λ (why : Unadded). MatchFull (Err why) (Unit {0}) (λ f. (c.add_put.new.self ≡ unstaged old) × (c.add_put.new.shelf ≡ c.args.shelf.now))) c.in-Err-Full.field-0-is c.in-Err-Full.ensures.unadded in
+    read_full w old c.add_put.new.self (body_bytes (put_record old c.args.user c.args.news.now)) (g.V.Shelf.cloud_at c.args.shelf.now number) (g.V.Shelf.cloud_at c.add_put.new.shelf number)
+    _ (ap (λ (s : CloudStore). s.disk.journal) un.0) (ap (λ s. g.V.Shelf.cloud_at s number) un.1)
+    (λ said. omega (arith, one_kind c.write_full.new.out 140 131 _ _ c.write_full.ensures.spelled said.1.spelled)) ended
+
+pub returns-in-Err-Long-clause-goes : goal.returns-in-Err-Long-clause-goes
+returns-in-Err-Long-clause-goes g c told w ended =
+    let staged = c.requires.staged in
+    absurd (subst (λ (why : Unadded). NotLong (Err why)) c.in-Err-Long.field-0-is (c.in-Err-Long.ensures.never_long (are_long c.args.news.now staged.strings staged.are_of)))

@@ -50,7 +50,7 @@ returns-clause-does g c =
     added c.args.user c.args.shares.now front c.add_news.result (c.add_news.new.shelf ≡ c.args.shelf.now) old mid c.add_news.new.store (at c.args.shelf.now) (at c.add_news.new.shelf)
     (faults c.args.shelf.now) (faults c.add_news.new.shelf) c.add_news.new.reply c.requires.ready c.requires.batch (omega arith)
     (subst (λ (l : List New). Picked old mid c.args.user c.args.shares.now l) (sym c.split_at.ensures.front) c.collect-count.ensures.picked) some
-    (record { leaves = e.leaves; does = λ list chain strings put new. e.does list chain c.args.shares.now strings put new; behind = e.behind; stores = e.stores; full = e.full; calls = e.calls })
+    (record { leaves = e.leaves; does = λ list chain strings put new. e.does list chain c.args.shares.now strings put new; behind = e.behind; goes = e.goes; stores = e.stores; full = e.full; calls = e.calls })
 
 pub returns-then-count-eq0-clause-enters : goal.returns-then-count-eq0-clause-enters
 returns-then-count-eq0-clause-enters g c =
