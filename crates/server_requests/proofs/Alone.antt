@@ -3,6 +3,7 @@ use Rattle.std.proofs.Common.{◌≡◌, ℕ, List, refl}
 use Rattle.server_commands.specs.CdBase.ids.Fp.{Fp}
 use Rattle.server_commands.specs.CdEdges.Disk.{Cloud}
 use Rattle.server_commands.specs.Messages.request.Request.{Request}
+use Rattle.server_commands.specs.Messages.reply.Reply.{Reply}
 use Rattle.server_commands.specs.Messages.Replies.{reply_bytes}
 use Rattle.server_commands.specs.UserDedup.command.Command.{Command}
 use Rattle.server_commands.specs.UserDedup.Dedup.{only}
@@ -10,6 +11,7 @@ use Rattle.server_commands.specs.ServerReads.CloudMemory.Memory.{Remembers}
 use Rattle.server_commands.specs.ServerReads.CloudMemory.Rooms.{memory_of}
 use Rattle.server_commands.specs.CloudStore.store.CloudStore.{CloudStore}
 use Rattle.server_commands.specs.Executing.{IsStoreReady, Executes}
+use Rattle.server_commands.specs.Growing.{Adds}
 use Rattle.server_commands.specs.Leaving.{IsFound}
 use Rattle.server_commands.specs.Serving.{serves, Gives}
 use Rattle.server_commands.proofs.Calls.{ok_result, no_calls, stays_still}
@@ -20,8 +22,8 @@ pub was_told : (Same : Type 0) (s : CloudStore) (a : ℕ → Cloud) (f : ℕ) (r
     → ((list : List Command) → serves s list request ≡ only (answer_of s list request))
     → ((list : List Command) → Remembers s.header.shape list (memory_of s.memory) → content ≡ reply_bytes (answer_of s list request))
     → ((named found : Fp) → IsFound (a s.header.cloud.0) (memory_of s.memory) request named found)
-    → Gives s.header.shape request content → Executes Same s s a a f f request content ok_result
-was_told Same s a f request content same ready alone value found kind =
+    → Gives s.header.shape request content → ((answer : Reply) → Adds (memory_of s.memory) request answer → ⊥) → Executes Same s s a a f f request content ok_result
+was_told Same s a f request content same ready alone value found kind asks =
     let n = s.header.cloud.0 in
     stays_executes ok_result Same s s a a f f request content
     (record { ready = ready; settled = ready.settled; none = ready.none; shut = tt; header = refl })
@@ -30,4 +32,4 @@ was_told Same s a f request content same ready alone value found kind =
     (λ list some. served_still s s (a n) list request content (answer_of s list request) (alone list) (value list some.serves.known.remembers) some)
     (λ named other is. found named other)
     (λ answer leaves is. (same, refl))
-    kind
+    kind refl (λ answer adds other. asks answer adds)

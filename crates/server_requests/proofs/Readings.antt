@@ -22,6 +22,7 @@ use Rattle.server_commands.proofs.OfCloudStore.Keeping.{reads_serve, reads_settl
 use Rattle.server_commands.specs.ServerReads.Found.{ReadsLog}
 use Rattle.server_commands.proofs.ServerReads.Logs.{log_still}
 use Rattle.server_commands.specs.Executing.{IsStoreReady, Executes}
+use Rattle.server_commands.specs.Growing.{Adds}
 use Rattle.server_commands.specs.Leaving.{LeavesAll, IsFound}
 use Rattle.server_commands.specs.Serving.{serves, Gives}
 use Rattle.server_commands.proofs.Calls.{ok_result, failed_result}
@@ -95,8 +96,9 @@ module _ (Same : Type 0) (old : CloudStore) (disk : Disk) (a b : ℕ → Cloud) 
       → ((list : List Command) (c : Chain) → Serves list c old (a old.header.cloud.0) → content ≡ reply_bytes (answer_of old list request))
       → ((named found : Fp) → IsReply content (replies.Rotten named found) → IsFound (a old.header.cloud.0) (memory_of old.memory) request named found)
       → ((answer : Reply) → LeavesAll request answer → IsReply content answer → Same × (disk ≡ old.disk))
-      → Gives old.header.shape request content → Executes Same old (with_disk old disk) a b f0 f1 request content ok_result
-  was_read counts alone value rotten leaves kind =
+      → Gives old.header.shape request content → ((answer : Reply) → Adds (memory_of old.memory) request answer → ⊥)
+      → Executes Same old (with_disk old disk) a b f0 f1 request content ok_result
+  was_read counts alone value rotten leaves kind asks =
       let n = old.header.cloud.0 in let mid = with_disk old disk in
       let now = ready_after old disk (a n) (b n) reads ready in
       stays_executes ok_result Same old mid a b f0 f1 request content
@@ -108,7 +110,7 @@ module _ (Same : Type 0) (old : CloudStore) (disk : Disk) (a b : ℕ → Cloud) 
       served_still old mid (b n) list request content (answer_of old list request) (alone list) (value list some.c some.serves) there)
       rotten
       (λ answer is other. let s = leaves answer is other in (s.0, ap (with_disk old) s.1))
-      kind
+      kind reads.journal (λ answer adds other. asks answer adds)
 
   pub was_failed : (new : CloudStore) → HasFailed (a old.header.cloud.0) (b old.header.cloud.0) f0 f1 → new ≡ closed (with_disk old disk) → IsSettled new → ¬ (IsOpen new)
       → Executes Same old new a b f0 f1 request content failed_result
@@ -125,4 +127,4 @@ module _ (Same : Type 0) (old : CloudStore) (disk : Disk) (a b : ℕ → Cloud) 
       })
       (record { cloud = stays; memory = ap (λ (s : CloudStore). s.memory) is })
       (record { call = call; failed = failed; counts = tt })
-      (λ list some. tt) (λ named found. tt) (λ answer leaves. tt) tt
+      (λ list some. tt) (λ named found. tt) (λ answer leaves. tt) tt tt (λ answer adds. tt)

@@ -23,6 +23,7 @@ returns-in-Ok-clause-does g c =
     (λ named other is. recipe_rotten (IsNamed m key) (HasNone m key) found new.reply named other e.kind is)
     (λ answer leaves is. missing_leaves new.reply ((new.shelf ≡ c.args.shelf.now) × (new.disk ≡ old.disk)) e.untouched answer leaves is)
     (gives_plain old.header.shape request new.reply _ e.kind (recipe_plain c.args.user c.args.tag.now c.args.version (IsNamed m key) (HasNone m key) found))
+    (λ answer adds. adds)
 
 pub returns-in-Ok-clause-hashed : goal.returns-in-Ok-clause-hashed
 returns-in-Ok-clause-hashed g c = λ answer is.

@@ -20,6 +20,7 @@ returns-in-Ok-clause-does g c =
     (λ named other is. shares_rotten fps found new.reply named other e.kind is)
     (λ answer leaves is. foreign_leaves new.reply ((new.shelf ≡ c.args.shelf.now) × (new.disk ≡ old.disk)) e.untouched answer leaves is)
     (gives_plain old.header.shape (requests.GetShares c.args.user fps) new.reply _ e.kind (shares_plain c.args.user fps found))
+    (λ answer adds. adds)
 
 pub returns-in-Ok-clause-hashed : goal.returns-in-Ok-clause-hashed
 returns-in-Ok-clause-hashed g c = λ answer is. are_asked c.shares_on_disk.new.reply c.args.fps.now c.in-Ok.ensures.hashed answer is

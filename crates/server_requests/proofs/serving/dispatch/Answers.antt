@@ -22,7 +22,8 @@ returns-in-Hello-clause-does g c =
     let same = c.args.shelf.now ≡ c.args.shelf.now in
     subst (λ (r : Request). Executes same s s at at faults faults r c.hello.new.reply ok_result) (ap request_of (sym c.in-Hello.is))
     (was_told same s at faults requests.Hello c.hello.new.reply refl c.requires.ready (λ list. refl) (λ list remembers. c.hello.ensures list) (λ named found. tt)
-    (greets s.header c.hello.new.reply c.requires.ready.settled.header (c.hello.ensures [])))
+    (greets s.header c.hello.new.reply c.requires.ready.settled.header (c.hello.ensures []))
+    (λ answer adds. adds))
 
 pub returns-in-Query-clause-does : goal.returns-in-Query-clause-does
 returns-in-Query-clause-does g c =
@@ -31,7 +32,8 @@ returns-in-Query-clause-does g c =
     subst (λ (r : Request). Executes same s s at at faults faults r c.known.new.reply ok_result) (ap request_of (sym c.in-Query.is))
     (was_told same s at faults (requests.Query user fps) c.known.new.reply refl c.requires.ready (λ list. refl)
     (λ list remembers. c.known.ensures.value s.header.shape s.header.cloud.0 list remembers) (λ named found. tt)
-    (gives_plain s.header.shape (requests.Query user fps) c.known.new.reply _ c.known.ensures.kind (known_plain user fps)))
+    (gives_plain s.header.shape (requests.Query user fps) c.known.new.reply _ c.known.ensures.kind (known_plain user fps))
+    (λ answer adds. adds))
 
 pub returns-in-List-clause-does : goal.returns-in-List-clause-does
 returns-in-List-clause-does g c =
@@ -40,7 +42,8 @@ returns-in-List-clause-does g c =
     subst (λ (r : Request). Executes same s s at at faults faults r c.entries.new.reply ok_result) (ap request_of (sym c.in-List.is))
     (was_told same s at faults (requests.List user after) c.entries.new.reply refl c.requires.ready (λ list. refl)
     (λ list remembers. c.entries.ensures.value s.header.shape s.header.cloud.0 list remembers) (λ named found. tt)
-    (gives_plain s.header.shape (requests.List user after) c.entries.new.reply _ c.entries.ensures.kind (entries_plain user after)))
+    (gives_plain s.header.shape (requests.List user after) c.entries.new.reply _ c.entries.ensures.kind (entries_plain user after))
+    (λ answer adds. adds))
 
 -- ---- a recipe in its spelling
 
