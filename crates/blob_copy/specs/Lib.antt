@@ -1,5 +1,6 @@
 pub mod Answers
 pub mod Apart
+pub mod Checkpoints
 pub mod CloudAreas
 pub mod CloudDisk
 pub mod CloudMemory

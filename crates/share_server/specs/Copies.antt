@@ -11,6 +11,8 @@ use Rattle.blob_copy.specs.declared.copying.CopyErr.{CopyErr}
 use Rattle.blob_copy.specs.declared.copying.CopyErr.TheVariants as copy
 use Rattle.blob_copy.specs.declared.copying.Copying.{Copying}
 use Rattle.blob_copy.specs.Answers.{SomeRotten}
+use Rattle.blob_copy.specs.Checkpoints.Laying.{KeepsOrSettles, HasSettled}
+use Rattle.blob_copy.specs.Checkpoints.Records.{records_of}
 use Rattle.blob_copy.specs.CompactMemories.Kept.{commands_in}
 use Rattle.blob_copy.specs.CompactMemories.Moved.{IsMoved, other_region}
 use Rattle.blob_copy.specs.Copies.{HasCopied, KeepsBeside}
@@ -110,6 +112,16 @@ pub record HasGoneOn (Same : Type 0) (old : CloudStore) (copying : Copying) (new
   pub counts : OnReclaimFault result (HasFailed (before old.header.cloud.0) (after old.header.cloud.0) faults_before faults_after)
       (KeepsCounts (before old.header.cloud.0) (after old.header.cloud.0) faults_before faults_after)
 
+-- Whatever the chain that was read says: each image since has it, or the checkpoint of what is kept in its place.
+abbrev pub KeepsOrSwitches : CloudStore → CloudStore → Cloud → Cloud → Type 0
+KeepsOrSwitches old new before after =
+    KeepsOrSettles old.disk.journal old.header (commands_in (memory_of old.memory)) (length (records_of new.memory)) (other_region old.region) (records_of new.memory) before after
+
+-- After Ok that checkpoint is there.
+abbrev pub HasTakenPlace : {T E : Type 0} → CloudStore → CloudStore → Cloud → Cloud → Result T E → Type 0
+HasTakenPlace old new before after result =
+    HasSettled old.disk.journal new.disk.journal old.header (commands_in (memory_of old.memory)) (length (records_of new.memory)) (other_region old.region) (records_of new.memory) before after result
+
 -- The switch of a store whose logs are where the copies end.
 pub record SwitchesOver (old : CloudStore) (copying : Copying) (new : CloudStore) (before after : ℕ → Cloud) (faults_before faults_after : ℕ) (result : Result (Unit {0}) ReclaimErr) : Type 0 where
   pub any_moment : (list : List Command) (c : Chain) → IsCopying list c old copying (before old.header.cloud.0)
@@ -121,6 +133,8 @@ pub record SwitchesOver (old : CloudStore) (copying : Copying) (new : CloudStore
   pub number : OnOk result (new.commands ≡ commands_in (memory_of old.memory))
   pub region : OnOk result (new.region ≡ other_region old.region)
   pub never_rotten : IfRottenThere result (λ named found. ⊥)
+  pub chain : KeepsOrSwitches old new (before old.header.cloud.0) (after old.header.cloud.0)
+  pub taken : HasTakenPlace old new (before old.header.cloud.0) (after old.header.cloud.0) result
   pub others : OthersStay (before old.header.cloud.0) (after old.header.cloud.0) result
   pub header : new.header ≡ old.header
   pub settled : IsSettled new

@@ -28,7 +28,10 @@ use Rattle.blob_copy.specs.CloudOpening.Spared.{IsOkOrFault, Spares}
 use Rattle.server_requests.specs.CloudStore.store.CloudStore.{CloudStore}
 use Rattle.server_requests.specs.CloudStore.Store.{IsOpen, ServesSome}
 use Rattle.server_requests.specs.ServerCommands.Entering.{Enters}
+use Rattle.server_requests.specs.CommitJournal.States.{IsJournalEnded}
 use Rattle.server_requests.specs.ServerCommands.Executing.{GrowsBehind, LeavesBoth}
+use Rattle.server_requests.specs.ServerCommands.Growing.{GoesOn}
+use Rattle.server_requests.specs.ServerCommands.JournalHalves.Journals.{Where}
 use Rattle.server_requests.specs.ServerCommands.Leaving.{IsSteady}
 use Rattle.server_requests.specs.ServerCommands.Serving.{serves}
 use Rattle.share_server.specs.Openings.{OpensTo, OtherStoreIs}
@@ -114,13 +117,23 @@ pub record IsUnopenedReply (store : CloudStore) (old new : Cloud) (content : Lis
 abbrev pub CanOpen : CloudStore → Cloud → Type 0
 CanOpen store cloud = (commands : ℕ) × OpensTo store.header true (reads cloud.now) (Ok commands)
 
--- Whatever the records say: the areas stay, or the current chain gets one record more, or that behind the memory's checkpoint in its place, and all
+-- Whatever the records say: the areas stay, or the current chain gets the request's record, or that behind the memory's checkpoint in its place, and all
 -- that lay below the ends of both logs stays; and where the memory has it that the request adds nothing, areas and memory stay. The store is open
 -- behind it, or the cloud's count rose.
 pub record ChangesBehind (old new : CloudStore) (before after : Cloud) (request : Request) : Type 0 where
-  pub behind : StaysIn before after ⊎ GrowsBehind old before after
+  pub behind : StaysIn before after ⊎ GrowsBehind old before after request
   pub steady : IsSteady (memory_of old.memory) request → LeavesBoth old new before after
   pub stays_open : Rose before.faults after.faults ⊎ IsOpen new
+
+-- Of a told cloud whose journal an open server has read to its end, with this chain: the count rose, or the journal is read to its end then too.
+-- Where the reply says that a command was added it was: its record is the last one, and all that it places lies there, on the disk.
+abbrev pub GrowsBy : Where → CloudStore → CloudStore → Cloud → Cloud → Request → List ℕ → Type 0
+GrowsBy w old new before after request content = Rose before.faults after.faults ⊎ GoesOn w old new before after request content
+
+-- Whatever chain that is.
+abbrev pub GrowsOn : CloudStore → CloudStore → Cloud → Cloud → Request → List ℕ → Type 0
+GrowsOn old new before after request content = IsTrue before.told → (w : Where) → IsJournalEnded old.disk.journal (before.now Journal) w
+    → GrowsBy w old new before after request content
 
 -- The content is a reply that says of the memory before and behind the request just what is so; of Fault nothing is said.
 abbrev pub EntersBy : CloudStore → CloudStore → Request → List ℕ → Type 0
@@ -131,8 +144,8 @@ EntersBy old new request content =
 abbrev pub RottenLeaves : CloudStore → CloudStore → Cloud → Cloud → List ℕ → Type 0
 RottenLeaves old new before after content = (named found : Fp) → IsReply content (replies.Rotten named found) → LeavesBoth old new before after
 
--- A closed store was opened first: what the areas come to, record by record, is its memory then, and they were spared. The request changed them
--- behind that, and the reply speaks of that memory; behind Rotten they stay.
+-- A closed store was opened first: what the areas come to, record by record, is its memory then, its journal was read to its end, and they were
+-- spared. The request changed them behind that, and the reply speaks of that memory; behind Rotten they stay.
 pub record OpensFirst (old new : CloudStore) (before after : Cloud) (request : Request) (content : List ℕ) : Type 0 where
   pub opened : CloudStore
   pub between : Cloud
@@ -141,6 +154,9 @@ pub record OpensFirst (old new : CloudStore) (before after : Cloud) (request : R
   pub at_end : IsOpen opened
   pub exact : Opens old.header true (reads before.now) (memory_of opened.memory) (Ok commands)
   pub spares : Spares old.header true before between (some_commands commands)
+  pub w : Where
+  pub ended : IsJournalEnded opened.disk.journal (between.now Journal) w
   pub changes : ChangesBehind opened new between after request
+  pub grown : GrowsBy w opened new between after request content
   pub enters : EntersBy opened new request content
   pub rotten_leaves : RottenLeaves opened new between after content

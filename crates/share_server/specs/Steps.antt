@@ -1,7 +1,10 @@
 -- What the steps of a request leave. No public clause cites this module.
 use Rattle.std.specs.Prelude.{◌≡◌, ◌≢◌, ◌⊎◌, ℕ, true, List, Result, Ok, Err}
 use Rattle.server_requests.specs.CdEdges.Causes.{Rose}
+use Rattle.server_requests.specs.CdEdges.area.Area.TheVariants.{Journal}
 use Rattle.server_requests.specs.CdEdges.Disk.{Cloud, reads}
+use Rattle.server_requests.specs.CommitJournal.States.{IsJournalEnded}
+use Rattle.server_requests.specs.ServerCommands.JournalHalves.Journals.{Where}
 use Rattle.server_requests.specs.CommitJournal.errors.OpenErr.{OpenErr}
 use Rattle.server_requests.specs.CommitJournal.errors.OpenErr.TheVariants as errors
 use Rattle.server_requests.specs.Messages.request.Request.{Request}
@@ -44,8 +47,10 @@ pub record HasDoneRequest (old new : CloudStore) (cloud : Cloud) (p : Peer) (req
   pub does : Answers (serves old) p request answer left ⊎ Cuts (serves old) p request answer left
   pub opened : answer ≢ replies.Fault → IsOpen new
 
--- A closed store was opened: its memory is what the areas come to, record by record, and they were spared.
+-- A closed store was opened: its memory is what the areas come to, record by record, its journal was read to its end, and they were spared.
 pub record IsOpenedBy (old new : CloudStore) (before after : Cloud) : Type 0 where
   pub commands : ℕ
   pub exact : Opens old.header true (reads before.now) (memory_of new.memory) (Ok commands)
   pub spares : Spares old.header true before after (some_commands commands)
+  pub w : Where
+  pub ended : IsJournalEnded new.disk.journal (after.now Journal) w

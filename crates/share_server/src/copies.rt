@@ -19,7 +19,7 @@ ghost use Rattle.blob_copy.specs.Copies.{HasCopied, KeepsBeside};
 ghost use Rattle.blob_copy.specs.Copying.{IsCopyLaid, IsCopying, AreAllCopied, StandsForKept};
 ghost use Rattle.share_server.specs.Copies.{reclaim_error, OnReclaimFault, IfRottenThere, IsDoneOrFault, MatchCopied};
 ghost use Rattle.share_server.specs.Copies.{no_copies, at_copies, AreLaid, KeepsCopies, copied_so_far, KeepsAllBut};
-ghost use Rattle.share_server.specs.Copies.{HasGoneOn, SwitchesOver};
+ghost use Rattle.share_server.specs.Copies.{HasGoneOn, SwitchesOver, KeepsOrSwitches, HasTakenPlace};
 ghost use Rattle.share_server.specs.Serving.{IsServing, number_of, settled_with};
 
 use crate::Server;
@@ -256,8 +256,9 @@ impl Server {
     }
 
     /// Makes the copies the server's blobs and forgets the rest: a checkpoint of what is kept, in the other region, takes the
-    /// chain's place. Whenever a crash comes the cloud stands for the list or for its compact list; after Ok the server serves
-    /// the compact list. Rotten never comes. After an error the server is closed. No area but the journal is written. It takes
+    /// chain's place. Whenever a crash comes the cloud stands for the list or for its compact list, and whatever the records
+    /// say it has the chain that was read or that checkpoint; after Ok that checkpoint is there, and the server serves the
+    /// compact list. Rotten never comes. After an error the server is closed. No area but the journal is written. It takes
     /// no memory.
     pub fn copy_switch<V: Shelf>(&mut self, shelf: &mut V) -> Result<(), ReclaimErr>
         requires open { IsOpen self.old.store }
@@ -283,6 +284,10 @@ impl Server {
         ensures number { OnOk result (self.new.store.commands ≡ commands_in (memory_of self.old.store.memory)) }
         ensures region { OnOk result (self.new.store.region ≡ other_region self.old.store.region) }
         ensures never_rotten { IfRottenThere result (λ named found. ⊥) }
+        ensures chain { KeepsOrSwitches self.old.store self.new.store (V.cloud_at shelf.old (number_of self.old))
+            (V.cloud_at shelf.new (number_of self.old)) }
+        ensures taken { HasTakenPlace self.old.store self.new.store (V.cloud_at shelf.old (number_of self.old))
+            (V.cloud_at shelf.new (number_of self.old)) result }
         ensures others { OthersStay (V.cloud_at shelf.old (number_of self.old))
             (V.cloud_at shelf.new (number_of self.old)) result }
         ensures none { self.new.copies ≡ no_copies }

@@ -56,7 +56,7 @@ impl Server {
     ghost use Rattle.share_server.specs.Openings.{NotBegunIs, OtherStoreIs};
     ghost use Rattle.share_server.specs.Serving.{number_of, IsServing, server_serves, settled_with, ReopensAs};
     ghost use Rattle.share_server.specs.Serving.{ExecutesAs, Answered, IsUnopenedReply, CanOpen};
-    ghost use Rattle.share_server.specs.Serving.{ChangesBehind, EntersBy, OpensFirst, RottenLeaves};
+    ghost use Rattle.share_server.specs.Serving.{ChangesBehind, EntersBy, GrowsOn, OpensFirst, RottenLeaves};
 
     /// A closed server of this cloud of a store of this shape, in these rooms. It takes all its memory here; the only
     /// error is want of memory.
@@ -197,6 +197,11 @@ impl Server {
     ///
     /// Where the journal's current half has no room for a command's record, a checkpoint is made in the other half first.
     ///
+    /// Over a told cloud, whatever its records say, a Put that stored shares, a Commit that entered a version and a Delete that
+    /// took one out are on the disk behind the reply: the journal's last record is the request's, as the server spells it, the
+    /// shares or the recipe lie where it says, and what lay there before lies there still (`grown`; of a closed server that is
+    /// so behind its opening, in `first`).
+    ///
     /// A request that adds nothing leaves the cloud's areas and the memory as they were. Stored with 0, Lacking, Missing, NotYours
     /// and Full of a user's room by an open server come with no call of a device at all. Whatever the records say, what is
     /// added lies behind the ends of both logs and of the journal, or in its other half. Rotten names what lies then where
@@ -243,6 +248,10 @@ impl Server {
             → asked_at self.old.store.header.shape request.now ≡ Ok r
             → ChangesBehind self.old.store self.new.store (V.cloud_at shelf.old (number_of self.old))
             (V.cloud_at shelf.new (number_of self.old)) r }
+        ensures grown { (r : Request) → IsOpen self.old.store
+            → asked_at self.old.store.header.shape request.now ≡ Ok r
+            → GrowsOn self.old.store self.new.store (V.cloud_at shelf.old (number_of self.old))
+            (V.cloud_at shelf.new (number_of self.old)) r reply.new }
         ensures enters { (r : Request) → IsOpen self.old.store
             → asked_at self.old.store.header.shape request.now ≡ Ok r
             → EntersBy self.old.store self.new.store r reply.new }

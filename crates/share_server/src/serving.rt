@@ -20,7 +20,7 @@ ghost use Rattle.server_requests.specs.Asking.{request_of, IsOfShape, IsForMemor
 ghost use Rattle.share_server.specs.Keeping.{IsStoreKept};
 ghost use Rattle.share_server.specs.Refusals.{MayCome};
 ghost use Rattle.share_server.specs.Serving.{ServesAs, ExecutesAs, Answered, IsUnopened, IsUnopenedReply, CanOpen};
-ghost use Rattle.share_server.specs.Serving.{ChangesBehind, EntersBy, OpensFirst, RottenLeaves};
+ghost use Rattle.share_server.specs.Serving.{ChangesBehind, EntersBy, GrowsOn, OpensFirst, RottenLeaves};
 ghost use Rattle.server_requests.specs.Hashed.{IsHashed};
 ghost use Rattle.share_server.specs.Steps.{OpensAs, HasDoneRequest, IsOpenedBy};
 
@@ -69,6 +69,8 @@ fn serve<V: Shelf>(
         × (store.new.memory ≡ store.old.memory) }
     ensures behind { ChangesBehind store.old store.new (V.cloud_at shelf.old store.old.header.cloud.0)
         (V.cloud_at shelf.new store.old.header.cloud.0) (request_of asked.now) }
+    ensures grown { GrowsOn store.old store.new (V.cloud_at shelf.old store.old.header.cloud.0)
+        (V.cloud_at shelf.new store.old.header.cloud.0) (request_of asked.now) reply.new }
     ensures enters { EntersBy store.old store.new (request_of asked.now) reply.new }
     ensures rotten_leaves { RottenLeaves store.old store.new (V.cloud_at shelf.old store.old.header.cloud.0)
         (V.cloud_at shelf.new store.old.header.cloud.0) reply.new }
@@ -170,6 +172,9 @@ pub(crate) fn answer<V: Shelf>(
     ensures behind { IsOpen store.old
         → ChangesBehind store.old store.new (V.cloud_at shelf.old store.old.header.cloud.0)
         (V.cloud_at shelf.new store.old.header.cloud.0) (request_of asked.now) }
+    ensures grown { IsOpen store.old
+        → GrowsOn store.old store.new (V.cloud_at shelf.old store.old.header.cloud.0)
+        (V.cloud_at shelf.new store.old.header.cloud.0) (request_of asked.now) reply.new }
     ensures enters { IsOpen store.old → EntersBy store.old store.new (request_of asked.now) reply.new }
     ensures rotten_leaves { IsOpen store.old
         → RottenLeaves store.old store.new (V.cloud_at shelf.old store.old.header.cloud.0)

@@ -10,10 +10,11 @@ use Rattle.server_requests.specs.CloudStore.Store.{ServesSome}
 use Rattle.server_requests.specs.ServerCommands.Leaving.{IsFound}
 use Rattle.server_requests.specs.ServerCommands.Serving.{serves}
 use Rattle.server_requests.specs.Asking.{request_of}
-use Rattle.share_server.specs.Serving.{ServesAs, Answered, ChangesBehind, EntersBy, RottenLeaves}
+use Rattle.share_server.specs.Serving.{ServesAs, Answered, ChangesBehind, EntersBy, GrowsOn, RottenLeaves}
 use Rattle.share_server.specs.Steps.{HasDoneRequest}
 use Rattle.share_server.proofs.Executed.{opened_executes, opened_images, shut_images, refused_executes}
 use Rattle.share_server.proofs.Refusing.{not_rotten, refused_answered, answered_behind, refused_hashed}
+use Rattle.server_requests.proofs.CdEdges.Moments.{told_on}
 use Rattle.share_server.proofs.serving.answer.Goals as goal
 
 pub returns-in-Ok-clause-exec : goal.returns-in-Ok-clause-exec
@@ -105,6 +106,13 @@ returns-in-Ok-clause-behind g c is_open =
     let Q : CloudStore → (ℕ → Cloud) → Type 0 = λ s k. ChangesBehind s new (k s.header.cloud.0) (at after s.header.cloud.0) r in
     subst (Q old) (ap at alone.2) (subst (λ (s : CloudStore). Q s (at c.ensure_open.new.shelf)) alone.1 c.serve.ensures.behind)
 
+pub returns-in-Ok-clause-grown : goal.returns-in-Ok-clause-grown
+returns-in-Ok-clause-grown g c is_open =
+    let alone = c.in-Ok.ensures.alone is_open in
+    let old = c.args.store.now in let at = g.V.Shelf.cloud_at in let new = c.serve.new.store in let after = c.serve.new.shelf in let r = request_of c.args.asked.now in
+    let Q : CloudStore → (ℕ → Cloud) → Type 0 = λ s k. GrowsOn s new (k s.header.cloud.0) (at after s.header.cloud.0) r c.serve.new.reply in
+    subst (Q old) (ap at alone.2) (subst (λ (s : CloudStore). Q s (at c.ensure_open.new.shelf)) alone.1 c.serve.ensures.grown)
+
 pub returns-in-Ok-clause-enters : goal.returns-in-Ok-clause-enters
 returns-in-Ok-clause-enters g c is_open =
     let alone = c.in-Ok.ensures.alone is_open in
@@ -127,6 +135,10 @@ returns-in-Ok-clause-first g c told shut =
       at_end = d.«open»;
       exact = h.exact;
       spares = h.spares;
+      w = h.w;
+      ended = h.ended;
+      grown = subst (λ (x : Header). GrowsOn mid new (at between x.cloud.0) (at after x.cloud.0) r c.serve.new.reply) d.header c.serve.ensures.grown
+          (told_on (at c.args.shelf.now number) (at between number) d.call.told told) h.w h.ended;
       changes = subst (λ (x : Header). ChangesBehind mid new (at between x.cloud.0) (at after x.cloud.0) r) d.header c.serve.ensures.behind;
       enters = c.serve.ensures.enters;
       rotten_leaves = subst (λ (x : Header). RottenLeaves mid new (at between x.cloud.0) (at after x.cloud.0) c.serve.new.reply) d.header c.serve.ensures.rotten_leaves;

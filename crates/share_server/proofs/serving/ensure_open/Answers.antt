@@ -28,7 +28,7 @@ returns-in-Ok-clause-images g c p told serving =
     c.law_of_peers.ensures.lists old.header (g.V.Shelf.cloud_at c.args.shelf.now number) (g.V.Shelf.cloud_at c.«open».new.shelf number) p serving.stands.images (c.in-Ok.ensures.kept told)
 
 pub returns-in-Ok-clause-opened : goal.returns-in-Ok-clause-opened
-returns-in-Ok-clause-opened g c told shut = (let d = c.in-Ok.ensures in record { commands = c.in-Ok.field-0; exact = d.exact told; spares = d.spares told })
+returns-in-Ok-clause-opened g c told shut = (let d = c.in-Ok.ensures in record { commands = c.in-Ok.field-0; exact = d.exact told; spares = d.spares told; w = (d.read told).w; ended = (d.read told).ended })
 
 pub returns-in-Err-clause-peer : goal.returns-in-Err-clause-peer
 returns-in-Err-clause-peer g c p told serving =

@@ -98,3 +98,9 @@ returns-in-Ok-clause-hashed g c answer is =
 pub returns-in-Err-clause-hashed : goal.returns-in-Err-clause-hashed
 returns-in-Err-clause-hashed g c answer is =
     fault_hashed (memory_of c.dispatch.new.store.memory) (request_of c.args.asked.now) c.write_fault.new.out answer c.write_fault.ensures.is is
+
+pub returns-in-Ok-clause-grown : goal.returns-in-Ok-clause-grown
+returns-in-Ok-clause-grown g c told w ended = inr (c.in-Ok.ensures.does.grown told w ended)
+
+pub returns-in-Err-clause-grown : goal.returns-in-Err-clause-grown
+returns-in-Err-clause-grown g c told w ended = inl c.in-Err.ensures.does.failed.cloud

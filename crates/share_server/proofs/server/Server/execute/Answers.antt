@@ -3,7 +3,7 @@ use Rattle.server_requests.specs.Messages.request.Request.{Request}
 use Rattle.server_requests.specs.Asking.{request_of}
 use Rattle.server_requests.specs.Hashed.{IsHashed}
 use Rattle.blob_copy.specs.CloudOpening.CloudMemory.Rooms.{memory_of}
-use Rattle.share_server.specs.Serving.{ExecutesAs, ChangesBehind, EntersBy, OpensFirst, IsUnopenedReply}
+use Rattle.share_server.specs.Serving.{ExecutesAs, ChangesBehind, EntersBy, GrowsOn, OpensFirst, IsUnopenedReply}
 use Rattle.share_server.proofs.server.Server.execute.Goals as goal
 
 asks : Request → Result Request ℕ
@@ -25,6 +25,13 @@ returns-in-Ok-clause-behind g c r opened asked =
     let old = c.args.self.now.store in let at = g.V.Shelf.cloud_at in let number = old.header.cloud.0 in
     subst (λ (x : Request). ChangesBehind old c.answer.new.store (at c.args.shelf.now number) (at c.answer.new.shelf number) x) (same_asked (request_of c.in-Ok.asked) r (sym c.in-Ok.ensures.reads ∙ asked))
     (c.answer.ensures.behind opened)
+
+pub returns-in-Ok-clause-grown : goal.returns-in-Ok-clause-grown
+unfolding asks
+returns-in-Ok-clause-grown g c r opened asked =
+    let old = c.args.self.now.store in let at = g.V.Shelf.cloud_at in let number = old.header.cloud.0 in
+    subst (λ (x : Request). GrowsOn old c.answer.new.store (at c.args.shelf.now number) (at c.answer.new.shelf number) x c.answer.new.reply) (same_asked (request_of c.in-Ok.asked) r (sym c.in-Ok.ensures.reads ∙ asked))
+    (c.answer.ensures.grown opened)
 
 pub returns-in-Ok-clause-closed : goal.returns-in-Ok-clause-closed
 returns-in-Ok-clause-closed g c r told shut asked = c.answer.ensures.closed told shut
