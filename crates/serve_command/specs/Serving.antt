@@ -20,7 +20,7 @@ use Rattle.share_server.specs.CloudStore.store.CloudStore.{CloudStore}
 use Rattle.share_server.specs.CloudStore.Store.{IsOpen, ServesSome}
 use Rattle.share_server.specs.ServerCommands.Leaving.{IsFound, LeavesAll}
 use Rattle.share_server.specs.Serving.{IsServing, ExecutesAs, number_of, server_serves}
-use Rattle.share_server.specs.Serving.{Answered, ChangesBehind, EntersBy, OpensFirst, IsUnopenedReply, RottenLeaves}
+use Rattle.share_server.specs.Serving.{Answered, ChangesBehind, EntersBy, GrowsOn, OpensFirst, IsUnopenedReply, RottenLeaves}
 use Rattle.share_server.specs.declared.server.Server.{Server}
 use Rattle.share_server.specs.ServerRequests.Asking.{IsForMemory}
 use Rattle.share_server.specs.ServerRequests.Hashed.{IsHashed}
@@ -101,6 +101,8 @@ pub record RepliesTo (before after : HeldStore) (request : Request) (reply : Lis
       request).adds ≡ None
       → StaysIn before.cloud after.cloud × (after.store.memory ≡ before.store.memory)
   pub behind : IsOpen before.store → ChangesBehind before.store after.store before.cloud after.cloud request
+  -- What it says was added is on the disk of a told cloud, behind what there was, whatever the records say.
+  pub grown : IsOpen before.store → GrowsOn before.store after.store before.cloud after.cloud request reply
   -- What the reply says of a Put, a Commit or a Delete is so by the memory.
   pub enters : IsOpen before.store → EntersBy before.store after.store request reply
   -- A closed server opens a told cloud first, or its reply is the error of the opening, and the areas are spared.

@@ -38,6 +38,7 @@ returns-clause-answers g c =
                 same_held _ _ _ _ _ _ u.1 (ap (λ s. g.V.Shelf.cloud_at s number) u.0) (ap g.V.Shelf.faults u.0);
             stays = λ list opened serves. e.stays list r opened serves is;
             behind = λ opened. e.behind r opened is;
+            grown = λ opened. e.grown r opened is;
             enters = λ opened. e.enters r opened is;
             first = λ told closed. e.first r told closed is;
           })
