@@ -26,7 +26,7 @@ use Rattle.share_server.specs.CloudMemory.Rooms.{memory_of}
 use Rattle.share_server.specs.CloudStore.Store.{IsOpen}
 use Rattle.share_server.specs.ServerCommands.Leaving.{IsFound}
 use Rattle.share_server.specs.declared.server.Server.{Server}
-use Rattle.share_server.specs.Serving.{IsServing, CanOpen, IsUnopenedReply, ChangesBehind, EntersBy}
+use Rattle.share_server.specs.Serving.{IsServing, CanOpen, IsUnopenedReply, ChangesBehind, EntersBy, GrowsOn}
 use Rattle.local_link.specs.declared.servers.Servers.{Servers}
 use Rattle.local_link.specs.declared.link.LocalLink.{LocalLink}
 use Rattle.local_link.specs.Tells.{server_at, rooms_at, header_at, full_at, IsPeer}
@@ -96,6 +96,16 @@ module _ (old_servers new_servers : Servers) (cloud : ℕ) (before after : Serve
       (λ is_open.
       let at_cloud = subst (λ (d : Header). asked_at d.shape content ≡ Ok r → ChangesBehind before.store after.store (old d.cloud.0) (new d.cloud.0) r) h (x.behind r is_open) in
       said_of (server_at new_servers cloud) after (λ (t : Server). ChangesBehind before.store t.store (old cloud) (new cloud) r) here (at_cloud asked))
+
+  pub grown_here : (r : Request) → asked_at old_servers.shape content ≡ Ok r
+      → IsSomeAnd (server_at old_servers cloud) (λ (s : Server). IsOpen s.store
+      → IsSomeAnd (server_at new_servers cloud) (λ (t : Server). GrowsOn s.store t.store (old cloud) (new cloud) r reply))
+  grown_here r asked =
+      said_of (server_at old_servers cloud) before (λ (s : Server). IsOpen s.store
+      → IsSomeAnd (server_at new_servers cloud) (λ (t : Server). GrowsOn s.store t.store (old cloud) (new cloud) r reply)) put.here
+      (λ is_open.
+      let at_cloud = subst (λ (d : Header). asked_at d.shape content ≡ Ok r → GrowsOn before.store after.store (old d.cloud.0) (new d.cloud.0) r reply) h (x.grown r is_open) in
+      said_of (server_at new_servers cloud) after (λ (t : Server). GrowsOn before.store t.store (old cloud) (new cloud) r reply) here (at_cloud asked))
 
   pub enters_here : (r : Request) → asked_at old_servers.shape content ≡ Ok r
       → IsSomeAnd (server_at old_servers cloud) (λ (s : Server). IsOpen s.store
@@ -277,6 +287,12 @@ pub behind_counted : {V : Type 0} (clouds : V → ℕ → Cloud) (a b : LocalLin
     → IsSomeAnd server (λ (s : Server). IsOpen s.store → IsSomeAnd (server_at b.servers cloud) (λ (t : Server). ChangesBehind s.store t.store old (clouds b.shelf.now cloud) r))
 behind_counted {V} clouds a b cloud server old r e is =
     subst (λ (l : LocalLink V). IsSomeAnd server (λ (s : Server). IsOpen s.store → IsSomeAnd (server_at l.servers cloud) (λ (t : Server). ChangesBehind s.store t.store old (clouds l.shelf.now cloud) r))) (sym e) is
+
+pub grown_counted : {V : Type 0} (clouds : V → ℕ → Cloud) (a b : LocalLink V) (cloud : ℕ) (server : Option Server) (old : Cloud) (r : Request) (reply : List ℕ) → b ≡ a
+    → IsSomeAnd server (λ (s : Server). IsOpen s.store → IsSomeAnd (server_at a.servers cloud) (λ (t : Server). GrowsOn s.store t.store old (clouds a.shelf.now cloud) r reply))
+    → IsSomeAnd server (λ (s : Server). IsOpen s.store → IsSomeAnd (server_at b.servers cloud) (λ (t : Server). GrowsOn s.store t.store old (clouds b.shelf.now cloud) r reply))
+grown_counted {V} clouds a b cloud server old r reply e is =
+    subst (λ (l : LocalLink V). IsSomeAnd server (λ (s : Server). IsOpen s.store → IsSomeAnd (server_at l.servers cloud) (λ (t : Server). GrowsOn s.store t.store old (clouds l.shelf.now cloud) r reply))) (sym e) is
 
 pub enters_counted : {V : Type 0} (a b : LocalLink V) (cloud : ℕ) (server : Option Server) (r : Request) (reply : List ℕ) → b ≡ a
     → IsSomeAnd server (λ (s : Server). IsOpen s.store → IsSomeAnd (server_at a.servers cloud) (λ (t : Server). EntersBy s.store t.store r reply))

@@ -25,15 +25,16 @@ use Rattle.share_server.proofs.UserDedup.Asked.{asked_law}
 use Rattle.share_server.specs.CloudMemory.Memory.{Memory}
 use Rattle.share_server.specs.CloudStore.Store.{IsOpen}
 use Rattle.share_server.specs.CloudStore.store.CloudStore.{CloudStore}
-use Rattle.share_server.specs.Serving.{OpensFirst, IsUnopenedReply}
+use Rattle.share_server.specs.declared.server.Server.{Server}
+use Rattle.share_server.specs.Serving.{GrowsOn, OpensFirst, IsUnopenedReply}
 use Rattle.share_server.specs.CloudAreas.Peers.{StandsForSome, ImagesSince, MayBecome}
 use Rattle.local_link.specs.declared.link.LocalLink.{LocalLink}
-use Rattle.local_link.specs.Tells.{server_at, header_at, rooms_at, full_at, is_delivered, IsPeer, LeavesRest, serving_at, StandsAt, IsOpenWith, IsRemembered, ReadsOpen, ReadsTold, PassesOn, telling}
+use Rattle.local_link.specs.Tells.{server_at, header_at, rooms_at, full_at, is_delivered, IsPeer, LeavesRest, serving_at, StandsAt, IsOpenWith, IsRemembered, ReadsOpen, ReadsTold, PassesOn, OpensOrShuts, telling}
 use Rattle.share_server.specs.UserDedup.Link.{Exchange, IsReading, exchange_of, AddsNothing, Passes, ReadsFrom, Asks, serves}
 use Rattle.share_server.specs.CdBase.Reading.{AreBytes}
 use Rattle.local_link.specs.declared.fate.Fate.{Fate}
 use Rattle.local_link.specs.declared.fate.Fate.TheVariants.{Deliver, LoseReply, LoseRequest}
-use Rattle.local_link.specs.Steps.{OpensOrShuts, Replied}
+use Rattle.local_link.specs.Steps.{Replied}
 use Rattle.local_link.proofs.Standing.{images_now, header_stays, peer_moves}
 
 -- ---- what adds nothing
@@ -276,11 +277,17 @@ pub passes_by : {V E : Type 0} (clouds : V → ℕ → Cloud) (old new : LocalLi
     → ((m : Memory) (r : Request) → IsTrue (clouds old.shelf.now cloud).told → asked_at old.servers.shape content ≡ Ok r → AddsNothing r
     → IsRemembered (header_at old.servers cloud) (clouds old.shelf.now cloud) (server_at old.servers cloud) m
     → ReadsTold (header_at old.servers cloud) (clouds old.shelf.now cloud) (clouds new.shelf.now cloud) (server_at new.servers cloud) (exchange_of cloud content result reply) m r)
+    → (IsOk result → (r : Request) → asked_at old.servers.shape content ≡ Ok r → (given : List ℕ) × OnOk result (reply ≡ given)
+    × IsSomeAnd (server_at old.servers cloud) (λ (before : Server). IsOpen before.store
+    → IsSomeAnd (server_at new.servers cloud) (λ (after : Server). GrowsOn before.store after.store (clouds old.shelf.now cloud) (clouds new.shelf.now cloud) r given)))
+    → (IsOk result → (r : Request) → IsTrue (clouds old.shelf.now cloud).told → asked_at old.servers.shape content ≡ Ok r → (given : List ℕ) × OnOk result (reply ≡ given)
+    × IsSomeAnd (server_at old.servers cloud) (λ (before : Server). ¬ (IsOpen before.store)
+    → IsSomeAnd (server_at new.servers cloud) (λ (after : Server). OpensOrShuts before.store after.store (clouds old.shelf.now cloud) (clouds new.shelf.now cloud) r given)))
     → ((r : Request) → asked_at old.servers.shape content ≡ Ok r → Asks (telling clouds) cloud old r reply result new)
     → ((p : Peer) (r : Request) → IsTrue (clouds old.shelf.now cloud).told → StandsAt clouds old cloud p → asked_at old.servers.shape content ≡ Ok r
     → ImagesSince (clouds old.shelf.now cloud) (clouds new.shelf.now cloud) (header_at old.servers cloud) (MayBecome (serves (telling clouds) old cloud) p r))
     → PassesOn clouds old (exchange_of cloud content result reply) new
-passes_by clouds old new cloud content reply (Ok u) lt bytes rest rooms fate same armings later said reads recalls exec images = record {
+passes_by clouds old new cloud content reply (Ok u) lt bytes rest rooms fate same armings later said reads recalls grown first exec images = record {
   reached = lt;
   bytes = bytes;
   rest = rest;
@@ -292,10 +299,18 @@ passes_by clouds old new cloud content reply (Ok u) lt bytes rest rooms fate sam
   said = λ r heard asked came. subst (SaidBy clouds old new cloud r) (one_reply reply heard came) (said refl r asked);
   reads = reads;
   recalls = recalls;
+  grown = λ r heard asked came.
+      let x = grown refl r asked in
+      subst (λ (l : List ℕ). IsSomeAnd (server_at old.servers cloud) (λ (before : Server). IsOpen before.store
+      → IsSomeAnd (server_at new.servers cloud) (λ (after : Server). GrowsOn before.store after.store (clouds old.shelf.now cloud) (clouds new.shelf.now cloud) r l))) (sym x.1 ∙ one_reply reply heard came) x.2;
+  first = λ r heard told asked came.
+      let x = first refl r told asked in
+      subst (λ (l : List ℕ). IsSomeAnd (server_at old.servers cloud) (λ (before : Server). ¬ (IsOpen before.store)
+      → IsSomeAnd (server_at new.servers cloud) (λ (after : Server). OpensOrShuts before.store after.store (clouds old.shelf.now cloud) (clouds new.shelf.now cloud) r l))) (sym x.1 ∙ one_reply reply heard came) x.2;
   goes = λ p r asked is. let x = exec r asked p is in (x.0, x.1, inr (x.2.0, x.2.1, x.2.2));
   images = images;
 }
-passes_by clouds old new cloud content reply (Err e) lt bytes rest rooms fate same armings later said reads recalls exec images = record {
+passes_by clouds old new cloud content reply (Err e) lt bytes rest rooms fate same armings later said reads recalls grown first exec images = record {
   reached = lt;
   bytes = bytes;
   rest = rest;
@@ -307,6 +322,8 @@ passes_by clouds old new cloud content reply (Err e) lt bytes rest rooms fate sa
   said = λ r heard asked came. absurd (let never : None ≡ Some heard = came in cc);
   reads = reads;
   recalls = recalls;
+  grown = λ r heard asked came. absurd (let never : None ≡ Some heard = came in cc);
+  first = λ r heard told asked came. absurd (let never : None ≡ Some heard = came in cc);
   goes = λ p r asked is. let x = exec r asked p is in (
     x.0,
     x.1,

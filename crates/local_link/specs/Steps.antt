@@ -22,16 +22,16 @@ use Rattle.share_server.specs.Openings.{NotBegunIs, OtherStoreIs}
 use Rattle.share_server.specs.CloudOpening.Exact.{Opens}
 use Rattle.share_server.specs.UserDedup.Spending.{IsWithin}
 use Rattle.share_server.specs.CloudStore.Store.{IsOpen}
-use Rattle.share_server.specs.CloudStore.store.CloudStore.{CloudStore}
 use Rattle.share_server.specs.CloudAreas.Peers.{ImagesNow, ImagesSince, MayBecome}
 use Rattle.share_server.specs.CloudAreas.Standing.{StandsFor}
 use Rattle.share_server.specs.CloudMemory.Rooms.{memory_of}
 use Rattle.share_server.specs.ServerCommands.Leaving.{IsFound, LeavesAll}
 use Rattle.share_server.specs.declared.server.Server.{Server}
 use Rattle.share_server.specs.UserDedup.Cloud.{counted}
-use Rattle.share_server.specs.Serving.{number_of, IsServing, server_serves, settled_with, ReopensAs, CanOpen, IsUnopenedReply, ChangesBehind, EntersBy, OpensFirst}
+use Rattle.share_server.specs.Serving.{number_of, IsServing, server_serves, settled_with, ReopensAs, CanOpen, IsUnopenedReply, ChangesBehind, EntersBy, GrowsOn}
 use Rattle.local_link.specs.declared.servers.Servers.{Servers}
 use Rattle.local_link.specs.Tells.{server_at}
+pub use Rattle.local_link.specs.Tells.{OpensOrShuts}
 
 -- One server stood at this place, and another stands there now. The others are as they were.
 pub record HasPutServer (old new : Servers) (cloud : ℕ) (before after : Server) : Type 0 where
@@ -73,11 +73,6 @@ pub record RepliesOpen (old new : ℕ → Cloud) (faults_before faults_after : �
   pub untouched : (answer : Reply) → LeavesAll request answer → IsReply reply answer → (new ≡ old)
       × (faults_after ≡ faults_before)
 
--- A closed server was opened first; or its cloud isn't opened, and where that is for a device that failed the server is closed still.
-abbrev pub OpensOrShuts : CloudStore → CloudStore → Cloud → Cloud → Request → List ℕ → Type 0
-OpensOrShuts old new before after request content = OpensFirst old new before after request content
-    ⊎ (IsUnopenedReply old before after content × (IsReply content replies.Fault → ¬ (IsOpen new)))
-
 -- A server executed the content, over the clouds of a shelf.
 pub record HasServerExecuted (before after : Server) (old new : ℕ → Cloud) (faults_before faults_after : ℕ) (content reply : List ℕ) : Type 0 where
   pub same : after.store.header ≡ before.store.header
@@ -97,6 +92,8 @@ pub record HasServerExecuted (before after : Server) (old new : ℕ → Cloud) (
       → OpensOrShuts before.store after.store (old (number_of before)) (new (number_of before)) request reply
   pub behind : (request : Request) → IsOpen before.store → asked_at before.store.header.shape content ≡ Ok request
       → ChangesBehind before.store after.store (old (number_of before)) (new (number_of before)) request
+  pub grown : (request : Request) → IsOpen before.store → asked_at before.store.header.shape content ≡ Ok request
+      → GrowsOn before.store after.store (old (number_of before)) (new (number_of before)) request reply
   pub enters : (request : Request) → IsOpen before.store → asked_at before.store.header.shape content ≡ Ok request
       → EntersBy before.store after.store request reply
   pub opened : (request : Request) → IsOpen before.store → asked_at before.store.header.shape content ≡ Ok request

@@ -31,7 +31,8 @@ use Rattle.share_server.specs.CloudMemory.Rooms.{memory_of}
 use Rattle.share_server.specs.CloudStore.Store.{IsOpen}
 use Rattle.share_server.specs.ServerCommands.Entering.{ReadsBy}
 use Rattle.share_server.specs.ServerCommands.Leaving.{IsFound}
-use Rattle.share_server.specs.Serving.{IsServing}
+use Rattle.share_server.specs.CloudStore.store.CloudStore.{CloudStore}
+use Rattle.share_server.specs.Serving.{IsServing, GrowsOn, OpensFirst, IsUnopenedReply}
 use Rattle.local_link.specs.declared.fate.Fate.{Fate}
 use Rattle.local_link.specs.declared.fate.Fate.TheVariants as fates
 use Rattle.local_link.specs.declared.fate.Fate.TheVariants.{Deliver}
@@ -122,12 +123,18 @@ pub record ReadsTold (header : Header) (old new : Cloud) (server : Option Server
   pub same : reads new.now ≡ reads old.now
   pub says : (content : List ℕ) → e.reply ≡ Some content → IsReply content replies.Fault ⊎ IsSaidBy old m request content
 
+-- A closed server was opened first; or its cloud isn't opened, and where that is for a device that failed the server is closed still.
+abbrev pub OpensOrShuts : CloudStore → CloudStore → Cloud → Cloud → Request → List ℕ → Type 0
+OpensOrShuts old new before after request content = OpensFirst old new before after request content
+    ⊎ (IsUnopenedReply old before after content × (IsReply content replies.Fault → ¬ (IsOpen new)))
+
 -- Only its cloud was touched, and nothing but the fate beside it; the shelf is the same one; the cloud went on from each peer that it stood
 -- for, by the reply that came, and without a reply it may have stayed; and whenever a crash came it left a list that the cloud might have settled
 -- as, or one with the command that the request adds. Whatever the cloud has, it isn't armed, its count of faults doesn't fall, and a reply that
 -- came is one that some server gives to the request, Fault only where that count rose. Where the server was open and
 -- the request adds nothing, the reply is what its memory says; and so it is of a told cloud whose areas open to a memory, whatever failed
--- before.
+-- before. What a reply says was added is on the disk of a told cloud, whatever its records say: by an open server behind the chain that it has
+-- read, and by a closed one behind that which it opened.
 pub record PassesOn {V : Type 0} (clouds : V → ℕ → Cloud) (old : LocalLink V) (e : Exchange) (new : LocalLink V) : Type 0 where
   pub reached : e.cloud < old.servers.shape.n
   pub bytes : AreBytes e.content
@@ -146,6 +153,12 @@ pub record PassesOn {V : Type 0} (clouds : V → ℕ → Cloud) (old : LocalLink
   pub recalls : (m : Memory) (r : Request) → IsTrue (clouds old.shelf.now e.cloud).told → asked_at old.servers.shape e.content ≡ Ok r → AddsNothing r
       → IsRemembered (header_at old.servers e.cloud) (clouds old.shelf.now e.cloud) (server_at old.servers e.cloud) m
       → ReadsTold (header_at old.servers e.cloud) (clouds old.shelf.now e.cloud) (clouds new.shelf.now e.cloud) (server_at new.servers e.cloud) e m r
+  pub grown : (r : Request) (content : List ℕ) → asked_at old.servers.shape e.content ≡ Ok r → e.reply ≡ Some content
+      → IsSomeAnd (server_at old.servers e.cloud) (λ (before : Server). IsOpen before.store
+      → IsSomeAnd (server_at new.servers e.cloud) (λ (after : Server). GrowsOn before.store after.store (clouds old.shelf.now e.cloud) (clouds new.shelf.now e.cloud) r content))
+  pub first : (r : Request) (content : List ℕ) → IsTrue (clouds old.shelf.now e.cloud).told → asked_at old.servers.shape e.content ≡ Ok r → e.reply ≡ Some content
+      → IsSomeAnd (server_at old.servers e.cloud) (λ (before : Server). ¬ (IsOpen before.store)
+      → IsSomeAnd (server_at new.servers e.cloud) (λ (after : Server). OpensOrShuts before.store after.store (clouds old.shelf.now e.cloud) (clouds new.shelf.now e.cloud) r content))
   pub goes : (p : Peer) (r : Request) → asked_at old.servers.shape e.content ≡ Ok r → StandsAt clouds old e.cloud p
       → (q : Peer) × StandsAt clouds new e.cloud q × ((KeepsPeer p q × CountsOn p q × (e.reply ≡ None))
       ⊎ ((answer : Reply) × IfSome e.reply (λ (content : List ℕ). IsReply content answer)

@@ -70,7 +70,8 @@ impl<'a, V: Shelf> LocalLink<'a, V> {
     ghost use Rattle.share_server.specs.declared.server.Server.{Server};
     ghost use Rattle.share_server.specs.JournalStart.rooms.UserRooms.{UserRooms};
     ghost use Rattle.share_server.specs.UserDedup.Cloud.{counted};
-    ghost use Rattle.share_server.specs.Serving.{ReopensAs, settled_with, CanOpen, IsUnopenedReply, ChangesBehind, EntersBy};
+    ghost use Rattle.share_server.specs.Serving.{ReopensAs, settled_with, CanOpen, IsUnopenedReply};
+    ghost use Rattle.share_server.specs.Serving.{ChangesBehind, EntersBy, GrowsOn};
     ghost use Rattle.share_server.specs.CloudAreas.Standing.{StandsFor};
     ghost use Rattle.share_server.specs.CdEdges.Disk.{reads};
     ghost use Rattle.local_link.specs.declared.fate.Fate.TheVariants.{Deliver, LoseRequest};
@@ -456,6 +457,13 @@ impl<'a, V: Shelf> LocalLink<'a, V> {
             → IsSomeAnd (server_at self.old.servers cloud.0) (λ before. IsOpen before.store
             → IsSomeAnd (server_at self.new.servers cloud.0) (λ after. ChangesBehind before.store after.store
             (V.cloud_at self.old.shelf.now cloud.0) (V.cloud_at self.new.shelf.now cloud.0) r)) }
+        // What a reply says was added is on the disk of a told cloud, whatever its records say.
+        ensures grown { self.old.fate ≢ LoseRequest → (r : Request)
+            → asked_at ((telling V.cloud_at).shape self.old) request.now ≡ Ok r
+            → (content : List ℕ) × OnOk result (reply.new ≡ content)
+            × IsSomeAnd (server_at self.old.servers cloud.0) (λ before. IsOpen before.store
+            → IsSomeAnd (server_at self.new.servers cloud.0) (λ after. GrowsOn before.store after.store
+            (V.cloud_at self.old.shelf.now cloud.0) (V.cloud_at self.new.shelf.now cloud.0) r content)) }
         // What an open server replies follows from its memory, and says what that is then.
         ensures enters { self.old.fate ≢ LoseRequest → (r : Request)
             → asked_at ((telling V.cloud_at).shape self.old) request.now ≡ Ok r

@@ -4,7 +4,7 @@ use Rattle.share_server.specs.UserDedup.Link.{LeavesOthers, serves}
 use Rattle.share_server.specs.CloudAreas.Peers.{MayBecome}
 use Rattle.local_link.specs.Tells.{server_at, rooms_at, header_at, telling, LeavesRest}
 use Rattle.local_link.proofs.Standing.{rest_by, others_by, rooms_same, here_now, images_now}
-use Rattle.local_link.proofs.Executing.{goes_on, refused_clouds, clouds_counted, refuses, refused_reply, images_since, images_stay, peer_counted, images_counted, replied_here, uncounted_here, called_here, closed_here, none_called, calls_counted, replied_counted, closed_counted, total_counted, opened_here, found_here, opened_counted, found_counted, rooms_counted, behind_here, behind_counted, enters_here, enters_counted, first_here, first_counted}
+use Rattle.local_link.proofs.Executing.{goes_on, refused_clouds, clouds_counted, refuses, refused_reply, images_since, images_stay, peer_counted, images_counted, replied_here, uncounted_here, called_here, closed_here, none_called, calls_counted, replied_counted, closed_counted, total_counted, opened_here, found_here, opened_counted, found_counted, rooms_counted, behind_here, behind_counted, grown_here, grown_counted, enters_here, enters_counted, first_here, first_counted}
 use Rattle.local_link.proofs.link.LocalLink.ask_cloud.Goals as goal
 
 pub returns-in-Deliver-clause-executed : goal.returns-in-Deliver-clause-executed
@@ -252,6 +252,25 @@ returns-in-LoseReply-clause-behind g c = λ ne r asked.
     behind_counted g.V.Shelf.cloud_at _ c.lose-in-LoseReply.new.self c.args.cloud.0 (server_at c.args.self.now.servers c.args.cloud.0) (g.V.Shelf.cloud_at c.args.self.now.shelf.now c.args.cloud.0) r c.lose-in-LoseReply.ensures.counted
     (behind_here c.args.self.now.servers c.execute-in-LoseReply.new.self c.args.cloud.0 e.0 e.1 e.2 (ltb-true c.args.cloud.0 c.args.self.now.servers.shape.n c.requires.reached)
     (g.V.Shelf.cloud_at c.args.self.now.shelf.now) (g.V.Shelf.cloud_at c.execute-in-LoseReply.new.shelf) _ _ c.args.request.now c.execute-in-LoseReply.new.reply e.3 r asked)
+
+pub returns-in-Deliver-clause-grown : goal.returns-in-Deliver-clause-grown
+returns-in-Deliver-clause-grown g c = λ ne r asked.
+    let e = c.execute.ensures in (
+      c.execute.new.reply,
+      refl,
+      grown_here c.args.self.now.servers c.execute.new.self c.args.cloud.0 e.0 e.1 e.2 (ltb-true c.args.cloud.0 c.args.self.now.servers.shape.n c.requires.reached)
+          (g.V.Shelf.cloud_at c.args.self.now.shelf.now) (g.V.Shelf.cloud_at c.execute.new.shelf) _ _ c.args.request.now c.execute.new.reply e.3 r asked,
+    )
+
+pub returns-in-LoseReply-clause-grown : goal.returns-in-LoseReply-clause-grown
+returns-in-LoseReply-clause-grown g c = λ ne r asked.
+    let e = c.execute-in-LoseReply.ensures in (
+      c.execute-in-LoseReply.new.reply,
+      tt,
+      grown_counted g.V.Shelf.cloud_at _ c.lose-in-LoseReply.new.self c.args.cloud.0 (server_at c.args.self.now.servers c.args.cloud.0) (g.V.Shelf.cloud_at c.args.self.now.shelf.now c.args.cloud.0) r _ c.lose-in-LoseReply.ensures.counted
+          (grown_here c.args.self.now.servers c.execute-in-LoseReply.new.self c.args.cloud.0 e.0 e.1 e.2 (ltb-true c.args.cloud.0 c.args.self.now.servers.shape.n c.requires.reached)
+          (g.V.Shelf.cloud_at c.args.self.now.shelf.now) (g.V.Shelf.cloud_at c.execute-in-LoseReply.new.shelf) _ _ c.args.request.now c.execute-in-LoseReply.new.reply e.3 r asked),
+    )
 
 pub returns-in-Deliver-clause-enters : goal.returns-in-Deliver-clause-enters
 returns-in-Deliver-clause-enters g c = λ ne r asked.

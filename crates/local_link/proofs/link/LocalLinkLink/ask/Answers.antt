@@ -19,4 +19,5 @@ returns-clause-passes g c =
     recalled g.V.Shelf.cloud_at c.args.self.now c.ask_cloud.new.self c.args.cloud.0 m r none told is e.rest e.unheard c.args.request.now c.ask_cloud.new.reply c.ask_cloud.result
     (λ ok. heard c.args.self.now.fate (e.delivered.0 ok)) (λ arrives. e.behind arrives r asked) (λ arrives. e.first arrives r told asked)
     (λ arrives. e.enters arrives r asked) (λ arrives. e.found arrives r asked))
+    (λ ok r asked. e.grown (heard c.args.self.now.fate (e.delivered.0 ok)) r asked) (λ ok r told asked. e.first (heard c.args.self.now.fate (e.delivered.0 ok)) r told asked)
     e.exec e.images

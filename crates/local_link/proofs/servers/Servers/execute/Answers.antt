@@ -25,6 +25,7 @@ returns g c = (
         let before = c.index_mut.result.now in
         shut_behind before.store c.execute.new.self.store (g.V.Shelf.cloud_at c.args.shelf.now (number_of before)) (g.V.Shelf.cloud_at c.execute.new.shelf (number_of before)) r c.execute.new.reply e.0 e.1 (λ f. (e.4 f).1) (c.execute.ensures.first r told shut asked);
     behind = c.execute.ensures.behind;
+    grown = c.execute.ensures.grown;
     enters = c.execute.ensures.enters;
     opened = λ r is_open asked. record {
       undamaged = λ at byte damaged. c.execute.ensures.undamaged r at byte is_open asked damaged;
