@@ -23,12 +23,12 @@ use Rattle.blob_copy.specs.CloudAreas.Standing.{StandsFor}
 use Rattle.blob_copy.specs.CloudOpening.CloudMemory.Rooms.{memory_of}
 use Rattle.blob_copy.specs.CloudOpening.RecordLaws.Leaving.{MayHold}
 use Rattle.blob_copy.specs.CloudOpening.Exact.{Opens}
-use Rattle.blob_copy.specs.CloudOpening.Spared.{IsOkOrFault, MayBegin, Spares}
+use Rattle.blob_copy.specs.CloudOpening.Spared.{IsOkOrFault, IsReadWhole, MayBegin, Spares}
 use Rattle.server_requests.specs.CloudStore.store.CloudStore.{CloudStore}
 use Rattle.server_requests.specs.CloudStore.Store.{IsOpen, ServesSome}
 use Rattle.share_server.specs.Openings.{OpensTo, NotBegunIs}
 use Rattle.share_server.specs.Refusals.{MayCome}
-use Rattle.share_server.specs.Serving.{ServesAs, ReopensAs, IsUnopened, an_error, settled_with}
+use Rattle.share_server.specs.Serving.{ServesAs, ReopensAs, IsUnopened, an_error, settled_with, IsReadToEnd}
 use Rattle.share_server.specs.Steps.{OpensAs}
 use Rattle.share_server.proofs.ByteLaws.{other_store_is}
 use Rattle.share_server.proofs.Peers.{open_serves, closed_serves, shut_closed, read_stands, may_hold, none_unbegun}
@@ -185,3 +185,9 @@ is_unopened old new before after error shut format rooms exact whole spares = re
       whole_for old.header (reads before.now) list true (before.now Journal).read (an_error error) format rooms (whole told) stands within (λ none. refl);
   areas = spares;
 }
+
+-- ---- the journal
+
+pub read_to_end : (s : CloudStore) (header : Header) (cloud : Cloud) (r : Result ℕ OpenErr) → IfOk r (λ commands. IsReadWhole header s.disk.journal (memory_of s.memory) commands cloud) → OnOk r (IsReadToEnd s cloud)
+read_to_end s header cloud (Err e) is = tt
+read_to_end s header cloud (Ok commands) is = (is.w, is.ended)

@@ -125,6 +125,10 @@ pub record ChangesBehind (old new : CloudStore) (before after : Cloud) (request 
   pub steady : IsSteady (memory_of old.memory) request → LeavesBoth old new before after
   pub stays_open : Rose before.faults after.faults ⊎ IsOpen new
 
+-- The store has read the cloud's journal to its end: the current half has some chain, and all of the area is on the disk.
+abbrev pub IsReadToEnd : CloudStore → Cloud → Type 0
+IsReadToEnd store cloud = (w : Where) × IsJournalEnded store.disk.journal (cloud.now Journal) w
+
 -- Of a told cloud whose journal an open server has read to its end, with this chain: the count rose, or the journal is read to its end then too.
 -- Where the reply says that a command was added it was: its record is the last one, and all that it places lies there, on the disk.
 abbrev pub GrowsBy : Where → CloudStore → CloudStore → Cloud → Cloud → Request → List ℕ → Type 0

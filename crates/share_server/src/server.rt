@@ -56,7 +56,7 @@ impl Server {
     ghost use Rattle.share_server.specs.Openings.{NotBegunIs, OtherStoreIs};
     ghost use Rattle.share_server.specs.Serving.{number_of, IsServing, server_serves, settled_with, ReopensAs};
     ghost use Rattle.share_server.specs.Serving.{ExecutesAs, Answered, IsUnopenedReply, CanOpen};
-    ghost use Rattle.share_server.specs.Serving.{ChangesBehind, EntersBy, GrowsOn, OpensFirst, RottenLeaves};
+    ghost use Rattle.share_server.specs.Serving.{ChangesBehind, EntersBy, GrowsOn, IsReadToEnd, OpensFirst, RottenLeaves};
 
     /// A closed server of this cloud of a store of this shape, in these rooms. It takes all its memory here; the only
     /// error is want of memory.
@@ -167,6 +167,8 @@ impl Server {
         ensures areas { IsTrue (V.cloud_at shelf.old (number_of self.old)).told
             → Spares self.old.store.header begin (V.cloud_at shelf.old (number_of self.old))
             (V.cloud_at shelf.new (number_of self.old)) result }
+        ensures read { IsTrue (V.cloud_at shelf.old (number_of self.old)).told
+            → OnOk result (IsReadToEnd self.new.store (V.cloud_at shelf.new (number_of self.old))) }
         ensures begins { IsTrue begin → HasBegun result }
         ensures call { IsCall (V.cloud_at shelf.old) (V.cloud_at shelf.new) (number_of self.old) (V.faults shelf.old)
             (V.faults shelf.new) }

@@ -2,7 +2,7 @@ use Rattle.server_requests.specs.CdEdges.area.Area.TheVariants.{Journal}
 use Rattle.server_requests.specs.CdEdges.Disk.{reads}
 use Rattle.blob_copy.specs.CloudOpening.CloudMemory.Rooms.{memory_of}
 use Rattle.share_server.proofs.ByteLaws.{not_begun_is, other_store_is}
-use Rattle.share_server.proofs.Openings.{reopens, loads, whole_for, shut_of}
+use Rattle.share_server.proofs.Openings.{reopens, loads, whole_for, shut_of, read_to_end}
 use Rattle.share_server.proofs.server.Server.reopen.Goals as goal
 
 pub returns-clause-shut : goal.returns-clause-shut
@@ -38,3 +38,8 @@ pub returns-clause-other_store : goal.returns-clause-other_store
 returns-clause-other_store g c told =
     let old = c.args.self.now.store in let number = old.header.cloud.0 in let d = c.«open».ensures in
     other_store_is old.header c.args.begin (g.V.Shelf.cloud_at c.args.shelf.now number) (g.V.Shelf.cloud_at c.«open».new.shelf number) (memory_of c.«open».new.self.memory) c.«open».result (d.exact told)
+
+pub returns-clause-read : goal.returns-clause-read
+returns-clause-read g c told =
+    let number = c.args.self.now.store.header.cloud.0 in
+    read_to_end c.«open».new.self c.args.self.now.store.header (g.V.Shelf.cloud_at c.«open».new.shelf number) c.«open».result (c.«open».ensures.read told)
