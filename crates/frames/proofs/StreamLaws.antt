@@ -8,7 +8,7 @@ use Rattle.frames.specs.Frames.{AreContents, IsFrameOf, IsFrame, NoneWithin, IsR
 use Rattle.frames.specs.Steps.{Run, Begun, Took, Refused, Dropped}
 use Rattle.frames.proofs.FrameLaws.{one_frame, measured, length_in-frame, length_in-append}
 
-AreContents-append : (one two : List (List ℕ)) → AreContents one → AreContents two → AreContents (one ++ two)
+pub AreContents-append : (one two : List (List ℕ)) → AreContents one → AreContents two → AreContents (one ++ two)
 AreContents-append [] two s t = t
 AreContents-append (a ∷ one) two s t = (s.0, AreContents-append one two s.1 t)
 

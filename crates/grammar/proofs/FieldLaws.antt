@@ -33,7 +33,7 @@ pub guard_ok : {A : Type 0} (b : Bool) (d : ℕ) (x y : A) → cond b (Err d) (O
 guard_ok true d x y e = absurd cc
 guard_ok false d x y e = (refl, cc)
 
-guard_err : {A : Type 0} (b : Bool) (x : A) (e : ℕ) → cond b (Err 0) (Ok x) ≡ Err e → e ≡ 0
+pub guard_err : {A : Type 0} (b : Bool) (x : A) (e : ℕ) → cond b (Err 0) (Ok x) ≡ Err e → e ≡ 0
 guard_err true x e h = cc
 guard_err false x e h = absurd cc
 
@@ -90,13 +90,13 @@ number_takes w limit wide bytes n rest fits e =
     let front : to_be_bytes w n ≡ take (byte_len w) bytes = rw (← n-is) (wide.back (take (byte_len w) bytes) (omega (arith, length-take (byte_len w) bytes)) (IsBytes-take (byte_len w) bytes fits)) in
     record { parts = rw (front, ← rest-is) (sym (take-append-drop (byte_len w) bytes)); known = rw (← rest-is) (IsBytes-drop (byte_len w) bytes fits) }
 
-number_again : (w : Width) (limit : ℕ) (wide : IsWide w limit) (n : ℕ) (rest : List ℕ) → n < limit → number_at w (to_be_bytes w n ++ rest) ≡ Ok (n, rest)
+pub number_again : (w : Width) (limit : ℕ) (wide : IsWide w limit) (n : ℕ) (rest : List ℕ) → n < limit → number_at w (to_be_bytes w n ++ rest) ≡ Ok (n, rest)
 number_again w limit wide n rest lt =
     let len = wide.len n in
     let long : ltb (length (to_be_bytes w n ++ rest)) (byte_len w) ≡ false = le-ltb _ _ (omega (arith, length-append (to_be_bytes w n) rest)) in
     rw (long, take_at (to_be_bytes w n) rest (byte_len w) len, drop_at (to_be_bytes w n) rest (byte_len w) len, wide.again n lt) refl
 
-number_fails : (w : Width) (bytes : List ℕ) (left : ℕ) → number_at w bytes ≡ Err left → left ≤ length bytes
+pub number_fails : (w : Width) (bytes : List ℕ) (left : ℕ) → number_at w bytes ≡ Err left → left ≤ length bytes
 number_fails w bytes left e = let z = guard_err (ltb (length bytes) (byte_len w)) (from_be_bytes w (take (byte_len w) bytes), drop (byte_len w) bytes) left e in omega arith
 
 -- a number that passes a test

@@ -58,11 +58,11 @@ unfoldable pub all_lower : List ℕ → Bool
 all_lower [] = true
 all_lower (c ∷ text) = is_some (unhex_digit c) && all_lower text
 
-and_assoc : (a b c : Bool) → (a && (b && c)) ≡ ((a && b) && c)
+pub and_assoc : (a b c : Bool) → (a && (b && c)) ≡ ((a && b) && c)
 and_assoc true b c = refl
 and_assoc false b c = refl
 
-and_true : (a : Bool) → (a && true) ≡ a
+pub and_true : (a : Bool) → (a && true) ≡ a
 and_true true = refl
 and_true false = refl
 

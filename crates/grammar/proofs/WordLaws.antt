@@ -66,7 +66,7 @@ spelled_ok (Some x) rest left y e = (x, refl, ok_is (x, rest) y e)
 spelled_ok None rest left y e = absurd cc
 
 -- a fault lies in the text
-spelled_err : {A : Type 0} (o : Option A) (rest : List ℕ) (left e : ℕ) → spelled o rest left ≡ Err e → e ≡ left
+pub spelled_err : {A : Type 0} (o : Option A) (rest : List ℕ) (left e : ℕ) → spelled o rest left ≡ Err e → e ≡ left
 spelled_err (Some x) rest left e h = absurd cc
 spelled_err None rest left e h = cc
 
@@ -74,7 +74,7 @@ pub word_fails : {A : Type 0} (read : List ℕ → Option A) (bytes : List ℕ) 
 unfolding word_at
 word_fails read bytes left e = let same = spelled_err (read (cut bytes).0) (cut bytes).1 (length bytes) left e in omega arith
 
-field_fails : {A : Type 0} (read : List ℕ → Option A) (bytes : List ℕ) (left : ℕ) → field_at read bytes ≡ Err left → left ≤ length bytes
+pub field_fails : {A : Type 0} (read : List ℕ → Option A) (bytes : List ℕ) (left : ℕ) → field_at read bytes ≡ Err left → left ≤ length bytes
 unfolding field_at
 field_fails {A} read [] left e = let z : left ≡ 0 = err_is {A = A × List ℕ} left 0 e in omega arith
 field_fails {A} read (b ∷ bytes) left e =
