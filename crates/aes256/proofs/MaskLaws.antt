@@ -87,13 +87,13 @@ added_twice (x ∷ s) (y ∷ k) e = λ t. (xor_assoc x y y ∙ ap (bit_xor x) (x
 abbrev pub AreBytes : List ℕ → Type 0
 AreBytes xs = (i : ℕ) → slice_index xs i < 256
 
-AreBytes-append : (xs ys : List ℕ) → AreBytes xs → AreBytes ys → AreBytes (xs ++ ys)
+pub AreBytes-append : (xs ys : List ℕ) → AreBytes xs → AreBytes ys → AreBytes (xs ++ ys)
 AreBytes-append xs ys f g i = elim (cases_lt i (length xs)) [
   | inl b ↦ subst (λ (v : ℕ). v < 256) (sym (get_or-append xs ys 0 i b)) (f i)
   | inr h ↦ subst (λ (v : ℕ). v < 256) (sym (get_or-append_right xs ys i 0 h)) (g (i - length xs))
 ]
 
-AreBytes-added : (xs ys : List ℕ) → AreBytes xs → AreBytes ys → AreBytes (added xs ys)
+pub AreBytes-added : (xs ys : List ℕ) → AreBytes xs → AreBytes ys → AreBytes (added xs ys)
 AreBytes-added [] ys f g i = omega arith
 AreBytes-added (x ∷ xs) [] f g i = omega arith
 AreBytes-added (x ∷ xs) (y ∷ ys) f g zero = xor_lt 8 x y (f 0) (g 0)

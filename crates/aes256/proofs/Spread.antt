@@ -1,16 +1,12 @@
 -- A byte at each of eight blocks.
-use Rattle.std.proofs.Common.{◌≡◌, ℕ, zero, suc, ◌<◌, ◌^◌, eqb, eqb→eq, ◌+◌, ◌-◌, ◌/◌, ◌%◌, length, replicate, bit_and, ap, ◌∙◌, zero-add, List, [], ◌∷◌, map, get_or, w8, Fits, arith}
+use Rattle.std.proofs.Common.{◌≡◌, ℕ, ◌<◌, ◌^◌, eqb, eqb→eq, ◌+◌, ◌-◌, ◌/◌, ◌%◌, length, replicate, bit_and, ap, ◌∙◌, zero-add, List, [], ◌∷◌, map, get_or, w8, Fits, arith}
 use Rattle.std.specs.Prelude.{slice_index}
 use Rattle.std.specs.Simd.Lanes.{number_l, Each1, zip2}
 use Rattle.std.proofs.lemmas.Simd.{get_or-zip2, get_or-replicate, length-zip2}
 use Rattle.std.proofs.lemmas.Nat.{and_mask}
+use Rattle.gf256.proofs.Lanes.{lane_fits, down}
 use Rattle.aes256.specs.Planes.{bit_of, bit_mask}
 use Rattle.aes256.proofs.Circuit.{all_below, every_below}
-
-pub lane_fits : (v : List ℕ) (i : ℕ) → Each1 (Fits w8) v → get_or v i 0 < 256
-lane_fits [] i h = omega arith
-lane_fits (x ∷ xs) zero h = h.0.fits
-lane_fits (x ∷ xs) (suc i) h = lane_fits xs i h.1
 
 abbrev masks : ℕ → List ℕ
 masks n = bit_mask n 0 ∷ bit_mask n 1 ∷ bit_mask n 2 ∷ bit_mask n 3 ∷ bit_mask n 4 ∷ bit_mask n 5 ∷ bit_mask n 6 ∷ bit_mask n 7 ∷ []
@@ -25,9 +21,6 @@ spread_right x p k fits K = byte_right (slice_index x p) k (lane_fits x p fits) 
 
 abbrev less : ℕ → ℕ → ℕ
 less a b = (a + (2 ^ 8 - b)) % 2 ^ 8
-
-abbrev down : ℕ → ℕ → ℕ
-down a b = a / 2 ^ b
 
 pub masked_lanes : (x : List ℕ) (bit : ℕ) → length x ≡ 16 → (p : ℕ) → p < 16
     → get_or (zip2 less (replicate 16 0) (zip2 bit_and (zip2 down x (replicate 16 bit)) (replicate 16 1))) p 0 ≡ bit_mask (get_or x p 0) bit

@@ -4,6 +4,7 @@ use Rattle.std.proofs.lemmas.Nat.{and_mask, and_le_r, xor_comm, xor_lt}
 use Rattle.std.specs.Int.Bits.{xor_assoc, xor_self, xor_zero_l, xor_zero_r, and_zero_r}
 use Rattle.std.proofs.lemmas.Simd.{get_or-zip2, get_or-replicate, length-zip2}
 use Rattle.std.specs.Simd.Lanes.{zip2, number_l}
+use Rattle.gf256.proofs.Lanes.{down}
 use Rattle.aes256.specs.Planes.{bit_of, swap_bits, swap_first, swap_second, turned}
 use Rattle.aes256.proofs.Circuit.{all_below, every_below, bit_xor-bit, bit_and-bit}
 
@@ -245,9 +246,6 @@ pub swap_second-lt : (s m x y : ℕ) → y < 256 → m < 256 → swap_second s m
 swap_second-lt s m x y Y M = xor_lt 8 y _ Y (omega (arith, and_le_r (bit_xor (x / 2 ^ s) y) m))
 
 -- ---- the vectors
-
-abbrev down : ℕ → ℕ → ℕ
-down a b = a / 2 ^ b
 
 abbrev up : ℕ → ℕ → ℕ
 up a b = a * 2 ^ b % 2 ^ 8

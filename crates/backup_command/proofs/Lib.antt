@@ -13,3 +13,4 @@ pub mod UserDedup
 pub mod Transcript
 pub mod CdEdges
 pub mod PortLaws
+pub mod PortsLinkLaws

@@ -16,3 +16,5 @@ pub mod Serving
 pub mod Settled
 pub mod Switched
 pub mod CloudOpening
+pub mod CommitJournal
+pub mod UserDedup

@@ -1,5 +1,5 @@
 -- What packages and shares give back: a text's own shares, the text.
-use Rattle.std.proofs.Common.{◌≡◌, ◌≢◌, ℕ, zero, suc, ◌+◌, ◌-◌, ◌*◌, ◌<◌, ◌≤◌, ◌==◌, not, Bool, true, false, cond, List, [], ◌∷◌, ◌++◌, length, take, drop, replicate, slice_index, position, Some, None, Ok, Err, bit_xor, refl, sym, ap, subst, ◌∙◌, arith, inl, inr, length-append, length-drop, ◌⊎◌, All, nat_eq, nat_lt}
+use Rattle.std.proofs.Common.{◌≡◌, ◌≢◌, ℕ, zero, suc, ◌+◌, ◌-◌, ◌*◌, ◌<◌, ◌≤◌, ◌==◌, not, Bool, true, false, cond, List, ◌++◌, length, take, drop, replicate, slice_index, position, Some, None, Ok, Err, bit_xor, refl, sym, ap, subst, ◌∙◌, arith, inl, inr, length-append, length-drop, ◌⊎◌, All, nat_eq, nat_lt}
 use Rattle.std.specs.Int.{to_be_bytes, w32}
 use Rattle.std.specs.Cmp.Lexicographic.{pointwise, bytes_decides}
 use Rattle.std.specs.List.{position_or_len}
@@ -9,7 +9,6 @@ use Rattle.std.proofs.Math.Nat.{mul-le-mul_left, mul-add}
 use Rattle.std.proofs.Math.ListN.{get_or-append}
 use Rattle.std.proofs.Math.Seq.{get_or-append_right}
 use Rattle.std.proofs.lemmas.List.{take_at, drop_at, length-replicate, get_or-drop}
-use Rattle.std.proofs.lemmas.Nat.{xor_lt}
 use Rattle.std.proofs.lemmas.Simd.{length-zip2}
 use Rattle.reed_solomon.specs.CdBase.shape.Shape.{Shape}
 use Rattle.reed_solomon.specs.CdBase.Lengths.{share_len_of}
@@ -18,7 +17,8 @@ use Rattle.sha2.specs.Sha256.{sha256, digest_bytes}
 use Rattle.sha2.proofs.Facts256.{length-sha256}
 use Rattle.aes256.specs.Cipher.{added}
 use Rattle.aes256.specs.Mask.{mask}
-use Rattle.aes256.proofs.MaskLaws.{length-mask, added_twice, mask_bytes}
+use Rattle.aes256.proofs.MaskLaws.{length-mask, added_twice, mask_bytes, AreBytes-added}
+pub use Rattle.aes256.proofs.MaskLaws.{AreBytes-append}
 use Rattle.reed_solomon.specs.Dispersal.{AreChoice, row}
 use Rattle.reed_solomon.proofs.Recovery.{whole_rows}
 use Rattle.reed_solomon.proofs.Shares.{length-share_of, byte_at, share_of_below}
@@ -71,18 +71,6 @@ length-share s j text = length-share_of s (package_of s text) j
     ∙ (whole_rows s.k (share_len_of s.k (length text)) (length (package_of s text)) (omega (arith, s.several)) (length-package_of s text)).0
 
 -- ---- bytes
-pub AreBytes-append : (xs ys : List ℕ) → AreBytes xs → AreBytes ys → AreBytes (xs ++ ys)
-AreBytes-append xs ys f g i = elim (cases_lt i (length xs)) [
-  | inl b ↦ subst (λ (v : ℕ). v < 256) (sym (get_or-append xs ys 0 i b)) (f i)
-  | inr h ↦ subst (λ (v : ℕ). v < 256) (sym (get_or-append_right xs ys i 0 h)) (g (i - length xs))
-]
-
-AreBytes-added : (xs ys : List ℕ) → AreBytes xs → AreBytes ys → AreBytes (added xs ys)
-AreBytes-added [] ys f g i = omega arith
-AreBytes-added (x ∷ xs) [] f g i = omega arith
-AreBytes-added (x ∷ xs) (y ∷ ys) f g zero = xor_lt 8 x y (f 0) (g 0)
-AreBytes-added (x ∷ xs) (y ∷ ys) f g (suc i) = AreBytes-added xs ys (λ j. f (suc j)) (λ j. g (suc j)) i
-
 AreBytes-zeros : (n : ℕ) → AreBytes (replicate n 0)
 AreBytes-zeros zero i = omega arith
 AreBytes-zeros (suc n) zero = omega arith

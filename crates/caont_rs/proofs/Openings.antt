@@ -31,7 +31,7 @@ opens len p body tail last left r room eb el fits (e, h) =
     ∙ ap (answer_of r) (sym (take-append-le len left tail fits))
 
 -- ---- the package of given shares
-combine_lt : (w v : ℕ → ℕ) (n : ℕ) → combine w v n < 256
+pub combine_lt : (w v : ℕ → ℕ) (n : ℕ) → combine w v n < 256
 unfolding combine
 combine_lt w v zero = omega arith
 combine_lt w v (suc n) = xor_lt 8 (combine w v n) (product (w n) (v n)) (combine_lt w v n) (product_lt (w n) (v n))

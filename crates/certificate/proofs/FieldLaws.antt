@@ -19,7 +19,8 @@ use Rattle.certificate.specs.Reading.{kind_name, kind_of, kind_at, make_heading,
 use Rattle.session.proofs.Texts.{literal_reads}
 use Rattle.session.proofs.Events.{u32_reads, u64_reads}
 use Rattle.session.proofs.CloudTexts.{cloud_reads}
-use Rattle.certificate.proofs.Words.{print_reads, shape_text, lawful_shape, one_plain, May, kind_reads}
+use Rattle.session.proofs.Headers.{shape_text}
+use Rattle.certificate.proofs.Words.{print_reads, lawful_shape, one_plain, May, kind_reads}
 
 -- ---- each kind's fields
 

@@ -5,6 +5,7 @@ use Rattle.std.specs.List.{AllByRecursion}
 use Rattle.std.proofs.lemmas.List.{take_at, drop_at}
 use Rattle.std.proofs.lemmas.List.Elements.{All-from_recursion}
 use Rattle.session.specs.Transcript.Reading.{line_len}
+use Rattle.transcript.proofs.LineLaws.{Flat, line_ends}
 use Rattle.certificate.specs.declared.line.CertificateLine.{CertificateLine}
 use Rattle.certificate.specs.declared.line.CertificateLine.TheVariants as lines
 use Rattle.certificate.specs.declared.kinds.LineStage.{LineStage}
@@ -13,7 +14,7 @@ use Rattle.certificate.specs.Lines.{certificate_body, certificate_line, FitsLine
 use Rattle.certificate.specs.Reading.{kind_of, line_left}
 use Rattle.certificate.proofs.Words.{May}
 use Rattle.certificate.proofs.FieldLaws.{line_again}
-use Rattle.certificate.proofs.Texts.{Flat, flat_body, body_text, line_ends}
+use Rattle.certificate.proofs.Texts.{flat_body, body_text}
 
 -- ---- its only newline
 

@@ -5,15 +5,15 @@ use Rattle.std.specs.List.{AllByRecursion, flat_map, join_with_byte}
 use Rattle.std.specs.Str.{all_ascii_digits}
 use Rattle.std.specs.Char.{is_ascii_digit}
 use Rattle.std.proofs.lemmas.Bool.Decides.{nat_tests}
-use Rattle.std.proofs.lemmas.Bool.{and_parts, leb-true, ltb-true, lt-ltb, ne_eqb, eqb-true}
+use Rattle.std.proofs.lemmas.Bool.{and_parts, leb-true, ltb-true, lt-ltb, eqb-true}
 use Rattle.std.proofs.lemmas.Fmt.{digits_decimal}
-use Rattle.std.proofs.lemmas.List.{take_at, drop_at, length-append, get_or_append_left}
+use Rattle.std.proofs.lemmas.List.{take_at, drop_at, length-append}
 use Rattle.std.proofs.lemmas.List.Elements.{All-from_recursion, recursion_from_All}
-use Rattle.std.proofs.lemmas.List.Sums.{position_or_len_is, split_at_first, passes_at_first}
-use Rattle.std.proofs.Math.Seq.{get_or-append_right}
+use Rattle.std.proofs.lemmas.List.Sums.{split_at_first, passes_at_first}
 use Rattle.session.specs.Grammar.Hexadecimal.{hex, hex_digit}
 use Rattle.session.proofs.Grammar.NumeralLaws.{own}
 use Rattle.session.proofs.Grammar.HexadecimalLaws.{chosen}
+use Rattle.transcript.proofs.LineLaws.{Flat, flat_append, line_ends}
 use Rattle.certificate.specs.declared.line.ShareLine.{ShareLine}
 use Rattle.certificate.specs.declared.line.FileLine.{FileLine}
 use Rattle.certificate.specs.declared.line.CertificateLine.{CertificateLine}
@@ -30,14 +30,6 @@ use Rattle.certificate.proofs.Words.{May}
 use Rattle.certificate.proofs.FieldLaws.{IsLine, line_takes, line_again}
 
 -- ---- no newline is in a line
-
-abbrev pub Flat : List ℕ → Type 0
-Flat [] = Unit {0}
-Flat (b ∷ bs) = (10 < b) × Flat bs
-
-flat_append : (xs ys : List ℕ) → Flat xs → Flat ys → Flat (xs ++ ys)
-flat_append [] ys p q = q
-flat_append (x ∷ xs) ys p q = (p.0, flat_append xs ys p.1 q)
 
 flat_digits : (text : List ℕ) → all_ascii_digits text ≡ true → Flat text
 flat_digits [] e = tt
@@ -111,20 +103,6 @@ unfolding certificate_body certificate_line
 body_text x = refl
 
 -- ---- one line in front of others
-
-flat_at : (text : List ℕ) (k : ℕ) → Flat text → k < length text → is_newline (get_or text k 0) ≡ false
-flat_at [] k p lt = absurd (omega arith)
-flat_at (b ∷ bs) zero p lt = let above = p.0 in ne_eqb b 10 (λ h. omega arith)
-flat_at (b ∷ bs) (suc k) p lt = flat_at bs k p.1 (omega arith)
-
-pub line_ends : (text rest : List ℕ) → Flat text → line_len (text ++ 10 ∷ rest) ≡ length text
-line_ends text rest flat =
-    let len = length-append text (10 ∷ rest) in
-    position_or_len_is is_newline (text ++ 10 ∷ rest) (length text) 0 (omega (arith, len))
-    (λ k lt. rw (get_or_append_left text (10 ∷ rest) 0 k lt) (flat_at text k flat lt))
-    (λ lt. let k : length text ≤ length text = omega arith in
-    let z : 0 ≡ length text - length text = omega arith in
-    ap is_newline (get_or-append_right text (10 ∷ rest) (length text) 0 k) ∙ ap (λ (i : ℕ). is_newline (get_or (10 ∷ rest) i 0)) (sym z))
 
 -- a line, and others behind it
 may_not_over : (stage : LineStage) (kind : LineKind) → May stage kind → is_over stage ≡ false

@@ -4,11 +4,11 @@ use Rattle.std.proofs.lemmas.Bool.{lt-ltb, le-ltb, ne_eqb}
 use Rattle.std.proofs.lemmas.List.{length-take-le, length-drop}
 use Rattle.std.proofs.lemmas.Option.{same_Some}
 use Rattle.session.specs.Grammar.Readers.{Fails}
-use Rattle.session.specs.Grammar.Words.{keep}
 use Rattle.session.specs.Grammar.Hexadecimal.{unhex}
 use Rattle.session.specs.Grammar.stop.Stop.{Stop}
 use Rattle.session.specs.Grammar.stop.Stop.TheVariants as stops
 use Rattle.session.proofs.Grammar.HexadecimalLaws.{unhex_length}
+use Rattle.session.proofs.Texts.{kept_none}
 use Rattle.session.specs.Transcript.Reading.{print_in, line_len}
 use Rattle.certificate.specs.declared.kinds.LineStage.{LineStage}
 use Rattle.certificate.specs.declared.kinds.LineStage.TheVariants.{First, Shares}
@@ -21,10 +21,6 @@ use Rattle.certificate.specs.Reading.{may_stand, kind_of, stage_behind, line_lef
 use Rattle.certificate.proofs.Texts.{read_back, one_text}
 
 -- ---- a word of digits
-
-kept_none : {A : Type 0} (p : A → Bool) (o : Option A) → ((x : A) → o ≡ Some x → p x ≡ false) → None ≡ keep p o
-kept_none p None h = refl
-kept_none p (Some x) h = rw (h x refl) refl
 
 -- a word of another length spells no print
 pub print_short : (text : List ℕ) → length text ≢ 64 → None ≡ print_in text

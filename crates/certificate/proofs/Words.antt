@@ -1,25 +1,25 @@
 -- The kinds of words of a certificate: what is read is spelled so, and what is spelled so is read.
-use Rattle.std.proofs.Common.{◌≡◌, ℕ, suc, ◌<◌, ◌≤◌, Bool, true, not, eqb, List, [], ◌∷◌, ◌++◌, length, Option, Some, Ok, Err, refl, sym, ap, ◌∙◌, append_assoc, arith, inl, inr}
+use Rattle.std.proofs.Common.{◌≡◌, ℕ, ◌<◌, ◌≤◌, true, eqb, List, [], ◌∷◌, ◌++◌, length, Some, Ok, Err, refl, sym, ap, ◌∙◌, append_assoc, arith, inl, inr}
 use Rattle.std.specs.Prelude.{All, codes, decimal}
 use Rattle.std.specs.Str.{bytes_eq}
-use Rattle.std.specs.List.{AllByRecursion, list_all, find}
-use Rattle.std.proofs.lemmas.Bool.{and_parts, not-true, eq-eqb, eqb-true, cases_Bool}
-use Rattle.std.proofs.lemmas.Option.{same_Some}
+use Rattle.std.specs.List.{AllByRecursion}
+use Rattle.std.proofs.lemmas.Bool.{eq-eqb, eqb-true}
 use Rattle.std.proofs.lemmas.Slice.Eq.{bytes_eq-Decides}
 use Rattle.std.proofs.lemmas.List.Elements.{All-from_recursion, recursion_from_All}
 use Rattle.session.specs.CdBase.shape.Shape.{Shape}
-use Rattle.session.specs.Grammar.Words.{is_blank, field_at}
+use Rattle.session.specs.Grammar.Words.{field_at}
 use Rattle.session.specs.Grammar.Numerals.{number, capped}
 use Rattle.session.specs.Grammar.Hexadecimal.{hex, unhex}
-use Rattle.session.proofs.Grammar.Laws.{Takes, err_is, bind_ok, bind_err, rest_fits}
-use Rattle.session.proofs.Grammar.WordLaws.{Plain, Ends, Any, Reads, LawfulText, keep_some, keep_again, field_took, field_reread, word_fails}
+use Rattle.session.proofs.Grammar.Laws.{Takes, bind_ok, bind_err, rest_fits}
+use Rattle.session.proofs.Grammar.WordLaws.{Plain, Ends, Any, Reads, LawfulText, keep_some, keep_again, field_took, field_reread, field_fails}
 use Rattle.session.proofs.Grammar.NumeralLaws.{number_reads, capped_takes, capped_again, decimal_plain}
-use Rattle.session.proofs.Grammar.HexadecimalLaws.{chosen, unhex_takes, unhex_again, hex_plain}
-use Rattle.session.proofs.Transcript.Shapes.{shape_of_is}
+use Rattle.session.proofs.Grammar.HexadecimalLaws.{unhex_takes, unhex_again, hex_plain}
 use Rattle.session.specs.Transcript.Ranges.{IsPrint}
 use Rattle.session.specs.Transcript.Reading.{print_in}
-use Rattle.session.specs.Reading.{shape_with, needed, shape_at}
+use Rattle.session.specs.Reading.{needed, shape_at}
 use Rattle.session.proofs.Shapes.{shape_with_some}
+use Rattle.session.proofs.Headers.{shape_text, needed_is}
+use Rattle.session.proofs.Events.{find_passes, plain_by}
 use Rattle.certificate.specs.declared.kinds.LineKind.{LineKind}
 use Rattle.certificate.specs.declared.kinds.LineKind.TheVariants.{Heading, Share, File, End}
 use Rattle.certificate.specs.declared.kinds.LineStage.{LineStage}
@@ -45,15 +45,6 @@ pub print_reads : Reads print_in hex IsPrint
 print_reads = record { takes = print_takes; again = print_again; plain = λ bs h. hex_plain bs }
 
 -- ---- the shape
-
-abbrev pub shape_text : Shape → List ℕ
-shape_text s = (32 ∷ decimal s.n) ++ (32 ∷ decimal s.k)
-
-needed_is : (s : Shape) → needed s.n (decimal s.k) ≡ Some s
-unfolding needed
-needed_is s =
-    let a = s.spare in let b = s.few in
-    ap (shape_with s.n) ((number_reads 0 255 (omega arith)).again s.k (omega arith, omega arith)) ∙ shape_of_is s
 
 shape_takes : (bytes : List ℕ) (s : Shape) (rest : List ℕ) → Any bytes → shape_at bytes ≡ Ok (s, rest) → Takes Any bytes (shape_text s) rest × Unit {0}
 unfolding shape_at needed
@@ -83,15 +74,6 @@ shape_again s rest any ends =
     let k = field_reread (needed s.n) (decimal s.k) rest s (needed_is s) (decimal_plain s.k (omega arith)) ends in
     ap shape_at (append_assoc (32 ∷ decimal s.n) (32 ∷ decimal s.k) rest) ∙ rw (n, k) refl
 
-field_fails : {A : Type 0} (read : List ℕ → Option A) (bytes : List ℕ) (left : ℕ) → field_at read bytes ≡ Err left → left ≤ length bytes
-unfolding field_at
-field_fails {A} read [] left e = let z : left ≡ 0 = err_is {A = A × List ℕ} left 0 e in omega arith
-field_fails {A} read (b ∷ bytes) left e =
-    elim (cases_Bool (is_blank b)) [
-      | inl t ↦ let h = word_fails read bytes left (rw t at e) in omega arith
-      | inr f ↦ let h : left ≡ suc (length bytes) = err_is {A = A × List ℕ} left (suc (length bytes)) (rw f at e) in omega arith
-    ]
-
 shape_fails : (bytes : List ℕ) (left : ℕ) → Any bytes → shape_at bytes ≡ Err left → left ≤ length bytes
 unfolding shape_at
 shape_fails bytes left any e =
@@ -107,14 +89,6 @@ pub lawful_shape : LawfulText shape_at shape_text (λ _. Unit {0})
 lawful_shape = record { takes = shape_takes; again = shape_again; begins = λ s rest ends. refl; fails = shape_fails }
 
 -- ---- the first word of a line
-
-find_passes : {A : Type 0} (p : A → Bool) (xs : List A) (x : A) → find p xs ≡ Some x → p x ≡ true
-find_passes p [] x e = absurd cc
-find_passes p (y ∷ ys) x e =
-    elim (chosen (p y) (Some y) (find p ys) (Some x) e) [
-      | inl h ↦ ap p (sym (same_Some y x h.1)) ∙ h.0
-      | inr h ↦ find_passes p ys x h.1
-    ]
 
 abbrev pub May : LineStage → LineKind → Type 0
 May stage kind = may_stand stage kind ≡ true
@@ -134,10 +108,6 @@ named_again End = refl
 kind_again : (stage : LineStage) (kind : LineKind) → May stage kind → kind_at stage (kind_name kind) ≡ Some kind
 unfolding kind_at
 kind_again stage kind h = keep_again (may_stand stage) (kind_named (kind_name kind)) kind (named_again kind) h
-
-plain_by : (text : List ℕ) → list_all (λ b. not (is_blank b)) text ≡ true → Plain text
-plain_by [] e = tt
-plain_by (b ∷ bs) e = let p = and_parts (not (is_blank b)) _ e in (not-true (is_blank b) p.0, plain_by bs p.1)
 
 pub one_plain : Plain (codes "1")
 one_plain = plain_by (codes "1") refl

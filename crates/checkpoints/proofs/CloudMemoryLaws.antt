@@ -6,4 +6,5 @@ pub use Rattle.cloud_memory.proofs.KeyCounts
 pub use Rattle.cloud_memory.proofs.Keys
 pub use Rattle.cloud_memory.proofs.Lists
 pub use Rattle.cloud_memory.proofs.Naming
+pub use Rattle.cloud_memory.proofs.Next
 pub use Rattle.cloud_memory.proofs.Puts

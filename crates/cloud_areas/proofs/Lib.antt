@@ -5,11 +5,11 @@ pub mod Counting
 pub mod Ends
 pub mod Entries
 mod Headers
-mod Laid
+pub mod Laid
 pub mod Lists
-mod Numbers
+pub mod Numbers
 pub mod Once
-mod OneChain
+pub mod OneChain
 mod OneMore
 pub mod Placed
 pub mod Room
@@ -20,3 +20,4 @@ pub mod Summing
 pub mod UserDedup
 pub mod RecordBody
 pub mod ContainerLog
+pub mod JournalStart

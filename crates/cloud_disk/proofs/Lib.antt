@@ -13,3 +13,4 @@ pub mod CloudAreas
 pub mod JournalHalves
 pub mod CdEdges
 pub mod UserDedup
+pub mod ContainerLog

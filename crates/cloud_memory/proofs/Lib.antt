@@ -15,7 +15,7 @@ pub mod Keys
 pub mod Lists
 mod LiveSlots
 pub mod Naming
-mod Next
+pub mod Next
 pub mod PlacingLaw
 pub mod PutLaw
 mod PutLength
@@ -31,3 +31,4 @@ pub mod RecordBody
 pub mod ContainerLog
 pub mod Recipe
 pub mod CdBase
+pub mod JournalStart

@@ -13,3 +13,4 @@ pub mod Stepping
 pub mod JournalStart
 pub mod CloudOpening
 pub mod Checkpoints
+pub mod CloudAreas

@@ -7,6 +7,7 @@ use Rattle.session.specs.JournalStart.Ranges.{AreRooms, most_shares, most_recipe
 use Rattle.session.specs.JournalStart.rooms.UserRooms.{UserRooms}
 use Rattle.session.specs.Grammar.Numerals.{number}
 use Rattle.session.proofs.Grammar.NumeralLaws.{number_reads}
+use Rattle.session.proofs.Headers.{numbers, parts_le}
 use Rattle.session.specs.Reading.{make_rooms, each_room}
 use Rattle.command_words.specs.Commands.{rooms_words}
 use Rattle.command_words.specs.Reading.{◌>>=◌, ◌▷◌, ◌▷▷◌, word_at, rooms_at}
@@ -35,9 +36,6 @@ each_spells most users small =
     let le = part_le most users in
     spells_by (number_reads 0 (most / users) (omega arith))
 
-abbrev numbers : UserRooms → ℕ × (ℕ × (ℕ × (ℕ × ℕ)))
-numbers r = (r.users, (r.shares, (r.recipes, (r.owners, r.files))))
-
 abbrev number_words : ℕ × (ℕ × (ℕ × (ℕ × ℕ))) → List (List ℕ)
 number_words x = (decimal x.0 ∷ []) ++ ((decimal x.1.0 ∷ []) ++ ((decimal x.1.1.0 ∷ []) ++ ((decimal x.1.1.1.0 ∷ []) ++ (decimal x.1.1.1.1 ∷ []))))
 
@@ -53,13 +51,6 @@ lawful_numbers : Lawful numbers_at number_words InRooms
 lawful_numbers = lawful_given (lawful_word users_spell) (λ users. lawful_then (lawful_word (each_spells most_shares users (omega arith)))
     (lawful_then (lawful_word (each_spells most_recipes users (omega arith)))
     (lawful_then (lawful_word (each_spells most_owners users (omega arith))) (lawful_word (each_spells most_files users (omega arith))))))
-
--- so many of a number's parts are no more than it
-parts_le : (most users each : ℕ) → each ≤ most / users → users * each ≤ most
-parts_le most users each le =
-    let e = div-add-mod' most users in
-    let m = mul-le each users (most / users) users le (omega arith) in
-    omega arith
 
 part_of : (most users each : ℕ) → 1 ≤ users → users * each ≤ most → UpTo (most / users) each
 part_of most users each some le = (omega arith, le-div each most users some (omega arith))

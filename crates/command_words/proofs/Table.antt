@@ -1,9 +1,8 @@
 -- The table: what is read from words is the command that they spell, and each spelling is read.
-use Rattle.std.proofs.Common.{◌≡◌, ℕ, ◌^◌, ◌*◌, ◌<◌, ◌≤◌, Bool, true, List, [], ◌∷◌, ◌++◌, length, Option, Some, None}
-use Rattle.std.proofs.Common.{refl, sym, ap, subst, ◌∙◌, arith, leb, inl, inr}
+use Rattle.std.proofs.Common.{◌≡◌, ℕ, ◌^◌, ◌*◌, ◌<◌, ◌≤◌, List, [], ◌∷◌, ◌++◌, length, Option, Some, None}
+use Rattle.std.proofs.Common.{refl, sym, ap, subst, ◌∙◌, arith, leb}
 use Rattle.std.specs.Prelude.{decimal, codes, Result, Ok, Err, IfOk, IfSome, IfNone, OnErr}
 use Rattle.std.specs.Str.{bytes_eq}
-use Rattle.std.specs.List.{find}
 use Rattle.std.proofs.lemmas.Slice.Eq.{bytes_eq-Decides}
 use Rattle.std.proofs.lemmas.Bool.{and_from, and_parts, ltb-true, lt-ltb, leb-true, le-leb}
 use Rattle.std.proofs.lemmas.Option.{same_Some}
@@ -19,7 +18,7 @@ use Rattle.session.specs.Spelling.{cloud_list, AreSources}
 use Rattle.session.specs.Reading.{names_file, needed, shape_with, sources}
 use Rattle.session.proofs.Shapes.{shape_with_some}
 use Rattle.session.proofs.Texts.{names_file_true, names_file_from}
-use Rattle.session.proofs.Events.{u32_reads, u64_reads}
+use Rattle.session.proofs.Events.{u32_reads, u64_reads, find_passes}
 use Rattle.session.proofs.CloudTexts.{sources_reads}
 use Rattle.command_words.specs.Asked.{AskedRead, AskedServe, AskedFile, AskedSpool, AskedResume, AskedCloud, AskedMigrate, AskedSession, Asked}
 use Rattle.command_words.specs.Asked.{ForReplay, ForRead, ForServe, ForBackup, ForRestore, ForDelete, ForSpool, ForResume}
@@ -351,14 +350,6 @@ session_again g h =
     (le-leb _ _ h.all)
 
 -- ---- the name
-
-find_passes : {A : Type 0} (p : A → Bool) (xs : List A) (x : A) → find p xs ≡ Some x → p x ≡ true
-find_passes p [] x e = absurd cc
-find_passes p (y ∷ ys) x e =
-    elim (chosen (p y) (Some y) (find p ys) (Some x) e) [
-      | inl h ↦ ap p (sym (same_Some y x h.1)) ∙ h.0
-      | inr h ↦ find_passes p ys x h.1
-    ]
 
 named_again : (row : Row) → named (name row) ≡ Some row
 named_again rows.Replay = refl

@@ -8,6 +8,7 @@ use Rattle.session.specs.Grammar.Numerals.{number}
 use Rattle.session.specs.JournalStart.rooms.UserRooms.{UserRooms}
 use Rattle.session.specs.JournalStart.Ranges.{most_shares, most_recipes, most_owners, most_files}
 use Rattle.session.specs.Reading.{names_file, needed, sources, make_rooms, each_room}
+pub use Rattle.session.specs.Reading.{user, version}
 use Rattle.command_words.specs.Asked.{AskedRead, AskedServe, AskedFile, AskedSpool, AskedResume, AskedCloud, AskedMigrate, AskedSession, Asked}
 use Rattle.command_words.specs.Asked.{ForReplay, ForRead, ForServe, ForBackup, ForRestore, ForDelete, ForSpool, ForResume}
 use Rattle.command_words.specs.Asked.{ForAudit, ForCheck, ForReclaim, ForMigrate, ForGenerate}
@@ -61,12 +62,6 @@ whole make f words = f words >>= λ x. done_at (make x.0) x.1
 
 abbrev pub any : List ℕ → Option (List ℕ)
 any word = Some word
-
-abbrev pub user : List ℕ → Option ℕ
-user = number 0 4294967295
-
-abbrev pub version : List ℕ → Option ℕ
-version = number 0 18446744073709551615
 
 -- the word's own bytes
 unfoldable pub path : List ℕ → Option (List ℕ)

@@ -4,7 +4,7 @@ use Rattle.journal_halves.specs.CdEdges.area.Area.{Area}
 use Rattle.journal_halves.specs.CdEdges.area.Area.TheVariants.{Journal}
 use Rattle.journal_halves.specs.CdEdges.Disk.{Store, Areas, Cloud, MayLeave, IsImage, LeavesOnly, IsAtArea, overwritten, reads}
 use Rattle.journal_halves.specs.CdEdges.Shelf.{Stays, Writes, wrote, stable}
-use Rattle.journal_halves.proofs.CdEdges.Moments.{started, stayed, weaker, joined, at_end}
+use Rattle.journal_halves.proofs.CdEdges.Moments.{started, stayed, weaker, joined}
 use Rattle.journal_halves.proofs.CdEdges.Overwritten.{length-overwritten, overwritten_inside}
 use Rattle.journal_halves.proofs.CdEdges.Runs.{begin, writes}
 use Rattle.journal_halves.proofs.CdEdges.Torn.{only}
@@ -16,6 +16,7 @@ use Rattle.journal_halves.specs.Journals.{Where, with_body, used_by, HasChain, I
 use Rattle.journal_halves.proofs.Laying.{laying_stands}
 use Rattle.journal_halves.proofs.Settling.{settles}
 use Rattle.journal_halves.proofs.Turning.{turning_stands}
+use Rattle.journal_halves.proofs.Adding.{read_left}
 use Rattle.commit_journal.specs.Turning.{WriterState, begun_with, IsWriterLaying}
 use Rattle.commit_journal.proofs.Turns.{begun, with_record, apart_wrote, written_out, whole, used_is, settled}
 
@@ -41,10 +42,6 @@ closing c0 c1 c2 w half is other open_at stays run =
           (subst (λ (s : Store). MayLeave (wrote s (half * half_len) (0 ∷ [])) (image Journal)) (ap (λ (a : Areas). a Journal) stays.now) at.area);
       others = λ other ne. subst (λ (s : Store). MayLeave s (image other)) (ap (λ (a : Areas). a other) stays.now) (at.others other ne);
     }))
-
--- what reads give is an image
-pub read_left : (c0 c1 : Cloud) (P : List ℕ → Type 0) → LeavesOnly c0 c1 (IsAtArea c0.now Journal P) → IsImage c1.now (reads c1.now) → P (c1.now Journal).read
-read_left c0 c1 P run image = (at_end c0 c1 _ run (reads c1.now) image).area
 
 pub closed_now : (store last : Store) (w : Where) (half : ℕ) → Stands store w → half ≡ 1 - w.half → IsOpenAt store.read half → last ≡ stable (overwritten store.read (half * half_len) (0 ∷ []))
     → MayLeave (wrote store (half * half_len) (0 ∷ [])) last.read → Stands last w × IsClosedAt last.read half

@@ -174,7 +174,7 @@ then_opened c0 c1 c2 header begin first synced second = joined c0 c1 c2 _ (synce
 -- ---- an opening
 
 -- a current half is begun
-not_unbegun : (journal : List ℕ) (half : ℕ) (start : Start) → IsCurrent journal half start → IsUnbegun journal → ⊥
+pub not_unbegun : (journal : List ℕ) (half : ℕ) (start : Start) → IsCurrent journal half start → IsUnbegun journal → ⊥
 not_unbegun journal half start c none = elim c.is_half [
   | inl zero_is ↦ false≢true (sym none.first ∙ begun_half journal 0 start (subst (λ (h : ℕ). HasStart journal h start) zero_is c.begun))
   | inr one_is ↦ false≢true (sym none.second ∙ begun_half journal 1 start (subst (λ (h : ℕ). HasStart journal h start) one_is c.begun))

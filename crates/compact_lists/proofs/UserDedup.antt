@@ -6,6 +6,8 @@ pub use Rattle.user_dedup.proofs.Filtered
 pub use Rattle.user_dedup.proofs.New
 pub use Rattle.user_dedup.proofs.Once
 pub use Rattle.user_dedup.proofs.Owned
+pub use Rattle.user_dedup.proofs.Served
 pub use Rattle.user_dedup.proofs.Sorting
 pub use Rattle.user_dedup.proofs.Sound
 pub use Rattle.user_dedup.proofs.Views
+pub use Rattle.user_dedup.proofs.Within

@@ -8,3 +8,4 @@ pub use Rattle.compact_lists.proofs.UserDedup.Owned
 pub use Rattle.compact_lists.proofs.UserDedup.Sorting
 pub use Rattle.compact_lists.proofs.UserDedup.Sound
 pub use Rattle.compact_lists.proofs.UserDedup.Views
+pub use Rattle.checkpoints.proofs.UserDedup.Within

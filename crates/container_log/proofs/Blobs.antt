@@ -10,13 +10,13 @@ use Rattle.container_log.specs.Laying.{Placed, laid, placed, IsAt}
 use Rattle.container_log.proofs.Laid.{laid_from, whole_laid}
 
 -- A blob that lies in these bytes lies in each that have the same ones at its place.
-same_at : (one two : List ℕ) (b : Placed) → IsAt one b → length b.blob ≤ length two - b.place → ((k : ℕ) → k < length b.blob → get_or two (b.place + k) 0 ≡ get_or one (b.place + k) 0) → IsAt two b
+pub same_at : (one two : List ℕ) (b : Placed) → IsAt one b → length b.blob ≤ length two - b.place → ((k : ℕ) → k < length b.blob → get_or two (b.place + k) 0 ≡ get_or one (b.place + k) 0) → IsAt two b
 same_at one two b at long same = ext_get_or 0 _ _ (omega (arith, long, length-take (length b.blob) (drop b.place two), length-drop b.place two)) (λ k lt.
     let below : k < length b.blob = omega (arith, lt, length-take (length b.blob) (drop b.place two)) in
     get_or-take (length b.blob) (drop b.place two) k 0 below ∙ get_or-drop b.place two k 0 ∙ same k below
     ∙ sym (get_or-drop b.place one k 0) ∙ sym (get_or-take (length b.blob) (drop b.place one) k 0 below) ∙ ap (λ (l : List ℕ). get_or l k 0) at)
 
-within : (bytes : List ℕ) (b : Placed) → IsAt bytes b → length b.blob ≤ length bytes - b.place
+pub within : (bytes : List ℕ) (b : Placed) → IsAt bytes b → length b.blob ≤ length bytes - b.place
 within bytes b at = omega (arith, ap length at, length-take (length b.blob) (drop b.place bytes), length-drop b.place bytes)
 
 -- A blob is what is read at its place.

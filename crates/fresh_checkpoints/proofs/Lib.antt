@@ -7,3 +7,5 @@ pub mod CompactMemories
 pub mod Checkpoints
 pub mod CloudMemoryLaws
 pub mod CloudDiskLaws
+pub mod CommitJournal
+pub mod ContainerLog

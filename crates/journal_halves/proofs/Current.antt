@@ -13,7 +13,7 @@ use Rattle.journal_halves.specs.Halves.{half_of, is_half_begun, HasStart, IsCurr
 use Rattle.journal_halves.specs.Journals.{Where, all_bodies, HasChain}
 
 -- two epochs can't both be the later one
-one_epoch : (a b : ℕ) → a ≤ 2 → b ≤ 2 → a ≡ (b + 1) % 3 → b ≡ (a + 1) % 3 → ⊥
+pub one_epoch : (a b : ℕ) → a ≤ 2 → b ≤ 2 → a ≡ (b + 1) % 3 → b ≡ (a + 1) % 3 → ⊥
 one_epoch zero zero la lb e f = cc
 one_epoch zero (suc zero) la lb e f = cc
 one_epoch zero (suc (suc zero)) la lb e f = cc
@@ -28,7 +28,7 @@ one_epoch zero (suc (suc (suc b))) la lb e f = omega arith
 one_epoch (suc zero) (suc (suc (suc b))) la lb e f = omega arith
 one_epoch (suc (suc zero)) (suc (suc (suc b))) la lb e f = omega arith
 
-epoch_small : (half format : ℕ) (o : Option Checkpoint) → IsBehind half format o → epoch_of o ≤ 2
+pub epoch_small : (half format : ℕ) (o : Option Checkpoint) → IsBehind half format o → epoch_of o ≤ 2
 epoch_small half format None is = omega arith
 epoch_small half format (Some c) is = is.epoch
 
@@ -40,14 +40,14 @@ pub begun_half : (journal : List ℕ) (half : ℕ) (a : Start) → HasStart jour
 begun_half journal half a s = record_begun (half_of half journal) (start_bytes a) s.record_is
 
 -- where the other half is begun, its epoch is the one before
-other_before : (journal : List ℕ) (half : ℕ) (a b : Start) → IsCurrent journal half a → HasStart journal (1 - half) b → epoch_of a.checkpoint ≡ (epoch_of b.checkpoint + 1) % 3
+pub other_before : (journal : List ℕ) (half : ℕ) (a b : Start) → IsCurrent journal half a → HasStart journal (1 - half) b → epoch_of a.checkpoint ≡ (epoch_of b.checkpoint + 1) % 3
 other_before journal half a b c t = elim c.other [
   | inl none ↦ absurd (false≢true (sym none ∙ begun_half journal (1 - half) b t))
   | inr before ↦ before.2 ∙ ap (λ (s : Start). (epoch_of s.checkpoint + 1) % 3) (one_start journal (1 - half) before.0 b before.1 t)
 ]
 
 -- the two halves aren't both the current one
-not_both : (journal : List ℕ) (a b : Start) → IsCurrent journal 0 a → IsCurrent journal 1 b → ⊥
+pub not_both : (journal : List ℕ) (a b : Start) → IsCurrent journal 0 a → IsCurrent journal 1 b → ⊥
 not_both journal a b c d =
     one_epoch (epoch_of a.checkpoint) (epoch_of b.checkpoint) (epoch_small 0 a.header.format a.checkpoint c.begun.is_start.behind) (epoch_small 1 b.header.format b.checkpoint d.begun.is_start.behind)
     (other_before journal 0 a b c d.begun) (other_before journal 1 b a d c.begun)
@@ -70,7 +70,7 @@ one_current journal i j a b c d =
     let half = same_half journal i j a b c.is_half d.is_half c d in
     one_start journal i a b c.begun (subst (λ (h : ℕ). HasStart journal h b) (sym half) d.begun)
 
-tail_same : (x y : List ℕ) (xs ys : List (List ℕ)) → x ∷ xs ≡ y ∷ ys → xs ≡ ys
+pub tail_same : (x y : List ℕ) (xs ys : List (List ℕ)) → x ∷ xs ≡ y ∷ ys → xs ≡ ys
 tail_same x y xs ys e = cc
 
 -- a journal has one chain

@@ -8,10 +8,10 @@ use Rattle.journal_halves.specs.Records.{is_begun}
 use Rattle.journal_halves.specs.Frames.{IsClosed, IsRecord, HasBadLength, IsCutOff}
 use Rattle.journal_halves.specs.Outcomes.{DamageIs}
 use Rattle.journal_halves.proofs.Taken.{record_on, bad_on, short_ahead, prefix_of, all_of, body_ahead, length_ahead}
+use Rattle.journal_halves.proofs.Current.{epoch_small}
 use Rattle.journal_start.specs.declared.fault.StartFault.{StartFault}
-use Rattle.journal_start.specs.declared.start.Checkpoint.{Checkpoint}
 use Rattle.journal_start.specs.declared.start.Start.{Start}
-use Rattle.journal_start.specs.Ranges.{IsStart, IsBehind}
+use Rattle.journal_start.specs.Ranges.{IsStart}
 use Rattle.journal_start.specs.Spelling.{start_bytes, epoch_of, IsSpelled}
 use Rattle.journal_start.specs.Reading.{start_at, IsPlaced}
 use Rattle.journal_start.specs.declared.fault.StartFault.TheVariants.{Short, Wrong}
@@ -120,10 +120,6 @@ placed_more n m Short le is = tt
 placed_more n m (Wrong place byte) le is = omega (arith, le, is)
 
 -- ---- which of them is the current one
-
-epoch_small : (half format : ℕ) (o : Option Checkpoint) → IsBehind half format o → epoch_of o ≤ 2
-epoch_small half format None is = omega arith
-epoch_small half format (Some c) is = is.epoch
 
 same_epoch : (a b : ℕ) → a ≤ 2 → b ≤ 2 → (a ≡ (b + 1) % 3 → ⊥) → (b ≡ (a + 1) % 3 → ⊥) → a ≡ b
 same_epoch zero zero la lb n m = refl

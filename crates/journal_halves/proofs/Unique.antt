@@ -18,7 +18,7 @@ same_rest : (a b one two : List ℕ) → length a ≤ 65535 → length b ≤ 655
 same_rest a b one two la lb e =
     sym (drop_at a one (length a) refl) ∙ ap (λ (l : List ℕ). drop (length a) (drop 4 l)) e ∙ ap (λ (n : ℕ). drop n (b ++ two)) (same_length a b one two la lb e) ∙ drop_at b two (length b) refl
 
-head_of : (a b : ℕ) (xs ys : List ℕ) → a ∷ xs ≡ b ∷ ys → a ≡ b
+pub head_of : (a b : ℕ) (xs ys : List ℕ) → a ∷ xs ≡ b ∷ ys → a ≡ b
 head_of a b xs ys e = cc
 
 pub tail_of : (a b : ℕ) (xs ys : List ℕ) → a ∷ xs ≡ b ∷ ys → xs ≡ ys

@@ -200,7 +200,7 @@ fields_again half f rest fits end =
 
 -- ---- starts and their fields
 
-same_shape : (a b : Shape) → a.n ≡ b.n → a.k ≡ b.k → a ≡ b
+pub same_shape : (a b : Shape) → a.n ≡ b.n → a.k ≡ b.k → a ≡ b
 same_shape a b en ek =
     let Same : ℕ → ℕ → Type 0 = λ n k. (s : 2 ≤ k) (p : k < n) (f : n ≤ 16) → ◌≡◌ {A = Shape} a (record { n = n; k = k; several = s; spare = p; few = f }) in
     let start : Same a.n a.k = λ s p f. alike a.n a.k a.several s a.spare p a.few f in

@@ -1,17 +1,18 @@
 -- Readers made of readers are lawful where those are.
-use Rattle.std.proofs.Common.{◌≡◌, ℕ, zero, suc, ◌+◌, ◌^◌, ◌<◌, ◌≤◌, Bool, true, false, cond, ltb, List, [], ◌∷◌, ◌++◌, length, take, drop, Option, Some, None, Result, Ok, Err, IsTrue, refl, sym, ap, subst, ◌∙◌, append_assoc, arith, inl, inr}
+use Rattle.std.proofs.Common.{◌≡◌, ℕ, zero, suc, ◌+◌, ◌^◌, ◌<◌, ◌≤◌, Bool, true, false, cond, ltb, List, [], ◌∷◌, ◌++◌, length, take, drop, Option, Some, None, Result, Ok, Err, IsTrue, refl, sym, ap, subst, ◌∙◌, append_assoc, arith, inl, inr, ◌⊎◌}
 use Rattle.std.specs.Prelude.{All}
 use Rattle.std.specs.List.{flat_map}
 use Rattle.std.specs.Int.{Width, w16, w32, w64, byte_len, from_be_bytes, to_be_bytes}
-use Rattle.std.proofs.lemmas.Bool.{cases_lt, ltb-false, le-ltb}
-use Rattle.std.proofs.lemmas.List.{take_at, drop_at, take-append-drop, length-append, length-take, get_or-drop, get_or-take, get_or_past}
+use Rattle.std.proofs.lemmas.Bool.{cases_lt, ltb-false}
+use Rattle.std.proofs.lemmas.List.{take-append-drop, length-take, get_or-drop, get_or-take, get_or_past}
 use Rattle.std.proofs.lemmas.List.Concat.{flat_map-cons}
 use Rattle.std.proofs.lemmas.List.Elements.{All-nil, All-cons, All-head, All-tail}
 use Rattle.grammar.specs.Readers.{◌>>=◌, ◌▷▷◌}
 use Rattle.grammar.specs.Words.{spelled}
 use Rattle.grammar.specs.Fields.{number_at, checked}
 use Rattle.grammar.proofs.Laws.{Takes, bind_ok, bind_err, ok_is, err_is, takes_both, rest_fits, lawful_given}
-use Rattle.grammar.proofs.FieldLaws.{IsBytes, Anything, LawfulBytes, IsWide, guard_ok, test_ok, lawful_checked, wide16, wide32, wide64}
+use Rattle.grammar.proofs.FieldLaws.{IsBytes, Anything, LawfulBytes, IsWide, guard_ok, test_ok, lawful_checked, wide16, wide32, wide64, number_again, number_fails}
+use Rattle.grammar.proofs.WordLaws.{spelled_err}
 use Rattle.message_fields.specs.Parts.{made, kept, byte_as, times}
 
 pub bytes_tail : (b : ℕ) (bytes : List ℕ) → IsBytes (b ∷ bytes) → IsBytes bytes
@@ -111,19 +112,6 @@ number_takes w limit wide small bytes n rest fits e =
     subst (λ (p : ℕ × List ℕ). Takes IsBytes bytes (to_be_bytes w p.0) p.1 × (p.0 < limit)) g.1
     (record { parts = rw front (sym (take-append-drop (byte_len w) bytes)); known = bytes_drop (byte_len w) bytes fits }, small (take (byte_len w) bytes) len front_fits)
 
-number_again : (w : Width) (limit : ℕ) (wide : IsWide w limit) (n : ℕ) (rest : List ℕ) → n < limit → number_at w (to_be_bytes w n ++ rest) ≡ Ok (n, rest)
-number_again w limit wide n rest lt =
-    let len = wide.len n in
-    let long : ltb (length (to_be_bytes w n ++ rest)) (byte_len w) ≡ false = le-ltb _ _ (omega (arith, length-append (to_be_bytes w n) rest)) in
-    rw (long, take_at (to_be_bytes w n) rest (byte_len w) len, drop_at (to_be_bytes w n) rest (byte_len w) len, wide.again n lt) refl
-
-guard_err : {A : Type 0} (b : Bool) (x : A) (e : ℕ) → cond b (Err 0) (Ok x) ≡ Err e → e ≡ 0
-guard_err true x e h = cc
-guard_err false x e h = absurd cc
-
-number_fails : (w : Width) (bytes : List ℕ) (left : ℕ) → number_at w bytes ≡ Err left → left ≤ length bytes
-number_fails w bytes left e = let z = guard_err (ltb (length bytes) (byte_len w)) (from_be_bytes w (take (byte_len w) bytes), drop (byte_len w) bytes) left e in omega arith
-
 lawful_number : {w : Width} {limit : ℕ} → IsWide w limit → ((bytes : List ℕ) → length bytes ≡ byte_len w → IsBytes bytes → from_be_bytes w bytes < limit) → LawfulBytes (number_at w) (λ n. to_be_bytes w n) (λ n. n < limit)
 lawful_number {w} {limit} wide small = record { takes = number_takes w limit wide small; again = λ n rest fits _. number_again w limit wide n rest fits; begins = λ n rest _. tt; fails = λ bytes left _ e. number_fails w bytes left e }
 
@@ -142,10 +130,6 @@ pub spelled_ok : {A : Type 0} (o : Option A) (rest : List ℕ) (left : ℕ) (y :
 spelled_ok {A} (Some x) rest left y after e =
     let same = ok_is (x, rest) (y, after) e in (ap (λ (p : A × List ℕ). Some p.0) same, ap (λ (p : A × List ℕ). p.1) same)
 spelled_ok None rest left y after e = absurd cc
-
-pub spelled_err : {A : Type 0} (o : Option A) (rest : List ℕ) (left e : ℕ) → spelled o rest left ≡ Err e → e ≡ left
-spelled_err (Some x) rest left e h = absurd cc
-spelled_err None rest left e h = cc
 
 byte_takes : {A : Type 0} (meaning : ℕ → Option A) (number : A → ℕ) (Fits : A → Type 0) → ((b : ℕ) (x : A) → b < 256 → meaning b ≡ Some x → (number x ≡ b) × Fits x)
     → (bytes : List ℕ) (x : A) (rest : List ℕ) → IsBytes bytes → byte_as meaning bytes ≡ Ok (x, rest) → Takes IsBytes bytes (number x ∷ []) rest × Fits x
@@ -229,3 +213,7 @@ lawful_counted {A} ok small {g} {spell} {Are} {Fit} laws to from =
     lawful_made both (λ x. x.1) (λ xs. (length xs, xs)) Fit
     (λ x fits. let same : (length x.1, x.1) ≡ x = ap (λ (n : ℕ). (n, x.1)) fits.1.0 in (same, to x.1 (subst (λ (n : ℕ). IsTrue (ok n)) (sym fits.1.0) fits.0) fits.1.1))
     (λ xs fits. let h = from xs fits in ((h.0, (refl, h.1)), refl))
+
+pub picked : {R : Type 0} (b : Bool) (x y s : R) → cond b x y ≡ s → ((b ≡ true) × (x ≡ s)) ⊎ ((b ≡ false) × (y ≡ s))
+picked true x y s e = inl (refl, e)
+picked false x y s e = inr (refl, e)

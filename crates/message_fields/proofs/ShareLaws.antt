@@ -18,13 +18,13 @@ use Rattle.message_fields.proofs.PartLaws.{lawful_made, lawful_byte, lawful_time
 use Rattle.message_fields.proofs.FpLaws.{batch_from, batch_to, small_batch}
 use Rattle.message_fields.proofs.Loops.{behind_ok}
 
-share_from : (n : ℕ) → IsTrue (is_share_len n) → (1 ≤ n) × (n ≤ 8208)
+pub share_from : (n : ℕ) → IsTrue (is_share_len n) → (1 ≤ n) × (n ≤ 8208)
 share_from n e = let p = and_parts (leb 1 n) _ e in (leb-true _ _ p.0, leb-true _ _ p.1)
 
-share_to : (n : ℕ) → 1 ≤ n → n ≤ 8208 → IsTrue (is_share_len n)
+pub share_to : (n : ℕ) → 1 ≤ n → n ≤ 8208 → IsTrue (is_share_len n)
 share_to n low high = rw (le-leb 1 n low, le-leb n 8208 high) refl
 
-small_share : (n : ℕ) → is_share_len n ≡ true → n < 2 ^ 32
+pub small_share : (n : ℕ) → is_share_len n ≡ true → n < 2 ^ 32
 small_share n e = let p = share_from n e in omega arith
 
 pub lawful_share : LawfulBytes share_at share_bytes IsShare

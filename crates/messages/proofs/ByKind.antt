@@ -1,5 +1,5 @@
 -- Readers of all the bytes, by kind: what is read is spelled so, and what is spelled so is read.
-use Rattle.std.proofs.Common.{◌≡◌, ◌⊎◌, ℕ, suc, ◌≤◌, Bool, true, false, cond, eqb, List, [], ◌∷◌, ◌++◌, length, Option, Some, None, Result, Ok, Err, refl, sym, ap, subst, ◌∙◌, arith, inl, inr, eqb-true}
+use Rattle.std.proofs.Common.{◌≡◌, ℕ, suc, ◌≤◌, true, cond, eqb, List, [], ◌∷◌, ◌++◌, length, Option, Some, None, Result, Ok, Err, refl, sym, ap, subst, ◌∙◌, arith, inl, inr, eqb-true}
 use Rattle.std.specs.Prelude.{IfSome}
 use Rattle.message_fields.specs.CdBase.ids.Tag.{Tag}
 use Rattle.message_fields.specs.CdBase.ids.Version.{Version}
@@ -8,15 +8,11 @@ use Rattle.message_fields.proofs.Grammar.Laws.{Takes, Whole, bind_ok, bind_err, 
 use Rattle.message_fields.proofs.Grammar.FieldLaws.{IsBytes, LawfulBytes}
 use Rattle.message_fields.specs.Parts.{made}
 use Rattle.message_fields.specs.Keys.{IsKey, key_at}
-use Rattle.message_fields.proofs.PartLaws.{bytes_tail}
+use Rattle.message_fields.proofs.PartLaws.{bytes_tail, picked}
 use Rattle.message_fields.proofs.KeyLaws.{lawful_key}
 use Rattle.messages.specs.Parts.{after_bytes, after_at, some_left, with_rest, placed}
 
 -- ---- a key or none
-
-pub picked : {R : Type 0} (b : Bool) (x y s : R) → cond b x y ≡ s → ((b ≡ true) × (x ≡ s)) ⊎ ((b ≡ false) × (y ≡ s))
-picked true x y s e = inl (refl, e)
-picked false x y s e = inr (refl, e)
 
 abbrev IsAfter : Option (Tag × Version) → Type 0
 IsAfter o = IfSome o IsKey

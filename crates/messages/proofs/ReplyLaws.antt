@@ -11,7 +11,7 @@ use Rattle.message_fields.specs.Parts.{byte_as}
 use Rattle.message_fields.specs.Flags.{flags_bytes, AreFlags}
 use Rattle.message_fields.specs.Shares.{shares_bytes, AreShares}
 use Rattle.message_fields.specs.Keys.{entries_bytes, AreEntries}
-use Rattle.message_fields.proofs.PartLaws.{bytes_tail, lawful_byte, lawful_u16, lawful_u32, lawful_u64}
+use Rattle.message_fields.proofs.PartLaws.{bytes_tail, lawful_byte, lawful_u16, lawful_u32, lawful_u64, picked}
 use Rattle.message_fields.proofs.ShareLaws.{lawful_shares, lawful_flags}
 use Rattle.message_fields.proofs.KeyLaws.{lawful_entries}
 use Rattle.messages.specs.declared.reply.Reply.{Reply}
@@ -19,7 +19,7 @@ use Rattle.messages.specs.declared.reply.Reply.TheVariants as replies
 use Rattle.messages.specs.Replies.{room_number, reply_bytes, FitsReply, IsReply}
 use Rattle.messages.specs.ReplyReading.{format_of, room_of, is_new_count, hello_left, known_left, stored_left, lacking_left, recipe_left, shares_left, not_yours_left, entries_left, full_left, damaged_left, rotten_left, malformed_left, plain_left, reply_fields_left, reply_left, reply_at}
 use Rattle.messages.specs.Parts.{placed}
-use Rattle.messages.proofs.ByKind.{picked, whole_done, whole_some, kind_takes, placed_ok}
+use Rattle.messages.proofs.ByKind.{whole_done, whole_some, kind_takes, placed_ok}
 
 -- ---- bytes with a meaning
 

@@ -11,7 +11,7 @@ use Rattle.message_fields.specs.Keys.{key_bytes, IsKey}
 use Rattle.message_fields.specs.Grammar.Readers.{done_at}
 use Rattle.message_fields.proofs.Grammar.Laws.{Whole, lawful_then, lawful_whole}
 use Rattle.message_fields.proofs.Grammar.FieldLaws.{IsBytes, Anything}
-use Rattle.message_fields.proofs.PartLaws.{bytes_tail, lawful_u32}
+use Rattle.message_fields.proofs.PartLaws.{bytes_tail, lawful_u32, picked}
 use Rattle.message_fields.proofs.FpLaws.{lawful_fps}
 use Rattle.message_fields.proofs.ShareLaws.{lawful_shares}
 use Rattle.message_fields.proofs.KeyLaws.{lawful_key}
@@ -20,20 +20,20 @@ use Rattle.messages.specs.declared.request.Request.TheVariants as requests
 use Rattle.messages.specs.Requests.{request_bytes, FitsRequest, IsRequest}
 use Rattle.messages.specs.RequestReading.{query_left, put_left, commit_left, get_recipe_left, get_shares_left, list_left, delete_left, fields_left, request_left, request_at}
 use Rattle.messages.specs.Parts.{after_bytes, placed}
-use Rattle.messages.proofs.ByKind.{picked, lawful_after, whole_done, whole_rest, kind_takes, placed_ok}
+use Rattle.messages.proofs.ByKind.{lawful_after, whole_done, whole_rest, kind_takes, placed_ok}
 
 abbrev Took : ℕ → List ℕ → Request → Type 0
 Took kind fields r = FitsRequest r × (kind ∷ fields ≡ request_bytes r)
 
-query_laws : Whole IsBytes {A = ℕ × List Fp} query_left (λ x. requests.Query (record { 0 = x.0 }) x.1) (λ x. to_be_bytes w32 x.0 ++ fps_bytes x.1) (λ x. (x.0 < 2 ^ 32) × AreFps x.1)
+pub query_laws : Whole IsBytes {A = ℕ × List Fp} query_left (λ x. requests.Query (record { 0 = x.0 }) x.1) (λ x. to_be_bytes w32 x.0 ++ fps_bytes x.1) (λ x. (x.0 < 2 ^ 32) × AreFps x.1)
 unfolding query_left
 query_laws = lawful_whole IsBytes Anything tt (lawful_then IsBytes Anything lawful_u32 lawful_fps) (λ x. requests.Query (record { 0 = x.0 }) x.1)
 
-put_laws : Whole IsBytes {A = ℕ × List (List ℕ)} put_left (λ x. requests.Put (record { 0 = x.0 }) x.1) (λ x. to_be_bytes w32 x.0 ++ shares_bytes x.1) (λ x. (x.0 < 2 ^ 32) × AreShares x.1)
+pub put_laws : Whole IsBytes {A = ℕ × List (List ℕ)} put_left (λ x. requests.Put (record { 0 = x.0 }) x.1) (λ x. to_be_bytes w32 x.0 ++ shares_bytes x.1) (λ x. (x.0 < 2 ^ 32) × AreShares x.1)
 unfolding put_left
 put_laws = lawful_whole IsBytes Anything tt (lawful_then IsBytes Anything lawful_u32 lawful_shares) (λ x. requests.Put (record { 0 = x.0 }) x.1)
 
-commit_laws : Whole IsBytes {A = (ℕ × (Tag × Version)) × List ℕ} commit_left (λ p. requests.Commit (record { 0 = p.0.0 }) p.0.1.0 p.0.1.1 p.1) (λ p. (to_be_bytes w32 p.0.0 ++ key_bytes p.0.1) ++ p.1) (λ p. ((p.0.0 < 2 ^ 32) × IsKey p.0.1) × (1 ≤ length p.1))
+pub commit_laws : Whole IsBytes {A = (ℕ × (Tag × Version)) × List ℕ} commit_left (λ p. requests.Commit (record { 0 = p.0.0 }) p.0.1.0 p.0.1.1 p.1) (λ p. (to_be_bytes w32 p.0.0 ++ key_bytes p.0.1) ++ p.1) (λ p. ((p.0.0 < 2 ^ 32) × IsKey p.0.1) × (1 ≤ length p.1))
 unfolding commit_left
 commit_laws = whole_rest (lawful_then IsBytes Anything lawful_u32 lawful_key) (λ x. requests.Commit (record { 0 = x.0 }) x.1.0 x.1.1)
 

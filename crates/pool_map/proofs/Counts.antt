@@ -15,7 +15,7 @@ use Rattle.pool_map.specs.Table.{pairs, contents, charged, is_held, StandsOnce}
 use Rattle.pool_map.specs.MapSums.{sum_by-insert_new}
 use Rattle.pool_map.proofs.Pairs.{ties-held, find-none}
 
-no_length : {A : Type 0} (es : List A) → length es ≡ 0 → es ≡ []
+pub no_length : {A : Type 0} (es : List A) → length es ≡ 0 → es ≡ []
 no_length [] e = refl
 no_length (x ∷ es) e = absurd (omega arith)
 

@@ -16,12 +16,12 @@ use Rattle.pool_map.specs.declared.accounts.Accounts.{Accounts}
 use Rattle.pool_map.specs.declared.accounts.Accounts.TheVariants.{Shared, PerUser}
 use Rattle.pool_map.specs.Accounts.{account_for, IsKnown, limits_of, limit_for, use_for}
 
-is_eq-at : (r : Ordering) → is_eq r ≡ true → r ≡ Equal
+pub is_eq-at : (r : Ordering) → is_eq r ≡ true → r ≡ Equal
 is_eq-at Less e = absurd (true≢false (sym e))
 is_eq-at Equal e = refl
 is_eq-at Greater e = absurd (true≢false (sym e))
 
-length-ones : {A : Type 0} (es : List A) → sum_by (λ (e : A). 1) es ≡ length es
+pub length-ones : {A : Type 0} (es : List A) → sum_by (λ (e : A). 1) es ≡ length es
 length-ones [] = refl
 length-ones (e ∷ es) = omega (arith, sum_by-cons (λ x. 1) e es, length-ones es)
 

@@ -15,11 +15,11 @@ is_eq-at Less e = absurd (true≢false (sym e))
 is_eq-at Equal e = refl
 is_eq-at Greater e = absurd (true≢false (sym e))
 
-both-parts : (a b : Bool) → T (a && b) → T a × T b
+pub both-parts : (a b : Bool) → T (a && b) → T a × T b
 both-parts true b p = (tt, p)
 both-parts false b p = absurd p
 
-below-parts : (r : Ordering) → T (is_lt r) → r ≡ Less
+pub below-parts : (r : Ordering) → T (is_lt r) → r ≡ Less
 below-parts Less p = refl
 below-parts Equal p = absurd p
 below-parts Greater p = absurd p

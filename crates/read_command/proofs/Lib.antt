@@ -7,3 +7,4 @@ pub mod KeptFiles
 pub mod JournalHalves
 pub mod Refusing
 pub mod Saying
+pub mod CloudAreas

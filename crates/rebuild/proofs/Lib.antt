@@ -22,3 +22,4 @@ pub mod Staying
 pub mod Telling
 pub mod Turning
 pub mod Whole
+pub mod UserDedup

@@ -7,12 +7,11 @@ use Rattle.message_fields.specs.Grammar.Fields.{number_at, bytes_at}
 use Rattle.message_fields.proofs.Grammar.Laws.{bind_ok, ok_is, err_is, lawful_then}
 use Rattle.message_fields.proofs.Grammar.FieldLaws.{IsBytes, Anything, LawfulBytes, lawful_bytes}
 use Rattle.message_fields.specs.Parts.{made}
-use Rattle.message_fields.proofs.PartLaws.{bytes_tail, lawful_u32, lawful_u64}
+use Rattle.message_fields.proofs.PartLaws.{bytes_tail, lawful_u32, lawful_u64, picked}
 use Rattle.record_body.specs.declared.body.BodyErr.{BodyErr}
 use Rattle.record_body.specs.declared.body.BodyErr.TheVariants as errors
 use Rattle.record_body.specs.FirstReading as first_reading
 use Rattle.record_body.specs.FirstSpelling as first
-use Rattle.record_body.proofs.FirstItemLaws.{picked}
 use Rattle.record_body.proofs.FirstBodyLaws as first_laws
 use Rattle.record_body.specs.declared.body.DeleteBody.{DeleteBody}
 use Rattle.record_body.specs.declared.body.SpentBody.{SpentBody}

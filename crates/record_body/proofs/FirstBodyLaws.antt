@@ -10,14 +10,14 @@ use Rattle.message_fields.specs.Grammar.Fields.{number_at, bytes_at, checked}
 use Rattle.message_fields.proofs.Grammar.Laws.{bind_ok, ok_is, err_is, lawful_then}
 use Rattle.message_fields.proofs.Grammar.FieldLaws.{IsBytes, Anything, LawfulBytes, lawful_bytes}
 use Rattle.message_fields.specs.Parts.{made}
-use Rattle.message_fields.proofs.PartLaws.{bytes_tail, lawful_kept, lawful_u32, lawful_u64}
+use Rattle.message_fields.proofs.PartLaws.{bytes_tail, lawful_kept, lawful_u32, lawful_u64, picked}
 use Rattle.record_body.specs.declared.body.PutItem.{PutItem}
 use Rattle.record_body.specs.declared.body.CommitBody.{CommitBody}
 use Rattle.record_body.specs.declared.body.BodyErr.{BodyErr}
 use Rattle.record_body.specs.declared.body.BodyErr.TheVariants as errors
 use Rattle.record_body.specs.FirstSpelling.{FirstBody, Put, Commit, body_bytes, FitsBody, FitsCommit, IsFirstBody}
 use Rattle.record_body.specs.FirstReading.{items_at, put_at, is_recipe_len, make_commit, commit_at, fields_at, front_at, judged, body_at}
-use Rattle.record_body.proofs.FirstItemLaws.{lawful_items, items_bytes, AreItems, picked}
+use Rattle.record_body.proofs.FirstItemLaws.{lawful_items, items_bytes, AreItems}
 
 -- each of them is below 256, so they are bytes
 pub all_bytes : (bytes : List ℕ) → All (λ (x : ℕ). x < 256) bytes → IsBytes bytes

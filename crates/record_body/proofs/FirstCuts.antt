@@ -16,10 +16,11 @@ use Rattle.message_fields.specs.Fingerprints.{is_batch}
 use Rattle.message_fields.specs.Shares.{is_share_len}
 use Rattle.message_fields.proofs.PartLaws.{lawful_u32, lawful_u64, lawful_kept}
 use Rattle.message_fields.proofs.FpLaws.{batch_to, small_batch}
+use Rattle.message_fields.proofs.ShareLaws.{share_to}
 use Rattle.record_body.specs.declared.body.BodyErr.TheVariants as errors
 use Rattle.record_body.specs.FirstSpelling.{FirstBody, Put, Commit, place_bytes, placed_bytes, item_bytes, body_bytes, FitsPlace, FitsPlaced, FitsItem, FitsBody}
 use Rattle.record_body.specs.FirstReading.{place_at, behind_flag, placed_at, item_at, items_at, put_at, is_recipe_len, commit_at, fields_at, front_at, judged, body_at}
-use Rattle.record_body.proofs.FirstItemLaws.{lawful_item, items_bytes, AreItems, share_to}
+use Rattle.record_body.proofs.FirstItemLaws.{lawful_item, items_bytes, AreItems}
 use Rattle.record_body.proofs.FirstBodyLaws.{make_put, commit_of, fields_of, commit_back, spell_commit, FitsFields, read_commit, made_of}
 
 -- ---- two ways to part one list

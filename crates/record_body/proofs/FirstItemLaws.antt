@@ -1,29 +1,20 @@
 -- Places, flags and items are read as they are spelled.
-use Rattle.std.proofs.Common.{◌≡◌, ◌⊎◌, ℕ, suc, ◌^◌, ◌<◌, ◌≤◌, Bool, leb, eqb, cond, true, false, List, [], ◌∷◌, ◌++◌, length, Option, Some, None, Result, Ok, Err, IsTrue, refl, sym, ap, subst, arith, inl, inr, eqb-true}
+use Rattle.std.proofs.Common.{◌≡◌, ℕ, suc, ◌≤◌, eqb, cond, List, [], ◌∷◌, ◌++◌, length, Option, Some, None, Result, Ok, Err, refl, sym, ap, subst, arith, inl, inr, eqb-true}
 use Rattle.std.specs.Prelude.{All}
 use Rattle.std.specs.List.{flat_map}
 use Rattle.std.specs.Int.{w16, to_be_bytes}
-use Rattle.std.proofs.lemmas.Bool.{and_parts, leb-true, le-leb}
 use Rattle.message_fields.specs.CdBase.place.Place.{Place}
 use Rattle.message_fields.proofs.Grammar.Laws.{Takes, bind_ok, bind_err, ok_is, err_is, lawful_then}
 use Rattle.message_fields.proofs.Grammar.FieldLaws.{IsBytes, Anything, LawfulBytes, lawful_bytes, lawful_checked, wide32}
 use Rattle.message_fields.specs.Parts.{made}
 use Rattle.message_fields.specs.Fingerprints.{IsBatch, is_batch}
 use Rattle.message_fields.specs.Shares.{is_share_len}
-use Rattle.message_fields.proofs.PartLaws.{bytes_tail, lawful_made, lawful_times, lawful_counted, lawful_u64}
+use Rattle.message_fields.proofs.PartLaws.{bytes_tail, lawful_made, lawful_times, lawful_counted, lawful_u64, picked}
 use Rattle.message_fields.proofs.FpLaws.{batch_from, batch_to, small_batch}
+use Rattle.message_fields.proofs.ShareLaws.{share_from, share_to, small_share}
 use Rattle.record_body.specs.declared.body.PutItem.{PutItem}
 use Rattle.record_body.specs.FirstSpelling.{place_bytes, placed_bytes, item_bytes, FitsPlace, FitsPlaced, FitsItem}
 use Rattle.record_body.specs.FirstReading.{place_at, placed_at, item_at, items_at}
-
-share_from : (n : ℕ) → IsTrue (is_share_len n) → (1 ≤ n) × (n ≤ 8208)
-share_from n e = let p = and_parts (leb 1 n) _ e in (leb-true _ _ p.0, leb-true _ _ p.1)
-
-pub share_to : (n : ℕ) → 1 ≤ n → n ≤ 8208 → IsTrue (is_share_len n)
-share_to n low high = rw (le-leb 1 n low, le-leb n 8208 high) refl
-
-small_share : (n : ℕ) → is_share_len n ≡ true → n < 2 ^ 32
-small_share n e = let p = share_from n e in omega arith
 
 -- ---- places
 
@@ -35,10 +26,6 @@ lawful_place =
     (λ p fits. ((fits.0, share_to p.len fits.1.0 fits.1.1), refl))
 
 -- ---- a flag, and the place behind flag 1
-
-pub picked : {R : Type 0} (b : Bool) (x y s : R) → cond b x y ≡ s → ((b ≡ true) × (x ≡ s)) ⊎ ((b ≡ false) × (y ≡ s))
-picked true x y s e = inl (refl, e)
-picked false x y s e = inr (refl, e)
 
 abbrev Took : ℕ → List ℕ → Option Place → List ℕ → Type 0
 Took flag bytes o rest = Takes IsBytes (flag ∷ bytes) (placed_bytes o) rest × FitsPlaced o

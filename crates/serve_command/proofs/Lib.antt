@@ -3,7 +3,7 @@ pub mod Carrying
 pub mod ShareServer
 pub mod Completing
 pub mod Ending
-mod InRooms
+pub mod InRooms
 pub mod Openings
 pub mod Passing
 pub mod PassingOn

@@ -10,3 +10,4 @@ pub mod JournalStart
 pub mod Recipe
 pub mod CdEdges
 pub mod CdBase
+pub mod ServerCommands

@@ -1,5 +1,5 @@
 -- What the kit's `hex` reads of a text that has no letter from A to F, which are no digits here.
-use Rattle.std.proofs.Common.{◌≡◌, ℕ, suc, ◌+◌, ◌*◌, ◌<◌, ◌≤◌, Bool, true, false, ◌&&◌, List, [], ◌∷◌, ◌++◌, length, take, drop, get_or, Option, Some, None, Result, Ok, Err, is_ok, refl, sym, ap, ◌∙◌, append_assoc, arith}
+use Rattle.std.proofs.Common.{◌≡◌, ℕ, suc, ◌+◌, ◌*◌, ◌<◌, ◌≤◌, Bool, true, ◌&&◌, List, [], ◌∷◌, ◌++◌, length, take, drop, get_or, Option, Some, None, Result, Ok, Err, is_ok, refl, sym, ap, ◌∙◌, append_assoc, arith}
 use Rattle.std.specs.Prelude.{MatchResult, ⊤}
 use Rattle.std.proofs.lemmas.Bool.Decides.{nat_tests}
 use Rattle.std.proofs.lemmas.Bool.{and_parts}
@@ -10,20 +10,13 @@ use Rattle.hex.specs.declared.error.FromHexError.{FromHexError}
 use Rattle.hex.proofs.Pairs.{decode_sized-pairs}
 use Rattle.journal_start.specs.Grammar.Words.{onto}
 use Rattle.journal_start.specs.Grammar.Hexadecimal.{hex, unhex, unhex_digit, pair_value}
+use Rattle.grammar.proofs.KitHex.{and_assoc, and_true}
 use Rattle.session.specs.Front.{not_upper}
 
 -- no letter from A to F is in a text
 unfoldable pub all_lower : List ℕ → Bool
 all_lower [] = true
 all_lower (c ∷ text) = not_upper c && all_lower text
-
-and_assoc : (a b c : Bool) → (a && (b && c)) ≡ ((a && b) && c)
-and_assoc true b c = refl
-and_assoc false b c = refl
-
-and_true : (a : Bool) → (a && true) ≡ a
-and_true true = refl
-and_true false = refl
 
 lower_then : (text : List ℕ) (c : ℕ) → all_lower (text ++ c ∷ []) ≡ (all_lower text && not_upper c)
 unfolding all_lower

@@ -4,6 +4,7 @@ use Rattle.std.specs.List.{find, list_all, slice_split}
 use Rattle.std.specs.Str.{bytes_eq}
 use Rattle.journal_start.specs.CdBase.shape.Shape.{Shape}
 use Rattle.journal_start.specs.Ranges.{usual_rooms, most_shares, most_recipes, most_owners, most_files}
+pub use Rattle.journal_start.specs.Reading.{make_rooms}
 use Rattle.journal_start.specs.declared.rooms.UserRooms.{UserRooms}
 use Rattle.journal_start.specs.Grammar.Readers.{◌>>=◌, ◌▷◌, ◌▷▷◌, whole}
 use Rattle.journal_start.specs.Grammar.Words.{word_at, field_at, keep, onto}
@@ -239,9 +240,6 @@ needed n text = shape_with n (number 0 255 text)
 -- N is any number, and K fails where the pair is no shape; so N stands for 255 where it is more.
 unfoldable pub shape_at : List ℕ → Result (Shape × List ℕ) ℕ
 shape_at bytes = field_at (capped 255) bytes >>= λ n. field_at (needed n.0) n.1
-
-abbrev pub make_rooms : ℕ × (ℕ × (ℕ × (ℕ × ℕ))) → UserRooms
-make_rooms x = record { users = x.0; shares = x.1.0; recipes = x.1.1.0; owners = x.1.1.1.0; files = x.1.1.1.1 }
 
 -- what each of so many users holds, where all of them together hold no more than the most
 abbrev pub each_room : ℕ → ℕ → List ℕ → Option ℕ

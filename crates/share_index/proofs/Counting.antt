@@ -3,7 +3,6 @@ use Rattle.std.proofs.Common.{◌≡◌, ◌≢◌, ℕ, ◌+◌, ◌-◌, ◌<�
 use Rattle.std.specs.Prelude.{option_map, option_copied, unwrap_or, IfNone}
 use Rattle.std.specs.Borrow.{Bor}
 use Rattle.std.proofs.lemmas.Bool.{cond-true, cond-false, ne_eqb}
-use Rattle.std.proofs.lemmas.List.Sums.{sum_by-cons}
 use Rattle.std.specs.FinMap.{FinMap, get, insert, remove, empty, entries, len, len-entries, len-empty, get-empty}
 use Rattle.pool_map.specs.SlotPool.Pool.{PoolContents, limit_of}
 use Rattle.pool_map.specs.declared.KeyedValue.{KeyedValue as Pair}
@@ -12,7 +11,7 @@ use Rattle.pool_map.specs.Table.{contents, charged, with_value_at, rewritten}
 use Rattle.pool_map.specs.MapSums.{sum_by-insert_new, sum_by-insert_over, sum_by-remove, sum_by-alike, sum_by-parts}
 use Rattle.pool_map.specs.Shown.{shown, get-shown, shown-insert, shown-remove, shown-empty}
 use Rattle.pool_map.specs.declared.accounts.Accounts.TheVariants.{Shared}
-use Rattle.pool_map.specs.Charges.{IsCharged, charged-use, charged-empty, charged-insert, charged-remove, got-insert, got-remove}
+use Rattle.pool_map.specs.Charges.{IsCharged, charged-use, charged-empty, charged-insert, charged-remove, got-insert, got-remove, length-ones}
 use Rattle.share_index.specs.Counts.{number_cmp, number_of, count_at, total, lowered, begun, batches_in, sum_below}
 use Rattle.share_index.proofs.SumBelow.{sum_below-counts}
 pub use Rattle.share_index.proofs.SumBelow.{number_total, number_exact}
@@ -54,10 +53,6 @@ total-put m user v = put-sum (λ e. e.1) m user v refl
 
 pub batches-put : (m : FinMap number_cmp ℕ) (user v : ℕ) → begun (count_at m user) + batches_in (insert m (number_of user) v) ≡ begun v + batches_in m
 batches-put m user v = put-sum (λ e. begun e.1) m user v refl
-
-length-ones : {A : Type 0} (es : List A) → sum_by (λ (e : A). 1) es ≡ length es
-length-ones [] = refl
-length-ones (e ∷ es) = omega (arith, sum_by-cons (λ x. 1) e es, length-ones es)
 
 abbrev pub plain : ℕ × ℕ → ℕ
 plain x = x.1

@@ -2,13 +2,12 @@
 use Rattle.std.proofs.Common.{◌≡◌, ℕ, ◌<◌, true, false, cond, List, [], ◌∷◌, Option, Some, None, refl, sym, ap, ◌∙◌, arith, sum_by, true≢false}
 use Rattle.std.specs.Prelude.{Bool, IsSome, is_some, is_none}
 use Rattle.std.proofs.lemmas.List.Sums.{sum_by-cons}
-use Rattle.std.specs.declared.cmp.Ordering.{Ordering}
-use Rattle.std.specs.declared.cmp.Ordering.TheVariants.{Less, Equal, Greater}
 use Rattle.std.specs.Ordering.{eq_by_cmp, is_eq}
 use Rattle.std.specs.Cmp.{tied_itself}
 use Rattle.std.specs.FinMap.{find, FinMap, get, entries, get-entries}
 use Rattle.pool_map.specs.MapSums.{sum_by-remove, sum_by-alike}
 use Rattle.pool_map.specs.Shown.{shown}
+use Rattle.pool_map.specs.Charges.{is_eq-at}
 use Rattle.share_index.specs.declared.key.Kept.{Kept}
 use Rattle.share_index.specs.declared.key.Owner.{Owner}
 use Rattle.share_index.specs.Order.{owner_cmp, owner_of, owner_exact}
@@ -18,17 +17,9 @@ use Rattle.share_index.specs.Shares.{owners_of}
 use Rattle.share_index.specs.Indexed.{place_in, IsIndexed}
 use Rattle.share_index.specs.Owning.{Owners}
 use Rattle.share_index.specs.Placing.{Places}
-use Rattle.share_index.proofs.Indexing.{present-place}
+use Rattle.share_index.proofs.Indexing.{present-place, same}
 use Rattle.share_index.proofs.Placing.{fp_total}
 use Rattle.share_index.proofs.Owning.{owner_total}
-
-abbrev same : List ℕ → Owner → ℕ
-same fp k = cond (eq_by_cmp fp_cmp k.fp fp) 1 0
-
-is_eq-at : (r : Ordering) → is_eq r ≡ true → r ≡ Equal
-is_eq-at Less e = absurd (true≢false (sym e))
-is_eq-at Equal e = refl
-is_eq-at Greater e = absurd (true≢false (sym e))
 
 valued : {A : Type 0} (o : Option A) → is_some o ≡ true → (x : A) × (o ≡ Some x)
 valued None e = absurd (true≢false (sym e))

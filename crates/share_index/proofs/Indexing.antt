@@ -3,14 +3,13 @@ use Rattle.std.proofs.Common.{◌≡◌, ◌≢◌, ℕ, zero, suc, ◌+◌, ◌
 use Rattle.std.specs.Prelude.{is_none, is_some, option_map, IfSome, slice_index_or, map, ◌==◌}
 use Rattle.std.proofs.lemmas.List.Sums.{sum_by-cons, count_by-le-length}
 use Rattle.std.proofs.lemmas.Bool.{cases_Bool, cond-true, cond-false, false_from_ne_true}
-use Rattle.std.specs.declared.cmp.Ordering.{Ordering}
-use Rattle.std.specs.declared.cmp.Ordering.TheVariants.{Less, Equal, Greater}
 use Rattle.std.specs.Ordering.{eq_by_cmp, is_eq}
 use Rattle.std.specs.Cmp.{tied_itself}
 use Rattle.std.specs.FinMap.{FinMap, get, insert, remove, empty, entries, len, len-entries, len-empty, get-insert, get-remove, get-empty}
 use Rattle.pool_map.specs.MapSums.{sum_by-insert_new, sum_by-insert_over, sum_by-remove, sum_by-alike, sum_by-parts, insert-same}
 use Rattle.pool_map.specs.Shown.{shown, through, get-shown, sum_by-shown, shown-insert}
 use Rattle.pool_map.specs.Slots.{slot_of, IsListed}
+use Rattle.pool_map.specs.Charges.{is_eq-at}
 use Rattle.share_index.specs.declared.key.Kept.{Kept}
 use Rattle.cd_base.specs.declared.place.Place.{Place}
 use Rattle.share_index.specs.declared.key.Owner.{Owner}
@@ -23,11 +22,6 @@ use Rattle.share_index.specs.Indexed.{place_in, placed_slots, unplaced_in, IsInd
 use Rattle.share_index.proofs.Owning.{owner_total}
 use Rattle.share_index.proofs.Placing.{fp_total}
 
-is_eq-at : (r : Ordering) → is_eq r ≡ true → r ≡ Equal
-is_eq-at Less e = absurd (true≢false (sym e))
-is_eq-at Equal e = refl
-is_eq-at Greater e = absurd (true≢false (sym e))
-
 sum_by-same : {A : Type 0} (f g : A → ℕ) (es : List A) → ((e : A) → f e ≡ g e) → sum_by f es ≡ sum_by g es
 sum_by-same f g [] same = refl
 sum_by-same f g (e ∷ es) same = let here = same e in let rest = sum_by-same f g es same in omega (arith, sum_by-cons f e es, sum_by-cons g e es)
@@ -37,7 +31,7 @@ no-sum f [] e = refl
 no-sum f (x ∷ es) e = absurd (omega arith)
 
 -- 1 where the owner's fingerprint is this one
-abbrev same : List ℕ → Owner → ℕ
+abbrev pub same : List ℕ → Owner → ℕ
 same fp k = cond (eq_by_cmp fp_cmp k.fp fp) 1 0
 
 same-here : (fp : List ℕ) (k : Owner) → fp ≡ k.fp → same fp k ≡ 1

@@ -2,8 +2,6 @@
 use Rattle.std.proofs.Common.{rules, ◌≡◌, ◌≢◌, ℕ, ◌+◌, ◌-◌, ◌<◌, ◌≤◌, ◌^◌, true, false, cond, List, [], ◌∷◌, length, Option, Some, None, refl, sym, ap, ◌∙◌, subst, arith, inl, inr, sum_by, eq-eqb, true≢false}
 use Rattle.std.specs.Prelude.{is_some, option_map, unwrap_or, slice_index_or, ◌↔◌, ◌==◌}
 use Rattle.std.proofs.lemmas.Bool.{cases_eq, cases_Bool, cond-true, cond-false, ne_eqb}
-use Rattle.std.specs.declared.cmp.Ordering.{Ordering}
-use Rattle.std.specs.declared.cmp.Ordering.TheVariants.{Less, Equal, Greater}
 use Rattle.std.specs.Ordering.{eq_by_cmp, is_eq}
 use Rattle.std.specs.Cmp.{IsTotalOrder, tied_itself}
 use Rattle.std.specs.Cmp.Rules.{comparing}
@@ -17,7 +15,7 @@ use Rattle.pool_map.specs.Shown.{shown, get-shown, len-shown, shown-insert, show
 use Rattle.pool_map.specs.declared.accounts.Accounts.{Accounts}
 use Rattle.pool_map.specs.declared.accounts.IndexErr.TheVariants.{Full}
 use Rattle.pool_map.specs.Accounts.{limits_of, limit_for, account_for, IsKnown, keys_of}
-use Rattle.pool_map.specs.Charges.{IsCharged, charged-use, unknown-use, limit-account, charged-empty, charged-insert, charged-remove, charged-rewritten}
+use Rattle.pool_map.specs.Charges.{IsCharged, charged-use, unknown-use, limit-account, charged-empty, charged-insert, charged-remove, charged-rewritten, is_eq-at}
 use Rattle.share_index.specs.declared.key.Owner.{Owner}
 use Rattle.share_index.specs.Order.{owner_cmp, owner_exact}
 use Rattle.share_index.specs.Counts.{UserCounts, number_cmp, number_of, count_at, total, lowered, begun, sum_below}
@@ -32,11 +30,6 @@ owner_total = search (comparing, rules)
 
 abbrev pub user_of : Owner → ℕ
 user_of k = k.user
-
-is_eq-at : (r : Ordering) → is_eq r ≡ true → r ≡ Equal
-is_eq-at Less e = absurd (true≢false (sym e))
-is_eq-at Equal e = refl
-is_eq-at Greater e = absurd (true≢false (sym e))
 
 pub value-of : {X : Type 0} (o : Option X) → is_some o ≡ true → (x : X) × (o ≡ Some x)
 value-of None s = absurd (true≢false (sym s))

@@ -1,10 +1,9 @@
 -- Looking through all slots counts the owners of a fingerprint.
-use Rattle.std.proofs.Common.{◌≡◌, ◌≢◌, ℕ, suc, ◌<◌, ◌≤◌, true, cond, eqb, List, [], ◌∷◌, length, Option, Some, None, get_or, refl, sym, ap, ◌∙◌, subst, arith, sum_by, count_by, eq-eqb, inl, inr, true≢false, take}
+use Rattle.std.proofs.Common.{◌≡◌, ◌≢◌, ℕ, suc, ◌<◌, ◌≤◌, cond, eqb, List, [], ◌∷◌, length, Option, Some, None, get_or, refl, sym, ap, ◌∙◌, subst, arith, sum_by, count_by, eq-eqb, inl, inr, take}
 use Rattle.std.specs.Prelude.{option_map}
 use Rattle.std.proofs.lemmas.List.Sums.{sum_by-cons}
 use Rattle.std.proofs.lemmas.Bool.{cases_eq, ne_eqb, false_from_ne_true}
-use Rattle.std.specs.declared.cmp.Ordering.{Ordering}
-use Rattle.std.specs.declared.cmp.Ordering.TheVariants.{Less, Equal, Greater}
+use Rattle.std.specs.declared.cmp.Ordering.TheVariants.{Equal}
 use Rattle.std.specs.Ordering.{eq_by_cmp, is_eq, nat_cmp}
 use Rattle.std.specs.Cmp.{tied_itself, nat_cmp_total}
 use Rattle.std.specs.Cmp.Lexicographic.{lists_ties, pointwise}
@@ -17,6 +16,8 @@ use Rattle.pool_map.specs.Table.{pairs, contents, pair_of}
 use Rattle.pool_map.specs.MapSums.{sum_by-insert_new}
 use Rattle.pool_map.specs.Shown.{shown, sum_by-shown}
 use Rattle.pool_map.specs.Slots.{slot_of, IsListed, shown_slots, at-shown_slots, length-shown_slots}
+use Rattle.pool_map.specs.Charges.{is_eq-at}
+use Rattle.pool_map.proofs.Counts.{no_length}
 use Rattle.share_index.specs.declared.key.Owner.{Owner}
 use Rattle.share_index.specs.Order.{owner_cmp, owner_exact}
 use Rattle.cd_base.specs.Order.{fp_cmp}
@@ -24,15 +25,6 @@ use Rattle.share_index.specs.Shares.{owners_of}
 use Rattle.share_index.specs.Owning.{shows_fp}
 use Rattle.share_index.proofs.Counting.{plain}
 use Rattle.share_index.proofs.Owning.{owner_total}
-
-is_eq-at : (r : Ordering) → is_eq r ≡ true → r ≡ Equal
-is_eq-at Less e = absurd (true≢false (sym e))
-is_eq-at Equal e = refl
-is_eq-at Greater e = absurd (true≢false (sym e))
-
-no_length : {A : Type 0} (es : List A) → length es ≡ 0 → es ≡ []
-no_length [] e = refl
-no_length (x ∷ es) e = absurd (omega arith)
 
 abbrev Cells : Type 0
 Cells = List (Content (Pair Owner ℕ))

@@ -1,15 +1,15 @@
 -- A sum over all users' numbers is one over the users that own some.
-use Rattle.std.proofs.Common.{rules, ◌≡◌, ◌≢◌, ℕ, ◌<◌, Bool, true, false, ◌&&◌, T, List, [], ◌∷◌, Some, None, refl, sym, ap, ◌∙◌, arith, inl, inr, sum_by, true≢false}
+use Rattle.std.proofs.Common.{rules, ◌≡◌, ◌≢◌, ℕ, ◌<◌, true, false, T, List, [], ◌∷◌, Some, None, refl, sym, ap, ◌∙◌, arith, inl, inr, sum_by}
 use Rattle.std.specs.Prelude.{unwrap_or}
 use Rattle.std.proofs.lemmas.List.Sums.{sum_by-cons}
 use Rattle.std.proofs.lemmas.Bool.{cases_Bool, cond-true, cond-false}
-use Rattle.std.specs.declared.cmp.Ordering.{Ordering}
-use Rattle.std.specs.declared.cmp.Ordering.TheVariants.{Less, Equal, Greater}
 use Rattle.std.specs.Ordering.{eq_by_cmp, is_eq, is_lt}
 use Rattle.std.specs.Cmp.{IsTotalOrder, tied_itself}
 use Rattle.std.specs.Cmp.Rules.{comparing}
 use Rattle.std.specs.FinMap.{FinMap, find, get, entries, entries_sorted, is_sorted, get-entries, nat_cmp-IsAntisymmetric, IsAntisymmetric}
 use Rattle.std.specs.FinMap.Entries.{below_all}
+use Rattle.pool_map.specs.Charges.{is_eq-at}
+use Rattle.pool_map.specs.MapSums.{both-parts, below-parts}
 use Rattle.share_index.specs.declared.key.UserNumber.{UserNumber}
 use Rattle.share_index.specs.Counts.{number_cmp, number_of, count_at, begun, batches_in, sum_below}
 use Rattle.share_index.specs.SumBelow.{sum_below-alike, sum_below-change, sum_below-zeros}
@@ -19,20 +19,6 @@ number_total = search (comparing, rules)
 
 pub number_exact : IsAntisymmetric number_cmp
 number_exact x y e = ap (λ n. number_of n) (nat_cmp-IsAntisymmetric x.value y.value e)
-
-is_eq-at : (r : Ordering) → is_eq r ≡ true → r ≡ Equal
-is_eq-at Less e = absurd (true≢false (sym e))
-is_eq-at Equal e = refl
-is_eq-at Greater e = absurd (true≢false (sym e))
-
-both-parts : (a b : Bool) → T (a && b) → T a × T b
-both-parts true b p = (tt, p)
-both-parts false b p = absurd p
-
-below-parts : (r : Ordering) → T (is_lt r) → r ≡ Less
-below-parts Less p = refl
-below-parts Equal p = absurd p
-below-parts Greater p = absurd p
 
 below-absent : (q : UserNumber) (es : List (UserNumber × ℕ)) → T (below_all number_cmp q es) → find number_cmp q es ≡ None
 below-absent q [] h = refl

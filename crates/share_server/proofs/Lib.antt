@@ -6,7 +6,7 @@ mod Copied
 mod Executed
 mod Headers
 pub mod NoCommands
-mod Openings
+pub mod Openings
 mod Peers
 mod Refusing
 pub mod CloudOpening
@@ -14,3 +14,4 @@ pub mod UserDedup
 pub mod Messages
 pub mod Recipe
 pub mod CdEdges
+pub mod CommitJournal

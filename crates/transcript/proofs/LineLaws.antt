@@ -34,11 +34,11 @@ split_back word (next ∷ words) e =
 
 -- ---- no newline is in them
 
-abbrev Flat : List ℕ → Type 0
+abbrev pub Flat : List ℕ → Type 0
 Flat [] = Unit {0}
 Flat (b ∷ bs) = (10 < b) × Flat bs
 
-flat_append : (xs ys : List ℕ) → Flat xs → Flat ys → Flat (xs ++ ys)
+pub flat_append : (xs ys : List ℕ) → Flat xs → Flat ys → Flat (xs ++ ys)
 flat_append [] ys p q = q
 flat_append (x ∷ xs) ys p q = (p.0, flat_append xs ys p.1 q)
 
@@ -56,12 +56,12 @@ flat_join (word ∷ next ∷ words) e =
     let p = and_parts (solid word) _ e in
     flat_append word (32 ∷ join_with_byte 32 (next ∷ words)) (flat_word word p.0) (omega arith, flat_join (next ∷ words) p.1)
 
-flat_at : (text : List ℕ) (k : ℕ) → Flat text → k < length text → is_newline (get_or text k 0) ≡ false
+pub flat_at : (text : List ℕ) (k : ℕ) → Flat text → k < length text → is_newline (get_or text k 0) ≡ false
 flat_at [] k p lt = absurd (omega arith)
 flat_at (b ∷ bs) zero p lt = let above = p.0 in ne_eqb b 10 (λ h. omega arith)
 flat_at (b ∷ bs) (suc k) p lt = flat_at bs k p.1 (omega arith)
 
-line_ends : (text rest : List ℕ) → Flat text → line_len (text ++ 10 ∷ rest) ≡ length text
+pub line_ends : (text rest : List ℕ) → Flat text → line_len (text ++ 10 ∷ rest) ≡ length text
 line_ends text rest flat =
     let len = length-append text (10 ∷ rest) in
     position_or_len_is is_newline (text ++ 10 ∷ rest) (length text) 0 (omega (arith, len))

@@ -41,13 +41,13 @@ pub back_print : (bytes : List ℕ) → IsPrint bytes → print_in (hex bytes) �
 unfolding print_in
 back_print bytes fits = keep_again (λ bytes. eqb (length bytes) 32) (unhex (hex bytes)) bytes (unhex_again bytes (by_recursion bytes fits.1)) (eq-eqb _ _ fits.0)
 
-no_dash : (d : ℕ) → eqb (hex_digit d) 45 ≡ false
+pub no_dash : (d : ℕ) → eqb (hex_digit d) 45 ≡ false
 no_dash d = grind (arith, nat_tests)
 
-not_dash : (c : ℕ) (text : List ℕ) → eqb c 45 ≡ false → bytes_eq (c ∷ text) (45 ∷ []) ≡ false
+pub not_dash : (c : ℕ) (text : List ℕ) → eqb c 45 ≡ false → bytes_eq (c ∷ text) (45 ∷ []) ≡ false
 not_dash c text e = rw e refl
 
-hex_begins : (b : ℕ) (bs : List ℕ) → bytes_eq (hex (b ∷ bs)) (45 ∷ []) ≡ false
+pub hex_begins : (b : ℕ) (bs : List ℕ) → bytes_eq (hex (b ∷ bs)) (45 ∷ []) ≡ false
 unfolding hex
 hex_begins b bs = not_dash (hex_digit (b / 16)) (hex_digit (b % 16) ∷ hex bs) (no_dash (b / 16))
 

@@ -1,5 +1,5 @@
 pub mod Asked
-mod CompactRows
+pub mod CompactRows
 pub mod CompactSound
 pub mod Compacting
 pub mod Deleting
@@ -12,8 +12,8 @@ pub mod Once
 pub mod Owned
 pub mod Pages
 pub mod Replies
-mod Rows
-mod Served
+pub mod Rows
+pub mod Served
 pub mod Sorting
 pub mod Sound
 pub mod Spending

@@ -1,5 +1,5 @@
 use Rattle.std.proofs.Common.{◌<◌, ℕ, subst, sym, arith}
-use Rattle.aes256.proofs.Spread.{lane_fits}
+use Rattle.gf256.proofs.Lanes.{lane_fits}
 use Rattle.aes256.proofs.Transpose.{first_lanes, second_lanes, swap_first-lt, swap_second-lt}
 use Rattle.aes256.proofs.transposition.swap1.Goals as goal
 

@@ -3,9 +3,10 @@ use Rattle.journal_halves.specs.CdEdges.area.Area.TheVariants.{Journal}
 use Rattle.journal_halves.specs.CdEdges.Disk.{Store, Areas, LeavesOnly, IsAtArea, MayLeave, overwritten}
 use Rattle.journal_halves.specs.CdEdges.Shelf.{wrote, stable}
 use Rattle.journal_halves.proofs.CdEdges.Moments.{told_on}
+use Rattle.journal_halves.proofs.Adding.{read_left}
 use Rattle.journal_halves.specs.Halves.{half_len}
 use Rattle.journal_halves.specs.Journals.{Stands, IsOpenAt}
-use Rattle.commit_journal.proofs.Calls.{on_ok, unmoved, closing, read_left, closed_now}
+use Rattle.commit_journal.proofs.Calls.{on_ok, unmoved, closing, closed_now}
 use Rattle.commit_journal.proofs.area.close.Goals as goal
 
 pub returns-in_err-is_closed-clause-any_moment : goal.returns-in_err-is_closed-clause-any_moment

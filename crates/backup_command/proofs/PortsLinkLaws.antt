@@ -1,0 +1,3 @@
+-- What ports_link has proved, for callers.
+pub use Rattle.ports_link.proofs.CloudLists
+pub use Rattle.ports_link.proofs.Talks

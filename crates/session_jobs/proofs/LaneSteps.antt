@@ -1,0 +1,2 @@
+-- What lane_steps has proved, for callers.
+pub use Rattle.lane_steps.proofs.Reaching
