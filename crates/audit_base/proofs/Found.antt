@@ -1,25 +1,22 @@
 -- What is found in a map is among its entries, and whoever owns a fingerprint is counted.
-use Rattle.std.proofs.Common.{rules, ◌≡◌, ℕ, ◌<◌, Bool, true, cond, List, [], ◌∷◌, Some, refl, sym, ap, ◌∙◌, subst, arith, inl, inr}
+use Rattle.std.proofs.Common.{◌≡◌, ℕ, ◌<◌, Bool, true, cond, List, [], ◌∷◌, Some, refl, sym, ap, ◌∙◌, subst, arith, inl, inr}
 use Rattle.std.specs.Ordering.{is_eq, eq_by_cmp}
 use Rattle.std.specs.declared.cmp.Ordering.{Ordering}
 use Rattle.std.specs.declared.cmp.Ordering.TheVariants.{Less, Equal, Greater}
-use Rattle.std.specs.Cmp.{IsTotalOrder, tied_itself}
-use Rattle.std.specs.Cmp.Rules.{comparing}
+use Rattle.std.specs.Cmp.{tied_itself}
 use Rattle.std.specs.List.{Contains, count_by}
 use Rattle.std.specs.FinMap.{FinMap, get, entries, get-entries, find}
 use Rattle.std.proofs.lemmas.Bool.{cases_Bool}
 use Rattle.std.proofs.lemmas.Option.{same_Some}
 use Rattle.std.proofs.lemmas.List.Sums.{sum_by-cons}
 use Rattle.cloud_memory.proofs.UserDedup.Owned.{contains_here, contains_later}
+use Rattle.cloud_memory.proofs.ShareIndexLaws.Placing.{fp_total}
 use Rattle.cloud_memory.specs.ShareIndex.key.Owner.{Owner}
 use Rattle.cloud_memory.specs.CdBase.Order.{fp_cmp}
 use Rattle.cloud_memory.specs.ShareIndex.Order.{owner_cmp, owner_exact}
 use Rattle.cloud_memory.specs.ShareIndex.Shares.{owners_of}
 
-fp_total : IsTotalOrder fp_cmp
-fp_total = search (comparing, rules)
-
-is_equal : (o : Ordering) → is_eq o ≡ true → o ≡ Equal
+pub is_equal : (o : Ordering) → is_eq o ≡ true → o ≡ Equal
 is_equal Less e = absurd cc
 is_equal Equal e = refl
 is_equal Greater e = absurd cc
@@ -40,7 +37,7 @@ module _ {K X : Type 0} (R : K → K → Ordering) (exact : (x y : K) → R x y 
   pub got_in : (m : FinMap R X) (q : K) (v : X) → get m q ≡ Some v → Contains (entries m) (q, v)
   got_in m q v e = found_in q (entries m) v (sym (get-entries m q) ∙ e)
 
-abbrev owned_as : List ℕ → Owner × ℕ → Bool
+abbrev pub owned_as : List ℕ → Owner × ℕ → Bool
 owned_as fp e = eq_by_cmp fp_cmp e.0.fp fp
 
 counted_in : (q : Owner) (es : List (Owner × ℕ)) (v : ℕ) → find owner_cmp q es ≡ Some v → 0 < count_by (owned_as q.fp) es

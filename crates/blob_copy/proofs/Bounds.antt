@@ -15,7 +15,8 @@ use Rattle.record_laws.specs.FileIndex.key.FileKey.{FileKey}
 use Rattle.record_laws.specs.PoolMap.Slots.{IsListed}
 use Rattle.record_laws.specs.ShareIndex.Shares.{owners_of}
 use Rattle.fresh_checkpoints.specs.CloudAreas.Placing.{region_start}
-use Rattle.fresh_checkpoints.proofs.CloudAreas.Lists.{contained, from_map}
+use Rattle.compact_lists.proofs.UserDedup.Sound.{contained}
+use Rattle.fresh_checkpoints.proofs.CloudAreas.Lists.{from_map}
 use Rattle.fresh_checkpoints.specs.CloudMemory.Live as slots
 use Rattle.fresh_checkpoints.specs.CloudMemory.Live.{IsEachLive}
 use Rattle.fresh_checkpoints.specs.Checkpoints.Picking.{onto, picked}

@@ -47,7 +47,7 @@ behind_end end (q ∷ ps) p behind c = elim (contains_cases q ps p c) [
   | inr later ↦ (let rest = behind_end (end_of q) ps p behind.1 later in omega (arith, rest, behind.0))
 ]
 
-some_is : {X : Type 0} (x y : X) → Some x ≡ Some y → x ≡ y
+pub some_is : {X : Type 0} (x y : X) → Some x ≡ Some y → x ≡ y
 some_is x y e = cc
 
 behind_apart : (end : ℕ) (ps : List Place) → AreBehind end ps → DontOverlap ps
@@ -102,12 +102,12 @@ room_more region least spent more old new room each behind bound = record {
 
 -- ---- fewer places
 
-get_map : {X Y : Type 0} (f : X → Y) (xs : List X) (i : ℕ) (y : Y) → slice_get (map f xs) i ≡ Some y → (x : X) × (slice_get xs i ≡ Some x) × (f x ≡ y)
+pub get_map : {X Y : Type 0} (f : X → Y) (xs : List X) (i : ℕ) (y : Y) → slice_get (map f xs) i ≡ Some y → (x : X) × (slice_get xs i ≡ Some x) × (f x ≡ y)
 get_map f [] i y e = absurd (let no : None ≡ Some y = e in cc)
 get_map f (x ∷ xs) zero y e = (x, refl, some_is (f x) y e)
 get_map f (x ∷ xs) (suc i) y e = get_map f xs i y e
 
-map_get : {X Y : Type 0} (f : X → Y) (xs : List X) (i : ℕ) (x : X) → slice_get xs i ≡ Some x → slice_get (map f xs) i ≡ Some (f x)
+pub map_get : {X Y : Type 0} (f : X → Y) (xs : List X) (i : ℕ) (x : X) → slice_get xs i ≡ Some x → slice_get (map f xs) i ≡ Some (f x)
 map_get f [] i x e = absurd (let no : None ≡ Some x = e in cc)
 map_get f (y ∷ xs) zero x e = ap (λ z. Some (f z)) (some_is y x e)
 map_get f (y ∷ xs) (suc i) x e = map_get f xs i x e

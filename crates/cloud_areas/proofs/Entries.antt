@@ -36,6 +36,7 @@ use Rattle.cloud_areas.specs.Checkpoints.{put_body, key_of, HasEntry, IsEntry, A
 use Rattle.cloud_areas.specs.Chains.{commit_of, IsRecord, AreRecordsOfList, Summed, Then, laid_shares}
 use Rattle.cloud_areas.specs.Standing.{Chain, region_in, Holds, ShareLies, EntryLies}
 use Rattle.cloud_areas.proofs.Lists.{in_map, from_map}
+use Rattle.cloud_areas.proofs.Ends.{some_is}
 
 -- a Commit of the key is among the records, and its recipe among those that they place
 record IsPlaced (records : List Body) (recipes : List Placed) (user : UserId) (key : Tag × Version) (e : FileEntry) : Type 0 where
@@ -52,9 +53,6 @@ still_placed records recipes body more user key e p = record {
 }
 
 -- ---- a checkpoint
-
-some_is : {X : Type 0} (x y : X) → Some x ≡ Some y → x ≡ y
-some_is x y e = cc
 
 pub entry_of : (shape : Shape) (list : List Command) (commits : List CommitBody) (recipes : List Placed) (c : CommitBody) → AreEntries shape list commits recipes → Contains commits c
     → (b : Placed) × Contains recipes b × IsEntry shape list c b

@@ -55,7 +55,7 @@ laid_end least end old new le laid =
     ])
 
 -- A blob moves an end by at most twice its length: the zeros before it are fewer than its bytes.
-moves : (end len : ℕ) → end_after end len ≤ end + 2 * len
+pub moves : (end len : ℕ) → end_after end len ≤ end + 2 * len
 moves end len = ⊎_elim (λ a. omega (arith, a.0, a.1)) (λ a. omega (arith, a.0, a.1)) (place_cases end len)
 
 pub laid_moves : (end : ℕ) (ps : List Place) → AreLaid end ps → end_behind end ps ≤ end + 2 * total_len ps

@@ -10,9 +10,6 @@ use Rattle.user_dedup.proofs.Owned.{contains_here, contains_later, contains_noth
 pub step_all : {X : Type 0} (P Q : X → Type 0) (xs : List X) → ((x : X) → Contains xs x → P x → Q x) → All P xs → All Q xs
 step_all P Q xs step all k d below = step (get_or xs k d) (Contains-get_or xs k d below) (all k d below)
 
-pub contained : {X : Type 0} (P : X → Type 0) (xs : List X) → ((x : X) → Contains xs x → P x) → All P xs
-contained P xs each k d below = each (get_or xs k d) (Contains-get_or xs k d below)
-
 pub in_map : {X Y : Type 0} (f : X → Y) (xs : List X) (x : X) → Contains xs x → Contains (map f xs) (f x)
 in_map f [] x c = absurd (contains_nothing x c)
 in_map f (y ∷ xs) x c = elim (contains_cases y xs x c) [

@@ -41,11 +41,11 @@ fp_of x = x.0
 -- ---- items with places where their fingerprints are new
 
 -- each is placed once, and none of these came before
-record ArePlacedOnce (before : List Fp) (shares : List (Fp × Place)) : Type 0 where
+pub record ArePlacedOnce (before : List Fp) (shares : List (Fp × Place)) : Type 0 where
   pub once : Apart (fps_placed shares)
   pub new : (fp : Fp) → Contains (fps_placed shares) fp → Contains before fp → ⊥
 
-flagged_once : (before : List Fp) (items : List PutItem) → AreFlagged before items → ArePlacedOnce before (places_given items)
+pub flagged_once : (before : List Fp) (items : List PutItem) → AreFlagged before items → ArePlacedOnce before (places_given items)
 flagged_once before [] flagged = record { once = tt; new = λ fp c d. contains_nothing fp c }
 flagged_once before (item ∷ items) flagged = by_place item.place flagged.0 (flagged_once (before ++ item.fp ∷ []) items flagged.1)
   where

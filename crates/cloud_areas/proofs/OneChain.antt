@@ -9,6 +9,7 @@ use Rattle.journal_halves.specs.Halves.{half_limit}
 use Rattle.journal_halves.specs.Journals.{Where}
 use Rattle.journal_halves.specs.JournalStart.start.Header.{Header}
 use Rattle.journal_halves.specs.JournalStart.Spelling.{commands_of, records_of}
+use Rattle.journal_halves.proofs.Current.{tail_same}
 use Rattle.record_body.specs.Spelling.{Body, body_bytes, FitsBody}
 use Rattle.record_body.proofs.BodyLaws as laws
 use Rattle.user_dedup.specs.CdBase.place.Place.{Place}
@@ -19,14 +20,11 @@ use Rattle.cloud_areas.specs.Laid.{place_by}
 use Rattle.cloud_areas.proofs.Behind.{recipes_placed_by}
 use Rattle.cloud_areas.proofs.Numbers.{has_by_chain}
 
-head_same : (x y : List ℕ) (xs ys : List (List ℕ)) → x ∷ xs ≡ y ∷ ys → x ≡ y
+pub head_same : (x y : List ℕ) (xs ys : List (List ℕ)) → x ∷ xs ≡ y ∷ ys → x ≡ y
 head_same x y xs ys e = cc
 
-tail_same : (x y : List ℕ) (xs ys : List (List ℕ)) → x ∷ xs ≡ y ∷ ys → xs ≡ ys
-tail_same x y xs ys e = cc
-
 -- records are known by their bytes
-same_records : (a b : List Body) → All FitsBody a → All FitsBody b → map body_bytes a ≡ map body_bytes b → a ≡ b
+pub same_records : (a b : List Body) → All FitsBody a → All FitsBody b → map body_bytes a ≡ map body_bytes b → a ≡ b
 same_records [] [] fa fb e = refl
 same_records [] (y ∷ b) fa fb e = absurd (let no : [] ≡ body_bytes y ∷ map body_bytes b = e in cc)
 same_records (x ∷ a) [] fa fb e = absurd (let no : body_bytes x ∷ map body_bytes a ≡ [] = e in cc)
@@ -36,10 +34,10 @@ same_records (x ∷ a) (y ∷ b) fa fb e =
     λ i. one i ∷ rest i
 
 -- and the recipes that they place by what lies there
-abbrev blob_in : List ℕ → Place → Placed
+abbrev pub blob_in : List ℕ → Place → Placed
 blob_in bytes p = record { place = p.at; blob = take p.len (drop p.at bytes) }
 
-by_places : (bytes : List ℕ) (recipes : List Placed) → All (IsAt bytes) recipes → map (blob_in bytes) (map place_by recipes) ≡ recipes
+pub by_places : (bytes : List ℕ) (recipes : List Placed) → All (IsAt bytes) recipes → map (blob_in bytes) (map place_by recipes) ≡ recipes
 by_places bytes [] all = refl
 by_places bytes (b ∷ recipes) all =
     let here : take (length b.blob) (drop b.place bytes) ≡ b.blob = All-head (IsAt bytes) b recipes all in

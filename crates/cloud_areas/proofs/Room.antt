@@ -26,7 +26,7 @@ use Rattle.journal_halves.specs.JournalStart.Ranges.{AreRooms}
 use Rattle.journal_halves.specs.JournalStart.Spelling.{header_bytes, behind_header, start_bytes}
 use Rattle.record_body.specs.declared.body.PutItem.{PutItem}
 use Rattle.record_body.specs.declared.body.CommitBody.{CommitBody}
-use Rattle.record_body.proofs.FirstSpelled.{length-put, length-commit}
+use Rattle.record_body.proofs.FirstSpelled.{length-put, length-commit, has_place}
 use Rattle.record_body.specs.declared.body.KeptItem.{KeptItem}
 use Rattle.record_body.specs.declared.body.SpentBody.{SpentBody}
 use Rattle.record_body.specs.Spelling as bodies
@@ -40,7 +40,7 @@ use Rattle.user_dedup.specs.Owning.{is_among}
 use Rattle.user_dedup.specs.Pages as pages
 use Rattle.user_dedup.specs.Pages.{entry_at}
 use Rattle.user_dedup.proofs.Owned.{contains_here, contains_later}
-use Rattle.user_dedup.proofs.Sound.{found_entry}
+use Rattle.user_dedup.proofs.Sound.{found_entry, contained}
 use Rattle.user_dedup.specs.declared.command.Command.{Command}
 use Rattle.user_dedup.specs.declared.command.Command.TheVariants as commands
 use Rattle.user_dedup.specs.Cloud.{user_of, commands_of, user_view, view_after, strings_of, strings_in, recipes_of, named_by, named_in, without_key}
@@ -51,7 +51,7 @@ use Rattle.cloud_areas.specs.Chains.{BothHaveRoom}
 use Rattle.cloud_areas.specs.Placing.{region_start, shares_end, recipes_end, places_given, shares_in, fps_placed}
 use Rattle.cloud_areas.specs.Checkpoints.{PutRecord, put_body, of_user, fps_of, items_in, key_of, HasEntry, ListSpent, SpentIs, IsCheckpointOfList}
 use Rattle.cloud_areas.specs.Standing.{Chain, where_of}
-use Rattle.cloud_areas.proofs.Lists.{contained, in_map, from_map}
+use Rattle.cloud_areas.proofs.Lists.{in_map, from_map}
 use Rattle.cloud_areas.proofs.Apart.{Apart, apart_from}
 use Rattle.cloud_areas.proofs.Counting.{fewer, grouped}
 use Rattle.cloud_areas.proofs.Placed.{fps_sent, checkpoint_is_sent}
@@ -61,9 +61,6 @@ use Rattle.cloud_areas.proofs.Once.{all_kept, checkpoint_once, checkpoint_places
 
 abbrev record_len : Body → ℕ
 record_len body = length (body_bytes body) + 5
-
-abbrev has_place : PutItem → Bool
-has_place item = is_some item.place
 
 abbrev len_of : PutRecord → ℕ
 len_of p = length p.items

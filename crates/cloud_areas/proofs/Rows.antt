@@ -1,15 +1,12 @@
 -- Worked rows: how long chains are, and what the definitions take and refuse.
 use Rattle.std.proofs.Common.{◌≡◌, inl, inr, ℕ, zero, suc, ◌+◌, ◌*◌, ◌<◌, ◌≤◌, false, true, List, [], ◌∷◌, ◌++◌, length, Some, None, refl, sym, ap, ◌∙◌, subst, arith, length-append, length-drop}
 use Rattle.std.specs.Prelude.{All, replicate, bytes_eq}
-use Rattle.std.specs.Cmp.Lexicographic.{nat_list_eq_equiv}
 use Rattle.std.proofs.lemmas.List.Elements.{All-nil, All-cons}
 use Rattle.std.proofs.lemmas.List.Sums.{sum_by-cons}
 use Rattle.sha2.specs.Sha256.{sha256 as sha256_of}
 use Rattle.sha2.proofs.Facts256.{length-sha256}
 use Rattle.user_dedup.specs.CdBase.ids.Fp.{Fp}
 use Rattle.user_dedup.specs.CdBase.ids.Tag.{Tag}
-use Rattle.user_dedup.specs.CdBase.ids.UserId.{UserId}
-use Rattle.user_dedup.specs.CdBase.ids.Version.{Version}
 use Rattle.user_dedup.specs.CdBase.rooms.Room.TheVariants as names
 use Rattle.user_dedup.specs.CdBase.shape.Shape.{Shape}
 use Rattle.journal_halves.specs.CdEdges.area.Area.TheVariants.{Journal, Shares, Recipes}
@@ -40,6 +37,7 @@ use Rattle.user_dedup.specs.Dedup.{IsSound, Begun, Added}
 use Rattle.user_dedup.specs.Cloud.{held_bytes}
 use Rattle.user_dedup.specs.Compact.{compact}
 use Rattle.user_dedup.specs.Spending.{files_of, spent_of}
+use Rattle.user_dedup.proofs.CompactRows.{same, user, tag, tag2, at, s11, rooms_of, r61}
 use Rattle.cloud_areas.specs.Placing.{AreBehind}
 use Rattle.cloud_areas.specs.Checkpoints.{AreApart, AreFull, AreFlagged}
 use Rattle.cloud_areas.specs.Chains.{PlacedNew, AreItems, LiesIn, DontOverlap}
@@ -49,21 +47,6 @@ use Rattle.cloud_areas.specs.FormatOne.{place_in, laid_end, laid_entries, passed
 use Rattle.cloud_areas.proofs.Begun.{no_room, new_holds, has_stands}
 use Rattle.cloud_areas.proofs.OneMore.{holds_more}
 use Rattle.cloud_areas.proofs.Room.{chain_len}
-
-same : (xs : List ℕ) → bytes_eq xs xs ≡ true
-same xs = nat_list_eq_equiv.refl xs
-
-abbrev user : ℕ → UserId
-user n = record { 0 = n }
-
-abbrev tag : Tag
-tag = record { 0 = replicate 32 3 }
-
-abbrev tag2 : Tag
-tag2 = record { 0 = replicate 32 4 }
-
-abbrev at : ℕ → Version
-at n = record { 0 = n }
 
 -- ---- how long chains are
 
@@ -129,9 +112,6 @@ migrated shape = refl
 
 -- One checkpoint in 600 commands: 214 versions of an empty file are entered and deleted, and one more is entered. Its deletion doesn't fit; it
 -- and 85 versions more, entered and deleted, stand behind a checkpoint.
-abbrev rooms_of : ℕ → ℕ → ℕ → ℕ → ℕ → UserRooms
-rooms_of users shares recipes owners files = record { users = users; shares = shares; recipes = recipes; owners = owners; files = files }
-
 small_limit : half_limit (rooms_of 10 1000 10000 10 10) ≡ 30995
 small_limit = refl
 
@@ -152,9 +132,6 @@ below_half : 52415307 < half_len
 below_half = omega arith
 
 -- ---- what is refused
-
-abbrev s11 : List ℕ
-s11 = replicate 11 7
 
 abbrev place_at : ℕ → ℕ → Place
 place_at from len = record { at = from; len = len }
@@ -335,9 +312,6 @@ module _ (shape : Shape) (some : 0 < shape.n) where
       (holds_more (header shape) one_image [] (new_chain (header shape)) (new_holds (header shape) one_image) put record_of [] adds)
 
 -- ---- format 1: the list says where recipes lie, deleted ones too
-
-abbrev r61 : List ℕ
-r61 = replicate 61 9
 
 abbrev written_again : List Command
 written_again = commands.Commit (user 7) tag (at 1) r61 ∷ commands.Delete (user 7) tag (at 1) ∷ commands.Commit (user 7) tag2 (at 1) r61 ∷ []

@@ -22,13 +22,14 @@ use Rattle.user_dedup.specs.Dedup.{IsSound}
 use Rattle.user_dedup.specs.Cloud.{held_bytes}
 use Rattle.user_dedup.specs.Spending.{spent_by_all}
 use Rattle.user_dedup.proofs.Filtered.{in_flat, from_flat}
+use Rattle.user_dedup.proofs.Sound.{contained}
 use Rattle.cloud_areas.specs.Placing.{shares_in, recipes_in, region_start, greatest_end, places_of}
 use Rattle.cloud_areas.specs.Checkpoints.{PutRecord, put_body, key_of, IsCheckpointOfList}
 use Rattle.cloud_areas.specs.Chains.{Summed, laid_shares, LiesIn, HaveRoom, BothHaveRoom, least_shares, least_recipes}
 use Rattle.cloud_areas.specs.Standing.{Chain, region_in, IsChain, Holds, StandsFor}
 use Rattle.cloud_areas.specs.Summaries.{SumsUp}
 use Rattle.cloud_areas.proofs.Begun.{has_stands}
-use Rattle.cloud_areas.proofs.Lists.{contained, in_map, from_map}
+use Rattle.cloud_areas.proofs.Lists.{in_map, from_map}
 use Rattle.cloud_areas.proofs.Apart.{Apart, apart_from, apart_by}
 use Rattle.cloud_areas.proofs.Ends.{end_least, end_each, end_bound, apart_within}
 use Rattle.cloud_areas.proofs.Once.{checkpoint_once}
@@ -59,7 +60,8 @@ recipes_by_commits (bodies.Spent s ∷ records) = recipes_by_commits records
 in_commits : (records : List Body) (c : CommitBody) → Contains records (bodies.Commit c) → Contains (commits_in records) c
 in_commits records c here = in_flat commit_in records (bodies.Commit c) c here (contains_here c [])
 
-from_commits : (records : List Body) (c : CommitBody) → Contains (commits_in records) c → Contains records (bodies.Commit c)
+-- a Commit among the records
+pub from_commits : (records : List Body) (c : CommitBody) → Contains (commits_in records) c → Contains records (bodies.Commit c)
 from_commits records c here = let f = from_flat commit_in records c here in by_kind f.0 f.1 f.2
   where
     by_kind : (body : Body) → Contains records body → Contains (commit_in body) c → Contains records (bodies.Commit c)

@@ -1,7 +1,6 @@
 -- One command more: what is staged for it is on the disk, and then its record is.
-use Rattle.std.proofs.Common.{◌≡◌, ◌≢◌, ◌⊎◌, inl, inr, ℕ, ◌+◌, ◌≤◌, List, [], ◌∷◌, ◌++◌, length, map, Result, Ok, Err, IsTrue, refl, sym, ap, ◌∙◌, subst, arith, append-nil}
+use Rattle.std.proofs.Common.{◌≡◌, ◌≢◌, ◌⊎◌, inl, inr, ℕ, ◌+◌, ◌≤◌, List, [], ◌∷◌, ◌++◌, length, map, Result, Ok, Err, IsTrue, refl, sym, ap, ◌∙◌, subst, arith}
 use Rattle.std.specs.Prelude.{All, OnOk}
-use Rattle.std.proofs.lemmas.Grind.{flat_map-append}
 use Rattle.std.proofs.lemmas.List.{map-append}
 use Rattle.commit_journal.specs.CdBase.ids.Fp.{Fp}
 use Rattle.commit_journal.specs.CdEdges.area.Area.{Area}
@@ -24,6 +23,7 @@ use Rattle.cloud_areas.specs.Placing.{region_start, greatest_end, shares_placed,
 use Rattle.cloud_areas.specs.Chains.{laid_shares, AreLong}
 use Rattle.cloud_areas.specs.Standing.{Chain, where_of, region_in, IsChain, Holds}
 use Rattle.cloud_areas.specs.Adding.{with_record, Adds}
+use Rattle.cloud_areas.proofs.Placed.{shares_more}
 use Rattle.cloud_disk.specs.Held.{LogHolds, LogsHold, IsHeld, IsBelow, LieIn, with_staged}
 use Rattle.cloud_disk.specs.Disk.{Disk, IsOn, IsPrepared, shares_laid, StandsForEither}
 use Rattle.cloud_disk.proofs.Blobs.{front_lies, all_right}
@@ -46,9 +46,6 @@ pub record OneMore (header : Header) (list : List Command) (c : Chain) (command 
   pub where_is : where_of (with_record c body laid) ≡ with_body (where_of c) (body_bytes body)
   pub in_journal : (old new : List ℕ) → IsChain header (half_limit header.rooms) old c → FitsBody body → HasChain new (with_body (where_of c) (body_bytes body))
       → used_by (with_body (where_of c) (body_bytes body)) ≤ half_limit header.rooms → IsChain header (half_limit header.rooms) new (with_record c body laid)
-
-shares_more : (records : List Body) (body : Body) → shares_in (records ++ body ∷ []) ≡ shares_in records ++ shares_placed body
-shares_more records body = flat_map-append shares_placed records (body ∷ []) ∙ ap (λ (l : List (Fp × Place)). shares_in records ++ l) (append-nil (shares_placed body))
 
 module _ (header : Header) (list : List Command) (c : Chain) (command : Command) (body : Body) (laid : List Placed) (law : OneMore header list c command body laid)
     (disk : Disk) (bytes : List ℕ) (c0 : Cloud) (p : IsPrepared header list c command body laid disk bytes c0) where

@@ -68,7 +68,7 @@ lack_still m user n (x ∷ xs) o all =
 
 -- ---- one share
 
-keys_more : (m : FinMap owner_cmp ℕ) (user : UserId) (fp : List ℕ) → get m (owner_of user.0 fp) ≡ None
+pub keys_more : (m : FinMap owner_cmp ℕ) (user : UserId) (fp : List ℕ) → get m (owner_of user.0 fp) ≡ None
     → keys_of (λ (k : Owner). k.user) (insert m (owner_of user.0 fp) 0) user.0 ≡ 1 + keys_of (λ (k : Owner). k.user) m user.0
 keys_more m user fp none =
     sum_by-insert_new owner_total (λ (e : Owner × ℕ). cond (e.0.user == user.0) 1 0) m (owner_of user.0 fp) 0 none

@@ -20,7 +20,7 @@ use Rattle.cloud_areas.specs.UserDedup.command.Command.TheVariants as commands
 use Rattle.cloud_areas.specs.UserDedup.Dedup.{IsSound}
 use Rattle.cloud_areas.specs.UserDedup.Cloud.{user_view, named_by, named_in, without_key, still_owned, strings_in}
 use Rattle.cloud_areas.specs.UserDedup.Cloud.{without_entry as view_without}
-use Rattle.cloud_areas.proofs.UserDedup.Deleting.{its_key, at_its_key, entry_gone, entry_stays, deleted_view}
+use Rattle.cloud_areas.proofs.UserDedup.Deleting.{its_key, at_its_key, entry_gone, entry_stays, deleted_view, one_entry}
 use Rattle.cloud_areas.proofs.UserDedup.Sound.{keys_apart}
 use Rattle.cloud_areas.proofs.UserDedup.Spending.{deletes_nothing_spent}
 use Rattle.cloud_areas.proofs.UserDedup.Views.{others_stay}
@@ -42,9 +42,6 @@ kept_all key (x ∷ files) none =
 
 later_apart : (x : FileEntry) (files : List FileEntry) → AreApart (x ∷ files) → AreApart files
 later_apart x files apart i j a b at_i at_j same = let e = apart (suc i) (suc j) a b at_i at_j same in omega (arith, e)
-
-one_entry : (x a : FileEntry) → Some x ≡ Some a → x ≡ a
-one_entry x a e = cc
 
 uses_split : (shape : Shape) (key : Tag × Version) (files : List FileEntry) (entry : FileEntry) (f : Fp) → AreApart files → entry_at files key ≡ Some entry
     → uses_of shape files f ≡ times (fps_of shape entry.recipe) f + uses_of shape (without_key key files) f

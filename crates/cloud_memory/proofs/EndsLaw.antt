@@ -22,6 +22,7 @@ use Rattle.cloud_areas.specs.UserDedup.Dedup.{IsSound}
 use Rattle.cloud_areas.specs.UserDedup.Spending.{SpentByUser, held_len, spent_by_all}
 use Rattle.cloud_areas.specs.Placing.{shares_in, recipes_placed, recipes_in, places_given, places_of, region_start, end_of, greatest_end}
 use Rattle.cloud_areas.specs.Chains.{commit_of}
+use Rattle.cloud_areas.proofs.Placed.{shares_more}
 use Rattle.cloud_memory.specs.declared.rooms.New.{New}
 use Rattle.cloud_memory.specs.Memory.{Memory, Remembers, HasEnds}
 use Rattle.cloud_memory.specs.News.{AreOf, AreNewTo}
@@ -30,7 +31,7 @@ use Rattle.cloud_memory.specs.Steps as steps
 use Rattle.cloud_memory.proofs.Puts.{place_for, recipes_end_stays}
 use Rattle.cloud_memory.proofs.Adding.{first_held}
 use Rattle.cloud_memory.proofs.Lists.{all_spent_next}
-use Rattle.cloud_memory.proofs.PlacingLaw.{shares_more, given_more}
+use Rattle.cloud_memory.proofs.PlacingLaw.{given_more}
 use Rattle.cloud_memory.proofs.PutLaw.{cost_is}
 
 recipes_more : (records : List Body) (body : Body) → recipes_in (records ++ body ∷ []) ≡ recipes_in records ++ recipes_placed body

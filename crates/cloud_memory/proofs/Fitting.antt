@@ -143,7 +143,7 @@ dropped_placed user (fp ∷ names) places owners fit = dropped_placed user names
 
 -- ---- shares
 
-abbrev place_or : Place → Option Place → Place
+abbrev pub place_or : Place → Option Place → Place
 place_or other None = other
 place_or other (Some place) = place
 

@@ -41,6 +41,7 @@ use Rattle.cloud_areas.specs.UserDedup.Spending as spending
 use Rattle.cloud_areas.proofs.UserDedup.Once.{Once}
 use Rattle.cloud_areas.proofs.UserDedup.Sound.{keys_apart}
 use Rattle.cloud_areas.proofs.UserDedup.Spending.{each_within}
+use Rattle.cloud_areas.proofs.UserDedup.Pages.{Key}
 use Rattle.cloud_memory.specs.declared.rooms.New.{New}
 use Rattle.cloud_memory.specs.Memory.{Memory, Remembers, uses_of}
 use Rattle.cloud_memory.specs.News.{AreOf, AreNewTo}
@@ -49,7 +50,7 @@ use Rattle.cloud_memory.specs.Steps.{held_len}
 use Rattle.cloud_memory.proofs.Adding.{cost_held}
 use Rattle.cloud_memory.proofs.KeyCounts.{few_keys, many_keys, all_keys}
 use Rattle.cloud_memory.proofs.Lists.{strings_more, and_more, spent_next}
-use Rattle.cloud_memory.proofs.Next.{Key, of, Holds, holds_of, mapped_at}
+use Rattle.cloud_memory.proofs.Next.{of, Holds, holds_of, mapped_at}
 use Rattle.cloud_memory.proofs.PutLaw.{cost_is}
 use Rattle.cloud_memory.proofs.Taking.{refusal_none}
 

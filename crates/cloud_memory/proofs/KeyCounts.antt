@@ -12,11 +12,11 @@ use Rattle.cloud_areas.proofs.UserDedup.Owned.{contains_here, contains_later, co
 use Rattle.cloud_areas.proofs.UserDedup.Once.{Once}
 use Rattle.cloud_memory.proofs.Keys.{is_eq-at}
 
-none_found : {X : Type 0} (t : Bool) (x : X) (o : Option X) → cond t (Some x) o ≡ None → (t ≡ false) × (o ≡ None)
+pub none_found : {X : Type 0} (t : Bool) (x : X) (o : Option X) → cond t (Some x) o ≡ None → (t ≡ false) × (o ≡ None)
 none_found true x o e = absurd (let no : Some x ≡ None = e in cc)
 none_found false x o e = (refl, e)
 
-itself : {K : Type 0} {R : K → K → Ordering} → IsTotalOrder R → (k : K) → eq_by_cmp R k k ≡ true
+pub itself : {K : Type 0} {R : K → K → Ordering} → IsTotalOrder R → (k : K) → eq_by_cmp R k k ≡ true
 itself total k = ap is_eq (tied_itself total k)
 
 module _ {K X : Type 0} {R : K → K → Ordering} (total : IsTotalOrder R) (exact : IsAntisymmetric R) (test : K → Bool) where

@@ -1,12 +1,13 @@
 -- What one command more does to what a list holds and what users have spent.
-use Rattle.std.proofs.Common.{◌≡◌, ◌≢◌, ℕ, ◌+◌, ◌<◌, Bool, true, false, cond, List, [], ◌∷◌, ◌++◌, length, map, Option, Some, None, refl, sym, ap, ◌∙◌, arith, append-nil, length-append}
-use Rattle.std.specs.Prelude.{◌||◌, ◌↔◌, find, is_some, IsSome, option_map, unwrap_or, slice_set}
+use Rattle.std.proofs.Common.{◌≡◌, ◌≢◌, ℕ, ◌+◌, ◌<◌, Bool, true, false, cond, List, [], ◌∷◌, ◌++◌, length, map, Option, Some, None, refl, sym, ap, ◌∙◌, append-nil, length-append, add-one, drop, drop-cons, suc}
+use Rattle.std.specs.Prelude.{◌||◌, ◌↔◌, find, is_some, IsSome, option_map, unwrap_or, slice_set, slice_get}
 use Rattle.std.specs.List.{Contains, flat_map, sum_by}
-use Rattle.std.proofs.lemmas.List.Sums.{sum_by-cons, sum_by-append}
+use Rattle.std.proofs.lemmas.List.Sums.{sum_by-append}
 use Rattle.std.proofs.lemmas.List.Elements.{filter-append}
 use Rattle.std.proofs.lemmas.Grind.{flat_map-append}
 use Rattle.std.proofs.Math.Seq.{get_or-set_same, get_or-set_other}
 use Rattle.std.specs.FinMap.{FinMap, get}
+use Rattle.std.proofs.lemmas.Option.{get_or_from_slice_get, slice_get_within}
 use Rattle.spent_table.specs.CdBase.ids.Fp.{Fp}
 use Rattle.spent_table.specs.CdBase.ids.UserId.{UserId}
 use Rattle.spent_table.specs.CdBase.place.Place.{Place}
@@ -15,11 +16,12 @@ use Rattle.spent_table.specs.declared.Spent.{Spent as Row}
 use Rattle.spent_table.specs.Spending.{spent_by, nothing as no_row}
 use Rattle.cloud_areas.specs.UserDedup.Cloud.{fingerprint, has_fingerprint}
 use Rattle.cloud_areas.specs.UserDedup.Owning.{is_among}
-use Rattle.cloud_areas.proofs.UserDedup.Owned.{among_contains, contains_among, contains_here, contains_later}
+use Rattle.cloud_areas.proofs.UserDedup.Owned.{among_contains, contains_among}
 use Rattle.cloud_areas.specs.UserDedup.command.Command.{Command}
 use Rattle.cloud_areas.specs.UserDedup.Cloud.{is_of, commands_of, strings_of, strings_in, recipes_of, held_bytes}
 use Rattle.cloud_areas.specs.UserDedup.Spending.{SpentByUser, held_len, spent_in, spent_of, spent_by_all}
 use Rattle.cloud_areas.proofs.UserDedup.Views.{strings_among, sent_is_held, held_more}
+use Rattle.cloud_areas.proofs.UserDedup.Spending.{sums_alike}
 use Rattle.cloud_memory.proofs.Puts.{ArePlaced, len_at}
 
 -- ---- strings
@@ -76,11 +78,6 @@ are_placed strings places iff lens fp = by_cases (get places fp.0) refl (find (h
 
 -- ---- what is spent
 
-sums_alike : (f g : List ℕ → ℕ) (xs : List (List ℕ)) → ((x : List ℕ) → Contains xs x → f x ≡ g x) → sum_by f xs ≡ sum_by g xs
-sums_alike f g [] same = refl
-sums_alike f g (x ∷ xs) same =
-    omega (arith, sum_by-cons f x xs, sum_by-cons g x xs, same x (contains_here x xs), sums_alike f g xs (λ y c. same y (contains_later x xs y c)))
-
 -- what is held of strings that were sent stays so
 held_still : (list more : List Command) (some : List (List ℕ)) → ((s : List ℕ) → Contains some s → Contains (strings_in list) s)
     → sum_by (held_len (list ++ more)) some ≡ sum_by (held_len list) some
@@ -131,3 +128,6 @@ row_here rows user row lt = get_or-set_same rows user.0 row no_row lt
 
 pub row_there : (rows : List Row) (user q : UserId) (row : Row) → q.0 ≢ user.0 → spent_by (slice_set rows user.0 row) q ≡ spent_by rows q
 row_there rows user q row other = get_or-set_other rows user.0 q.0 row no_row other
+
+pub front_gone : {A : Type 0} (xs : List A) (i : ℕ) (x : A) → slice_get xs i ≡ Some x → drop i xs ≡ x ∷ drop (i + 1) xs
+front_gone xs i x e = rw (add-one, drop-cons xs i x (slice_get_within xs i x e)) (ap (λ y. y ∷ drop (suc i) xs) (get_or_from_slice_get xs i x x e))

@@ -11,9 +11,7 @@ use Rattle.std.specs.Cmp.Rules.{comparing}
 use Rattle.std.proofs.lemmas.Cmp.{tied_itself}
 use Rattle.std.specs.Cmp.Lexicographic.{slice_cmp}
 use Rattle.std.proofs.lemmas.List.Elements.{All-head}
-use Rattle.spent_table.specs.CdBase.ids.Tag.{Tag}
 use Rattle.spent_table.specs.CdBase.ids.UserId.{UserId}
-use Rattle.spent_table.specs.CdBase.ids.Version.{Version}
 use Rattle.spent_table.specs.CdBase.shape.Shape.{Shape}
 use Rattle.file_index.specs.declared.key.Entry.{Entry}
 use Rattle.file_index.specs.declared.key.FileKey.{FileKey}
@@ -27,12 +25,9 @@ use Rattle.cloud_areas.specs.UserDedup.Cloud.{user_view}
 use Rattle.cloud_areas.specs.UserDedup.Pages.{page_of, entry_at, IsPage}
 use Rattle.cloud_areas.specs.UserDedup.Pages.{key_of as file_key}
 use Rattle.cloud_areas.proofs.UserDedup.Owned.{contains_here, contains_later, contains_nothing, contains_cases}
-use Rattle.cloud_areas.proofs.UserDedup.Pages.{is_page}
+use Rattle.cloud_areas.proofs.UserDedup.Pages.{is_page, Key}
 use Rattle.cloud_areas.proofs.UserDedup.Sound.{found_entry, no_entry}
 use Rattle.cloud_memory.specs.Memory.{Memory, Remembers, summary, summary_of, keys_above}
-
-abbrev pub Key : Type 0
-Key = Tag × Version
 
 -- a key of the user's in the map
 abbrev pub of : UserId → Key → FileKey
@@ -42,12 +37,12 @@ of user key = key_of user.0 key.0.0 key.1.0
 same_order : (user : UserId) (a b : Key) → key_cmp (of user a) (of user b) ≡ cmp_keys a b
 same_order user a b = sym (ap (λ r. ordering_then r (cmp_keys a b)) (nat_cmp_is user.0 user.0 Equal refl))
 
-less_above : (r : Ordering) → is_lt r ≡ true → r ≡ Less
+pub less_above : (r : Ordering) → is_lt r ≡ true → r ≡ Less
 less_above Less e = refl
 less_above Equal e = cc
 less_above Greater e = cc
 
-keys_total : IsTotalOrder cmp_keys
+pub keys_total : IsTotalOrder cmp_keys
 keys_total = let t : IsTotalOrder (then_cmp (on (λ (k : Key). k.0.0) (slice_cmp nat_cmp)) (on (λ (k : Key). k.1.0) nat_cmp)) = search (comparing, rules) in t
 
 keys_exact : (user : UserId) (a b : Key) → cmp_keys a b ≡ Equal → a ≡ b
@@ -68,7 +63,7 @@ above_from user None key a = refl
 above_from user (Some last) key a = ap is_lt (sym (same_order user last key) ∙ a.1)
 
 -- what stands behind a key of rising keys is above it
-behind : (key : Key) (keys : List Key) (k : Key) → AreAbove (Some key) keys → Contains keys k → cmp_keys key k ≡ Less
+pub behind : (key : Key) (keys : List Key) (k : Key) → AreAbove (Some key) keys → Contains keys k → cmp_keys key k ≡ Less
 behind key [] k a c = absurd (contains_nothing k c)
 behind key (other ∷ keys) k a c =
     elim (contains_cases other keys k c) [
@@ -119,7 +114,7 @@ module _ (m : FinMap key_cmp Entry) (user : UserId) (files : List FileEntry) (la
 
 -- ---- the files of the view
 
-mapped : (files : List FileEntry) (file : FileEntry) → Contains files file → Contains (map file_key files) (file_key file)
+pub mapped : (files : List FileEntry) (file : FileEntry) → Contains files file → Contains (map file_key files) (file_key file)
 mapped [] file c = absurd (contains_nothing file c)
 mapped (x ∷ files) file c =
     elim (contains_cases x files file c) [
@@ -135,7 +130,7 @@ mapped_at (x ∷ files) key c =
       | inr later ↦ let r = mapped_at files key later in (suc r.0, r.1, r.2, r.3)
     ]
 
-both_there : (o : Option Entry) (w : Option FileEntry) → option_map summary o ≡ option_map summary_of w → is_some o ≡ is_some w
+pub both_there : (o : Option Entry) (w : Option FileEntry) → option_map summary o ≡ option_map summary_of w → is_some o ≡ is_some w
 both_there None None e = refl
 both_there None (Some x) e = absurd (let wrong : None ≡ Some (summary_of x) = e in cc)
 both_there (Some x) None e = absurd (let wrong : Some (summary x) ≡ None = e in cc)

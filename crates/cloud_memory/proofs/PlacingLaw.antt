@@ -5,7 +5,6 @@ use Rattle.std.specs.List.{Contains}
 use Rattle.std.specs.Option.{option_or}
 use Rattle.std.specs.FinMap.{FinMap, get}
 use Rattle.std.proofs.lemmas.Bool.{and_parts, eqb-true}
-use Rattle.std.proofs.lemmas.Grind.{flat_map-append}
 use Rattle.std.proofs.lemmas.List.Elements.{Contains-append_left, Contains-append_right, Contains-append_cases}
 use Rattle.std.proofs.lemmas.Slice.Eq.{bytes_eq-Decides}
 use Rattle.spent_table.specs.CdBase.ids.Fp.{Fp}
@@ -22,20 +21,18 @@ use Rattle.cloud_areas.specs.RecordBody.Spelling.{Body}
 use Rattle.spent_table.specs.CdBase.place.Place.{Place}
 use Rattle.spent_table.specs.CdBase.Order.{fp_cmp}
 use Rattle.cloud_areas.proofs.UserDedup.Owned.{fp_same, contains_here, contains_nothing, contains_cases}
-use Rattle.cloud_areas.specs.Placing.{shares_placed, shares_in, places_given}
+use Rattle.cloud_areas.proofs.Placed.{shares_more}
+use Rattle.cloud_areas.specs.Placing.{shares_in, places_given}
 use Rattle.cloud_memory.specs.declared.rooms.New.{New}
 use Rattle.cloud_memory.specs.Memory.{Memory, IsPlacedBy, commit_of}
 use Rattle.cloud_memory.specs.Steps.{with_item, with_items, part_in, parts_of, with_put, with_commit, without_entry}
 use Rattle.cloud_memory.proofs.Keys.{entry_in, entry_out}
 use Rattle.cloud_memory.proofs.Puts.{place_for, placed_more, files_stay}
 
-pub shares_more : (records : List Body) (body : Body) → shares_in (records ++ body ∷ []) ≡ shares_in records ++ shares_placed body
-shares_more records body = flat_map-append shares_placed records (body ∷ []) ∙ ap (λ (l : List (Fp × Place)). shares_in records ++ l) (append-nil (shares_placed body))
-
 -- ---- shares
 
 -- the pairs are those of the map
-abbrev Gives : List (Fp × Place) → FinMap fp_cmp Place → Type 0
+abbrev pub Gives : List (Fp × Place) → FinMap fp_cmp Place → Type 0
 Gives pairs places = (fp : Fp) (place : Place) → get places fp.0 ≡ Some place ↔ Contains pairs (fp, place)
 
 -- the pair of a share, where it is placed now

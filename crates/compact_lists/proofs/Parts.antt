@@ -28,8 +28,8 @@ use Rattle.user_dedup.specs.Compact.{users_in, user_at, sorted_fps, parts_by, in
 use Rattle.user_dedup.specs.Spending.{files_of}
 use Rattle.user_dedup.proofs.Filtered.{from_filter}
 use Rattle.user_dedup.proofs.Once.{Once}
-use Rattle.user_dedup.proofs.Sorting.{Key}
 use Rattle.user_dedup.proofs.Views.{own_adds, others_stay}
+use Rattle.user_dedup.proofs.Pages.{Key}
 use Rattle.compact_lists.specs.Live.{begun_in}
 use Rattle.compact_lists.proofs.Sums.{sum_alike, sum_ones, sorted_fps_length, entries_sum}
 
@@ -95,7 +95,7 @@ lawful shape cloud list (requests.Delete user tag version) command e =
     let d = deletes_from (entry_at (user_view shape list user).files (tag, version)) (commands.Delete user tag version) command e in
     subst (LawfulFor shape list user) (sym d.1) tt
 
-from_print : (ss : List (List ℕ)) (fp : Fp) → Contains (map fingerprint ss) fp → (s : List ℕ) × Contains ss s × (fingerprint s ≡ fp)
+pub from_print : (ss : List (List ℕ)) (fp : Fp) → Contains (map fingerprint ss) fp → (s : List ℕ) × Contains ss s × (fingerprint s ≡ fp)
 from_print [] fp c = absurd (contains_nothing fp c)
 from_print (s ∷ ss) fp c =
     elim (contains_cases (fingerprint s) (map fingerprint ss) fp c) [

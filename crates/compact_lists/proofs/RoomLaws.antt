@@ -21,12 +21,13 @@ use Rattle.user_dedup.specs.Compact.{users_in, user_at, sorted_fps, in_parts, pu
 use Rattle.user_dedup.specs.Spending.{SpentByUser, files_of, UsesWithin, IsWithin}
 use Rattle.user_dedup.proofs.Compacting.{from_mapped, same_own, same_held}
 use Rattle.user_dedup.proofs.Filtered.{from_filter, in_filter, from_flat}
-use Rattle.user_dedup.proofs.Sorting.{Key}
 use Rattle.user_dedup.proofs.Spending.{commands_more}
 use Rattle.user_dedup.proofs.Views.{owned_is_held, held_is}
+use Rattle.user_dedup.proofs.Pages.{Key}
 use Rattle.compact_lists.specs.Live.{IsAlive}
 use Rattle.compact_lists.proofs.Keeping.{IsKeeping, AreKeeping, files_grow, own_brought, owners_grow, shares_grow, recipes_grow, owners_less, shares_less, recipes_less}
 use Rattle.compact_lists.proofs.Spent.{spent_kept, files_kept}
+use Rattle.compact_lists.proofs.Parts.{from_print}
 
 at_most : (a b limit : ℕ) → a ≤ b → b ≤ limit → a ≤ limit
 at_most a b limit one two = omega (arith, one, two)
@@ -104,15 +105,7 @@ stays shape cloud rooms list sound within =
 
 -- ---- strings
 
-from_print : (ss : List (List ℕ)) (fp : Fp) → Contains (map fingerprint ss) fp → (s : List ℕ) × Contains ss s × (fingerprint s ≡ fp)
-from_print [] fp c = absurd (contains_nothing fp c)
-from_print (s ∷ ss) fp c =
-    elim (contains_cases (fingerprint s) (map fingerprint ss) fp c) [
-      | inl same ↦ (s, contains_here s ss, same)
-      | inr later ↦ let r = from_print ss fp later in (r.0, contains_later s ss r.0 r.1, r.2)
-    ]
-
-in_prints : (ss : List (List ℕ)) (s : List ℕ) → Contains ss s → Contains (map fingerprint ss) (fingerprint s)
+pub in_prints : (ss : List (List ℕ)) (s : List ℕ) → Contains ss s → Contains (map fingerprint ss) (fingerprint s)
 in_prints [] s c = absurd (contains_nothing s c)
 in_prints (x ∷ ss) s c =
     elim (contains_cases x ss s c) [

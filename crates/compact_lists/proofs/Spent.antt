@@ -21,9 +21,10 @@ use Rattle.user_dedup.specs.Cloud.{is_of, commands_of, user_view, named_in, stri
 use Rattle.user_dedup.specs.Compact.{users_in, sorted_fps, in_parts, puts_for, commit_at, commits_for, compact}
 use Rattle.user_dedup.specs.Spending.{held_len, spent_of, files_of}
 use Rattle.user_dedup.proofs.Compacting.{part_of, puts_of, commits_of, no_puts, no_commits, compact_view, same_held}
-use Rattle.user_dedup.proofs.Sorting.{Key, joined, joined_parts, fps_from}
+use Rattle.user_dedup.proofs.Sorting.{joined, joined_parts, fps_from}
 use Rattle.user_dedup.proofs.Sound.{keys_apart}
 use Rattle.user_dedup.proofs.Views.{owned_is_held}
+use Rattle.user_dedup.proofs.Pages.{Key}
 use Rattle.compact_lists.specs.Live.{bytes_held, live_of}
 use Rattle.compact_lists.proofs.Sums.{sum_alike, sum_ones, sum_mapped, sum_flat, sorted_fps_sum, sorted_fps_length, entries_sum}
 use Rattle.compact_lists.proofs.Parts.{own_once}

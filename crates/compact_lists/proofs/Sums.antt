@@ -4,20 +4,19 @@ use Rattle.std.specs.Prelude.{filter, find, slice_get}
 use Rattle.std.specs.List.{Contains, flat_map, sum_by}
 use Rattle.std.specs.declared.cmp.Ordering.{Ordering}
 use Rattle.std.specs.declared.cmp.Ordering.TheVariants.{Less, Equal, Greater}
-use Rattle.std.specs.Ordering.{nat_cmp, ordering_then, match_ordering}
-use Rattle.std.specs.Cmp.Lexicographic.{slice_cmp}
-use Rattle.std.specs.FinMap.{nat_cmp-IsAntisymmetric, slice_cmp-IsAntisymmetric}
+use Rattle.std.specs.Ordering.{match_ordering}
 use Rattle.std.proofs.lemmas.List.Sums.{sum_by-cons, sum_by-append}
 use Rattle.user_dedup.specs.CdBase.ids.Fp.{Fp}
 use Rattle.user_dedup.specs.MessageFields.Keys.{key_cmp}
-use Rattle.user_dedup.specs.CdBase.Order.{fp_cmp, fp_exact}
+use Rattle.user_dedup.specs.CdBase.Order.{fp_cmp}
 use Rattle.user_dedup.specs.declared.file_list.FileEntry.{FileEntry}
 use Rattle.user_dedup.specs.Pages.{key_of, is_at, entry_at, AreApart, with_key, sorted_keys}
 use Rattle.user_dedup.proofs.Owned.{contains_here, contains_later, contains_nothing, contains_cases}
 use Rattle.user_dedup.specs.Compact.{with_fp, sorted_fps}
 use Rattle.user_dedup.proofs.EntryLists.{at_its_key, its_key}
 use Rattle.user_dedup.proofs.Once.{Once}
-use Rattle.user_dedup.proofs.Sorting.{Key, fps_from}
+use Rattle.user_dedup.proofs.Sorting.{fps_from, fp_is}
+use Rattle.user_dedup.proofs.Pages.{Key, key_exact}
 
 -- ---- any lists
 
@@ -51,9 +50,6 @@ module _ {X Y : Type 0} where
 
 -- ---- sorted fingerprints
 
-fp_is : (a b : Fp) → fp_cmp a.0 b.0 ≡ Equal → a ≡ b
-fp_is a b e = let same = fp_exact a.0 b.0 e in λ i. record { 0 = same i }
-
 with_fp_sum : (g : Fp → ℕ) (fp : Fp) (fps : List Fp) → (Contains fps fp → ⊥) → sum_by g (with_fp fp fps) ≡ g fp + sum_by g fps
 with_fp_sum g fp [] lacks = sum_by-cons g fp []
 with_fp_sum g fp (other ∷ fps) lacks = by_order (fp_cmp fp.0 other.0) refl (with_fp_sum g fp fps (λ c. lacks (contains_later other fps fp c)))
@@ -75,18 +71,6 @@ pub sorted_fps_length : (fps : List Fp) → Once fps → length (sorted_fps fps)
 sorted_fps_length fps once = sym (sum_ones (sorted_fps fps)) ∙ sorted_fps_sum (λ (fp : Fp). 1) fps once ∙ sum_ones fps
 
 -- ---- sorted keys
-
-both_equal : (a b : Ordering) → ordering_then a b ≡ Equal → (a ≡ Equal) × (b ≡ Equal)
-both_equal Less b e = absurd (let f : Less ≡ Equal = e in cc)
-both_equal Equal b e = (refl, e)
-both_equal Greater b e = absurd (let f : Greater ≡ Equal = e in cc)
-
-key_exact : (a b : Key) → key_cmp a b ≡ Equal → a ≡ b
-key_exact a b e =
-    let p = both_equal (slice_cmp nat_cmp a.0.0 b.0.0) (nat_cmp a.1.0 b.1.0) e in
-    let tag = slice_cmp-IsAntisymmetric nat_cmp-IsAntisymmetric a.0.0 b.0.0 p.0 in
-    let version = nat_cmp-IsAntisymmetric a.1.0 b.1.0 p.1 in
-    λ i. (record { 0 = tag i }, record { 0 = version i })
 
 with_cases : (key : Key) (keys : List Key) (k : Key) → Contains (with_key key keys) k → Contains (key ∷ keys) k
 with_cases key [] k c = c

@@ -22,7 +22,8 @@ use Rattle.compact_memories.specs.CloudAreas.Chains.{AreRecordsOfList, Summed, T
 use Rattle.compact_memories.specs.CloudAreas.FormatOne.{Lays}
 use Rattle.compact_memories.specs.CloudAreas.Placing.{shares_in}
 use Rattle.compact_memories.specs.CloudAreas.Standing.{Chain}
-use Rattle.compact_memories.proofs.CloudAreas.Lists.{contained, in_map}
+use Rattle.compact_memories.proofs.UserDedup.Sound.{contained}
+use Rattle.compact_memories.proofs.CloudAreas.Lists.{in_map}
 use Rattle.compact_memories.specs.CloudMemory.Memory.{Memory, Stand}
 use Rattle.record_laws.specs.Leaving.{record_left}
 use Rattle.record_laws.proofs.Chain.{long_before}

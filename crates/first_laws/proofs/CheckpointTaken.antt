@@ -39,7 +39,8 @@ use Rattle.compact_memories.specs.CloudAreas.FormatOne.{IsWithinGreatest}
 use Rattle.compact_memories.specs.CloudAreas.Placing.{shares_placed, shares_in, fps_placed}
 use Rattle.compact_memories.proofs.CloudAreas.Apart.{Apart, apart_from}
 use Rattle.compact_memories.proofs.CloudAreas.Entries.{entry_of}
-use Rattle.compact_memories.proofs.CloudAreas.Lists.{in_map, from_map, contained}
+use Rattle.compact_memories.proofs.UserDedup.Sound.{contained}
+use Rattle.compact_memories.proofs.CloudAreas.Lists.{in_map, from_map}
 use Rattle.compact_memories.proofs.CloudAreas.Once.{checkpoint_once}
 use Rattle.compact_memories.proofs.CloudAreas.Placed.{shares_more, checkpoint_is_sent}
 use Rattle.compact_memories.specs.CloudMemory.Memory.{Memory, IsPlacedBy, commit_of, times}

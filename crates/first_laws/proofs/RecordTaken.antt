@@ -27,7 +27,8 @@ use Rattle.compact_memories.specs.CloudAreas.Checkpoints.{IsCheckpointOfList}
 use Rattle.compact_memories.specs.CloudAreas.FormatOne.{Lays}
 use Rattle.compact_memories.specs.CloudAreas.Placing.{shares_placed, shares_in, recipes_placed, recipes_in, greatest_end, shares_end}
 use Rattle.compact_memories.specs.CloudAreas.Standing.{Chain}
-use Rattle.compact_memories.proofs.CloudAreas.Lists.{contained, in_map, from_map}
+use Rattle.compact_memories.proofs.UserDedup.Sound.{contained}
+use Rattle.compact_memories.proofs.CloudAreas.Lists.{in_map, from_map}
 use Rattle.compact_memories.proofs.CloudAreas.Placed.{placed_is_sent}
 use Rattle.compact_memories.specs.CloudMemory.Memory.{Memory}
 use Rattle.record_laws.specs.RecordChecks.ground.Ground.{Ground}

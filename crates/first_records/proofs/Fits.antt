@@ -1,47 +1,19 @@
 -- What a record leaves fits records, by what its bytes say; and nothing is spent by it.
-use Rattle.std.proofs.Common.{◌≡◌, ℕ, ◌≤◌, Bool, List, [], ◌∷◌, Option, Some, None, refl, ap, subst}
-use Rattle.std.specs.Prelude.{All, Result, IfOk}
-use Rattle.std.proofs.lemmas.List.Elements.{All-nil, All-cons, All-head, All-tail}
-use Rattle.message_fields.specs.CdBase.ids.UserId.{UserId}
-use Rattle.message_fields.specs.CdBase.place.Place.{Place}
+use Rattle.std.proofs.Common.{◌≡◌, ℕ, Bool, List, [], ◌∷◌, refl}
+use Rattle.std.specs.Prelude.{Result, IfOk}
 use Rattle.record_checks.specs.FileIndex.Files.{key_of}
-use Rattle.message_fields.specs.Shares.{share_limit}
 use Rattle.record_checks.specs.RecordBody.body.KeptItem.{KeptItem}
 use Rattle.record_checks.specs.RecordBody.Spelling.{Body, FitsBody}
-use Rattle.record_checks.specs.RecordBody.body.PutItem.{PutItem}
-use Rattle.record_checks.specs.RecordBody.FirstSpelling.{FitsPlaced, FitsItem}
 use Rattle.record_checks.specs.UserDedup.Requests.{fps_of}
-use Rattle.record_checks.specs.CloudMemory.Fitting.{FitsPart, FitsRecords, AreItemsPlaced}
+use Rattle.record_checks.specs.CloudMemory.Fitting.{FitsRecords}
 use Rattle.record_checks.specs.CloudMemory.Memory.{Memory}
-use Rattle.record_checks.specs.CloudMemory.Steps.{with_item, with_kept, with_kepts}
-use Rattle.record_checks.proofs.CloudMemoryLaws.Fitting.{filled_fits, kepts_fit, entry_fits, delete_fits, has_place}
+use Rattle.record_checks.specs.CloudMemory.Steps.{with_kept, with_kepts}
+use Rattle.record_checks.proofs.CloudMemoryLaws.Fitting.{filled_fits, kepts_fit, entry_fits, delete_fits}
 use Rattle.record_checks.proofs.CloudMemoryLaws.Puts.{spent_stays}
+use Rattle.record_checks.proofs.FittingItems.{parts_fit, right_placed}
 use Rattle.record_checks.specs.declared.ground.Ground.{Ground}
-use Rattle.record_checks.specs.Checks.{AreRight}
 use Rattle.first_records.specs.declared.errors.Fault.{Fault}
 use Rattle.first_records.specs.Judging.{Leaves, PutLeaves, CommitLeaves, DeleteLeaves, KeptLeaves, JudgesSaid, Crowded, Fails, Overfull, Fits}
-
-abbrev place_or : Place → Option Place → Place
-place_or other None = other
-place_or other (Some place) = place
-
-no_place : (place : Place) → ◌≡◌ {A = Option Place} None (Some place) → ⊥
-no_place place e = cc
-
-placed_fits : (o : Option Place) → FitsPlaced o → (place : Place) → o ≡ Some place → (1 ≤ place.len) × (place.len ≤ share_limit)
-placed_fits None fits place e = absurd (no_place place e)
-placed_fits (Some new) fits place e = subst (λ (p : Place). (1 ≤ p.len) × (p.len ≤ share_limit)) (ap (place_or new) e) fits.1
-
-parts_fit : (items : List PutItem) → All FitsItem items → All FitsPart items
-parts_fit [] fits = All-nil FitsPart
-parts_fit (item ∷ items) fits =
-    All-cons FitsPart item items (placed_fits item.place (All-head FitsItem item items fits).1) (parts_fit items (All-tail FitsItem item items fits))
-
--- a share whose flag is right has a place, its own or one from before
-right_placed : (g : Ground) (inside : Bool) (user : UserId) (items : List PutItem) (m : Memory) → AreRight g inside user m items → AreItemsPlaced m.places items
-right_placed g inside user [] m right = tt
-right_placed g inside user (item ∷ items) m right =
-    (has_place m.places item.fp item.place right.0.flagged.1, right_placed g inside user items (with_item user m item) right.1)
 
 kepts_unspent : (m : Memory) (items : List KeptItem) → (with_kepts m items).spent ≡ m.spent
 kepts_unspent m [] = refl

@@ -1,15 +1,13 @@
 -- Room in the tables for what a record has.
 use Rattle.std.proofs.Common.{◌≡◌, ℕ, ◌+◌, ◌<◌, ◌≤◌, ◌^◌, Bool, true, false, cond, List, ◌∷◌, length, Option, Some, None, refl, sym, ap, ◌∙◌, subst, arith, ltb-false}
-use Rattle.std.specs.Prelude.{◌↔◌, nat_lt, count_by, is_some, IsSome, IfSome}
+use Rattle.std.specs.Prelude.{nat_lt, count_by, is_some, IfSome}
 use Rattle.std.specs.Option.{option_or}
 use Rattle.std.specs.FinMap.{FinMap, get, insert, len, len-insert}
-use Rattle.std.proofs.lemmas.List.Sums.{sum_by-cons}
 use Rattle.message_fields.specs.CdBase.ids.Fp.{Fp}
 use Rattle.message_fields.specs.CdBase.ids.UserId.{UserId}
 use Rattle.message_fields.specs.CdBase.place.Place.{Place}
 use Rattle.message_fields.specs.CdBase.rooms.Room.{Room}
 use Rattle.message_fields.specs.CdBase.rooms.Room.TheVariants.{Fps, Owners, Files}
-use Rattle.message_fields.specs.CdBase.Order.{fp_cmp}
 use Rattle.record_checks.specs.FileIndex.key.FileKey.{FileKey}
 use Rattle.record_checks.specs.FileIndex.Files.{used_by as files_used}
 use Rattle.record_checks.specs.PoolMap.accounts.Accounts.{Accounts}
@@ -27,12 +25,12 @@ use Rattle.record_checks.specs.CloudMemory.Greatest.{HasGreatest, KeepsGreatest}
 use Rattle.record_checks.specs.CloudMemory.Memory.{Memory}
 use Rattle.record_checks.specs.CloudMemory.Records.{HasPlaceRoom, HasItemRoom}
 use Rattle.record_checks.specs.CloudMemory.Rooms.{memory_of}
-use Rattle.record_checks.specs.CloudMemory.Steps.{with_item, with_kept, places_with}
+use Rattle.record_checks.specs.CloudMemory.Steps.{with_item, with_kept}
 use Rattle.record_checks.specs.declared.ground.Ground.{Ground}
 use Rattle.record_checks.specs.Checks.{IsRightItem, IsRightKept}
 use Rattle.record_checks.specs.Steps.{has_place}
 use Rattle.record_checks.proofs.Faults.{none_there}
-use Rattle.record_checks.proofs.Rooming.{one_placed}
+use Rattle.record_checks.proofs.Rooming.{one_placed, counted, places_more}
 use Rattle.first_records.specs.Limits.{limit_of, HasFirstRooms, if_past, crowded}
 use Rattle.first_records.specs.Steps.{HasItemsRoom, HasKeptsRoom}
 
@@ -62,13 +60,6 @@ neither (Some x) b e = absurd (let no : ◌≡◌ {A = Option Room} (Some x) Non
 
 one_owner : (owners : FinMap owner_cmp ℕ) (user : UserId) (fp : Fp) → get owners (owner_of user.0 fp.0) ≡ None → len (insert owners (owner_of user.0 fp.0) 0) ≡ len owners + 1
 one_owner owners user fp none = len-insert owner_total owners (owner_of user.0 fp.0) 0 ∙ ap (λ (o : Option ℕ). cond (is_some o) (len owners) (len owners + 1)) none
-
-counted : (item : PutItem) (items : List PutItem) → count_by has_place (item ∷ items) ≡ cond (is_some item.place) 1 0 + count_by has_place items
-counted item items = sum_by-cons (λ (x : PutItem). cond (has_place x) 1 0) item items
-
-places_more : (places : FinMap fp_cmp Place) (fp : Fp) (o : Option Place) → IsSome o ↔ (get places fp.0 ≡ None) → len (places_with places fp o) ≡ len places + cond (is_some o) 1 0
-places_more places fp None flagged = omega arith
-places_more places fp (Some p) flagged = one_placed places fp p (flagged.0 refl)
 
 -- ---- the shares of a Put
 

@@ -15,3 +15,4 @@ pub mod ShareIndex
 pub mod RecordBody
 pub mod Recipe
 pub mod ContainerLog
+pub mod FittingItems

@@ -1,10 +1,10 @@
 -- Whether one of the first items passes a test, and whether all names pass one, item by item.
-use Rattle.std.proofs.Common.{◌≡◌, ℕ, zero, suc, ◌+◌, ◌-◌, ◌<◌, ◌≤◌, Bool, true, false, List, [], ◌∷◌, length, take, drop, Some, refl, sym, ap, ◌∙◌, subst, arith, drop-cons, add-one}
+use Rattle.std.proofs.Common.{◌≡◌, ℕ, zero, suc, ◌+◌, ◌-◌, ◌<◌, ◌≤◌, Bool, true, false, List, [], ◌∷◌, length, take, drop, Some, refl, sym, ap, ◌∙◌, subst, arith}
 use Rattle.std.specs.Prelude.{All, slice_get, ◌↔◌, ◌||◌}
 use Rattle.std.specs.List.{list_any}
 use Rattle.std.proofs.lemmas.List.{drop_all}
 use Rattle.std.proofs.lemmas.List.Elements.{All-nil, All-cons, All-head, All-tail}
-use Rattle.std.proofs.lemmas.Option.{slice_get_within, get_or_from_slice_get}
+use Rattle.cloud_memory.proofs.Lists.{front_gone}
 
 module _ {A : Type 0} (t : A → Bool) where
   any_next : (x : A) (rest : List A) (n : ℕ) → t x ≡ false → list_any t (take (suc n) (x ∷ rest)) ≡ list_any t (take n rest)
@@ -35,9 +35,6 @@ module _ {A : Type 0} (t : A → Bool) where
   -- none of the items was it
   pub none_found : (all items : List A) (count i : ℕ) → count ≤ i → list_any t (take count all) ≡ list_any t (take (count - i) items) → list_any t (take count all) ≡ false
   none_found all items count i past so = let none : count - i ≡ 0 = omega (arith, past) in so ∙ ap (λ (n : ℕ). list_any t (take n items)) none
-
-front_gone : {A : Type 0} (xs : List A) (i : ℕ) (x : A) → slice_get xs i ≡ Some x → drop i xs ≡ x ∷ drop (i + 1) xs
-front_gone xs i x e = rw (add-one, drop-cons xs i x (slice_get_within xs i x e)) (ap (λ y. y ∷ drop (suc i) xs) (get_or_from_slice_get xs i x x e))
 
 module _ {A : Type 0} (P : A → Type 0) where
   -- all pass where the rest does

@@ -18,11 +18,21 @@ use Rattle.record_checks.specs.Checks.{damaged_at, body_fault, IsRightItem, Item
 use Rattle.record_checks.specs.Judging.{JudgesBody, PutFault, PutPast, PutTaken, Unplaced, Entered, NotWhole, CommitPast, CommitTaken, NoEntry, NotNamed, Deleted, KeptDamaged, KeptPast, KeptTaken, SpentPast, SpentTaken, Judges, Outside, Unread, Damaged, Taken}
 
 -- something and nothing
-some_none : {A : Type 0} (o : Option A) → IsSome o → o ≡ None → ⊥
+pub some_none : {A : Type 0} (o : Option A) → IsSome o → o ≡ None → ⊥
 some_none o some none = let wrong = sym (ap is_some none) ∙ some in cc
 
-some_one : {A : Type 0} (o : Option A) (x y : A) → o ≡ Some x → o ≡ Some y → x ≡ y
+pub some_one : {A : Type 0} (o : Option A) (x y : A) → o ≡ Some x → o ≡ Some y → x ≡ y
 some_one o x y a b = let same : Some x ≡ Some y = sym a ∙ b in cc
+
+-- what is read is one body, or one fault
+pub read_once : (bytes : List ℕ) (a b : Body) → body_at bytes ≡ Ok a → body_at bytes ≡ Ok b → a ≡ b
+read_once bytes a b one two = let same : Ok a ≡ Ok b = sym one ∙ two in cc
+
+pub fault_once : (bytes : List ℕ) (a b : BodyErr) → body_at bytes ≡ Err a → body_at bytes ≡ Err b → a ≡ b
+fault_once bytes a b one two = let same : Err a ≡ Err b = sym one ∙ two in cc
+
+pub read_or_fault : (bytes : List ℕ) (a : Body) (b : BodyErr) → body_at bytes ≡ Ok a → body_at bytes ≡ Err b → ⊥
+read_or_fault bytes a b one two = let wrong : Ok a ≡ Err b = sym one ∙ two in cc
 
 module _ (g : Ground) (inside : Bool) where
   -- ---- the shares of a Put
@@ -43,12 +53,12 @@ module _ (g : Ground) (inside : Bool) where
   one_fault user m item from p q (Misplaced new flagged other) (Flag new2 other2) = absurd (other2 flagged)
   one_fault user m item from p q (Misplaced new flagged other) (Misplaced new2 flagged2 other2) = refl
 
-  rights_or_fault : (user : UserId) (m : Memory) (items : List PutItem) (from place : ℕ) → AreRight g inside user m items → ItemsFault g inside user m from items place → ⊥
+  pub rights_or_fault : (user : UserId) (m : Memory) (items : List PutItem) (from place : ℕ) → AreRight g inside user m items → ItemsFault g inside user m from items place → ⊥
   rights_or_fault user m items from place right (Here m1 from1 item rest p1 fault) = right_or_fault user m item from place right.0 fault
   rights_or_fault user m items from place right (Later m1 from1 item rest p1 one fault) =
       rights_or_fault user (with_item user m item) rest (from + length (item_bytes item)) place right.1 fault
 
-  one_items_fault : (user : UserId) (m : Memory) (items : List PutItem) (from p q : ℕ) → ItemsFault g inside user m from items p → ItemsFault g inside user m from items q → p ≡ q
+  pub one_items_fault : (user : UserId) (m : Memory) (items : List PutItem) (from p q : ℕ) → ItemsFault g inside user m from items p → ItemsFault g inside user m from items q → p ≡ q
   one_items_fault user m items from p q (Here m1 from1 item rest p1 fault) (Here m2 from2 item2 rest2 q1 fault2) = one_fault user m item from p q fault fault2
   one_items_fault user m items from p q (Here m1 from1 item rest p1 fault) (Later m2 from2 item2 rest2 q1 right fault2) = absurd (right_or_fault user m item from p right fault)
   one_items_fault user m items from p q (Later m1 from1 item rest p1 right fault) (Here m2 from2 item2 rest2 q1 fault2) = absurd (right_or_fault user m item from q right fault2)
@@ -67,11 +77,11 @@ module _ (g : Ground) (inside : Bool) where
   one_kept m item from p q (KeptMisplaced new other) (PlacedTwice has) = absurd (some_none (get m.places item.fp.0) has new)
   one_kept m item from p q (KeptMisplaced new other) (KeptMisplaced new2 other2) = refl
 
-  rights_or_kept : (m : Memory) (items : List KeptItem) (from place : ℕ) → AreRightKepts g inside m items → KeptsFault g inside m from items place → ⊥
+  pub rights_or_kept : (m : Memory) (items : List KeptItem) (from place : ℕ) → AreRightKepts g inside m items → KeptsFault g inside m from items place → ⊥
   rights_or_kept m items from place right (KeptHere m1 from1 item rest p1 fault) = right_or_kept m item from place right.0 fault
   rights_or_kept m items from place right (KeptLater m1 from1 item rest p1 one fault) = rights_or_kept (with_kept m item) rest (from + 44) place right.1 fault
 
-  one_kepts : (m : Memory) (items : List KeptItem) (from p q : ℕ) → KeptsFault g inside m from items p → KeptsFault g inside m from items q → p ≡ q
+  pub one_kepts : (m : Memory) (items : List KeptItem) (from p q : ℕ) → KeptsFault g inside m from items p → KeptsFault g inside m from items q → p ≡ q
   one_kepts m items from p q (KeptHere m1 from1 item rest p1 fault) (KeptHere m2 from2 item2 rest2 q1 fault2) = one_kept m item from p q fault fault2
   one_kepts m items from p q (KeptHere m1 from1 item rest p1 fault) (KeptLater m2 from2 item2 rest2 q1 right fault2) = absurd (right_or_kept m item from p right fault)
   one_kepts m items from p q (KeptLater m1 from1 item rest p1 right fault) (KeptHere m2 from2 item2 rest2 q1 fault2) = absurd (right_or_kept m item from q right fault2)
@@ -138,16 +148,6 @@ module _ (g : Ground) (inside : Bool) where
     one_of_body b x y (SpentPast s n) (SpentTaken s2 n2) = absurd (n n2)
     one_of_body b x y (SpentTaken s n) (SpentPast s2 n2) = absurd (n2 n)
     one_of_body b x y (SpentTaken s n) (SpentTaken s2 n2) = refl
-
-    -- what is read is one body, or one fault
-    read_once : (bytes : List ℕ) (a b : Body) → body_at bytes ≡ Ok a → body_at bytes ≡ Ok b → a ≡ b
-    read_once bytes a b one two = let same : Ok a ≡ Ok b = sym one ∙ two in cc
-
-    fault_once : (bytes : List ℕ) (a b : BodyErr) → body_at bytes ≡ Err a → body_at bytes ≡ Err b → a ≡ b
-    fault_once bytes a b one two = let same : Err a ≡ Err b = sym one ∙ two in cc
-
-    read_or_fault : (bytes : List ℕ) (a : Body) (b : BodyErr) → body_at bytes ≡ Ok a → body_at bytes ≡ Err b → ⊥
-    read_or_fault bytes a b one two = let wrong : Ok a ≡ Err b = sym one ∙ two in cc
 
     place_once : (p q : ℕ) (x y : Result Memory ℕ) → x ≡ Err p → y ≡ Err q → x ≡ y → p ≡ q
     place_once p q x y a b e = let same : Err p ≡ Err q = sym a ∙ e ∙ b in cc

@@ -1,6 +1,6 @@
 -- Room for the shares of a Put.
-use Rattle.std.proofs.Common.{◌≡◌, ℕ, ◌+◌, ◌<◌, ◌^◌, Bool, true, false, cond, List, [], ◌∷◌, length, Option, Some, None, refl, sym, ap, ◌∙◌, subst, arith, eq-eqb}
-use Rattle.std.specs.Prelude.{◌==◌, ◌↔◌, nat_lt, count_by, is_some, IsSome, IfSome, if◌then◌else◌}
+use Rattle.std.proofs.Common.{◌≡◌, ◌+◌, ◌<◌, ◌^◌, Bool, true, false, cond, List, [], ◌∷◌, length, Option, Some, None, refl, sym, ap, ◌∙◌, subst, arith}
+use Rattle.std.specs.Prelude.{◌↔◌, nat_lt, count_by, is_some, IsSome, IfSome, if◌then◌else◌}
 use Rattle.std.specs.FinMap.{FinMap, get, insert, len, len-insert}
 use Rattle.std.proofs.lemmas.List.Sums.{sum_by-cons}
 use Rattle.cloud_memory.specs.CdBase.ids.Fp.{Fp}
@@ -9,14 +9,13 @@ use Rattle.cloud_memory.specs.PoolMap.accounts.Accounts.{Accounts}
 use Rattle.cloud_memory.specs.PoolMap.accounts.Accounts.TheVariants.{PerUser}
 use Rattle.cloud_memory.specs.PoolMap.Accounts.{limit_for, use_for, keys_of}
 use Rattle.cloud_memory.specs.JournalStart.rooms.UserRooms.{UserRooms}
-use Rattle.cloud_memory.specs.PoolMap.MapSums.{sum_by-insert_new}
 use Rattle.cloud_memory.specs.RecordBody.body.PutItem.{PutItem}
 use Rattle.cloud_memory.specs.ShareIndex.key.Owner.{Owner}
 use Rattle.cloud_memory.specs.CdBase.place.Place.{Place}
-use Rattle.cloud_memory.specs.ShareIndex.Order.{owner_cmp, owner_of}
+use Rattle.cloud_memory.specs.ShareIndex.Order.{owner_of}
 use Rattle.cloud_memory.specs.CdBase.Order.{fp_cmp}
-use Rattle.cloud_memory.proofs.ShareIndexLaws.Owning.{owner_total}
 use Rattle.cloud_memory.proofs.ShareIndexLaws.Placing.{fp_total}
+use Rattle.cloud_memory.proofs.Adding.{keys_more}
 use Rattle.cloud_memory.specs.UserDedup.Spending.{SpentByUser, nothing, limits_of}
 use Rattle.cloud_memory.specs.CloudAreas.Placing.{end_of}
 use Rattle.cloud_memory.specs.declared.cloud.CloudMemory.{CloudMemory}
@@ -29,21 +28,15 @@ use Rattle.record_checks.specs.Checks.{IsRightItem, AreRight}
 use Rattle.record_checks.specs.Steps.{has_place, HasRoomForItems}
 use Rattle.record_checks.proofs.Faults.{none_there}
 
-pub keys_more : (m : FinMap owner_cmp ℕ) (user : UserId) (fp : List ℕ) → get m (owner_of user.0 fp) ≡ None
-    → keys_of (λ (k : Owner). k.user) (insert m (owner_of user.0 fp) 0) user.0 ≡ 1 + keys_of (λ (k : Owner). k.user) m user.0
-keys_more m user fp none =
-    sum_by-insert_new owner_total (λ (e : Owner × ℕ). cond (e.0.user == user.0) 1 0) m (owner_of user.0 fp) 0 none
-    ∙ ap (λ (b : Bool). cond b 1 0 + keys_of (λ (k : Owner). k.user) m user.0) (eq-eqb user.0 user.0 refl)
-
 pub one_placed : (places : FinMap fp_cmp Place) (fp : Fp) (p : Place) → get places fp.0 ≡ None → len (insert places fp.0 p) ≡ len places + 1
 one_placed places fp p none = len-insert fp_total places fp.0 p ∙ ap (λ (o : Option Place). cond (is_some o) (len places) (len places + 1)) none
 
 -- one item more
-counted : (item : PutItem) (items : List PutItem) → count_by has_place (item ∷ items) ≡ cond (is_some item.place) 1 0 + count_by has_place items
+pub counted : (item : PutItem) (items : List PutItem) → count_by has_place (item ∷ items) ≡ cond (is_some item.place) 1 0 + count_by has_place items
 counted item items = sum_by-cons (λ (x : PutItem). cond (has_place x) 1 0) item items
 
 -- a share that passes its checks has one place more where its record gives it one
-places_more : (places : FinMap fp_cmp Place) (fp : Fp) (o : Option Place) → IsSome o ↔ (get places fp.0 ≡ None) → len (places_with places fp o) ≡ len places + cond (is_some o) 1 0
+pub places_more : (places : FinMap fp_cmp Place) (fp : Fp) (o : Option Place) → IsSome o ↔ (get places fp.0 ≡ None) → len (places_with places fp o) ≡ len places + cond (is_some o) 1 0
 places_more places fp None flagged = omega arith
 places_more places fp (Some p) flagged = one_placed places fp p (flagged.0 refl)
 

@@ -19,13 +19,12 @@ use Rattle.record_checks.specs.UserDedup.command.Command.{Command}
 use Rattle.record_checks.specs.UserDedup.Dedup.{IsSound}
 use Rattle.record_checks.specs.UserDedup.Cloud.{held_bytes}
 use Rattle.record_checks.specs.UserDedup.Spending.{IsWithin}
-use Rattle.record_checks.proofs.UserDedup.Sound.{sound_before}
+use Rattle.record_checks.proofs.UserDedup.Sound.{sound_before, contained}
 use Rattle.record_checks.proofs.UserDedup.Spending.{front_within}
 use Rattle.record_checks.specs.CloudAreas.Chains.{AreRecordsOfList, Summed, Then, AreLong, BothHaveRoom}
 use Rattle.record_checks.specs.CloudAreas.Placing.{shares_placed, shares_in}
 use Rattle.record_checks.specs.CloudAreas.Standing.{Chain, region_in, Holds}
 use Rattle.record_checks.proofs.CloudAreas.Entries.{share_lies}
-use Rattle.record_checks.proofs.CloudAreas.Lists.{contained}
 use Rattle.record_checks.proofs.CloudAreas.Placed.{shares_more, placed_is_sent, held_stays}
 use Rattle.record_checks.specs.CloudMemory.Memory.{Memory, HasEnds, Stand}
 use Rattle.record_checks.specs.CloudMemory.Steps.{begun}

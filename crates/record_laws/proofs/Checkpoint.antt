@@ -50,6 +50,7 @@ use Rattle.record_checks.proofs.MemoryProofs.Few.{all_named, times_few}
 use Rattle.record_checks.proofs.MemoryProofs.Keys.{both_ways}
 use Rattle.record_checks.proofs.MemoryProofs.Naming.{committed_as_viewed}
 use Rattle.record_checks.proofs.MemoryProofs.PutLaw.{unnamed, named_user}
+use Rattle.record_checks.proofs.CloudAreas.Ends.{some_is}
 use Rattle.record_laws.specs.Leaving.{record_left, left_by, bytes_at, IsLeft, RecipesLie}
 use Rattle.record_laws.proofs.Counts.{same_sum, sums_match, times_flat, files_apart, entry_found, is_by, commits_by, version_of, from_user, versions_apart}
 use Rattle.record_laws.proofs.Places.{all_placed, shares_end_all, recipes_end_all, Finds, places_remembered}
@@ -66,9 +67,6 @@ spent_nothing s = elim (cases_eq s.owners 0) [
     ]
   ]
 ]
-
-some_is : {X : Type 0} (x y : X) → Some x ≡ Some y → x ≡ y
-some_is x y e = cc
 
 module _ (format : ℕ) (shape : Shape) (cloud : ℕ) (list : List Command) (records : List Body) (recipes : List Placed) (users region : ℕ) (area : List ℕ)
     (later : (format == 1) ≡ false) (sound : IsSound shape cloud list) (is : IsCheckpointOfList format shape list records recipes)

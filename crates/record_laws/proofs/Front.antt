@@ -9,12 +9,11 @@ use Rattle.record_checks.specs.RecordBody.Spelling.{Body}
 use Rattle.record_checks.specs.UserDedup.command.Command.{Command}
 use Rattle.record_checks.specs.UserDedup.Dedup.{IsSound}
 use Rattle.record_checks.specs.UserDedup.Spending.{IsWithin}
-use Rattle.record_checks.proofs.UserDedup.Sound.{last_same, sound_before}
+use Rattle.record_checks.proofs.UserDedup.Sound.{last_same, sound_before, contained}
 use Rattle.record_checks.proofs.UserDedup.Spending.{front_within}
 use Rattle.record_checks.specs.CloudAreas.Chains.{IsRecord, AreRecordsOfList, Summed, Then, AreLong}
 use Rattle.record_checks.specs.CloudAreas.Checkpoints.{IsCheckpointOfList}
 use Rattle.record_checks.specs.CloudAreas.Placing.{shares_in}
-use Rattle.record_checks.proofs.CloudAreas.Lists.{contained}
 use Rattle.record_laws.proofs.Chain.{long_before, checkpoint_within}
 
 -- ---- lists from their ends

@@ -36,7 +36,7 @@ use Rattle.record_checks.specs.UserDedup.Owning.{is_among}
 use Rattle.record_checks.specs.UserDedup.Pages.{entry_at}
 use Rattle.record_checks.specs.UserDedup.Requests.{fps_of as names_of}
 use Rattle.record_checks.proofs.UserDedup.Owned.{contains_here, contains_later, contains_nothing, contains_cases, among_contains, contains_among}
-use Rattle.record_checks.proofs.UserDedup.Sound.{found_entry}
+use Rattle.record_checks.proofs.UserDedup.Sound.{found_entry, contained}
 use Rattle.record_checks.specs.UserDedup.command.Command.{Command}
 use Rattle.record_checks.specs.UserDedup.Cloud.{user_view, strings_in}
 use Rattle.record_checks.specs.UserDedup.Spending.{SpentByUser, nothing, spent_of}
@@ -46,7 +46,7 @@ use Rattle.record_checks.specs.CloudAreas.Checkpoints.{PutRecord, put_body, of_u
 use Rattle.record_checks.specs.CloudAreas.Placing.{shares_placed, shares_in, fps_placed}
 use Rattle.record_checks.proofs.CloudAreas.Apart.{Apart, apart_from}
 use Rattle.record_checks.proofs.CloudAreas.Entries.{entry_of}
-use Rattle.record_checks.proofs.CloudAreas.Lists.{in_map, contained}
+use Rattle.record_checks.proofs.CloudAreas.Lists.{in_map}
 use Rattle.record_checks.proofs.CloudAreas.Once.{checkpoint_once}
 use Rattle.record_checks.proofs.CloudAreas.Placed.{shares_more, checkpoint_is_sent}
 use Rattle.record_checks.specs.CloudMemory.Memory.{Memory, IsPlacedBy, times}

@@ -21,9 +21,10 @@ use Rattle.record_checks.proofs.CloudAreas.Apart.{Apart}
 use Rattle.record_checks.specs.CloudMemory.Memory.{Memory}
 use Rattle.record_checks.specs.CloudMemory.Steps.{with_item, with_items, with_kept, places_with}
 use Rattle.record_checks.proofs.MemoryProofs.Keys.{owner_in, place_in}
+use Rattle.record_checks.proofs.MemoryProofs.PlacingLaw.{Gives}
 use Rattle.record_checks.specs.declared.ground.Ground.{Ground}
 use Rattle.record_checks.specs.Checks.{ShareLies, AreRight, AreRightKepts}
-use Rattle.record_laws.proofs.Places.{Gives, one_gives, no_place, apart_behind}
+use Rattle.record_laws.proofs.Places.{one_gives, no_place, apart_behind}
 use Rattle.record_laws.proofs.Segments.{over}
 use Rattle.record_laws.proofs.Sized.{HasRoomIn}
 

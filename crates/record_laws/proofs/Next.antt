@@ -43,7 +43,7 @@ use Rattle.record_checks.proofs.UserDedup.Views.{own_adds, others_stay}
 use Rattle.record_checks.specs.CloudAreas.Chains.{commit_of, PlacedNew, AreItems, IsRecord}
 use Rattle.record_checks.specs.CloudAreas.Checkpoints.{fps_of}
 use Rattle.record_checks.specs.CloudAreas.Placing.{places_given, shares_in}
-use Rattle.record_checks.proofs.CloudAreas.Lists.{contained, from_map}
+use Rattle.record_checks.proofs.CloudAreas.Lists.{from_map}
 use Rattle.record_checks.proofs.CloudAreas.Placed.{shares_more}
 use Rattle.record_checks.specs.CloudMemory.rooms.New.{New}
 use Rattle.record_checks.specs.CloudMemory.Memory.{Memory, Remembers, as_spent, uses_of, summary, summary_of}
@@ -55,12 +55,13 @@ use Rattle.record_checks.proofs.MemoryProofs.DeleteLaw.{delete_remembered}
 use Rattle.record_checks.proofs.MemoryProofs.Keys.{place_in, entry_in, entry_out}
 use Rattle.record_checks.proofs.MemoryProofs.Lists.{strings_more, is_placed, placed_len_is, are_placed, among_found, string_len}
 use Rattle.record_checks.proofs.MemoryProofs.PutLaw.{placed_after, put_remembered, named_user}
-use Rattle.record_checks.proofs.MemoryProofs.PlacingLaw.{commit_placed, delete_placed}
+use Rattle.record_checks.proofs.MemoryProofs.PlacingLaw.{commit_placed, delete_placed, given_more, Gives}
 use Rattle.record_checks.proofs.MemoryProofs.Puts.{ArePlaced, len_at, files_stay, spent_stays}
+use Rattle.record_checks.proofs.UserDedup.Sound.{contained}
 use Rattle.record_laws.specs.Leaving.{bytes_at, entry_bytes, record_left, IsLeft, RecipesLie}
 use Rattle.record_laws.proofs.Asked.{lawful}
 use Rattle.record_laws.proofs.Counts.{sums_match}
-use Rattle.record_laws.proofs.Places.{Gives, one_gives, record_commits, shares_end_next, recipes_end_next}
+use Rattle.record_laws.proofs.Places.{one_gives, record_commits, shares_end_next, recipes_end_next}
 use Rattle.record_laws.proofs.Segments.{IsOfList, AreOfList}
 
 -- ---- the items of a Put, one by one
@@ -150,13 +151,6 @@ one_fills before pairs user m s item fp new f = record {
         one_gives pairs m.places (item.fp, p) f.gives
         (ap (λ (x : Fp). get m.places x.0) fp
         ∙ free_place before m.places (fingerprint s) f.placed (new_free (is_among (map fingerprint before) (fingerprint s)) s item.place p new is))
-
-given_more : (item : PutItem) (items : List PutItem) → places_given (item ∷ items) ≡ places_given (item ∷ []) ++ places_given items
-given_more item items = by_place item.place refl
-  where
-    by_place : (o : Option Place) → item.place ≡ o → places_given (item ∷ items) ≡ places_given (item ∷ []) ++ places_given items
-    by_place None is = rw is refl
-    by_place (Some p) is = rw is refl
 
 all_fill : (before : List (List ℕ)) (pairs : List (Fp × Place)) (user : UserId) (m : Memory) (strings : List (List ℕ)) (items : List PutItem)
     → AreItems (map fingerprint before) strings items → Fill before pairs m.places → Fill (before ++ strings) (pairs ++ places_given items) (with_items user m items).places

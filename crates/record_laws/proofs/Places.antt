@@ -31,7 +31,7 @@ use Rattle.record_checks.proofs.CloudAreas.Placed.{shares_more, fps_sent, AreSen
 use Rattle.record_checks.specs.CloudMemory.Memory.{Memory, IsPlacedBy, commit_of}
 use Rattle.record_checks.specs.CloudMemory.Steps.{with_item, with_items, with_put, with_kept, with_kepts}
 use Rattle.record_checks.proofs.MemoryProofs.Keys.{place_in}
-use Rattle.record_checks.proofs.MemoryProofs.PlacingLaw.{commit_placed, delete_placed}
+use Rattle.record_checks.proofs.MemoryProofs.PlacingLaw.{commit_placed, delete_placed, Gives}
 use Rattle.record_checks.proofs.MemoryProofs.Puts.{files_stay, recipes_end_stays}
 use Rattle.record_laws.specs.Leaving.{taken, recipe_for, record_left, left_by}
 
@@ -133,7 +133,7 @@ module _ (shape : Shape) where
 
 -- ---- ends
 
-further_max : (end : ℕ) (ps : List Place) → further end ps ≡ max end (greatest_end 0 ps)
+pub further_max : (end : ℕ) (ps : List Place) → further end ps ≡ max end (greatest_end 0 ps)
 further_max end [] = omega arith
 further_max end (p ∷ ps) = omega (arith, further_max (max end (end_of p)) ps)
 
@@ -161,10 +161,6 @@ module _ (shape : Shape) (region : ℕ) (records : List Body) (inside : Bool) (r
       ∙ ap (greatest_end (region_start region)) (sym (recipes_more records body))
 
 -- ---- which share lies where
-
--- the pairs are those of the map
-abbrev pub Gives : List (Fp × Place) → FinMap fp_cmp Place → Type 0
-Gives pairs places = (fp : Fp) (place : Place) → get places fp.0 ≡ Some place ↔ Contains pairs (fp, place)
 
 -- one more, for a fingerprint that has none
 pub one_gives : (pairs : List (Fp × Place)) (places : FinMap fp_cmp Place) (x : Fp × Place) → Gives pairs places → get places x.0.0 ≡ None

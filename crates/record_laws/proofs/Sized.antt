@@ -8,7 +8,6 @@ use Rattle.cd_edges.specs.CdBase.ids.UserId.{UserId}
 use Rattle.cd_edges.specs.CdBase.shape.Shape.{Shape}
 use Rattle.record_checks.specs.ContainerLog.Laying.{Placed, IsAt}
 use Rattle.record_checks.specs.ContainerLog.Places.{LiesInOne}
-use Rattle.messages.specs.MessageFields.Shares.{IsShare}
 use Rattle.record_checks.specs.Recipe.recipe.Recipe.{Recipe}
 use Rattle.record_checks.specs.Recipe.Spelling.{IsRecipe}
 use Rattle.record_checks.proofs.Recipe.Written.{longest}
@@ -16,12 +15,10 @@ use Rattle.record_checks.specs.RecordBody.Spelling.{Body}
 use Rattle.cd_edges.specs.CdBase.place.Place.{Place}
 use Rattle.record_checks.specs.UserDedup.file_list.FileEntry.{FileEntry}
 use Rattle.record_checks.specs.UserDedup.Cloud.{fingerprint}
-use Rattle.record_checks.proofs.UserDedup.Owned.{contains_nothing}
 use Rattle.record_checks.specs.UserDedup.command.Command.{Command}
-use Rattle.record_checks.specs.UserDedup.command.Command.TheVariants as commands
 use Rattle.record_checks.specs.UserDedup.Dedup.{IsSound}
 use Rattle.record_checks.specs.UserDedup.Cloud.{strings_of, strings_in, held_bytes, user_view}
-use Rattle.record_checks.proofs.UserDedup.CompactSound.{FitsCommand, all_fit, files_fit}
+use Rattle.record_checks.proofs.UserDedup.CompactSound.{all_fit, files_fit, share_of}
 use Rattle.record_checks.proofs.UserDedup.Filtered.{from_flat}
 use Rattle.record_checks.proofs.UserDedup.Views.{held_is, sent_is_held}
 use Rattle.record_checks.specs.CloudAreas.Chains.{LiesIn}
@@ -29,11 +26,6 @@ use Rattle.record_checks.specs.CloudAreas.Placing.{shares_placed, recipes_placed
 use Rattle.record_checks.proofs.CloudAreas.Lists.{from_map}
 
 -- ---- strings
-
-share_of : (shape : Shape) (c : Command) (s : List ℕ) → FitsCommand shape c → Contains (strings_of c) s → IsShare s
-share_of shape (commands.Put user shares) s f c = f s c
-share_of shape (commands.Commit user tag version recipe) s f c = absurd (contains_nothing s c)
-share_of shape (commands.Delete user tag version) s f c = absurd (contains_nothing s c)
 
 -- each string that is held has a byte at least
 pub string_some : (shape : Shape) (cloud : ℕ) (list : List Command) (fp : Fp) → IsSound shape cloud list → Contains (map fingerprint (strings_in list)) fp

@@ -22,12 +22,12 @@ use Rattle.record_checks.specs.UserDedup.command.Command.{Command}
 use Rattle.record_checks.specs.UserDedup.command.Command.TheVariants as commands
 use Rattle.record_checks.specs.UserDedup.Cloud.{held_bytes}
 use Rattle.record_checks.proofs.UserDedup.Filtered.{in_flat}
-use Rattle.record_checks.proofs.UserDedup.Sound.{sound_before}
+use Rattle.record_checks.proofs.UserDedup.Sound.{sound_before, contained}
 use Rattle.record_checks.proofs.UserDedup.Spending.{front_within}
 use Rattle.record_checks.specs.CloudAreas.Chains.{IsRecord, laid_shares, LiesIn}
 use Rattle.record_checks.specs.CloudAreas.Placing.{shares_placed, shares_in, recipes_placed, recipes_in, places_of}
 use Rattle.record_checks.specs.CloudAreas.Standing.{Chain, region_in, Holds}
-use Rattle.record_checks.proofs.CloudAreas.Lists.{contained, in_map, from_map}
+use Rattle.record_checks.proofs.CloudAreas.Lists.{in_map, from_map}
 use Rattle.record_checks.proofs.CloudAreas.Placed.{placed_is_sent}
 use Rattle.record_checks.specs.CloudMemory.Memory.{Memory}
 use Rattle.record_checks.specs.CloudMemory.Steps.{begun}
@@ -65,7 +65,7 @@ drop_all n [] le = drop_none n
 drop_all zero (x ∷ xs) le = absurd (omega (arith, le))
 drop_all (suc n) (x ∷ xs) le = drop_all n xs (omega (arith, le))
 
-not_less : (a b : ℕ) → b ≤ a → nat_lt a b ≡ false
+pub not_less : (a b : ℕ) → b ≤ a → nat_lt a b ≡ false
 not_less a b ge = false_from_ne_true (nat_lt a b) (λ t. let lt = ltb-true a b t in absurd (omega (arith, lt, ge)))
 
 module _ (header : Header) (image : Image) (c : Chain) where

@@ -1,18 +1,19 @@
 -- Content asks what reading it gives.
-use Rattle.std.proofs.Common.{◌≡◌, ℕ, ◌+◌, List, ◌∷◌, ◌++◌, length, get_or, Result, Ok, Err, refl, sym, ap, ◌∙◌, subst}
+use Rattle.std.proofs.Common.{◌≡◌, ℕ, ◌+◌, List, ◌∷◌, ◌++◌, length, get_or, Result, Ok, Err, refl, sym, ap, ◌∙◌, subst, arith, ◌-◌, ◌≤◌}
 use Rattle.std.specs.Int.{w32, to_be_bytes}
 use Rattle.journal_start.specs.CdBase.Reading.{AreBytes}
 use Rattle.journal_start.specs.CdBase.shape.Shape.{Shape}
 use Rattle.std.proofs.lemmas.List.{drop_at, get_or-drop}
 use Rattle.journal_start.specs.MessageFields.Keys.{key_bytes}
 use Rattle.recipe.specs.declared.recipe.Recipe.{Recipe}
-use Rattle.recipe.specs.Reading.{recipe_at}
+use Rattle.recipe.specs.Reading.{recipe_at, recipe_left, placed as recipe_placed}
 use Rattle.recipe.proofs.Recipes.{recipe_law}
 use Rattle.messages.specs.declared.request.Request.{Request}
 use Rattle.messages.specs.declared.request.Request.TheVariants as requests
 use Rattle.messages.specs.Requests.{request_bytes}
-use Rattle.messages.specs.RequestReading.{request_at}
+use Rattle.messages.specs.RequestReading.{request_at, request_left}
 use Rattle.messages.proofs.RequestLaws.{request_law}
+use Rattle.messages.specs.Parts.{placed}
 use Rattle.user_dedup.specs.Requests.{HasRecipe, IsAsked, recipe_read, whole_read, asked_at}
 
 abbrev read : Request → Result Request ℕ
@@ -88,3 +89,28 @@ asked_law shape content r known = (
   asked_from shape content r (request_at content) refl known,
   λ is. ap (whole_read shape) ((request_law content r known).1 is.asked) ∙ whole_has shape r (recipe_bytes content r known is.asked.spelled) is.recipe,
 )
+
+-- ---- where bytes that are no request end
+
+abbrev pub bad : {A : Type 0} → ℕ → Result A ℕ
+bad at = Err at
+
+pub recipe_within : (shape : Shape) (bytes : List ℕ) (at : ℕ) → recipe_at shape bytes ≡ Err at → at ≤ length bytes
+unfolding recipe_at
+recipe_within shape bytes at e = go (recipe_left shape bytes) e
+  where
+    go : (r : Result Recipe ℕ) → recipe_placed bytes r ≡ Err at → at ≤ length bytes
+    go (Ok recipe) e = absurd (let f : Ok recipe ≡ bad at = e in cc)
+    go (Err left) e = let f : bad {A = Recipe} (length bytes - left) ≡ bad at = e in let same : length bytes - left ≡ at = cc in omega arith
+
+pub request_within : (bytes : List ℕ) (at : ℕ) → request_at bytes ≡ Err at → at ≤ length bytes
+unfolding request_at
+request_within bytes at e = go (request_left bytes) e
+  where
+    go : (r : Result Request ℕ) → placed bytes r ≡ Err at → at ≤ length bytes
+    go (Ok request) e = absurd (let f : Ok request ≡ bad at = e in cc)
+    go (Err left) e = let f : bad {A = Request} (length bytes - left) ≡ bad at = e in let same : length bytes - left ≡ at = cc in omega arith
+
+pub read_err : (request : Request) (found : Result Recipe ℕ) (at : ℕ) → recipe_read request found ≡ Err at → (p : ℕ) × (found ≡ Err p) × (at ≡ 45 + p)
+read_err request (Ok recipe) at e = absurd (let f : Ok request ≡ bad at = e in cc)
+read_err request (Err p) at e = (p, refl, let f : bad {A = Request} (45 + p) ≡ bad at = e in let same : 45 + p ≡ at = cc in sym same)

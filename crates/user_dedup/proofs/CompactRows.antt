@@ -27,27 +27,27 @@ use Rattle.user_dedup.specs.Spending.{SpentByUser, nothing, full_for, files_of, 
 use Rattle.user_dedup.specs.Compact.{users_in, sorted_fps, in_parts, user_at, commit_at, compact}
 use Rattle.user_dedup.proofs.Views.{own_adds}
 
-same : (xs : List ℕ) → bytes_eq xs xs ≡ true
+pub same : (xs : List ℕ) → bytes_eq xs xs ≡ true
 same xs = nat_list_eq_equiv.refl xs
 
-abbrev user : ℕ → UserId
+abbrev pub user : ℕ → UserId
 user n = record { 0 = n }
 
-abbrev tag : Tag
+abbrev pub tag : Tag
 tag = record { 0 = replicate 32 3 }
 
-abbrev tag2 : Tag
+abbrev pub tag2 : Tag
 tag2 = record { 0 = replicate 32 4 }
 
-abbrev at : ℕ → Version
+abbrev pub at : ℕ → Version
 at n = record { 0 = n }
 
-abbrev s11 : List ℕ
+abbrev pub s11 : List ℕ
 s11 = replicate 11 7
 
 -- ---- rooms of a user
 
-abbrev rooms_of : ℕ → ℕ → ℕ → ℕ → ℕ → UserRooms
+abbrev pub rooms_of : ℕ → ℕ → ℕ → ℕ → ℕ → UserRooms
 rooms_of users shares recipes owners files = record { users = users; shares = shares; recipes = recipes; owners = owners; files = files }
 
 -- room for 10 bytes of shares, and for 11
@@ -74,7 +74,7 @@ full_owners : (shape : Shape) (other : List ℕ)
 unfolding full_for
 full_owners shape other = refl
 
-abbrev r61 : List ℕ
+abbrev pub r61 : List ℕ
 r61 = replicate 61 9
 
 full_recipes : (shape : Shape) → full_for shape (rooms_of 10 1000 60 10 10) [] (commands.Commit (user 7) tag (at 1) r61) ≡ Some (record { room = names.Recipes; used = 0; need = 61; limit = 60 })

@@ -121,7 +121,7 @@ files_fit shape cloud list (Added before request command sound fits recipe adds)
         (files_step shape user (user_view shape before user) command user_is (added_fits shape cloud before request command fits recipe adds) k)
     by_user (inr other) k = subst (λ (w : View). FitFiles shape user w.files) (sym (others_stay shape before command user other)) k
 
-share_of : (shape : Shape) (c : Command) (s : List ℕ) → FitsCommand shape c → Contains (strings_of c) s → IsShare s
+pub share_of : (shape : Shape) (c : Command) (s : List ℕ) → FitsCommand shape c → Contains (strings_of c) s → IsShare s
 share_of shape (commands.Put user shares) s f c = f s c
 share_of shape (commands.Commit user tag version recipe) s f c = absurd (contains_nothing s c)
 share_of shape (commands.Delete user tag version) s f c = absurd (contains_nothing s c)

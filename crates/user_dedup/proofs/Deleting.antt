@@ -142,7 +142,7 @@ version_stays shape list command user key entry stays e =
 
 -- ---- keys apart
 
-one_entry : (x a : FileEntry) → Some x ≡ Some a → x ≡ a
+pub one_entry : (x a : FileEntry) → Some x ≡ Some a → x ≡ a
 one_entry x a e = cc
 
 apart_cons : (x : FileEntry) (files : List FileEntry) → ((k : ℕ) (b : FileEntry) → slice_get files k ≡ Some b → key_of x ≡ key_of b → ⊥) → AreApart files → AreApart (x ∷ files)

@@ -13,9 +13,9 @@ use Rattle.journal_start.specs.MessageFields.Keys.{key_cmp, AreAbove}
 use Rattle.journal_start.specs.CdBase.Order.{fp_cmp}
 use Rattle.user_dedup.specs.Pages.{sorted_keys}
 use Rattle.user_dedup.proofs.Owned.{contains_here, contains_later, contains_nothing, contains_cases}
-use Rattle.user_dedup.proofs.Pages.{sorted_above}
+use Rattle.user_dedup.proofs.Pages.{sorted_above, Key}
 use Rattle.user_dedup.specs.Compact.{with_fp, sorted_fps}
-use Rattle.user_dedup.proofs.Sorting.{Key, fp_cases}
+use Rattle.user_dedup.proofs.Sorting.{fp_cases}
 
 -- none stands among those behind it
 abbrev pub Once : {X : Type 0} → List X → Type 0

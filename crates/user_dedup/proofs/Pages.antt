@@ -18,36 +18,36 @@ use Rattle.user_dedup.specs.declared.file_list.FileEntry.{FileEntry}
 use Rattle.user_dedup.specs.Pages.{key_of, with_key, sorted_keys, page_of, IsPage}
 use Rattle.user_dedup.proofs.Owned.{contains_here, contains_later, contains_nothing, contains_cases}
 
-abbrev Key : Type 0
+abbrev pub Key : Type 0
 Key = Tag × Version
 
 -- ---- the order
 
-key_total : IsTotalOrder key_cmp
+pub key_total : IsTotalOrder key_cmp
 key_total = let t : IsTotalOrder (then_cmp (on (λ (k : Key). k.0.0) (slice_cmp nat_cmp)) (on (λ (k : Key). k.1.0) nat_cmp)) = search (comparing, rules) in t
 
-both_equal : (a b : Ordering) → ordering_then a b ≡ Equal → (a ≡ Equal) × (b ≡ Equal)
+pub both_equal : (a b : Ordering) → ordering_then a b ≡ Equal → (a ≡ Equal) × (b ≡ Equal)
 both_equal Less b e = absurd (let f : Less ≡ Equal = e in cc)
 both_equal Equal b e = (refl, e)
 both_equal Greater b e = absurd (let f : Greater ≡ Equal = e in cc)
 
-key_exact : (a b : Key) → key_cmp a b ≡ Equal → a ≡ b
+pub key_exact : (a b : Key) → key_cmp a b ≡ Equal → a ≡ b
 key_exact a b e =
     let p = both_equal (slice_cmp nat_cmp a.0.0 b.0.0) (nat_cmp a.1.0 b.1.0) e in
     let tag = slice_cmp-IsAntisymmetric nat_cmp-IsAntisymmetric a.0.0 b.0.0 p.0 in
     let version = nat_cmp-IsAntisymmetric a.1.0 b.1.0 p.1 in
     λ i. (record { 0 = tag i }, record { 0 = version i })
 
-less_from : (r : Ordering) → is_lt r ≡ true → r ≡ Less
+pub less_from : (r : Ordering) → is_lt r ≡ true → r ≡ Less
 less_from Less e = refl
 less_from Equal e = absurd (let f : false ≡ true = e in cc)
 less_from Greater e = absurd (let f : false ≡ true = e in cc)
 
-above_trans : (last : Option Key) (x y : Key) → is_above last x ≡ true → is_above (Some x) y ≡ true → is_above last y ≡ true
+pub above_trans : (last : Option Key) (x y : Key) → is_above last x ≡ true → is_above (Some x) y ≡ true → is_above last y ≡ true
 above_trans None x y e f = refl
 above_trans (Some z) x y e f = ap is_lt (key_total.trans z x y (less_from (key_cmp z x) e) (less_from (key_cmp x y) f))
 
-turned : (a b : Key) → key_cmp a b ≡ Greater → is_above (Some b) a ≡ true
+pub turned : (a b : Key) → key_cmp a b ≡ Greater → is_above (Some b) a ≡ true
 turned a b e = ap is_lt (key_total.antisymm b a ∙ ap ordering_reverse e)
 
 -- ---- keys in order
@@ -80,7 +80,7 @@ with_cases key (other ∷ keys) k c = by_order (key_cmp key other) (with_cases k
           | inr later ↦ elim (rest later) [ inl same ↦ inl same | inr old ↦ inr (contains_later other keys k old) ]
         ]
 
-with_here : (key : Key) (keys : List Key) → Contains (with_key key keys) key
+pub with_here : (key : Key) (keys : List Key) → Contains (with_key key keys) key
 with_here key [] = contains_here key []
 with_here key (other ∷ keys) = by_order (key_cmp key other) refl (with_here key keys)
   where
@@ -90,7 +90,7 @@ with_here key (other ∷ keys) = by_order (key_cmp key other) refl (with_here ke
     by_order Equal o rest = subst (λ y. Contains (other ∷ keys) y) (sym (key_exact key other o)) (contains_here other keys)
     by_order Greater o rest = contains_later other (with_key key keys) key rest
 
-with_later : (key : Key) (keys : List Key) (k : Key) → Contains keys k → Contains (with_key key keys) k
+pub with_later : (key : Key) (keys : List Key) (k : Key) → Contains keys k → Contains (with_key key keys) k
 with_later key [] k c = absurd (contains_nothing k c)
 with_later key (other ∷ keys) k c = by_order (key_cmp key other) (with_later key keys k)
   where
@@ -112,7 +112,7 @@ sorted_from (key ∷ keys) k c =
       | inr old ↦ contains_later key keys k (sorted_from keys k old)
     ]
 
-sorted_has : (keys : List Key) (k : Key) → Contains keys k → Contains (sorted_keys keys) k
+pub sorted_has : (keys : List Key) (k : Key) → Contains keys k → Contains (sorted_keys keys) k
 sorted_has [] k c = c
 sorted_has (key ∷ keys) k c =
     elim (contains_cases key keys k c) [
@@ -122,11 +122,11 @@ sorted_has (key ∷ keys) k c =
 
 -- ---- those above the last one
 
-weaker : (last : Option Key) (x : Key) (keys : List Key) → is_above last x ≡ true → AreAbove (Some x) keys → AreAbove last keys
+pub weaker : (last : Option Key) (x : Key) (keys : List Key) → is_above last x ≡ true → AreAbove (Some x) keys → AreAbove last keys
 weaker last x [] e a = tt
 weaker last x (key ∷ keys) e a = (above_trans last x key e a.0, a.1)
 
-filter_above : (p : Key → Bool) (last : Option Key) (keys : List Key) → AreAbove last keys → AreAbove last (filter p keys)
+pub filter_above : (p : Key → Bool) (last : Option Key) (keys : List Key) → AreAbove last keys → AreAbove last (filter p keys)
 filter_above p last [] a = tt
 filter_above p last (key ∷ keys) a = by_test (p key) (filter_above p (Some key) keys a.1)
   where

@@ -1,12 +1,8 @@
 -- Worked rows: what a server of cloud 2 in a store of shape 4 3 is asked and answers, in turn, from the bytes of the requests to
 -- those of the replies. The strings are "A", and 32 zeros stand for tags and for a fingerprint that no string has.
-use Rattle.std.proofs.Common.{◌≡◌, ℕ, true, List, [], ◌∷◌, ◌++◌, replicate, refl, arith, Some, None, Err}
-use Rattle.std.specs.Prelude.{bytes_eq}
-use Rattle.std.specs.Cmp.Lexicographic.{nat_list_eq_equiv}
+use Rattle.std.proofs.Common.{◌≡◌, ℕ, List, [], ◌∷◌, ◌++◌, replicate, refl, arith, Some, None, Err}
 use Rattle.journal_start.specs.CdBase.ids.Fp.{Fp}
 use Rattle.journal_start.specs.CdBase.ids.Tag.{Tag}
-use Rattle.journal_start.specs.CdBase.ids.UserId.{UserId}
-use Rattle.journal_start.specs.CdBase.ids.Version.{Version}
 use Rattle.journal_start.specs.CdBase.shape.Shape.{Shape}
 use Rattle.messages.specs.declared.request.Request.{Request}
 use Rattle.messages.specs.declared.request.Request.TheVariants as requests
@@ -19,21 +15,16 @@ use Rattle.user_dedup.specs.declared.command.Command.TheVariants as commands
 use Rattle.user_dedup.specs.Cloud.{fingerprint, user_view}
 use Rattle.user_dedup.specs.Requests.{asked_at}
 use Rattle.user_dedup.specs.Dedup.{Outcome, only, answer_over, commit_outcome}
+use Rattle.user_dedup.proofs.CompactRows.{same, user, at}
 
-abbrev shape : Shape
+abbrev pub shape : Shape
 shape = record { n = 4; k = 3; several = omega arith; spare = omega arith; few = omega arith }
 
 abbrev zeros : List ℕ
 zeros = replicate 32 0
 
-abbrev user : ℕ → UserId
-user n = record { 0 = n }
-
 abbrev tag : Tag
 tag = record { 0 = zeros }
-
-abbrev at : ℕ → Version
-at n = record { 0 = n }
 
 abbrev no_such : Fp
 no_such = record { 0 = zeros }
@@ -72,9 +63,6 @@ malformed = refl
 
 put : Row [] (3 ∷ 0 ∷ 0 ∷ 0 ∷ 7 ∷ 0 ∷ 1 ∷ 0 ∷ 0 ∷ 0 ∷ 1 ∷ 65 ∷ []) (requests.Put (user 7) (string_A ∷ [])) (0x83 ∷ 0 ∷ 1 ∷ []) (record { reply = replies.Stored 1; adds = Some put_A })
 put = record { spelled = refl; answered = refl; written = refl }
-
-same : (xs : List ℕ) → bytes_eq xs xs ≡ true
-same xs = nat_list_eq_equiv.refl xs
 
 -- the same again adds nothing
 put_again : Row (put_A ∷ []) (3 ∷ 0 ∷ 0 ∷ 0 ∷ 7 ∷ 0 ∷ 1 ∷ 0 ∷ 0 ∷ 0 ∷ 1 ∷ 65 ∷ []) (requests.Put (user 7) (string_A ∷ [])) (0x83 ∷ 0 ∷ 0 ∷ []) (only (replies.Stored 0))

@@ -3,36 +3,18 @@ use Rattle.std.proofs.Common.{◌≡◌, ℕ, zero, suc, ◌<◌, ◌≤◌, ◌
 use Rattle.std.specs.List.{Contains}
 use Rattle.std.specs.declared.cmp.Ordering.{Ordering}
 use Rattle.std.specs.declared.cmp.Ordering.TheVariants.{Less, Equal, Greater}
-use Rattle.std.specs.Ordering.{nat_cmp, ordering_then, match_ordering}
-use Rattle.std.specs.Cmp.Lexicographic.{slice_cmp}
-use Rattle.std.specs.FinMap.{nat_cmp-IsAntisymmetric, slice_cmp-IsAntisymmetric}
+use Rattle.std.specs.Ordering.{match_ordering}
 use Rattle.std.proofs.lemmas.Bool.{eqb-true, cases_lt}
 use Rattle.std.proofs.lemmas.Bool.Decides.{Decides-ltb}
 use Rattle.journal_start.specs.CdBase.ids.Fp.{Fp}
-use Rattle.journal_start.specs.CdBase.ids.Tag.{Tag}
-use Rattle.journal_start.specs.CdBase.ids.Version.{Version}
 use Rattle.journal_start.specs.MessageFields.Keys.{key_cmp}
 use Rattle.journal_start.specs.CdBase.Order.{fp_cmp, fp_exact}
 use Rattle.user_dedup.specs.Pages.{with_key, sorted_keys}
 use Rattle.user_dedup.proofs.Owned.{contains_here, contains_later, contains_nothing, contains_cases}
+use Rattle.user_dedup.proofs.Pages.{Key, key_exact}
 use Rattle.user_dedup.specs.Compact.{with_number, with_fp, sorted_fps, parts_by, in_parts}
 
 -- ---- keys
-
-abbrev pub Key : Type 0
-Key = Tag × Version
-
-both_equal : (a b : Ordering) → ordering_then a b ≡ Equal → (a ≡ Equal) × (b ≡ Equal)
-both_equal Less b e = absurd (let f : Less ≡ Equal = e in cc)
-both_equal Equal b e = (refl, e)
-both_equal Greater b e = absurd (let f : Greater ≡ Equal = e in cc)
-
-key_exact : (a b : Key) → key_cmp a b ≡ Equal → a ≡ b
-key_exact a b e =
-    let p = both_equal (slice_cmp nat_cmp a.0.0 b.0.0) (nat_cmp a.1.0 b.1.0) e in
-    let tag = slice_cmp-IsAntisymmetric nat_cmp-IsAntisymmetric a.0.0 b.0.0 p.0 in
-    let version = nat_cmp-IsAntisymmetric a.1.0 b.1.0 p.1 in
-    λ i. (record { 0 = tag i }, record { 0 = version i })
 
 key_here : (key : Key) (keys : List Key) → Contains (with_key key keys) key
 key_here key [] = contains_here key []
@@ -68,7 +50,7 @@ keys_have (key ∷ keys) k c =
 
 -- ---- fingerprints
 
-fp_is : (a b : Fp) → fp_cmp a.0 b.0 ≡ Equal → a ≡ b
+pub fp_is : (a b : Fp) → fp_cmp a.0 b.0 ≡ Equal → a ≡ b
 fp_is a b e = let same = fp_exact a.0 b.0 e in λ i. record { 0 = same i }
 
 fp_here : (fp : Fp) (fps : List Fp) → Contains (with_fp fp fps) fp

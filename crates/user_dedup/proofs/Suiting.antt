@@ -40,7 +40,7 @@ use Rattle.user_dedup.proofs.Deleting.{entries_left}
 use Rattle.user_dedup.proofs.Sound.{put_adds, commit_adds, deletes_from, found_entry}
 use Rattle.user_dedup.proofs.Pages.{is_page}
 
-all_from : {A : Type 0} (P : A → Type 0) (xs : List A) → ((x : A) → Contains xs x → P x) → All P xs
+pub all_from : {A : Type 0} (P : A → Type 0) (xs : List A) → ((x : A) → Contains xs x → P x) → All P xs
 all_from P xs f k d l = f (get_or xs k d) (Contains-get_or xs k d l)
 
 -- ---- what stands in a sound list
@@ -115,7 +115,7 @@ flag_small own fp = by_test (is_among own fp)
     by_test true = omega arith
     by_test false = omega arith
 
-few_new : (own : List Fp) (sent : List (List ℕ)) → length (new_strings own sent) ≤ length sent
+pub few_new : (own : List Fp) (sent : List (List ℕ)) → length (new_strings own sent) ≤ length sent
 few_new own [] = omega arith
 few_new own (s ∷ sent) = by_test (is_among own (fingerprint s)) (few_new own sent) (few_new (own ++ fingerprint s ∷ []) sent)
   where

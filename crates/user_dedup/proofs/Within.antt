@@ -42,7 +42,7 @@ room_left room used need limit = by_test (nat_lt limit (used + need)) (Decides-l
     by_test true back e = absurd (let never : Some (full_of room used need limit) ≡ None = e in cc)
     by_test false back e = not_above limit (used + need) (λ lt. let t = back lt in cc)
 
-neither : (one two : Option FullRoom) → option_or one two ≡ None → (one ≡ None) × (two ≡ None)
+pub neither : (one two : Option FullRoom) → option_or one two ≡ None → (one ≡ None) × (two ≡ None)
 neither None two e = (refl, e)
 neither (Some room) two e = absurd (let never : Some room ≡ None = e in cc)
 
