@@ -30,8 +30,8 @@ use Rattle.cloud_disk.specs.Disk.{Disk}
 use Rattle.blob_audit.specs.CloudMemory.cloud.CloudMemory.{CloudMemory}
 use Rattle.blob_audit.specs.CloudMemory.Memory.{summary, summary_of}
 use Rattle.cloud_store.specs.Checkpoints.Known.{IsKnown}
-use Rattle.cloud_store.proofs.Checkpoints.Apartness.{in_map}
 use Rattle.cloud_disk.specs.JournalStart.start.Header.{Header}
+use Rattle.cloud_disk.proofs.CloudAreas.Lists.{in_map}
 use Rattle.cloud_store.specs.declared.store.CloudStore.{CloudStore}
 use Rattle.cloud_store.specs.Store.{Serves}
 use Rattle.blob_audit.specs.AuditBase.Served.{ServedTables, Views, IsEntryOf, NamesOwn}

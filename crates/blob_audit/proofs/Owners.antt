@@ -1,7 +1,5 @@
 -- A fingerprint that is counted as owned has an owner.
 use Rattle.std.proofs.Common.{◌≡◌, ℕ, ◌<◌, Bool, true, cond, List, [], ◌∷◌, Some, refl, sym, ap, ◌∙◌, arith, inl, inr}
-use Rattle.std.specs.declared.cmp.Ordering.{Ordering}
-use Rattle.std.specs.declared.cmp.Ordering.TheVariants.{Less, Equal, Greater}
 use Rattle.std.specs.Ordering.{is_eq, eq_by_cmp}
 use Rattle.std.specs.Cmp.{tied_itself}
 use Rattle.std.specs.List.{count_by}
@@ -14,15 +12,8 @@ use Rattle.audit_base.specs.ShareIndex.key.Owner.{Owner}
 use Rattle.audit_base.specs.ShareIndex.Order.{owner_cmp, owner_of}
 use Rattle.audit_base.specs.ShareIndex.Shares.{owners_of}
 use Rattle.audit_base.proofs.ShareIndex.Owning.{owner_total}
+use Rattle.audit_base.proofs.Found.{is_equal, owned_as}
 use Rattle.audit_base.specs.Whole.{Tables, IsOwned}
-
-is_equal : (o : Ordering) → is_eq o ≡ true → o ≡ Equal
-is_equal Less e = absurd cc
-is_equal Equal e = refl
-is_equal Greater e = absurd cc
-
-abbrev owned_as : List ℕ → Owner × ℕ → Bool
-owned_as fp e = eq_by_cmp fp_cmp e.0.fp fp
 
 -- an owner of it that is found
 record Found (fp : List ℕ) (es : List (Owner × ℕ)) : Type 0 where

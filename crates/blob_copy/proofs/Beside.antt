@@ -1,6 +1,5 @@
 -- Blobs that a write leaves alone.
-use Rattle.std.proofs.Common.{◌≡◌, ℕ, ◌+◌, ◌-◌, ◌<◌, ◌≤◌, ◌⊎◌, List, length, drop, get_or, sym, ◌∙◌, ap, subst, arith, inl, inr, length-take, length-drop, get_or-take, get_or-drop}
-use Rattle.std.proofs.lemmas.List.{ext_get_or}
+use Rattle.std.proofs.Common.{◌≡◌, ℕ, ◌+◌, ◌-◌, ◌<◌, ◌≤◌, ◌⊎◌, List, length, sym, subst, arith, inl, inr}
 use Rattle.std.specs.Prelude.{All, slice_index_or}
 use Rattle.fresh_checkpoints.specs.CdEdges.area.Area.{Area}
 use Rattle.fresh_checkpoints.specs.CdEdges.area.Area.TheVariants.{Journal, Shares, Recipes}
@@ -21,18 +20,9 @@ use Rattle.fresh_checkpoints.specs.CloudDisk.Disk.{IsRead}
 use Rattle.fresh_checkpoints.specs.CloudDisk.Held.{AreBelow, LieIn}
 use Rattle.fresh_checkpoints.proofs.CloudDiskLaws.Both.{as_read}
 use Rattle.fresh_checkpoints.proofs.CloudDiskLaws.Standing.{stands, holds_in}
+use Rattle.fresh_checkpoints.proofs.ContainerLog.Blobs.{same_at, within}
 use Rattle.fresh_checkpoints.specs.Checkpoints.Settling.{KeepsList}
 use Rattle.blob_copy.specs.Apart.{IsApart}
-
--- A blob that lies in these bytes lies in each that have the same ones at its place.
-same_at : (one two : List ℕ) (b : Placed) → IsAt one b → length b.blob ≤ length two - b.place → ((k : ℕ) → k < length b.blob → get_or two (b.place + k) 0 ≡ get_or one (b.place + k) 0) → IsAt two b
-same_at one two b at long same = ext_get_or 0 _ _ (omega (arith, long, length-take (length b.blob) (drop b.place two), length-drop b.place two)) (λ k lt.
-    let below : k < length b.blob = omega (arith, lt, length-take (length b.blob) (drop b.place two)) in
-    get_or-take (length b.blob) (drop b.place two) k 0 below ∙ get_or-drop b.place two k 0 ∙ same k below
-    ∙ sym (get_or-drop b.place one k 0) ∙ sym (get_or-take (length b.blob) (drop b.place one) k 0 below) ∙ ap (λ (l : List ℕ). get_or l k 0) at)
-
-within : (bytes : List ℕ) (b : Placed) → IsAt bytes b → length b.blob ≤ length bytes - b.place
-within bytes b at = omega (arith, ap length at, length-take (length b.blob) (drop b.place bytes), length-drop b.place bytes)
 
 module _ (old : List ℕ) (end : ℕ) (bytes : List ℕ) (b : Placed) (apart : IsApart end bytes b) (at : IsAt old b) where
   -- once they are written

@@ -8,6 +8,7 @@ use Rattle.std.proofs.lemmas.List.{take-append-drop}
 use Rattle.std.proofs.lemmas.List.Elements.{All-head, All-tail}
 use Rattle.compact_lists.specs.CdBase.ids.Fp.{Fp}
 use Rattle.compact_lists.specs.CdBase.place.Place.{Place}
+use Rattle.compact_lists.proofs.UserDedup.Sound.{contained}
 use Rattle.record_laws.specs.ContainerLog.Places.{end_after, end_of_laid}
 use Rattle.record_laws.proofs.ContainerLog.Least.{place_cases}
 use Rattle.record_laws.specs.FileIndex.key.Entry.{Entry}
@@ -15,7 +16,6 @@ use Rattle.record_laws.specs.FileIndex.key.FileKey.{FileKey}
 use Rattle.record_laws.specs.PoolMap.Slots.{IsListed}
 use Rattle.record_laws.specs.ShareIndex.Shares.{owners_of}
 use Rattle.fresh_checkpoints.specs.CloudAreas.Placing.{region_start}
-use Rattle.compact_lists.proofs.UserDedup.Sound.{contained}
 use Rattle.fresh_checkpoints.proofs.CloudAreas.Lists.{from_map}
 use Rattle.fresh_checkpoints.specs.CloudMemory.Live as slots
 use Rattle.fresh_checkpoints.specs.CloudMemory.Live.{IsEachLive}
@@ -27,6 +27,7 @@ use Rattle.fresh_checkpoints.specs.CompactMemories.Moved.{lens_of, entry_lens}
 use Rattle.fresh_checkpoints.proofs.CompactMemories.Live.{live_gives}
 use Rattle.cloud_store.specs.declared.store.CloudStore.{CloudStore}
 use Rattle.cloud_store.specs.Store.{IsOpen, IsSettled}
+use Rattle.cloud_store.proofs.CloudAreas.Laid.{moves}
 use Rattle.blob_copy.specs.Copies.{Blob, share_blob, entry_blob}
 use Rattle.blob_copy.specs.Runs.{blob_lens, all_end}
 use Rattle.blob_copy.proofs.Gathered.{laid_append, lens_blobs}
@@ -76,9 +77,6 @@ recipe_lens (x ∷ xs) = ap (λ (l : List ℕ). x.1.len ∷ l) (recipe_lens xs)
 
 abbrev AreUpTo : ℕ → List Blob → Type 0
 AreUpTo most bs = All (λ (b : Blob). b.len ≤ most) bs
-
-moves : (end len : ℕ) → end_after end len ≤ end + 2 * len
-moves end len = ⊎_elim (λ a. omega (arith, a.0, a.1)) (λ a. omega (arith, a.0, a.1)) (place_cases end len)
 
 shares_reach : (end : ℕ) (bs : List Blob) → AreUpTo 8208 bs → end_of_laid end (blob_lens bs) ≤ end + 16416 * length bs
 shares_reach end [] small = omega arith

@@ -1,5 +1,5 @@
 -- The memory of a store whose copies are all there, once it is moved to them.
-use Rattle.std.proofs.Common.{◌≡◌, ◌⊎◌, ⊎_elim, ℕ, ◌+◌, ◌*◌, ◌-◌, ◌^◌, ◌<◌, ◌≤◌, List, [], ◌∷◌, length, Option, Some, refl, sym, ap, ◌∙◌, subst, arith, inl, inr}
+use Rattle.std.proofs.Common.{◌≡◌, ℕ, ◌+◌, ◌*◌, ◌-◌, ◌^◌, ◌<◌, ◌≤◌, List, [], ◌∷◌, length, Option, Some, refl, sym, ap, ◌∙◌, subst, arith, inl, inr}
 use Rattle.std.specs.Prelude.{All, unwrap_or}
 use Rattle.std.specs.FinMap.{get}
 use Rattle.std.specs.List.{Contains, sum_by}
@@ -14,7 +14,7 @@ use Rattle.fresh_checkpoints.specs.CdEdges.area.Area.TheVariants.{Shares, Recipe
 use Rattle.fresh_checkpoints.specs.CdEdges.Disk.{Cloud}
 use Rattle.record_laws.specs.ContainerLog.Laying.{Placed, IsAt}
 use Rattle.record_laws.specs.ContainerLog.Places.{container_len, end_after, end_of_laid}
-use Rattle.record_laws.proofs.ContainerLog.Least.{place_cases, place_behind}
+use Rattle.record_laws.proofs.ContainerLog.Least.{place_behind}
 use Rattle.record_laws.specs.FileIndex.key.Entry.{Entry}
 use Rattle.record_laws.specs.FileIndex.key.FileKey.{FileKey}
 use Rattle.record_laws.specs.FileIndex.Files.{key_of}
@@ -38,7 +38,6 @@ use Rattle.fresh_checkpoints.specs.CloudMemory.Memory.{Memory, Remembers, Stand,
 use Rattle.fresh_checkpoints.specs.CloudMemory.Rooms.{memory_of}
 use Rattle.fresh_checkpoints.specs.Checkpoints.Known.{AreListed}
 use Rattle.fresh_checkpoints.specs.Checkpoints.Records.{records_of}
-use Rattle.fresh_checkpoints.proofs.Checkpoints.Apartness.{in_map, from_map}
 use Rattle.fresh_checkpoints.proofs.Checkpoints.Given.{shares_given, commit_given, recipe_given}
 use Rattle.fresh_checkpoints.proofs.Checkpoints.Sought.{from_picked}
 use Rattle.compact_lists.proofs.RoomLaws as rooms
@@ -50,8 +49,10 @@ use Rattle.fresh_checkpoints.proofs.CompactMemories.Live.{live_gives, live_from}
 use Rattle.fresh_checkpoints.proofs.CompactMemories.Lying.{places_lie}
 use Rattle.fresh_checkpoints.proofs.CompactMemories.Moving.{moved_like}
 use Rattle.fresh_checkpoints.proofs.CompactMemories.Sums.{shares_few, recipes_few}
+use Rattle.fresh_checkpoints.proofs.CloudAreas.Lists.{in_map, from_map}
 use Rattle.fresh_checkpoints.specs.Fresh.{IsNextMemory}
 use Rattle.cloud_store.specs.declared.store.CloudStore.{CloudStore}
+use Rattle.cloud_store.proofs.CloudAreas.Laid.{moves}
 use Rattle.blob_copy.specs.declared.copying.Copying.{Copying}
 use Rattle.blob_copy.specs.Copying.{copies_start, AreAllCopied, EntriesLie, IsCopying}
 
@@ -62,9 +63,6 @@ Item = FileKey × Entry
 
 abbrev len_of : Item → ℕ
 len_of x = x.1.len
-
-moves : (end len : ℕ) → end_after end len ≤ end + 2 * len
-moves end len = ⊎_elim (λ a. omega (arith, a.0, a.1)) (λ a. omega (arith, a.0, a.1)) (place_cases end len)
 
 pub entries_bound : (end : ℕ) (ys : List Item) → end_of_laid end (entry_lens ys) ≤ end + 2 * sum_by len_of ys
 entries_bound end [] = omega arith

@@ -1,5 +1,5 @@
 -- The answers of the calls, by cases.
-use Rattle.std.specs.Prelude.{◌≡◌, ◌≢◌, ◌⊎◌, ◌<◌, ℕ, Bool, true, false, List, length, take, drop, Result, Ok, Err}
+use Rattle.std.specs.Prelude.{◌≡◌, ◌≢◌, ◌⊎◌, ◌<◌, ℕ, Bool, true, false, List, length, Result, Ok, Err}
 use Rattle.std.specs.List.{Contains}
 use Rattle.compact_lists.specs.CdBase.ids.Fp.{Fp}
 use Rattle.compact_lists.specs.CdBase.place.Place.{Place}
@@ -7,6 +7,7 @@ use Rattle.fresh_checkpoints.specs.CdEdges.area.Area.TheVariants.{Shares, Recipe
 use Rattle.fresh_checkpoints.specs.CdEdges.Disk.{Image}
 use Rattle.record_laws.specs.FileIndex.key.Entry.{Entry}
 use Rattle.record_laws.specs.FileIndex.key.FileKey.{FileKey}
+pub use Rattle.record_laws.specs.Leaving.{bytes_at}
 use Rattle.cloud_store.specs.CommitJournal.journal.Stage.{Stage}
 use Rattle.cloud_store.specs.CommitJournal.journal.Stage.TheVariants.{AtEnd, Shut}
 use Rattle.compact_lists.specs.UserDedup.Strings.{fingerprint}
@@ -68,10 +69,6 @@ stage_after (Ok v) = AtEnd
 stage_after (Err why.Fault) = Shut
 stage_after (Err (why.Rotten named found)) = AtEnd
 stage_after (Err why.Long) = AtEnd
-
--- what an area has from a place on, as far as so many bytes
-abbrev pub bytes_at : List ℕ → ℕ → ℕ → List ℕ
-bytes_at area at len = take len (drop at area)
 
 -- The bytes are fewer than the length, or hash to another value than the name; `found` is their hash.
 pub record IsRotten (bytes : List ℕ) (len : ℕ) (named found : Fp) : Type 0 where

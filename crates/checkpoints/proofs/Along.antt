@@ -154,18 +154,8 @@ pub gate_on : {T E : Type 0} (r : Result T E) (gate used all : ℕ) → used ≡
 gate_on (Ok v) gate used all same is = is ∙ same
 gate_on (Err e) gate used all same is = tt
 
-pub failed_later : {T E : Type 0} (r : Result T E) (a b c : ℕ → Cloud) (number before mid now : ℕ) → IsCall a b number before mid
-    → OnErr r (HasFailed (b number) (c number) mid now) → OnErr r (HasFailed (a number) (c number) before now)
-failed_later (Ok v) a b c number before mid now first second = tt
-failed_later (Err e) a b c number before mid now first second = failed_after a b c number before mid now first second
-
 -- the same where the second call failed, whatever the error becomes
 pub failed_as : {T E : Type 0} (r : Result T E) (a b c : ℕ → Cloud) (number before mid now : ℕ) → IsCall a b number before mid
     → HasFailed (b number) (c number) mid now → OnErr r (HasFailed (a number) (c number) before now)
 failed_as (Ok v) a b c number before mid now first second = tt
 failed_as (Err e) a b c number before mid now first second = failed_after a b c number before mid now first second
-
-pub counts_kept : {T E : Type 0} (r : Result T E) (a b c : Cloud) (before mid now : ℕ) → KeepsCounts a b before mid
-    → OnOk r (KeepsCounts b c mid now) → OnOk r (KeepsCounts a c before now)
-counts_kept (Err e) a b c before mid now first second = tt
-counts_kept (Ok v) a b c before mid now first second = record { cloud = second.cloud ∙ first.cloud; total = second.total ∙ first.total }

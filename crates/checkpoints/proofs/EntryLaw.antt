@@ -18,13 +18,14 @@ use Rattle.cloud_memory.proofs.UserDedup.Owned.{contains_here, contains_later}
 use Rattle.cloud_memory.specs.UserDedup.command.Command.{Command}
 use Rattle.cloud_memory.specs.UserDedup.Cloud.{user_view}
 use Rattle.cloud_disk.specs.CloudAreas.Checkpoints.{Lists, key_of, HasEntry, IsEntry, AreEntries}
+use Rattle.cloud_disk.proofs.CloudAreas.Apart.{Apart, are_apart}
+use Rattle.cloud_disk.proofs.CloudAreas.Lists.{in_map, from_map}
 use Rattle.cloud_memory.specs.declared.cloud.CloudMemory.{CloudMemory}
 use Rattle.cloud_memory.specs.Memory.{Remembers, summary, summary_of}
 use Rattle.cloud_memory.specs.Rooms.{memory_of}
 use Rattle.checkpoints.specs.Picking.{picked}
 use Rattle.checkpoints.specs.Records.{commit_in, commit_at, commits_from}
 use Rattle.checkpoints.specs.Known.{AreListed, recipe_or, recipe_of, recipes_of}
-use Rattle.checkpoints.proofs.Apartness.{Apart, are_apart, in_map, from_map}
 use Rattle.checkpoints.proofs.Sought.{from_picked, in_picked, apart_picked, map_picked}
 
 abbrev commit_or : CommitBody → Option CommitBody → CommitBody

@@ -20,12 +20,12 @@ use Rattle.cloud_memory.proofs.UserDedup.Owned.{contains_here, contains_later, c
 use Rattle.cloud_memory.proofs.UserDedup.Filtered.{in_flat, from_flat}
 use Rattle.cloud_disk.specs.CloudAreas.Checkpoints.{PutRecord, put_body, items_in}
 use Rattle.cloud_disk.specs.CloudAreas.Placing.{places_given, places_kept, shares_placed, recipes_placed, shares_in, recipes_in}
+use Rattle.cloud_disk.proofs.CloudAreas.Lists.{in_map, from_map}
 use Rattle.cloud_memory.specs.declared.cloud.CloudMemory.{CloudMemory}
 use Rattle.cloud_memory.specs.ShareIndex.Shares.{Shares}
 use Rattle.checkpoints.specs.Picking.{picked, batches}
 use Rattle.checkpoints.specs.Records.{owned_in, item_of, items_of, items_from, puts_from, listed, kept_at, kept_from, commit_in, commit_at, commits_from, spents_from, records_of}
 use Rattle.checkpoints.specs.Known.{AreListed}
-use Rattle.checkpoints.proofs.Apartness.{in_map, from_map}
 use Rattle.checkpoints.proofs.Sought.{from_picked, in_picked}
 use Rattle.checkpoints.proofs.FullBatches.{flat_batched}
 use Rattle.checkpoints.proofs.Owns.{items_together}

@@ -14,9 +14,7 @@ use Rattle.cloud_memory.specs.CdBase.Order.{fp_cmp, fp_exact}
 use Rattle.cloud_memory.specs.ShareIndex.Shares.{owners_of}
 use Rattle.cloud_memory.proofs.ShareIndexLaws.Placing.{fp_total}
 use Rattle.cloud_memory.proofs.ShareIndexLaws.Owning.{owner_total}
-
-abbrev same : List ℕ → Owner → ℕ
-same fp k = cond (eq_by_cmp fp_cmp k.fp fp) 1 0
+use Rattle.cloud_memory.proofs.ShareIndexLaws.Indexing.{same}
 
 is_eq-at : (r : Ordering) → is_eq r ≡ true → r ≡ Equal
 is_eq-at Less e = let no : is_eq Less ≡ true = e in cc

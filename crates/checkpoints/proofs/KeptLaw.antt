@@ -13,13 +13,14 @@ use Rattle.cloud_memory.specs.ShareIndex.Shares.{owners_of}
 use Rattle.cloud_memory.proofs.ShareIndexLaws.Owning.{value-of}
 use Rattle.cloud_memory.specs.UserDedup.command.Command.{Command}
 use Rattle.cloud_disk.specs.CloudAreas.Checkpoints.{Lists, IsOwnerless, ListOwnerless}
+use Rattle.cloud_disk.proofs.CloudAreas.Apart.{Apart, are_apart}
+use Rattle.cloud_disk.proofs.CloudAreas.Lists.{in_map, from_map}
 use Rattle.cloud_memory.specs.declared.cloud.CloudMemory.{CloudMemory}
 use Rattle.cloud_memory.specs.Memory.{Remembers}
 use Rattle.cloud_memory.specs.Rooms.{memory_of}
 use Rattle.checkpoints.specs.Picking.{picked, batches}
 use Rattle.checkpoints.specs.Records.{kept_at, kept_from}
 use Rattle.checkpoints.specs.Known.{AreListed}
-use Rattle.checkpoints.proofs.Apartness.{Apart, are_apart, in_map, from_map}
 use Rattle.checkpoints.proofs.Sought.{from_picked, in_picked, apart_picked, map_picked}
 use Rattle.checkpoints.proofs.FullBatches.{flat_batched, full_batched}
 use Rattle.checkpoints.proofs.Holders.{owners_some, owners_none}

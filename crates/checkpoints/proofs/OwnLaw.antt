@@ -22,6 +22,7 @@ use Rattle.cloud_memory.specs.UserDedup.Cloud.{is_of, commands_of, user_view, vi
 use Rattle.cloud_memory.specs.UserDedup.Spending.{SpentByUser, spent_of}
 use Rattle.cloud_memory.proofs.UserDedup.Views.{owned_is_held}
 use Rattle.cloud_disk.specs.CloudAreas.Checkpoints.{Lists, AreFull, PutRecord, of_user, fps_of, items_in, ListOwners}
+use Rattle.cloud_disk.proofs.CloudAreas.Apart.{Apart, are_apart}
 use Rattle.cloud_memory.specs.declared.cloud.CloudMemory.{CloudMemory}
 use Rattle.cloud_memory.specs.Memory.{Remembers, uses_of}
 use Rattle.cloud_memory.specs.Rooms.{memory_of}
@@ -29,7 +30,7 @@ use Rattle.cloud_memory.proofs.Lists.{among_found}
 use Rattle.checkpoints.specs.Picking.{batches}
 use Rattle.checkpoints.specs.Records.{owned_at, owned_in, listed, put_of, items_from, puts_from}
 use Rattle.checkpoints.specs.Known.{AreListed}
-use Rattle.checkpoints.proofs.Apartness.{Apart, are_apart, contained}
+use Rattle.checkpoints.proofs.Apartness.{contained}
 use Rattle.checkpoints.proofs.Sought.{from_picked, in_picked, apart_picked}
 use Rattle.checkpoints.proofs.FullBatches.{full_batched}
 use Rattle.checkpoints.proofs.Owns.{of_all, of_nobody, items_are, fps_are, flags_of}

@@ -1,9 +1,9 @@
 -- The records of a memory with rooms are short enough for a half, whatever list the memory is of.
 use Rattle.std.proofs.Common.{◌≡◌, inl, inr, ℕ, zero, suc, ◌+◌, ◌*◌, ◌<◌, ◌≤◌, Bool, true, false, cond, List, [], ◌∷◌, ◌++◌, length, map, Option, Some, None, refl, sym, ap, ◌∙◌, subst, arith, length-append}
-use Rattle.std.specs.Prelude.{All, is_some, IsSome, IsFalse, ◌↔◌, ◌==◌, if◌then◌else◌}
+use Rattle.std.specs.Prelude.{All, is_some, IsSome, ◌==◌, if◌then◌else◌}
 use Rattle.std.specs.FinMap.{FinMap, get}
 use Rattle.std.specs.List.{flat_map, Contains, count_by}
-use Rattle.std.proofs.lemmas.Bool.{eqb-true, ne_eqb, false≢true}
+use Rattle.std.proofs.lemmas.Bool.{eqb-true, ne_eqb}
 use Rattle.std.proofs.lemmas.List.{length-map, map-append}
 use Rattle.std.proofs.lemmas.List.Elements.{All-head, All-tail, All-contains, Contains-append_left, Contains-append_right, Contains-append_cases}
 use Rattle.std.proofs.lemmas.List.Sums.{sum_by-cons, sum_by-append}
@@ -27,13 +27,13 @@ use Rattle.cloud_memory.specs.ShareIndex.Placed.{AreAllPlaced}
 use Rattle.cloud_memory.specs.ShareIndex.Shares.{Shares, owners_of}
 use Rattle.cloud_memory.proofs.ShareIndexLaws.Owning.{value-of}
 use Rattle.cloud_memory.specs.SpentTable.Spent.{Spent as Row}
-use Rattle.cloud_memory.specs.UserDedup.Owning.{is_among}
-use Rattle.cloud_memory.proofs.UserDedup.Owned.{contains_here, contains_nothing, contains_cases, contains_among}
-use Rattle.cloud_disk.specs.CloudAreas.Checkpoints.{PutRecord, put_body, fps_of, items_in, AreFlagged}
+use Rattle.cloud_memory.proofs.UserDedup.Owned.{contains_nothing}
+use Rattle.cloud_disk.specs.CloudAreas.Checkpoints.{PutRecord, put_body, fps_of, items_in}
 use Rattle.cloud_disk.specs.CloudAreas.Placing.{places_given, fps_placed}
-use Rattle.cloud_disk.proofs.CloudAreas.Apart.{Apart}
 use Rattle.cloud_disk.proofs.CloudAreas.Counting.{fewer}
 use Rattle.cloud_disk.proofs.CloudAreas.Placed.{given_is_listed}
+use Rattle.cloud_disk.proofs.CloudAreas.Lists.{from_map}
+use Rattle.cloud_disk.proofs.CloudAreas.Once.{flagged_once}
 use Rattle.cloud_memory.specs.declared.cloud.CloudMemory.{CloudMemory}
 use Rattle.cloud_memory.specs.Fitting.{FitsRecords}
 use Rattle.cloud_memory.specs.Rooms.{memory_of, HasRooms}
@@ -41,7 +41,7 @@ use Rattle.checkpoints.specs.Laying.{record_len, records_len, longest_record}
 use Rattle.checkpoints.specs.Picking.{onto, picked, batches}
 use Rattle.checkpoints.specs.Records.{owned_at, owned_in, listed, items_of, items_from, puts_from, kept_at, kept_from, commit_at, commits_from, spent_at, spents_of, spents_from, records_of}
 use Rattle.checkpoints.specs.Known.{AreListed}
-use Rattle.checkpoints.proofs.Apartness.{from_map, contained}
+use Rattle.checkpoints.proofs.Apartness.{contained}
 use Rattle.checkpoints.proofs.FullBatches.{flat_batched}
 use Rattle.checkpoints.proofs.Holders.{owners_some}
 use Rattle.checkpoints.proofs.KeptLaw.{item_in}
@@ -201,29 +201,6 @@ given_len (item ∷ items) = by_place item.place (given_len items)
     by_place None same = omega (arith, same, sum_by-cons (λ (i : PutItem). cond (has_place i) 1 0) (record { fp = item.fp; place = None }) items)
     by_place (Some place) same = omega (arith, same, sum_by-cons (λ (i : PutItem). cond (has_place i) 1 0) (record { fp = item.fp; place = Some place }) items)
 
--- each is placed once, and none of these came before
-record ArePlacedOnce (before : List Fp) (shares : List (Fp × Place)) : Type 0 where
-  once : Apart (fps_placed shares)
-  new : (fp : Fp) → Contains (fps_placed shares) fp → Contains before fp → ⊥
-
-flagged_once : (before : List Fp) (items : List PutItem) → AreFlagged before items → ArePlacedOnce before (places_given items)
-flagged_once before [] flagged = record { once = tt; new = λ fp c d. contains_nothing fp c }
-flagged_once before (item ∷ items) flagged = by_place item.place flagged.0 (flagged_once (before ++ item.fp ∷ []) items flagged.1)
-  where
-    here : Contains (before ++ item.fp ∷ []) item.fp
-    here = Contains-append_right before (item.fp ∷ []) item.fp (contains_here item.fp [])
-
-    by_place : (o : Option Place) → IsSome o ↔ IsFalse (is_among before item.fp) → ArePlacedOnce (before ++ item.fp ∷ []) (places_given items)
-        → ArePlacedOnce before (places_given (record { fp = item.fp; place = o } ∷ items))
-    by_place None flag rest = record { once = rest.once; new = λ fp c d. rest.new fp c (Contains-append_left before (item.fp ∷ []) fp d) }
-    by_place (Some place) flag rest = record {
-      once = (λ c. rest.new item.fp c here, rest.once);
-      new = λ fp c d. elim (contains_cases item.fp (fps_placed (places_given items)) fp c) [
-        | inl same ↦ false≢true (sym (flag.0 refl) ∙ contains_among before item.fp (subst (Contains before) (sym same) d))
-        | inr later ↦ rest.new fp later (Contains-append_left before (item.fp ∷ []) fp d)
-      ];
-    }
-
 -- the fingerprint of a slot for a place, where some user owns it
 abbrev owned_place : FinMap owner_cmp ℕ → Option (List ℕ × Place) → Option Fp
 owned_place owners None = None
@@ -289,7 +266,7 @@ module _ (memory : CloudMemory) (l : AreListed memory) (placed : AreAllPlaced me
 
 -- ---- all of them: behind them there is room for the longest record
 
-spread : (rooms : UserRooms) → half_limit rooms ≡ 11595 + (97 * (rooms.users * rooms.owners) + 94 * (rooms.users * rooms.files) + 30 * rooms.users)
+pub spread : (rooms : UserRooms) → half_limit rooms ≡ 11595 + (97 * (rooms.users * rooms.owners) + 94 * (rooms.users * rooms.files) + 30 * rooms.users)
 spread rooms =
     let a = mul-add rooms.users (97 * rooms.owners + 94 * rooms.files) 30 in
     let b = mul-add rooms.users (97 * rooms.owners) (94 * rooms.files) in

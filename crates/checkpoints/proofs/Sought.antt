@@ -3,7 +3,7 @@ use Rattle.std.proofs.Common.{◌≡◌, ℕ, zero, suc, List, [], ◌∷◌, ma
 use Rattle.std.specs.Prelude.{option_map}
 use Rattle.std.specs.List.{Contains}
 use Rattle.cloud_memory.proofs.UserDedup.Owned.{contains_here, contains_later, contains_nothing, contains_cases}
-use Rattle.checkpoints.proofs.Apartness.{Apart}
+use Rattle.cloud_disk.proofs.CloudAreas.Apart.{Apart}
 use Rattle.checkpoints.specs.Picking.{onto, picked}
 
 module _ {E X : Type 0} (f : Option E → Option X) (none : f None ≡ None) where

@@ -13,12 +13,13 @@ use Rattle.cloud_memory.specs.UserDedup.command.Command.{Command}
 use Rattle.cloud_memory.specs.UserDedup.Spending.{SpentByUser, nothing, spent_of}
 use Rattle.cloud_memory.specs.CdBase.shape.Shape.{Shape}
 use Rattle.cloud_disk.specs.CloudAreas.Checkpoints.{spent_by, ListSpent}
+use Rattle.cloud_disk.proofs.CloudAreas.Apart.{Apart, are_apart}
+use Rattle.cloud_disk.proofs.CloudAreas.Lists.{in_map, from_map}
 use Rattle.cloud_memory.specs.declared.cloud.CloudMemory.{CloudMemory}
 use Rattle.cloud_memory.specs.Memory.{Remembers, as_spent}
 use Rattle.cloud_memory.specs.Rooms.{memory_of}
 use Rattle.checkpoints.specs.Picking.{onto}
 use Rattle.checkpoints.specs.Records.{spent_at, spents_of, spents_from}
-use Rattle.checkpoints.proofs.Apartness.{Apart, are_apart, in_map, from_map}
 
 -- ---- a row
 

@@ -1,5 +1,5 @@
 -- A checkpoint of a memory in the place of the chain by which the disk stands for the list.
-use Rattle.std.proofs.Common.{◌≡◌, inl, inr, ℕ, ◌+◌, ◌≤◌, ◌↔◌, List, [], ◌∷◌, ◌++◌, length, map, Some, refl, sym, ap, ◌∙◌, subst, arith, length-append}
+use Rattle.std.proofs.Common.{◌≡◌, ℕ, ◌+◌, ◌≤◌, ◌↔◌, List, [], ◌∷◌, ◌++◌, length, map, Some, refl, sym, ap, ◌∙◌, subst, arith, length-append}
 use Rattle.std.specs.Prelude.{All, is_some}
 use Rattle.std.specs.Int.{w32, to_be_bytes}
 use Rattle.std.specs.FinMap.{get}
@@ -17,18 +17,19 @@ use Rattle.cloud_disk.specs.JournalHalves.Journals.{used_by, with_body}
 use Rattle.cloud_disk.specs.JournalStart.start.Header.{Header}
 use Rattle.cloud_disk.specs.JournalStart.Spelling.{start_bytes}
 use Rattle.cloud_disk.proofs.JournalStart.Lengths as lengths
+use Rattle.cloud_disk.proofs.CloudAreas.Lists.{in_map, from_map}
+use Rattle.cloud_disk.proofs.CloudAreas.Ends.{end_least, end_each, end_bound}
 use Rattle.cloud_memory.specs.RecordBody.Spelling as bodies
 use Rattle.cloud_memory.specs.RecordBody.Spelling.{Body, FitsBody, body_bytes}
 use Rattle.cloud_memory.specs.RecordBody.body.CommitBody.{CommitBody}
 use Rattle.cloud_memory.specs.CdBase.place.Place.{Place}
 use Rattle.cloud_memory.specs.UserDedup.Cloud.{fingerprint}
-use Rattle.cloud_memory.proofs.UserDedup.Owned.{contains_here, contains_later, contains_nothing, contains_cases}
 use Rattle.cloud_memory.specs.UserDedup.command.Command.{Command}
 use Rattle.cloud_memory.specs.UserDedup.Cloud.{strings_in}
 use Rattle.cloud_memory.specs.UserDedup.Spending.{IsWithin}
 use Rattle.cloud_memory.proofs.UserDedup.Filtered.{in_flat}
 use Rattle.cloud_disk.specs.CloudAreas.Checkpoints.{IsCheckpointOfList}
-use Rattle.cloud_disk.specs.CloudAreas.Placing.{region_start, end_of, greatest_end, shares_in, recipes_in, recipes_placed, places_of, HasPlace}
+use Rattle.cloud_disk.specs.CloudAreas.Placing.{region_start, greatest_end, shares_in, recipes_in, recipes_placed, places_of, HasPlace}
 use Rattle.cloud_disk.specs.CloudAreas.Standing.{Chain, where_of, region_in, Holds}
 use Rattle.cloud_disk.specs.CloudAreas.Summaries.{SumsUp}
 use Rattle.cloud_disk.specs.Disk.{Disk, IsOn}
@@ -39,27 +40,12 @@ use Rattle.checkpoints.specs.Laying.{records_len}
 use Rattle.checkpoints.specs.Settling.{checkpoint_of, IsSummed}
 use Rattle.checkpoints.specs.Records.{commits_from, records_of}
 use Rattle.checkpoints.specs.Known.{AreListed, IsKnown, recipe_of, recipes_of, checkpoint_in}
-use Rattle.checkpoints.proofs.Apartness.{contained, in_map, from_map}
+use Rattle.checkpoints.proofs.Apartness.{contained}
 use Rattle.checkpoints.proofs.EntryLaw.{is_entry}
 use Rattle.checkpoints.proofs.Given.{Names, names_of, shares_given, commit_given, commit_there, recipe_given}
 use Rattle.checkpoints.proofs.RecordsLaw.{records_law}
 
 -- ---- ends
-
-end_least : (least : ℕ) (ps : List Place) → least ≤ greatest_end least ps
-end_least least [] = omega arith
-end_least least (p ∷ ps) = omega (arith, end_least least ps)
-
-end_each : (least : ℕ) (ps : List Place) (p : Place) → Contains ps p → end_of p ≤ greatest_end least ps
-end_each least [] p c = absurd (contains_nothing p c)
-end_each least (q ∷ ps) p c = elim (contains_cases q ps p c) [
-  | inl same ↦ subst (λ (r : Place). end_of r ≤ greatest_end least (q ∷ ps)) same (omega arith)
-  | inr later ↦ (let rest = end_each least ps p later in omega (arith, rest))
-]
-
-end_bound : (least bound : ℕ) (ps : List Place) → least ≤ bound → ((p : Place) → Contains ps p → end_of p ≤ bound) → greatest_end least ps ≤ bound
-end_bound least bound [] le each = le
-end_bound least bound (p ∷ ps) le each = omega (arith, each p (contains_here p ps), end_bound least bound ps le (λ q c. each q (contains_later p ps q c)))
 
 -- places that all are among others end no further on
 end_among : (least more bound : ℕ) (ps qs : List Place) → least ≡ more → greatest_end more qs ≤ bound → ((p : Place) → Contains ps p → Contains qs p) → greatest_end least ps ≤ bound
@@ -68,7 +54,7 @@ end_among least more bound ps qs same le among =
 
 -- ---- lengths
 
-chain_more : (records : List Body) → length (chain (map body_bytes records)) ≡ records_len records
+pub chain_more : (records : List Body) → length (chain (map body_bytes records)) ≡ records_len records
 chain_more [] = refl
 chain_more (body ∷ records) =
     omega (
@@ -78,7 +64,7 @@ chain_more (body ∷ records) =
       length-append (to_be_bytes w32 (length (body_bytes body))) (body_bytes body),
     )
 
-chain_behind : (records : List Body) (bytes : List ℕ) → length (chain (map body_bytes records ++ bytes ∷ [])) ≡ records_len records + (length bytes + 5)
+pub chain_behind : (records : List Body) (bytes : List ℕ) → length (chain (map body_bytes records ++ bytes ∷ [])) ≡ records_len records + (length bytes + 5)
 chain_behind [] bytes = omega (arith, length-append (sized bytes) [], length-append (to_be_bytes w32 (length bytes)) bytes)
 chain_behind (body ∷ records) bytes =
     omega (
@@ -88,7 +74,7 @@ chain_behind (body ∷ records) bytes =
       length-append (to_be_bytes w32 (length (body_bytes body))) (body_bytes body),
     )
 
-chain_first : (start : List ℕ) (rest : List (List ℕ)) → length (chain (start ∷ rest)) ≡ length start + 5 + length (chain rest)
+pub chain_first : (start : List ℕ) (rest : List (List ℕ)) → length (chain (start ∷ rest)) ≡ length start + 5 + length (chain rest)
 chain_first start rest = omega (arith, length-append (sized start) (chain rest), length-append (to_be_bytes w32 (length start)) start)
 
 module _ (header : Header) (list : List Command) (c : Chain) (commands region : ℕ) (memory : CloudMemory) (disk : Disk) (cloud : Cloud)

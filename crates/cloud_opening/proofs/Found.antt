@@ -18,6 +18,7 @@ use Rattle.cloud_disk.specs.UserDedup.command.Command.{Command}
 use Rattle.cloud_disk.specs.UserDedup.Cloud.{counted}
 use Rattle.cloud_disk.specs.CloudAreas.Standing.{where_of, region_in, number_at, HasList, StandsFor}
 use Rattle.cloud_disk.specs.Disk.{Disk, AreEnds, IsOn}
+use Rattle.cloud_disk.proofs.CommitJournal.Opening.{not_unbegun}
 use Rattle.record_laws.specs.RecordChecks.CloudMemory.Memory.{Memory}
 use Rattle.record_laws.specs.Leaving.{MayHold, IsLeftIn}
 use Rattle.record_laws.proofs.Chain.{left_ends, left_stands}
@@ -25,7 +26,7 @@ use Rattle.cloud_opening.specs.Exact.{ReplaysAll, number_behind, Opens, Unbegun,
 use Rattle.cloud_opening.specs.Spared.{IsReadWhole, IsLoaded, IsOkOrFault, MayBegin}
 use Rattle.cloud_opening.specs.Steps.{IsListFound}
 use Rattle.cloud_opening.proofs.Stated.{Laws}
-use Rattle.cloud_opening.proofs.Current.{same_half, same_start, not_unbegun}
+use Rattle.cloud_opening.proofs.Current.{same_half, same_start}
 use Rattle.cloud_opening.proofs.Lawful.{all_lawful, all_is_left}
 use Rattle.cloud_opening.proofs.OneStart.{unbegun_whole, current_whole}
 

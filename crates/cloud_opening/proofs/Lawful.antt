@@ -88,7 +88,7 @@ closes_within g m t number answer s r (RecipesPast field fit past noted) = absur
 -- ---- records by their bytes
 
 -- the rest behind the first record
-rest_after : (b : List ℕ) (bodies : List (List ℕ)) (rest : List ℕ) → IsJournal (b ∷ bodies) rest → IsJournal bodies (drop (5 + length b) rest)
+pub rest_after : (b : List ℕ) (bodies : List (List ℕ)) (rest : List ℕ) → IsJournal (b ∷ bodies) rest → IsJournal bodies (drop (5 + length b) rest)
 rest_after b bodies rest j =
     let front = 1 ∷ sized b in let behind = chain bodies ++ j.gate ∷ j.behind in
     let long : 5 + length b ≡ length front = omega (arith) in
@@ -101,14 +101,14 @@ rest_after b bodies rest j =
       spelled = ap (λ (l : List ℕ). drop (5 + length b) l) whole ∙ ap (λ (n : ℕ). drop n (front ++ behind)) long ∙ drop_at front behind (length front) refl;
     }
 
-record_first : (b : List ℕ) (bodies : List (List ℕ)) (rest : List ℕ) → IsJournal (b ∷ bodies) rest → IsRecord rest b
+pub record_first : (b : List ℕ) (bodies : List (List ℕ)) (rest : List ℕ) → IsJournal (b ∷ bodies) rest → IsRecord rest b
 record_first b bodies rest j = whole_record b bodies j.gate j.behind rest j.sizes.0 j.spelled
 
-closed_end : (rest : List ℕ) → IsJournal [] rest → IsClosed rest
+pub closed_end : (rest : List ℕ) → IsJournal [] rest → IsClosed rest
 closed_end rest j = record { gate = j.gate; behind = j.behind; shut = j.shut; spelled = j.spelled }
 
 -- a chain within its half
-part_journal : (bodies : List (List ℕ)) (half : ℕ) (journal : List ℕ) → IsJournal bodies (half_of half journal) → length (chain bodies) + 1 ≤ half_len → IsJournal bodies (part_of half journal)
+pub part_journal : (bodies : List (List ℕ)) (half : ℕ) (journal : List ℕ) → IsJournal bodies (half_of half journal) → length (chain bodies) + 1 ≤ half_len → IsJournal bodies (part_of half journal)
 part_journal bodies half journal j within =
     let front = chain bodies ++ j.gate ∷ [] in
     let long : length front ≡ length (chain bodies) + 1 = omega (arith, length-append (chain bodies) (j.gate ∷ [])) in

@@ -20,7 +20,7 @@ use Rattle.cloud_opening.specs.Steps.{From}
 use Rattle.cloud_opening.proofs.Current.{region_small}
 
 -- the gate behind the start
-gate_behind : (state : JournalState) (store : Store) (w : Where) → IsJournalReading state store w → w.bodies ≡ [] → state.current.gate ≡ length (start_bytes w.start) + 5
+pub gate_behind : (state : JournalState) (store : Store) (w : Where) → IsJournalReading state store w → w.bodies ≡ [] → state.current.gate ≡ length (start_bytes w.start) + 5
 gate_behind state store w reading none =
     let gate : state.current.gate ≡ length (chain (start_bytes w.start ∷ [])) = reading.read.gate ∙ ap (λ (l : List (List ℕ)). length (chain (start_bytes w.start ∷ l))) none in
     omega (arith, gate, length-append (start_bytes w.start) [])

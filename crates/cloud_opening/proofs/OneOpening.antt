@@ -5,6 +5,7 @@ use Rattle.cloud_disk.specs.CdEdges.Disk.{Image}
 use Rattle.cloud_disk.specs.JournalHalves.Frames.{IsRecord}
 use Rattle.cloud_disk.proofs.JournalHalves.Headed.{one_record}
 use Rattle.cloud_disk.proofs.JournalHalves.Unique.{undamaged}
+use Rattle.cloud_disk.proofs.CommitJournal.Opening.{not_unbegun}
 use Rattle.record_laws.specs.FileIndex.key.Entry.{Entry}
 use Rattle.cloud_disk.specs.RecordBody.Reading.{body_at}
 use Rattle.cloud_disk.specs.RecordBody.Spelling.{Body}
@@ -26,26 +27,26 @@ use Rattle.record_laws.specs.RecordChecks.Judging as judging
 use Rattle.record_laws.specs.RecordChecks.Noting.{IsNoted}
 use Rattle.record_laws.proofs.RecordChecks.OneAnswer.{one_answer}
 use Rattle.cloud_opening.specs.Exact.{ReadsFor, Recipe, Nothing, Closes, Within, SharesPast, RecipesPast, Replays, Ended, Early, Taken, Refused, Broken, ReplaysAll, Opens, Unbegun, NoStart, Other, New, Read, IsSame}
-use Rattle.cloud_opening.proofs.Current.{same_half, same_start, not_unbegun}
+use Rattle.cloud_opening.proofs.Current.{same_half, same_start}
 use Rattle.cloud_opening.proofs.Opened.{not_open, not_broken}
 use Rattle.cloud_opening.proofs.OneStart.{one_damage, one_found, unbegun_whole, current_whole}
 
 -- ---- what is read for a record
 
-body_of : (b b2 : Body) (r : Result Body BodyErr) → r ≡ Ok b → r ≡ Ok b2 → b ≡ b2
+pub body_of : (b b2 : Body) (r : Result Body BodyErr) → r ≡ Ok b → r ≡ Ok b2 → b ≡ b2
 body_of b b2 r x y = let same : Ok b ≡ Ok b2 = sym x ∙ y in cc
 
-entry_of : (e e2 : Entry) (o : Option Entry) → o ≡ Some e → o ≡ Some e2 → e ≡ e2
+pub entry_of : (e e2 : Entry) (o : Option Entry) → o ≡ Some e → o ≡ Some e2 → e ≡ e2
 entry_of e e2 o x y = let same : Some e ≡ Some e2 = sym x ∙ y in cc
 
-one_asked : (g : Ground) (inside : Bool) (m : Memory) (b : Body) (p q : Place) → Asks g inside m b p → Asks g inside m b q → p ≡ q
+pub one_asked : (g : Ground) (inside : Bool) (m : Memory) (b : Body) (p q : Place) → Asks g inside m b p → Asks g inside m b q → p ≡ q
 one_asked g inside m b p q (ByCommit c lies none) (ByCommit c2 lies2 none2) = refl
 one_asked g inside m b p q (ByDelete d e is few) (ByDelete d2 e2 is2 few2) = ap (λ (x : Entry). record { at = x.at; len = x.len }) (entry_of e e2 _ is is2)
 
-one_place : (g : Ground) (inside : Bool) (m : Memory) (body : List ℕ) (p q : Place) → AsksFor g inside m body p → AsksFor g inside m body q → p ≡ q
+pub one_place : (g : Ground) (inside : Bool) (m : Memory) (body : List ℕ) (p q : Place) → AsksFor g inside m body p → AsksFor g inside m body q → p ≡ q
 one_place g inside m body p q a b = one_asked g inside m a.0 p q a.2 (subst (λ (x : Body). Asks g inside m x q) (sym (body_of a.0 b.0 (body_at body) a.1 b.1)) b.2)
 
-one_read : (g : Ground) (inside : Bool) (m : Memory) (body recipes one two : List ℕ) → ReadsFor g inside m body recipes one → ReadsFor g inside m body recipes two → one ≡ two
+pub one_read : (g : Ground) (inside : Bool) (m : Memory) (body recipes one two : List ℕ) → ReadsFor g inside m body recipes one → ReadsFor g inside m body recipes two → one ≡ two
 one_read g inside m body recipes one two (Recipe p asks) (Recipe q asks2) = ap (λ (x : Place). take x.len (drop x.at recipes)) (one_place g inside m body p q asks asks2)
 one_read g inside m body recipes one two (Recipe p asks) (Nothing none) = absurd (none p asks)
 one_read g inside m body recipes one two (Nothing none) (Recipe p asks) = absurd (none p asks)

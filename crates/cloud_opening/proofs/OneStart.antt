@@ -12,11 +12,10 @@ use Rattle.cloud_disk.specs.JournalStart.Reading.{Fields, start_at, fields_of}
 use Rattle.cloud_disk.specs.JournalStart.Spelling.{start_bytes, epoch_of}
 use Rattle.cloud_disk.proofs.JournalStart.Whole.{again}
 use Rattle.cloud_disk.specs.JournalHalves.Halves.{half_len, half_of, is_half_begun, HasStart, IsCurrent}
-use Rattle.cloud_disk.proofs.JournalHalves.Current.{one_start, begun_half}
+use Rattle.cloud_disk.proofs.JournalHalves.Current.{one_start, begun_half, epoch_small, other_before}
 use Rattle.cloud_disk.specs.JournalHalves.Findings.{part_of, IsFaultAt, IsBodyDamage, IsStartDamage, IsSound, epoch_place, IsFoundDamage, InFirst, InSecond, Epochs}
 use Rattle.cloud_disk.specs.JournalHalves.Beginnings.{IsUnbegun}
 use Rattle.cloud_disk.proofs.CommitJournal.Kept.{record_off}
-use Rattle.cloud_opening.proofs.Current.{epoch_small, other_before}
 
 -- the two name one place, and one byte
 pub record SamePlace (at byte at2 byte2 : ℕ) : Type 0 where

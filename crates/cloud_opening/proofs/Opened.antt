@@ -15,6 +15,8 @@ use Rattle.cloud_disk.specs.JournalStart.Spelling.{start_bytes, records_of, comm
 use Rattle.cloud_disk.specs.JournalHalves.Halves.{half_len, half_of, IsCurrent}
 use Rattle.cloud_disk.specs.JournalHalves.Journals.{Where, HasChain}
 use Rattle.cloud_disk.proofs.JournalHalves.Laying.{split}
+use Rattle.cloud_disk.proofs.CommitJournal.Opening.{not_unbegun}
+use Rattle.cloud_disk.proofs.JournalHalves.Unique.{head_of}
 use Rattle.cloud_disk.specs.JournalHalves.Findings.{part_of}
 use Rattle.cloud_disk.specs.CommitJournal.errors.OpenErr.{OpenErr}
 use Rattle.cloud_disk.specs.CommitJournal.errors.OpenErr.TheVariants.{Fault, NotBegun, Damaged, OtherStore}
@@ -33,13 +35,10 @@ use Rattle.cloud_opening.specs.Exact.{Closes, Within, SharesPast, RecipesPast, n
 use Rattle.cloud_opening.specs.Spared.{Spares, StandsForSome, KeepsLists, IsReadWhole}
 use Rattle.cloud_opening.specs.Starts.{IsStarted}
 use Rattle.cloud_opening.specs.Steps.{HasChainEnded}
-use Rattle.cloud_opening.proofs.Current.{same_half, same_start, not_unbegun}
+use Rattle.cloud_opening.proofs.Current.{same_half, same_start}
 use Rattle.cloud_opening.proofs.Synced.{none_behind, of_all, on_answer, same_err, always}
 
 -- ---- nothing comes behind a closed gate
-
-head_of : (a b : ℕ) (xs ys : List ℕ) → a ∷ xs ≡ b ∷ ys → a ≡ b
-head_of a b xs ys e = cc
 
 pub not_open : (rest body : List ℕ) → IsClosed rest → IsRecord rest body → ⊥
 not_open rest body c r = c.shut (head_of c.gate 1 c.behind (sized body ++ r.gate ∷ r.behind) (sym c.spelled ∙ r.spelled))

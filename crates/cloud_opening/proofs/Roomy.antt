@@ -4,14 +4,13 @@ use Rattle.std.specs.Prelude.{slice_set, slice_index_or, replicate, OnOk}
 use Rattle.std.proofs.lemmas.Bool.{false≢true}
 use Rattle.cloud_disk.specs.CdBase.ids.UserId.{UserId}
 use Rattle.cloud_disk.specs.JournalStart.rooms.UserRooms.{UserRooms}
-use Rattle.cloud_disk.specs.RecordBody.body.KeptItem.{KeptItem}
 use Rattle.cloud_disk.specs.RecordBody.body.PutItem.{PutItem}
 use Rattle.record_laws.specs.SpentTable.Spent.{Spent}
 use Rattle.record_laws.specs.SpentTable.Spending.{nothing, spent_by, both}
 use Rattle.cloud_disk.specs.UserDedup.Spending.{limits_of}
 use Rattle.cloud_disk.specs.CommitJournal.errors.OpenErr.{OpenErr}
 use Rattle.record_laws.specs.RecordChecks.CloudMemory.Memory.{Memory}
-use Rattle.record_laws.specs.RecordChecks.CloudMemory.Steps.{with_item, with_items, with_kept, with_kepts}
+use Rattle.record_laws.specs.RecordChecks.CloudMemory.Steps.{with_item, with_items}
 use Rattle.record_laws.specs.RecordChecks.ground.Ground.{Ground}
 use Rattle.record_laws.specs.RecordChecks.taking.Taking.{Taking}
 use Rattle.record_laws.specs.RecordChecks.Checks.{spends_behind}
@@ -59,10 +58,6 @@ begun_within rooms users = record {
 pub items_spent : (user : UserId) (m : Memory) (items : List PutItem) → (with_items user m items).spent ≡ m.spent
 items_spent user m [] = refl
 items_spent user m (item ∷ items) = items_spent user (with_item user m item) items
-
-pub kepts_spent : (m : Memory) (items : List KeptItem) → (with_kepts m items).spent ≡ m.spent
-kepts_spent m [] = refl
-kepts_spent m (item ∷ items) = kepts_spent (with_kept m item) items
 
 behind : {P : Type 0} → IsTrue false ⊎ P → P
 behind either = elim either [

@@ -29,18 +29,18 @@ use Rattle.cloud_opening.specs.Steps.{From, OneAs, NextAs}
 
 -- ---- what stands at the gate
 
-bodies_left : (one more : List (List ℕ)) → AreBodies (one ++ more) → AreBodies more
+pub bodies_left : (one more : List (List ℕ)) → AreBodies (one ++ more) → AreBodies more
 bodies_left [] more all = all
 bodies_left (b ∷ one) more all = bodies_left one more all.1
 
-rest_at : (old : records.HalfState) (store : Store) (bodies : List (List ℕ)) (r : records.IsReading old store bodies) → rest_of old store ≡ r.rest
+pub rest_at : (old : records.HalfState) (store : Store) (bodies : List (List ℕ)) (r : records.IsReading old store bodies) → rest_of old store ≡ r.rest
 rest_at old store bodies r = ap (λ (l : List ℕ). drop old.gate l) r.spelled ∙ ap (λ (n : ℕ). drop n (chain bodies ++ r.rest)) r.gate ∙ drop_at (chain bodies) r.rest (length (chain bodies)) refl
 
-record_there : (rest body behind : List ℕ) → AreBodies (body ∷ []) → 0 < length behind → rest ≡ 1 ∷ (sized body ++ behind) → IsRecord rest body
+pub record_there : (rest body behind : List ℕ) → AreBodies (body ∷ []) → 0 < length behind → rest ≡ 1 ∷ (sized body ++ behind) → IsRecord rest body
 record_there rest body [] sizes some e = absurd (omega (arith, some))
 record_there rest body (gate ∷ behind) sizes some e = record { gate = gate; behind = behind; is_body = sizes.0; spelled = e }
 
-record_at : (old new : records.HalfState) (store : Store) (bodies : List (List ℕ)) (body : List ℕ) → records.IsReading old store bodies → new.half ≡ old.half → records.IsReading new store (bodies ++ body ∷ [])
+pub record_at : (old new : records.HalfState) (store : Store) (bodies : List (List ℕ)) (body : List ℕ) → records.IsReading old store bodies → new.half ≡ old.half → records.IsReading new store (bodies ++ body ∷ [])
     → IsRecord (rest_of old store) body
 record_at old new store bodies body r half f =
     let part : part_of old.half store.read ≡ part_of new.half store.read = ap (λ (h : ℕ). part_of h store.read) (sym half) in
@@ -48,7 +48,7 @@ record_at old new store bodies body r half f =
     record_there (rest_of old store) body f.rest (bodies_left bodies (body ∷ []) f.sizes) f.more
     (rest_at old store bodies r ∙ append_cancel_left (chain bodies) r.rest (1 ∷ (sized body ++ f.rest)) whole)
 
-closed_at : (old new : records.HalfState) (store : Store) (bodies : List (List ℕ)) → records.IsReading old store bodies → new.half ≡ old.half → records.IsEnded new store bodies → IsClosed (rest_of old store)
+pub closed_at : (old new : records.HalfState) (store : Store) (bodies : List (List ℕ)) → records.IsReading old store bodies → new.half ≡ old.half → records.IsEnded new store bodies → IsClosed (rest_of old store)
 closed_at old new store bodies r half e =
     let j = e.chain_is in
     let front = chain bodies ++ j.gate ∷ [] in

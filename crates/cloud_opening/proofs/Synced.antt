@@ -7,6 +7,7 @@ use Rattle.cloud_disk.specs.CdEdges.Shelf.{stable, Stays, HasFailed, KeepsCounts
 use Rattle.cloud_disk.proofs.CdEdges.Calls.{failed_after}
 use Rattle.cloud_disk.proofs.CdEdges.Moments.{joined, weaker, at_end}
 use Rattle.cloud_disk.proofs.CdEdges.Torn.{only}
+use Rattle.cloud_disk.proofs.CommitJournal.Opening.{synced_only}
 use Rattle.cloud_disk.specs.JournalStart.start.Header.{Header}
 use Rattle.cloud_disk.specs.CommitJournal.errors.OpenErr.{OpenErr}
 use Rattle.cloud_disk.specs.CommitJournal.errors.OpenErr.TheVariants.{Fault, NotBegun, Damaged, OtherStore}
@@ -35,9 +36,6 @@ become c0 c1 header begin reads first synced image (inr new) = inr (
         (sym (only (c0.now other).read (image other) (subst (λ (s : Store). MayLeave s (image other)) (synced_at c0 c1 synced other) (new.2.others other ne)))) (reads other);
   },
 )
-
-pub synced_only : (c0 c1 : Cloud) (header : Header) (begin : Bool) → LeavesOnly c0 c1 (IsImage c0.now) → LeavesOnly c0 c1 (MayBecome c0.now header begin)
-synced_only c0 c1 header begin run = weaker c0 c1 _ _ run (λ image left. inl left)
 
 then_opened : (c0 c1 c2 : Cloud) (header : Header) (begin : Bool) → ((area : Area) → MayLeave (c0.now area) (c0.now area).read) → LeavesOnly c0 c1 (IsImage c0.now) → AreSynced c0 c1
     → LeavesOnly c1 c2 (MayBecome c1.now header begin) → LeavesOnly c0 c2 (MayBecome c0.now header begin)

@@ -22,10 +22,11 @@ use Rattle.record_laws.specs.RecordChecks.Checks.{damaged_at, put_items, kept_it
 use Rattle.record_laws.specs.RecordChecks.Judging.{put_left, JudgesBody, PutFault, PutPast, PutTaken, Unplaced, Entered, NotWhole, CommitPast, CommitTaken, NoEntry, NotNamed, Deleted, KeptDamaged, KeptPast, KeptTaken, SpentPast, SpentTaken, Judges, Outside, Unread, Damaged, Taken}
 use Rattle.record_laws.specs.RecordChecks.Noting.{farther_field, put_field, kept_field, noted, IsNoted}
 use Rattle.record_laws.proofs.RecordChecks.MemoryProofs.Fitting.{entry_fits, delete_fits, kepts_fit, spent_fits}
+use Rattle.record_laws.proofs.Places.{kepts_spent}
 use Rattle.cloud_opening.specs.Roomy.{SpendWithin}
 use Rattle.cloud_opening.specs.Steps.{IsTraced}
 use Rattle.cloud_opening.proofs.Fit.{behind_fits, items_fit}
-use Rattle.cloud_opening.proofs.Roomy.{within_set, items_spent, kepts_spent, behind_within}
+use Rattle.cloud_opening.proofs.Roomy.{within_set, items_spent, behind_within}
 
 -- where a place's field isn't noted, the place doesn't lie behind the end
 some_none : {X : Type 0} (x : X) → Some x ≡ None → ⊥

@@ -25,11 +25,11 @@ use Rattle.checkpoints.specs.UserDedup.Cloud.{user_of, user_view}
 use Rattle.checkpoints.proofs.UserDedup.CompactSound.{all_fit, FitsAll}
 use Rattle.checkpoints.proofs.UserDedup.Sound.{sound_before, deletes_from, put_adds, commit_adds}
 use Rattle.checkpoints.proofs.UserDedup.Owned.{contains_here}
+use Rattle.checkpoints.proofs.MemoryProofs.EndsLaw.{place_near}
 use Rattle.std.proofs.lemmas.List.Elements.{Contains-append_right}
 use Rattle.checkpoints.specs.CloudMemory.rooms.New.{New}
 use Rattle.checkpoints.specs.CloudMemory.News.{AreOf}
 use Rattle.cloud_store.specs.Adding.{HasFp}
-use Rattle.cloud_store.proofs.Putting.{place_near}
 
 -- ---- what the last command of a sound list has
 
@@ -87,7 +87,7 @@ delete_fits shape cloud list user tag version sound =
 
 -- ---- the fingerprints of a Put's shares
 
-abbrev first_or : Fp → List Fp → Fp
+abbrev pub first_or : Fp → List Fp → Fp
 first_or other [] = other
 first_or other (fp ∷ fps) = fp
 

@@ -35,6 +35,7 @@ use Rattle.cloud_store.specs.declared.store.CloudStore.{CloudStore}
 use Rattle.cloud_store.specs.Store.{Serves}
 use Rattle.cloud_store.specs.Adding.{IsPut, share_at, unplaced}
 use Rattle.cloud_store.proofs.Stepping.{place_after}
+use Rattle.cloud_store.proofs.Fields.{first_or}
 
 -- ---- strings that are found
 
@@ -80,19 +81,15 @@ fresh user m (n ∷ news) (s ∷ strings) =
 abbrev blob_of : List (List ℕ) → Fp × Place → Placed
 blob_of all x = record { place = x.1.at; blob = unwrap_or (find (has_fingerprint x.0) all) [] }
 
-abbrev first_or : Fp → List Fp → Fp
-first_or other [] = other
-first_or other (fp ∷ fps) = fp
-
-abbrev rest_fps : List Fp → List Fp
+abbrev pub rest_fps : List Fp → List Fp
 rest_fps [] = []
 rest_fps (fp ∷ fps) = fps
 
-abbrev first_len : List ℕ → ℕ
+abbrev pub first_len : List ℕ → ℕ
 first_len [] = 0
 first_len (n ∷ ns) = n
 
-abbrev rest_lens : List ℕ → List ℕ
+abbrev pub rest_lens : List ℕ → List ℕ
 rest_lens [] = []
 rest_lens (n ∷ ns) = ns
 
@@ -142,7 +139,7 @@ module _ (user : UserId) (all : List (List ℕ)) where
 
 -- ---- those that had no place before the Put
 
-same_test : (m : Memory) (user : UserId) (n : New) (x : Fp) → bytes_eq n.fp.0 x.0 ≡ false → get (with_item user m (part_in m n)).places x.0 ≡ get m.places x.0
+pub same_test : (m : Memory) (user : UserId) (n : New) (x : Fp) → bytes_eq n.fp.0 x.0 ≡ false → get (with_item user m (part_in m n)).places x.0 ≡ get m.places x.0
 same_test m user n x other =
     placed_more m user n x ∙ ap (λ (b : Bool). option_or (get m.places x.0) (cond b (Some (place_for m n)) None)) other ∙ or_none (get m.places x.0)
   where
@@ -151,7 +148,7 @@ same_test m user n x other =
     or_none (Some p) = refl
 
 -- the others are tested as before
-same_rest : (m : Memory) (user : UserId) (n : New) (news : List New) (strings : List (List ℕ)) → map (λ (k : New). k.fp) news ≡ map fingerprint strings → Others n news
+pub same_rest : (m : Memory) (user : UserId) (n : New) (news : List New) (strings : List (List ℕ)) → map (λ (k : New). k.fp) news ≡ map fingerprint strings → Others n news
     → unplaced (with_item user m (part_in m n)).places strings ≡ unplaced m.places strings
 same_rest m user n news [] fps other = refl
 same_rest m user n [] (s ∷ strings) fps other = absurd (let no : [] ≡ fingerprint s ∷ map fingerprint strings = fps in cc)

@@ -10,8 +10,7 @@ use Rattle.recipe.specs.CdBase.ids.Version.{Version}
 use Rattle.checkpoints.specs.CdEdges.area.Area.TheVariants.{Recipes}
 use Rattle.checkpoints.specs.CdEdges.Disk.{Cloud, reads}
 use Rattle.checkpoints.proofs.CdEdges.Moments.{weaker, joined}
-use Rattle.checkpoints.specs.ContainerLog.Laying.{Placed, placed, lengths, IsAt}
-use Rattle.checkpoints.specs.ContainerLog.Places.{end_after, end_of_laid}
+use Rattle.checkpoints.specs.ContainerLog.Laying.{Placed, placed, IsAt}
 use Rattle.checkpoints.specs.ContainerLog.States as logs
 use Rattle.checkpoints.proofs.ContainerLog.Staged.{staged_end_of}
 use Rattle.checkpoints.specs.FileIndex.key.Entry.{Entry}
@@ -34,6 +33,7 @@ use Rattle.checkpoints.specs.CloudAreas.Standing.{Chain, StandsFor}
 use Rattle.checkpoints.proofs.CloudAreas.Placed.{shares_more}
 use Rattle.checkpoints.specs.CloudDisk.Disk.{Disk, IsOn, IsPrepared, KeepsFronts, KeepsOrAdds, StandsForEither, EndsBehind, Stages, shares_laid}
 use Rattle.checkpoints.proofs.DiskProofs.Blobs.{all_right}
+use Rattle.checkpoints.proofs.CloudAreas.Laid.{blobs_end}
 use Rattle.checkpoints.specs.CloudMemory.cloud.CloudMemory.{CloudMemory}
 use Rattle.checkpoints.specs.CloudMemory.Memory.{Memory, Remembers, IsPlacedBy, HasEnds}
 use Rattle.checkpoints.specs.CloudMemory.Rooms.{memory_of}
@@ -60,10 +60,6 @@ pub record IsNext (header : Header) (list : List Command) (c : Chain) (region : 
   pub files : (area : List ℕ) (m : Memory) → m.files ≡ (memory_of memory).files → (memory_of new).files ≡ (record_left header.shape area false m body).files
 
 -- ---- the ends of the logs
-
-blobs_end : (end : ℕ) (blobs : List (List ℕ)) → end_behind end (map place_by (placed end blobs)) ≡ end_of_laid end (lengths blobs)
-blobs_end end [] = refl
-blobs_end end (blob ∷ blobs) = blobs_end (end_after end (length blob)) blobs
 
 -- behind blobs that are staged for their places
 staged_behind : (log : logs.State) (blobs : List Placed) → Stages log blobs → logs.staged_end log ≡ end_behind log.end (map place_by blobs)

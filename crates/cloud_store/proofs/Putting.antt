@@ -1,6 +1,6 @@
 -- The record of a Put: each of its fields is in its range, and what it places is laid behind the end.
-use Rattle.std.proofs.Common.{◌≡◌, ℕ, ◌+◌, ◌*◌, ◌/◌, ◌%◌, ◌^◌, ◌<◌, ◌≤◌, Bool, true, false, cond, List, [], ◌∷◌, length, Option, Some, None, refl, arith, leb-false}
-use Rattle.std.specs.Prelude.{All, is_some, nat_le}
+use Rattle.std.proofs.Common.{◌+◌, ◌*◌, ◌^◌, ◌<◌, ◌≤◌, Bool, true, false, cond, List, [], ◌∷◌, length, Option, Some, None, arith}
+use Rattle.std.specs.Prelude.{All, is_some}
 use Rattle.std.specs.FinMap.{get}
 use Rattle.std.proofs.lemmas.List.Elements.{All-nil, All-cons, All-head, All-tail}
 use Rattle.std.proofs.lemmas.List.Sums.{count_by-le-length}
@@ -19,15 +19,8 @@ use Rattle.checkpoints.specs.CloudMemory.Steps.{part_in, parts_of, with_item, en
 use Rattle.checkpoints.specs.Laying.{longest_record}
 use Rattle.checkpoints.proofs.MemoryProofs.Adding.{parts_count}
 use Rattle.checkpoints.proofs.MemoryProofs.Recording.{parts_laid}
+use Rattle.checkpoints.proofs.MemoryProofs.EndsLaw.{place_near}
 use Rattle.cloud_store.specs.Adding.{IsShareNew, HasFp}
-
--- a blob moves an end by at most twice its length
-pub place_near : (end len : ℕ) → place_of end len + len ≤ end + 2 * len
-place_near end len = by_test (nat_le (end % container_len + len) container_len) refl
-  where
-    by_test : (b : Bool) → nat_le (end % container_len + len) container_len ≡ b → cond b end ((end / container_len + 1) * container_len) + len ≤ end + 2 * len
-    by_test true is = omega arith
-    by_test false is = let far = leb-false (end % 4194304 + len) 4194304 is in omega (arith, far)
 
 -- the end behind a share
 part_near : (m : Memory) (n : New) → end_with m.shares_end (part_in m n).place ≤ m.shares_end + 2 * n.len

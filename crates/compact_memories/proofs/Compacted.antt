@@ -1,5 +1,5 @@
 -- A memory without what is dead remembers the compact list.
-use Rattle.std.proofs.Common.{◌≡◌, ℕ, Bool, true, false, cond, List, [], ◌∷◌, length, map, Option, Some, None, refl, sym, ap, ◌∙◌, subst, inl, inr}
+use Rattle.std.proofs.Common.{◌≡◌, ℕ, Bool, true, false, cond, List, [], length, map, Option, Some, None, refl, sym, ap, ◌∙◌, subst}
 use Rattle.std.specs.Prelude.{◌↔◌, is_some, IsSome, option_map, unwrap_or, bytes_eq}
 use Rattle.std.specs.FinMap.{get}
 use Rattle.std.specs.List.{Contains}
@@ -17,7 +17,7 @@ use Rattle.checkpoints.specs.SpentTable.Spending.{spent_by}
 use Rattle.compact_lists.specs.UserDedup.Strings.{fingerprint}
 use Rattle.compact_lists.specs.UserDedup.Owning.{is_among}
 use Rattle.compact_lists.specs.UserDedup.Pages.{entry_at}
-use Rattle.compact_lists.proofs.UserDedup.Owned.{among_contains, contains_among, contains_here, contains_later, contains_nothing, contains_cases}
+use Rattle.compact_lists.proofs.UserDedup.Owned.{among_contains, contains_among}
 use Rattle.compact_lists.specs.UserDedup.command.Command.{Command}
 use Rattle.compact_lists.specs.UserDedup.Dedup.{IsSound}
 use Rattle.compact_lists.specs.UserDedup.Cloud.{user_view, strings_in, held_string, held_bytes}
@@ -29,7 +29,7 @@ use Rattle.checkpoints.specs.CloudMemory.Memory.{Memory, Remembers, as_spent, us
 use Rattle.checkpoints.specs.CloudMemory.Rooms.{memory_of}
 use Rattle.checkpoints.specs.Known.{AreListed}
 use Rattle.compact_lists.specs.Live.{live_of}
-use Rattle.compact_lists.proofs.RoomLaws.{strings_kept}
+use Rattle.compact_lists.proofs.RoomLaws.{strings_kept, in_prints}
 use Rattle.compact_lists.proofs.Spent.{spent_kept, uses_kept}
 use Rattle.compact_memories.specs.Kept.{live_places, IsCompacted, RemembersCompact}
 use Rattle.compact_memories.proofs.Live.{live_from, live_to}
@@ -40,14 +40,6 @@ pub record IsLike (old : CloudMemory) (new : Memory) : Type 0 where
   pub to : (fp : Fp) (p : Place) → Contains (live_places old) (fp, p) → (place : Place) × (get new.places fp.0 ≡ Some place)
   pub owners : new.owners ≡ old.shares.owners
   pub files : (key : FileKey) → option_map summary (get new.files key) ≡ option_map summary (get old.files.files key)
-
-in_prints : (ss : List (List ℕ)) (s : List ℕ) → Contains ss s → Contains (map fingerprint ss) (fingerprint s)
-in_prints [] s c = absurd (contains_nothing s c)
-in_prints (x ∷ ss) s c =
-    elim (contains_cases x ss s c) [
-      | inl same ↦ subst (λ (y : List ℕ). Contains (map fingerprint (x ∷ ss)) (fingerprint y)) same (contains_here (fingerprint x) (map fingerprint ss))
-      | inr later ↦ contains_later (fingerprint x) (map fingerprint ss) (fingerprint s) (in_prints ss s later)
-    ]
 
 sent_of : (list : List Command) (fp : Fp) (s : List ℕ) → held_string list fp ≡ Some s → Contains (map fingerprint (strings_in list)) fp
 sent_of list fp s at =

@@ -1,22 +1,23 @@
 -- Copies, one behind another.
-use Rattle.std.proofs.Common.{◌≡◌, ⊎_elim, ℕ, ◌+◌, ◌*◌, ◌≤◌, List, [], ◌∷◌, None, Some, arith}
+use Rattle.std.proofs.Common.{◌≡◌, ℕ, ◌+◌, ◌*◌, ◌≤◌, List, [], ◌∷◌, None, Some, arith}
 use Rattle.std.specs.Prelude.{All}
 use Rattle.std.specs.List.{sum_by}
 use Rattle.std.proofs.lemmas.List.Elements.{All-nil, All-cons, All-head, All-tail}
 use Rattle.std.proofs.lemmas.List.Sums.{sum_by-cons}
 use Rattle.compact_lists.specs.CdBase.ids.Fp.{Fp}
 use Rattle.checkpoints.specs.ContainerLog.Places.{container_len, place_of, end_after, end_of_laid}
-use Rattle.checkpoints.proofs.ContainerLog.Least.{place_cases, place_behind, least_place}
+use Rattle.checkpoints.proofs.ContainerLog.Least.{place_behind, least_place}
 use Rattle.compact_lists.specs.CdBase.place.Place.{Place}
 use Rattle.checkpoints.specs.CloudAreas.Placing.{region_start, end_of, AreBehind, places_of}
 use Rattle.checkpoints.specs.CloudAreas.Chains.{LiesIn, DontOverlap}
 use Rattle.checkpoints.proofs.CloudAreas.Ends.{apart_more}
+use Rattle.checkpoints.proofs.CloudAreas.Laid.{moves}
 use Rattle.compact_memories.specs.Moved.{new_places, lens_of}
 
-abbrev Share : Type 0
+abbrev pub Share : Type 0
 Share = Fp × Place
 
-abbrev len_of : Share → ℕ
+abbrev pub len_of : Share → ℕ
 len_of x = x.1.len
 
 abbrev IsSmall : Share → Type 0
@@ -43,10 +44,6 @@ apart region xs =
     apart_more (region_start region) [] (places_of (new_places (region_start region) xs))
     (λ i j p q at_i at_j. absurd (let no : None ≡ Some p = at_i in cc))
     (behind_from (region_start region) xs)
-
--- a blob moves an end by at most twice its length
-moves : (end len : ℕ) → end_after end len ≤ end + 2 * len
-moves end len = ⊎_elim (λ a. omega (arith, a.0, a.1)) (λ a. omega (arith, a.0, a.1)) (place_cases end len)
 
 bound_from : (end : ℕ) (xs : List Share) → end_of_laid end (lens_of xs) ≤ end + 2 * sum_by len_of xs
 bound_from end [] = omega arith

@@ -34,9 +34,10 @@ use Rattle.checkpoints.specs.CloudMemory.cloud.CloudMemory.{CloudMemory}
 use Rattle.checkpoints.specs.CloudMemory.Memory.{Memory, Remembers, as_spent, uses_of, summary, summary_of}
 use Rattle.checkpoints.specs.CloudMemory.Rooms.{memory_of}
 use Rattle.checkpoints.specs.CloudMemory.Steps.{placed_len}
-use Rattle.compact_memories.proofs.Entries.{Key, of, Holds, holds_of}
 use Rattle.checkpoints.specs.Known.{AreListed}
-use Rattle.checkpoints.proofs.Apartness.{in_map, from_map}
+use Rattle.checkpoints.proofs.CloudAreas.Lists.{in_map, from_map}
+use Rattle.checkpoints.proofs.UserDedup.Pages.{Key}
+use Rattle.checkpoints.proofs.CloudMemoryLaws.Next.{of, Holds, holds_of}
 use Rattle.compact_lists.specs.Live.{live_of, bytes_held}
 use Rattle.compact_lists.proofs.Sums.{sum_ones, sum_mapped, sorted_keys_sum, keys_are_once, entries_sum}
 use Rattle.compact_lists.proofs.Parts.{own_once}

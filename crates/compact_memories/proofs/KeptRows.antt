@@ -21,33 +21,34 @@ use Rattle.checkpoints.specs.CloudMemory.Memory.{as_spent}
 use Rattle.checkpoints.specs.CloudMemory.Rooms.{memory_of}
 use Rattle.checkpoints.specs.CloudMemory.Steps.{placed_len}
 use Rattle.checkpoints.specs.Records.{owned_at, owned_in}
-use Rattle.checkpoints.proofs.Apartness.{Apart, in_map, from_map}
 use Rattle.checkpoints.proofs.OwnLaw.{owned_gives}
 use Rattle.checkpoints.proofs.Sought.{from_picked, in_picked, apart_picked, map_picked}
+use Rattle.checkpoints.proofs.CloudAreas.Apart.{Apart}
+use Rattle.checkpoints.proofs.CloudAreas.Lists.{in_map, from_map}
 use Rattle.compact_lists.proofs.Sums.{sum_alike, sum_ones, sum_mapped}
 use Rattle.compact_memories.specs.Kept.{kept_in}
 use Rattle.compact_memories.specs.Passes.{owned_len, entry_at, entries_of, recipes_len, IsRow}
 use Rattle.compact_memories.proofs.Weights.{once_map, sum_keys}
 
-once_of : {X : Type 0} (xs : List X) → Apart xs → Once xs
+pub once_of : {X : Type 0} (xs : List X) → Apart xs → Once xs
 once_of [] apart = tt
 once_of (x ∷ xs) apart = (apart.0, once_of xs apart.1)
 
-entry_gives : (user : ℕ) (e x : FileKey × Entry) → entry_at user (Some e) ≡ Some x → (e.0.user ≡ user) × (e ≡ x)
+pub entry_gives : (user : ℕ) (e x : FileKey × Entry) → entry_at user (Some e) ≡ Some x → (e.0.user ≡ user) × (e ≡ x)
 entry_gives user e x is = by_test (e.0.user == user) refl is
   where
     by_test : (b : Bool) → (e.0.user == user) ≡ b → cond b (Some e) None ≡ Some x → (e.0.user ≡ user) × (e ≡ x)
     by_test true t same = (eqb-true e.0.user user t, let two : Some e ≡ Some x = same in cc)
     by_test false t same = absurd (let no : ◌≡◌ {A = Option (FileKey × Entry)} None (Some x) = same in cc)
 
-key_gives : (user : ℕ) (e : FileKey × Entry) (k : FileKey) → option_map (λ (x : FileKey × Entry). x.0) (entry_at user (Some e)) ≡ Some k → e.0 ≡ k
+pub key_gives : (user : ℕ) (e : FileKey × Entry) (k : FileKey) → option_map (λ (x : FileKey × Entry). x.0) (entry_at user (Some e)) ≡ Some k → e.0 ≡ k
 key_gives user e k is = by_test (e.0.user == user) is
   where
     by_test : (b : Bool) → option_map (λ (x : FileKey × Entry). x.0) (cond b (Some e) None) ≡ Some k → e.0 ≡ k
     by_test true same = let two : ◌≡◌ {A = Option FileKey} (Some e.0) (Some k) = same in cc
     by_test false same = absurd (let no : ◌≡◌ {A = Option FileKey} None (Some k) = same in cc)
 
-len_at : Option Entry → ℕ
+unfoldable pub len_at : Option Entry → ℕ
 len_at None = 0
 len_at (Some e) = e.len
 

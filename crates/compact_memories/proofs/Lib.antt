@@ -2,7 +2,6 @@ pub mod Live
 pub mod Moving
 pub mod Compacted
 pub mod Copies
-pub mod Entries
 pub mod Weights
 pub mod Keeping
 pub mod Numbers

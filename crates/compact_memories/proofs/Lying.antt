@@ -1,5 +1,5 @@
 -- Copies in another region lie there, apart, and not far.
-use Rattle.std.proofs.Common.{◌≡◌, ◌≢◌, ℕ, zero, suc, ◌+◌, ◌*◌, ◌≤◌, List, [], ◌∷◌, map, Some, None, refl, sym, ap, ◌∙◌, subst, arith, inl, inr, ◌⊎◌}
+use Rattle.std.proofs.Common.{◌≡◌, ◌≢◌, ℕ, ◌+◌, ◌*◌, ◌≤◌, List, [], ◌∷◌, map, Some, refl, sym, ap, ◌∙◌, subst, arith, inl, inr, ◌⊎◌}
 use Rattle.std.specs.Prelude.{All, slice_get}
 use Rattle.std.specs.FinMap.{get}
 use Rattle.std.specs.List.{Contains, sum_by}
@@ -14,17 +14,14 @@ use Rattle.checkpoints.specs.CloudAreas.Placing.{region_start, end_of}
 use Rattle.checkpoints.specs.CloudAreas.Chains.{LiesIn}
 use Rattle.checkpoints.specs.CloudMemory.cloud.CloudMemory.{CloudMemory}
 use Rattle.checkpoints.specs.CloudMemory.Memory.{Memory}
-use Rattle.checkpoints.proofs.Apartness.{in_map, from_map, contained, contains_get}
+use Rattle.checkpoints.proofs.Apartness.{contained}
+use Rattle.checkpoints.proofs.CloudAreas.Apart.{contains_get}
+use Rattle.checkpoints.proofs.CloudAreas.Lists.{in_map, from_map}
+use Rattle.checkpoints.proofs.CloudAreas.Ends.{some_is, map_get}
 use Rattle.compact_lists.proofs.Sums.{sum_mapped}
 use Rattle.compact_memories.specs.Kept.{live_places, live_entries}
 use Rattle.compact_memories.specs.Moved.{new_places, new_entries, lens_of, IsMoved, PlacesApart, entry_place, PlacesLie}
-use Rattle.compact_memories.proofs.Copies.{lie, apart, bound, ends}
-
-abbrev Share : Type 0
-Share = Fp × Place
-
-abbrev len_of : Share → ℕ
-len_of x = x.1.len
+use Rattle.compact_memories.proofs.Copies.{lie, apart, bound, ends, Share, len_of}
 
 all_at : {X : Type 0} (P : X → Type 0) (xs : List X) → All P xs → (x : X) → Contains xs x → P x
 all_at P [] all x c = absurd (contains_nothing x c)
@@ -33,14 +30,6 @@ all_at P (y ∷ xs) all x c =
       | inl same ↦ subst P same (All-head P y xs all)
       | inr later ↦ all_at P xs (All-tail P y xs all) x later
     ]
-
-some_is : {X : Type 0} (x y : X) → Some x ≡ Some y → x ≡ y
-some_is x y e = cc
-
-map_get : {X Y : Type 0} (f : X → Y) (xs : List X) (i : ℕ) (x : X) → slice_get xs i ≡ Some x → slice_get (map f xs) i ≡ Some (f x)
-map_get f [] i x e = absurd (let no : None ≡ Some x = e in cc)
-map_get f (y ∷ xs) zero x e = ap (λ z. Some (f z)) (some_is y x e)
-map_get f (y ∷ xs) (suc i) x e = map_get f xs i x e
 
 -- ---- copies of some blobs
 

@@ -32,12 +32,13 @@ use Rattle.compact_lists.proofs.UserDedup.Once.{Once}
 use Rattle.compact_lists.proofs.UserDedup.Sorting.{Rises, has_number, number_later, number_cases}
 use Rattle.checkpoints.specs.CloudMemory.Memory.{Memory, Remembers}
 use Rattle.checkpoints.proofs.CloudMemoryLaws.KeyCounts.{all_keys}
-use Rattle.checkpoints.proofs.Apartness.{in_map, from_map}
+use Rattle.checkpoints.proofs.CloudAreas.Lists.{in_map, from_map}
+use Rattle.checkpoints.proofs.UserDedup.Pages.{Key}
+use Rattle.checkpoints.proofs.CloudMemoryLaws.Next.{of, holds_of}
 use Rattle.compact_lists.specs.Live.{begun_in}
 use Rattle.compact_lists.proofs.Sums.{sum_alike, sum_ones, sum_mapped, sum_flat}
 use Rattle.compact_lists.proofs.Parts.{numbered}
 use Rattle.compact_memories.specs.Kept.{commands_in}
-use Rattle.compact_memories.proofs.Entries.{Key, of, holds_of}
 use Rattle.compact_memories.proofs.Weights.{sum_keys}
 use Rattle.compact_memories.proofs.Keeping.{owners_counted, files_once, files_there}
 
@@ -98,7 +99,7 @@ once_flat g (x ∷ xs) once each apart =
 
 -- ---- the users of a list
 
-no_commands : (list : List Command) (n : ℕ) → (Contains (users_in list) n → ⊥) → commands_of (user_at n) list ≡ []
+pub no_commands : (list : List Command) (n : ℕ) → (Contains (users_in list) n → ⊥) → commands_of (user_at n) list ≡ []
 no_commands [] n lacks = refl
 no_commands (c ∷ list) n lacks =
     ap (λ (b : Bool). cond b (c ∷ commands_of (user_at n) list) (commands_of (user_at n) list))
@@ -113,7 +114,7 @@ users_low (command ∷ list) low n c =
       | inr later ↦ users_low list (λ d e. low d (contains_later command list d e)) n later
     ]
 
-member : (n : ℕ) (ns : List ℕ) → Contains ns n ⊎ (Contains ns n → ⊥)
+pub member : (n : ℕ) (ns : List ℕ) → Contains ns n ⊎ (Contains ns n → ⊥)
 member n [] = inr (contains_nothing n)
 member n (m ∷ ns) =
     elim (cases_eq m n) [

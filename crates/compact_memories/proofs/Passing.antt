@@ -23,29 +23,29 @@ use Rattle.checkpoints.specs.Records.{owned_at, owned_in}
 use Rattle.checkpoints.proofs.Picks.{picked-append}
 use Rattle.compact_memories.specs.Passes.{row_of, owned_len, entry_at, entries_of, IsRow, AreSmall, OwnedSoFar, KeptSoFar}
 
-more : {S X : Type 0} (f : Option S → Option X) (slots : List (Option S)) (slot : ℕ) → slot < length slots
+pub more : {S X : Type 0} (f : Option S → Option X) (slots : List (Option S)) (slot : ℕ) → slot < length slots
     → picked f (take (slot + 1) slots) ≡ picked f (take slot slots) ++ onto (f (get_or slots slot None)) []
 more f slots slot below = ap (picked f) (take_more slots slot None below) ∙ picked-append f (take slot slots) (get_or slots slot None ∷ [])
 
-more_none : {S X : Type 0} (f : Option S → Option X) (slots : List (Option S)) (slot : ℕ) → slot < length slots
+pub more_none : {S X : Type 0} (f : Option S → Option X) (slots : List (Option S)) (slot : ℕ) → slot < length slots
     → f (get_or slots slot None) ≡ None → picked f (take (slot + 1) slots) ≡ picked f (take slot slots)
 more_none f slots slot below none =
     more f slots slot below
     ∙ ap (λ o. picked f (take slot slots) ++ onto o []) none
     ∙ append-nil (picked f (take slot slots))
 
-more_one : {S X : Type 0} (f : Option S → Option X) (slots : List (Option S)) (slot : ℕ) (x : X) → slot < length slots
+pub more_one : {S X : Type 0} (f : Option S → Option X) (slots : List (Option S)) (slot : ℕ) (x : X) → slot < length slots
     → f (get_or slots slot None) ≡ Some x → picked f (take (slot + 1) slots) ≡ picked f (take slot slots) ++ x ∷ []
 more_one f slots slot x below one = more f slots slot below ∙ ap (λ o. picked f (take slot slots) ++ onto o []) one
 
 -- ---- owners
 
 -- the owner in a slot, whatever its uses are
-owner_in : (o : Option (Owner × ℕ)) (k : Owner) → option_map (λ (p : Owner × ℕ). p.0) o ≡ Some k → (uses : ℕ) × (o ≡ Some (k, uses))
+pub owner_in : (o : Option (Owner × ℕ)) (k : Owner) → option_map (λ (p : Owner × ℕ). p.0) o ≡ Some k → (uses : ℕ) × (o ≡ Some (k, uses))
 owner_in None k is = absurd (let no : ◌≡◌ {A = Option Owner} None (Some k) = is in cc)
 owner_in (Some e) k is = let same : ◌≡◌ {A = Option Owner} (Some e.0) (Some k) = is in let key : e.0 ≡ k = cc in (e.1, ap (λ (q : Owner). Some (q, e.1)) key)
 
-no_owner : (o : Option (Owner × ℕ)) → option_map (λ (p : Owner × ℕ). p.0) o ≡ None → o ≡ None
+pub no_owner : (o : Option (Owner × ℕ)) → option_map (λ (p : Owner × ℕ). p.0) o ≡ None → o ≡ None
 no_owner None is = refl
 no_owner (Some e) is = absurd (let no : ◌≡◌ {A = Option Owner} (Some e.0) None = is in cc)
 

@@ -1,9 +1,8 @@
 -- What is alive is no more than the compact list has spent.
-use Rattle.std.proofs.Common.{◌≡◌, ℕ, ◌≤◌, Bool, true, false, cond, List, [], ◌∷◌, ◌++◌, length, map, Option, Some, None, refl, sym, ap, ◌∙◌, subst, arith, inl, inr, ◌⊎◌}
+use Rattle.std.proofs.Common.{◌≡◌, ℕ, ◌≤◌, Bool, true, false, cond, List, [], ◌∷◌, ◌++◌, length, map, Option, Some, None, refl, sym, ap, ◌∙◌, subst, arith, inl, inr}
 use Rattle.std.specs.Prelude.{◌==◌, fold, option_map, unwrap_or}
 use Rattle.std.specs.FinMap.{FinMap, get}
 use Rattle.std.specs.List.{Contains, sum_by, flat_map}
-use Rattle.std.proofs.lemmas.Bool.{cases_eq, ne_eqb}
 use Rattle.std.proofs.lemmas.List.Elements.{Contains-append_right}
 use Rattle.std.proofs.lemmas.List.Sums.{sum_by-cons, sum_by-append}
 use Rattle.compact_lists.specs.CdBase.ids.Fp.{Fp}
@@ -18,9 +17,9 @@ use Rattle.checkpoints.specs.ShareIndex.Shares.{owners_of}
 use Rattle.checkpoints.specs.SpentTable.Spent.{Spent as Row}
 use Rattle.compact_lists.specs.UserDedup.file_list.FileEntry.{FileEntry}
 use Rattle.compact_lists.specs.UserDedup.Strings.{fingerprint}
-use Rattle.compact_lists.specs.UserDedup.Cloud.{no_view, user_of, commands_of, view_after, user_view, strings_in, held_bytes, recipes_of}
+use Rattle.compact_lists.specs.UserDedup.Cloud.{no_view, view_after, user_view, strings_in, held_bytes, recipes_of}
 use Rattle.compact_lists.specs.UserDedup.Pages.{entry_at, sorted_keys, key_of as file_key}
-use Rattle.compact_lists.proofs.UserDedup.Owned.{contains_here, contains_later, contains_nothing, contains_cases}
+use Rattle.compact_lists.proofs.UserDedup.Owned.{contains_here, contains_later, contains_nothing}
 use Rattle.compact_lists.proofs.UserDedup.EntryLists.{found_entry}
 use Rattle.compact_lists.specs.UserDedup.command.Command.{Command}
 use Rattle.compact_lists.specs.UserDedup.command.Command.TheVariants as commands
@@ -28,18 +27,20 @@ use Rattle.compact_lists.specs.UserDedup.Compact.{compact, users_in, user_at, pu
 use Rattle.compact_lists.specs.UserDedup.Spending.{held_len, spent_by_all}
 use Rattle.compact_lists.proofs.UserDedup.Compacting.{same_held}
 use Rattle.compact_lists.proofs.UserDedup.Filtered.{in_flat}
-use Rattle.compact_lists.proofs.UserDedup.Sorting.{has_number, number_later, keys_have}
+use Rattle.compact_lists.proofs.UserDedup.Sorting.{keys_have}
 use Rattle.checkpoints.proofs.CloudAreas.Counting.{split_at, beside}
 use Rattle.checkpoints.specs.CloudMemory.cloud.CloudMemory.{CloudMemory}
 use Rattle.checkpoints.specs.CloudMemory.Memory.{Remembers, summary, summary_of}
 use Rattle.checkpoints.specs.CloudMemory.Rooms.{memory_of}
 use Rattle.checkpoints.specs.Known.{AreListed}
-use Rattle.checkpoints.proofs.Apartness.{Apart, in_map, from_map}
 use Rattle.checkpoints.proofs.Sought.{from_picked, apart_picked, map_picked}
+use Rattle.checkpoints.proofs.CloudAreas.Apart.{Apart}
+use Rattle.checkpoints.proofs.CloudAreas.Lists.{in_map, from_map}
 use Rattle.compact_lists.proofs.RoomLaws.{strings_kept}
 use Rattle.compact_lists.proofs.Sums.{sum_flat}
 use Rattle.compact_memories.specs.Kept.{live_at, live_places, live_entries}
 use Rattle.compact_memories.proofs.Live.{live_from}
+use Rattle.compact_memories.proofs.Numbers.{no_commands, member}
 use Rattle.compact_memories.specs.Tables.{with_table}
 
 -- ---- where each of some things has another of its key that is no less, and their keys are apart
@@ -66,39 +67,16 @@ less kx ky f g (x ∷ xs) ys apart among =
     let le = w.3 in
     omega (arith, rest, all, one, both, first, le)
 
--- ---- the users of a list
-
-no_commands : (list : List Command) (n : ℕ) → (Contains (users_in list) n → ⊥) → commands_of (user_at n) list ≡ []
-no_commands [] n lacks = refl
-no_commands (c ∷ list) n lacks =
-    ap (λ (b : Bool). cond b (c ∷ commands_of (user_at n) list) (commands_of (user_at n) list))
-    (ne_eqb (user_of c).0 n (λ same. lacks (subst (Contains (users_in (c ∷ list))) same (has_number (user_of c).0 (users_in list)))))
-    ∙ no_commands list n (λ d. lacks (number_later (user_of c).0 (users_in list) n d))
-
-member : (n : ℕ) (ns : List ℕ) → Contains ns n ⊎ (Contains ns n → ⊥)
-member n [] = inr (contains_nothing n)
-member n (m ∷ ns) =
-    elim (cases_eq m n) [
-      | inl same ↦ inl (subst (Contains (m ∷ ns)) same (contains_here m ns))
-      | inr other ↦ elim (member n ns) [
-        | inl later ↦ inl (contains_later m ns n later)
-        | inr lacks ↦ inr (λ c. elim (contains_cases m ns n c) [
-          | inl same ↦ other same
-          | inr later ↦ lacks later
-        ])
-      ]
-    ]
-
 -- ---- keys
 
-fp_live : (owners : FinMap owner_cmp ℕ) (e : List ℕ × Place) (fp : Fp) → option_map (λ (x : Fp × Place). x.0) (live_at owners (Some e)) ≡ Some fp → e.0 ≡ fp.0
+pub fp_live : (owners : FinMap owner_cmp ℕ) (e : List ℕ × Place) (fp : Fp) → option_map (λ (x : Fp × Place). x.0) (live_at owners (Some e)) ≡ Some fp → e.0 ≡ fp.0
 fp_live owners e fp is = by_test (owners_of owners e.0 == 0) is
   where
     by_test : (b : Bool) → option_map (λ (x : Fp × Place). x.0) (cond b None (Some (record { 0 = e.0 }, e.1))) ≡ Some fp → e.0 ≡ fp.0
     by_test true e_none = absurd (let f : ◌≡◌ {A = Option Fp} None (Some fp) = e_none in cc)
     by_test false same = let f : ◌≡◌ {A = Option Fp} (Some (record { 0 = e.0 })) (Some fp) = same in let g : ◌≡◌ {A = Fp} (record { 0 = e.0 }) fp = cc in ap (λ (x : Fp). x.0) g
 
-first_of : Option (ℕ × Fp) → ℕ
+unfoldable pub first_of : Option (ℕ × Fp) → ℕ
 first_of None = 0
 first_of (Some p) = p.0
 

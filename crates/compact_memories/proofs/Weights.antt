@@ -3,22 +3,16 @@ use Rattle.std.proofs.Common.{◌≡◌, ℕ, ◌+◌, Bool, true, false, cond, 
 use Rattle.std.specs.Prelude.{is_some, IsSome, sum_by}
 use Rattle.std.specs.List.{Contains}
 use Rattle.std.specs.declared.cmp.Ordering.{Ordering}
-use Rattle.std.specs.Ordering.{eq_by_cmp, is_eq}
-use Rattle.std.specs.Cmp.{IsTotalOrder, tied_itself}
+use Rattle.std.specs.Ordering.{eq_by_cmp}
+use Rattle.std.specs.Cmp.{IsTotalOrder}
 use Rattle.std.specs.FinMap.{find, FinMap, get, remove, entries, get-entries, get-remove, IsAntisymmetric}
 use Rattle.std.proofs.lemmas.List.Sums.{sum_by-cons}
 use Rattle.checkpoints.specs.PoolMap.MapSums.{sum_by-remove}
 use Rattle.compact_lists.proofs.UserDedup.Owned.{contains_here, contains_later, contains_nothing, contains_cases}
 use Rattle.compact_lists.proofs.UserDedup.Once.{Once}
 use Rattle.checkpoints.proofs.CloudMemoryLaws.Keys.{is_eq-at}
-use Rattle.checkpoints.proofs.Apartness.{from_map}
-
-none_found : {X : Type 0} (t : Bool) (x : X) (o : Option X) → cond t (Some x) o ≡ None → (t ≡ false) × (o ≡ None)
-none_found true x o e = absurd (let no : Some x ≡ None = e in cc)
-none_found false x o e = (refl, e)
-
-itself : {K : Type 0} {R : K → K → Ordering} → IsTotalOrder R → (k : K) → eq_by_cmp R k k ≡ true
-itself total k = ap is_eq (tied_itself total k)
+use Rattle.checkpoints.proofs.CloudAreas.Lists.{from_map}
+use Rattle.checkpoints.proofs.CloudMemoryLaws.KeyCounts.{none_found, itself}
 
 pub once_map : {X Y : Type 0} (f : X → Y) → ((a b : X) → f a ≡ f b → a ≡ b) → (xs : List X) → Once xs → Once (map f xs)
 once_map f apart [] once = tt

@@ -123,10 +123,6 @@ module _ (shape : Shape) where
   recipes_next recipe (bodies.Kept items) m = kepts_recipes_end m items
   recipes_next recipe (bodies.Spent s) m = refl
 
-pub further_max : (end : ℕ) (ps : List Place) → further end ps ≡ max end (greatest_end 0 ps)
-further_max end [] = omega arith
-further_max end (p ∷ ps) = omega (arith, further_max (max end (end_of p)) ps)
-
 pub greatest_append : (ps qs : List Place) → greatest_end 0 (ps ++ qs) ≡ max (greatest_end 0 ps) (greatest_end 0 qs)
 greatest_append [] qs = omega arith
 greatest_append (p ∷ ps) qs = omega (arith, greatest_append ps qs)

@@ -17,12 +17,11 @@ use Rattle.compact_memories.specs.UserDedup.command.Command.{Command}
 use Rattle.compact_memories.specs.UserDedup.Cloud.{held_bytes}
 use Rattle.compact_memories.specs.UserDedup.Dedup.{IsSound}
 use Rattle.compact_memories.specs.UserDedup.Spending.{files_of}
-use Rattle.compact_memories.proofs.UserDedup.Sound.{sound_before}
+use Rattle.compact_memories.proofs.UserDedup.Sound.{sound_before, contained}
 use Rattle.compact_memories.specs.CloudAreas.Chains.{AreRecordsOfList, Summed, Then, AreLong, laid_shares}
 use Rattle.compact_memories.specs.CloudAreas.FormatOne.{Lays}
 use Rattle.compact_memories.specs.CloudAreas.Placing.{shares_in}
 use Rattle.compact_memories.specs.CloudAreas.Standing.{Chain}
-use Rattle.compact_memories.proofs.UserDedup.Sound.{contained}
 use Rattle.compact_memories.proofs.CloudAreas.Lists.{in_map}
 use Rattle.compact_memories.specs.CloudMemory.Memory.{Memory, Stand}
 use Rattle.record_laws.specs.Leaving.{record_left}

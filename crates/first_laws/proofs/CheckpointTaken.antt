@@ -33,13 +33,12 @@ use Rattle.compact_memories.specs.UserDedup.Owning.{is_among}
 use Rattle.compact_memories.specs.UserDedup.Pages.{entry_at}
 use Rattle.compact_memories.specs.UserDedup.Requests.{fps_of as names_of}
 use Rattle.compact_memories.proofs.UserDedup.Owned.{contains_here, among_contains, contains_among}
-use Rattle.compact_memories.proofs.UserDedup.Sound.{found_entry, entries_owned}
+use Rattle.compact_memories.proofs.UserDedup.Sound.{found_entry, entries_owned, contained}
 use Rattle.compact_memories.specs.CloudAreas.Checkpoints.{PutRecord, put_body, of_user, fps_of, items_in, key_of, AreFlagged, IsCheckpointOfList}
 use Rattle.compact_memories.specs.CloudAreas.FormatOne.{IsWithinGreatest}
 use Rattle.compact_memories.specs.CloudAreas.Placing.{shares_placed, shares_in, fps_placed}
 use Rattle.compact_memories.proofs.CloudAreas.Apart.{Apart, apart_from}
 use Rattle.compact_memories.proofs.CloudAreas.Entries.{entry_of}
-use Rattle.compact_memories.proofs.UserDedup.Sound.{contained}
 use Rattle.compact_memories.proofs.CloudAreas.Lists.{in_map, from_map}
 use Rattle.compact_memories.proofs.CloudAreas.Once.{checkpoint_once}
 use Rattle.compact_memories.proofs.CloudAreas.Placed.{shares_more, checkpoint_is_sent}
@@ -65,7 +64,7 @@ use Rattle.first_laws.proofs.Passing.{IsTaken, put_own, commit_own, kept_own as 
 
 -- ---- Commits among records
 
-same_commit : (c d : CommitBody) → bodies.Commit c ≡ bodies.Commit d → c ≡ d
+pub same_commit : (c d : CommitBody) → bodies.Commit c ≡ bodies.Commit d → c ≡ d
 same_commit c d e = cc
 
 only_commits : (puts : List PutRecord) (kept : List (List KeptItem)) (commits : List CommitBody) (d : CommitBody)

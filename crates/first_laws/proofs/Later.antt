@@ -18,8 +18,9 @@ use Rattle.compact_memories.proofs.CloudAreas.Behind.{recipes_more}
 use Rattle.compact_memories.specs.CloudMemory.Memory.{Memory, as_spent}
 use Rattle.record_laws.specs.Leaving.{recipe_for, record_left, IsLeft}
 use Rattle.record_laws.proofs.Next.{next_left}
+use Rattle.record_laws.proofs.Places.{further_max}
 use Rattle.first_laws.specs.Leaving.{first_left, filled, IsLeftOne}
-use Rattle.first_laws.proofs.Alike.{record_alike, recipes_next, further_max, greatest_append, left_one}
+use Rattle.first_laws.proofs.Alike.{record_alike, recipes_next, greatest_append, left_one}
 
 -- ---- more rows
 

@@ -41,6 +41,7 @@ use Rattle.first_laws.proofs.Chained.{says_one}
 use Rattle.first_laws.proofs.Laid.{AllFit, each_laid, two_laid}
 use Rattle.first_laws.proofs.Recipes.{end_more, laid_recipe, laid_sized}
 use Rattle.first_laws.proofs.Strings.{laid_string, laid_share}
+use Rattle.first_laws.proofs.CheckpointTaken.{same_commit}
 
 -- ---- recipes that don't overlap
 
@@ -69,9 +70,6 @@ rest_apart (p ∷ ps) qs apart = rest_apart ps qs apart.1
 
 abbrev place_at : CommitBody → Place
 place_at c = record { at = c.at; len = c.len }
-
-same_commit : (c d : CommitBody) → bodies.Commit c ≡ bodies.Commit d → c ≡ d
-same_commit c d e = cc
 
 two_commits : (records : List Body) (c d : CommitBody) → EachApart (recipes_in records) → Contains records (bodies.Commit c) → Contains records (bodies.Commit d) → (c ≡ d → ⊥)
     → PlacesApart (place_at c) (place_at d)

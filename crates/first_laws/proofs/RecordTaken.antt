@@ -1,8 +1,7 @@
 -- Each record of a chain of format 1 is taken.
-use Rattle.std.proofs.Common.{◌≡◌, ◌⊎◌, inl, inr, ℕ, ◌≤◌, max, nat_lt, lt-ltb, ltb-true, Bool, true, false, List, [], ◌∷◌, ◌++◌, length, refl, sym, ap, ◌∙◌, subst, arith, append-nil, append_assoc, length-append}
+use Rattle.std.proofs.Common.{◌≡◌, ◌⊎◌, inl, inr, ℕ, ◌≤◌, max, lt-ltb, Bool, true, false, List, [], ◌∷◌, ◌++◌, length, refl, sym, ap, ◌∙◌, subst, arith, append-nil, append_assoc, length-append}
 use Rattle.std.specs.Prelude.{All, Result, Ok, take, drop}
 use Rattle.std.specs.List.{Contains}
-use Rattle.std.proofs.lemmas.Bool.{false_from_ne_true}
 use Rattle.std.proofs.lemmas.Grind.{flat_map-append}
 use Rattle.std.proofs.lemmas.List.Elements.{All-contains, Contains-append_left, Contains-append_right}
 use Rattle.journal_halves.specs.CdBase.ids.Fp.{Fp}
@@ -21,13 +20,12 @@ use Rattle.compact_memories.specs.UserDedup.Cloud.{held_bytes}
 use Rattle.compact_memories.specs.UserDedup.Dedup.{IsSound}
 use Rattle.compact_memories.proofs.UserDedup.Filtered.{in_flat}
 use Rattle.compact_memories.proofs.UserDedup.Owned.{contains_here}
-use Rattle.compact_memories.proofs.UserDedup.Sound.{last_same, sound_before}
+use Rattle.compact_memories.proofs.UserDedup.Sound.{last_same, sound_before, contained}
 use Rattle.compact_memories.specs.CloudAreas.Chains.{IsRecord, AreRecordsOfList, Summed, Then, AreLong, laid_shares}
 use Rattle.compact_memories.specs.CloudAreas.Checkpoints.{IsCheckpointOfList}
 use Rattle.compact_memories.specs.CloudAreas.FormatOne.{Lays}
 use Rattle.compact_memories.specs.CloudAreas.Placing.{shares_placed, shares_in, recipes_placed, recipes_in, greatest_end, shares_end}
 use Rattle.compact_memories.specs.CloudAreas.Standing.{Chain}
-use Rattle.compact_memories.proofs.UserDedup.Sound.{contained}
 use Rattle.compact_memories.proofs.CloudAreas.Lists.{in_map, from_map}
 use Rattle.compact_memories.proofs.CloudAreas.Placed.{placed_is_sent}
 use Rattle.compact_memories.specs.CloudMemory.Memory.{Memory}
@@ -37,13 +35,13 @@ use Rattle.record_laws.specs.Fronts.{is_inside}
 use Rattle.record_laws.specs.Leaving.{entry_bytes, recipe_for}
 use Rattle.record_laws.proofs.Chain.{checkpoint_within, long_before}
 use Rattle.record_laws.proofs.Front.{from_end}
-use Rattle.record_laws.proofs.Places.{shares_end_all}
+use Rattle.record_laws.proofs.Places.{shares_end_all, further_max}
 use Rattle.record_laws.proofs.Sized.{string_some, inside_area, HasRoomIn, HaveRoomFor}
+use Rattle.record_laws.proofs.Taken.{not_less}
 use Rattle.first_records.specs.Judging.{Leaves, Fits, JudgesFirst, Taken}
 use Rattle.first_laws.specs.Holding.{MayHoldOne, front_left_one}
 use Rattle.first_laws.specs.Lawful.{ground_one, IsNextOne}
 use Rattle.first_laws.specs.Leaving.{begun_behind, first_left, IsLeftOne}
-use Rattle.first_laws.proofs.Alike.{further_max}
 use Rattle.first_laws.proofs.BehindTaken.{behind_taken}
 use Rattle.first_laws.proofs.Chained.{HasFewFiles, one_more, all_left_one, says_one, are_long, few_files}
 use Rattle.first_laws.proofs.CheckpointTaken.{checkpoint_taken}
@@ -102,9 +100,6 @@ module _ (shape : Shape) (cloud count commands : ℕ) (area : List ℕ) (all : L
         (long_before 1 shape 0 count commands b old laid command last says long)
         (contained (IsAt area) laid (λ x c. All-contains (IsAt area) (laid ++ more) x lie (Contains-append_left laid more x c))) before body some.front same.0
   ]
-
-not_less : (a b : ℕ) → b ≤ a → nat_lt a b ≡ false
-not_less a b ge = false_from_ne_true (nat_lt a b) (λ t. let lt = ltb-true a b t in absurd (omega (arith, lt, ge)))
 
 -- what its checks ask for is its recipe
 asked : (area : List ℕ) (g : Ground) (inside : Bool) (m : Memory) (body : Body) (place : Place) → Asks g inside m body place

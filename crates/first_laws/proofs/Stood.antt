@@ -1,37 +1,23 @@
 -- All lists that areas of format 1 stand for are said by one chain.
-use Rattle.std.proofs.Common.{◌≡◌, inl, inr, ℕ, true, List, [], ◌∷◌, length, map, refl, sym, ap, ◌∙◌, subst}
-use Rattle.std.specs.Prelude.{All, take, drop}
-use Rattle.std.proofs.lemmas.Bool.{false≢true}
-use Rattle.std.proofs.lemmas.List.Elements.{All-head, All-tail}
-use Rattle.journal_halves.specs.CdBase.place.Place.{Place}
+use Rattle.std.proofs.Common.{◌≡◌, inl, inr, List, [], map, sym, ap, ◌∙◌, subst}
 use Rattle.journal_halves.specs.CdEdges.area.Area.TheVariants.{Journal, Recipes}
 use Rattle.journal_halves.specs.CdEdges.Disk.{Image}
-use Rattle.record_laws.specs.ContainerLog.Laying.{Placed, IsAt}
 use Rattle.journal_halves.specs.Beginnings.{IsUnbegun}
-use Rattle.journal_halves.specs.Halves.{half_len, is_half_begun}
+use Rattle.journal_halves.specs.Halves.{half_len}
 use Rattle.journal_halves.specs.Journals.{Where, HasChain}
-use Rattle.journal_halves.proofs.Current.{one_chain, begun_half}
+use Rattle.journal_halves.proofs.Current.{one_chain}
 use Rattle.journal_halves.specs.JournalStart.start.Header.{Header}
 use Rattle.journal_halves.specs.JournalStart.Spelling.{commands_of, records_of}
-use Rattle.first_records.specs.RecordBody.Spelling.{Body, body_bytes, FitsBody}
-use Rattle.first_records.proofs.RecordBody.BodyLaws as laws
+use Rattle.first_records.specs.RecordBody.Spelling.{Body}
 use Rattle.compact_memories.specs.UserDedup.command.Command.{Command}
 use Rattle.compact_memories.specs.UserDedup.Dedup.{IsSound}
 use Rattle.compact_memories.specs.CloudAreas.FormatOne.{Lays, StandsForOne}
-use Rattle.compact_memories.specs.CloudAreas.Laid.{place_by}
 use Rattle.compact_memories.specs.CloudAreas.Placing.{recipes_in}
 use Rattle.compact_memories.specs.CloudAreas.Standing.{Chain, where_of, IsChain}
 use Rattle.compact_memories.proofs.CloudAreas.Behind.{recipes_placed_by}
+use Rattle.compact_memories.proofs.CloudAreas.Numbers.{not_unbegun}
+use Rattle.compact_memories.proofs.CloudAreas.OneChain.{same_records, blob_in, by_places}
 use Rattle.first_laws.specs.Standing.{HasChainOne}
-
--- a journal with a chain has a half that is begun
-not_unbegun : (journal : List ℕ) (w : Where) → HasChain journal w → IsUnbegun journal → ⊥
-not_unbegun journal w has none =
-    let begun = begun_half journal w.half w.start has.current.begun in
-    elim has.current.is_half [
-      | inl first ↦ false≢true (sym none.first ∙ subst (λ (h : ℕ). is_half_begun h journal ≡ true) first begun)
-      | inr second ↦ false≢true (sym none.second ∙ subst (λ (h : ℕ). is_half_begun h journal ≡ true) second begun)
-    ]
 
 pub is_sound : (image : Image) (header : Header) (list : List Command) → StandsForOne image header list → IsSound header.shape header.cloud.0 list
 unfolding StandsForOne
@@ -62,32 +48,6 @@ header_of image header list w stands has =
     ap (λ (v : Where). v.start.header) (sym its.bytes) ∙ its.is_chain.header_is
 
 -- ---- one chain for all lists
-
-head_same : (x y : List ℕ) (xs ys : List (List ℕ)) → x ∷ xs ≡ y ∷ ys → x ≡ y
-head_same x y xs ys e = cc
-
-tail_same : (x y : List ℕ) (xs ys : List (List ℕ)) → x ∷ xs ≡ y ∷ ys → xs ≡ ys
-tail_same x y xs ys e = cc
-
--- records are known by their bytes
-same_records : (a b : List Body) → All FitsBody a → All FitsBody b → map body_bytes a ≡ map body_bytes b → a ≡ b
-same_records [] [] fa fb e = refl
-same_records [] (y ∷ b) fa fb e = absurd (let no : [] ≡ body_bytes y ∷ map body_bytes b = e in cc)
-same_records (x ∷ a) [] fa fb e = absurd (let no : body_bytes x ∷ map body_bytes a ≡ [] = e in cc)
-same_records (x ∷ a) (y ∷ b) fa fb e =
-    let one = laws.one x y (All-head FitsBody x a fa) (All-head FitsBody y b fb) (head_same (body_bytes x) (body_bytes y) (map body_bytes a) (map body_bytes b) e) in
-    let rest = same_records a b (All-tail FitsBody x a fa) (All-tail FitsBody y b fb) (tail_same (body_bytes x) (body_bytes y) (map body_bytes a) (map body_bytes b) e) in
-    λ i. one i ∷ rest i
-
--- and the recipes that they place by what lies there
-abbrev blob_in : List ℕ → Place → Placed
-blob_in bytes p = record { place = p.at; blob = take p.len (drop p.at bytes) }
-
-by_places : (bytes : List ℕ) (recipes : List Placed) → All (IsAt bytes) recipes → map (blob_in bytes) (map place_by recipes) ≡ recipes
-by_places bytes [] all = refl
-by_places bytes (b ∷ recipes) all =
-    let here : take (length b.blob) (drop b.place bytes) ≡ b.blob = All-head (IsAt bytes) b recipes all in
-    λ i. record { place = b.place; blob = here i } ∷ by_places bytes recipes (All-tail (IsAt bytes) b recipes all) i
 
 recipes_by_image : (header : Header) (image : Image) (list : List Command) (c : Chain) → Lays header image list c → map (blob_in (image Recipes)) (recipes_in c.records) ≡ c.recipes
 recipes_by_image header image list c lays =

@@ -10,14 +10,13 @@ use Rattle.record_laws.specs.ContainerLog.Laying.{Placed, placed}
 use Rattle.record_laws.specs.ContainerLog.Places.{place_of, end_after}
 use Rattle.record_laws.specs.MessageFields.Shares.{IsShare}
 use Rattle.compact_memories.specs.UserDedup.command.Command.{Command}
-use Rattle.compact_memories.specs.UserDedup.command.Command.TheVariants as commands
 use Rattle.compact_memories.specs.UserDedup.Cloud.{fingerprint, has_fingerprint, strings_of, strings_in, held_bytes}
 use Rattle.compact_memories.specs.UserDedup.Dedup.{IsSound}
 use Rattle.compact_memories.specs.UserDedup.Owning.{is_among, new_strings}
-use Rattle.compact_memories.proofs.UserDedup.CompactSound.{FitsCommand, all_fit}
+use Rattle.compact_memories.proofs.UserDedup.CompactSound.{all_fit, share_of}
 use Rattle.compact_memories.proofs.UserDedup.Filtered.{from_flat}
 use Rattle.compact_memories.proofs.UserDedup.New.{are_new}
-use Rattle.compact_memories.proofs.UserDedup.Owned.{fp_same, contains_nothing}
+use Rattle.compact_memories.proofs.UserDedup.Owned.{fp_same}
 use Rattle.compact_memories.proofs.UserDedup.Views.{found_passes}
 use Rattle.compact_memories.specs.CloudAreas.FormatOne.{laid_strings, place_named, place_in}
 
@@ -81,11 +80,6 @@ laid_string list fp place is = by_found (find (is_named fp) (placed 0 (laid_stri
         }
 
 -- ---- how long strings are
-
-share_of : (shape : Shape) (c : Command) (s : List ℕ) → FitsCommand shape c → Contains (strings_of c) s → IsShare s
-share_of shape (commands.Put user shares) s f c = f s c
-share_of shape (commands.Commit user tag version recipe) s f c = absurd (contains_nothing s c)
-share_of shape (commands.Delete user tag version) s f c = absurd (contains_nothing s c)
 
 pub laid_share : (shape : Shape) (cloud : ℕ) (list : List Command) → IsSound shape cloud list → (s : List ℕ) → Contains (laid_strings list) s → IsShare s
 laid_share shape cloud list sound s c =

@@ -27,9 +27,9 @@ use Rattle.compact_memories.specs.CloudMemory.Memory.{Memory, commit_of}
 use Rattle.compact_memories.specs.CloudMemory.Steps.{begun}
 use Rattle.record_laws.specs.Leaving.{recipe_for, record_left, left_by, IsLeft}
 use Rattle.record_laws.proofs.Checkpoint.{checkpoint_left}
-use Rattle.record_laws.proofs.Places.{further}
+use Rattle.record_laws.proofs.Places.{further, further_max}
 use Rattle.first_laws.specs.Leaving.{begun_behind, first_left_by, IsLeftOne}
-use Rattle.first_laws.proofs.Alike.{Alike, itself, left_alike, recipes_next, further_max, left_one}
+use Rattle.first_laws.proofs.Alike.{Alike, itself, left_alike, recipes_next, left_one}
 use Rattle.first_laws.proofs.Known.{spender_known}
 use Rattle.first_laws.proofs.Spenders.{spents, as_later}
 

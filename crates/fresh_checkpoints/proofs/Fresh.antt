@@ -1,5 +1,5 @@
 -- The checkpoint of a memory holds the memory's list.
-use Rattle.std.proofs.Common.{◌≡◌, ◌≢◌, ℕ, zero, suc, ◌+◌, ◌*◌, ◌≤◌, List, [], ◌∷◌, length, map, Some, None, refl, sym, ap, ◌∙◌, subst, arith, inl, inr}
+use Rattle.std.proofs.Common.{◌≡◌, ◌≢◌, ℕ, ◌+◌, ◌*◌, ◌≤◌, List, length, map, Some, refl, sym, ap, ◌∙◌, subst, arith, inl, inr}
 use Rattle.std.specs.Prelude.{All, slice_get, is_some}
 use Rattle.std.specs.FinMap.{get}
 use Rattle.std.specs.List.{Contains}
@@ -13,61 +13,32 @@ use Rattle.cloud_disk.specs.CdEdges.Disk.{Image}
 use Rattle.cloud_disk.specs.ContainerLog.Laying.{IsAt}
 use Rattle.compact_memories.specs.FileIndex.key.FileKey.{FileKey}
 use Rattle.cloud_disk.specs.JournalStart.start.Header.{Header}
-use Rattle.cloud_disk.specs.RecordBody.Spelling as bodies
 use Rattle.cloud_disk.specs.RecordBody.Spelling.{Body}
 use Rattle.cloud_disk.specs.RecordBody.body.CommitBody.{CommitBody}
 use Rattle.cloud_disk.specs.CdBase.place.Place.{Place}
-use Rattle.cloud_disk.proofs.UserDedup.Owned.{contains_nothing, contains_cases}
 use Rattle.cloud_disk.specs.UserDedup.command.Command.{Command}
 use Rattle.cloud_disk.specs.UserDedup.Cloud.{held_bytes}
 use Rattle.cloud_disk.specs.UserDedup.Spending.{spent_by_all}
-use Rattle.cloud_disk.proofs.UserDedup.Filtered.{from_flat}
 use Rattle.cloud_disk.specs.CloudAreas.Checkpoints.{IsCheckpointOfList, key_of}
 use Rattle.cloud_disk.specs.CloudAreas.Chains.{Summed, laid_shares, AreLong, LiesIn, DontOverlap, HaveRoom, least_shares, least_recipes}
 use Rattle.cloud_disk.specs.CloudAreas.Placing.{shares_in, recipes_in, region_start, end_of, places_of, fps_placed}
 use Rattle.cloud_disk.specs.CloudAreas.Standing.{Chain, Holds}
 use Rattle.cloud_disk.proofs.CloudAreas.Apart.{get_contains, are_apart}
-use Rattle.cloud_disk.proofs.CloudAreas.Ends.{end_bound}
+use Rattle.cloud_disk.proofs.CloudAreas.Ends.{end_bound, get_map, map_get}
 use Rattle.cloud_disk.proofs.CloudAreas.Once.{checkpoint_once, checkpoint_all}
-use Rattle.cloud_disk.proofs.CloudAreas.Summing.{commit_in, commits_in, place_of_commit, recipes_by_commits, checkpoint_commits}
+use Rattle.cloud_disk.proofs.CloudAreas.Summing.{commits_in, place_of_commit, recipes_by_commits, checkpoint_commits, from_commits}
+use Rattle.cloud_disk.proofs.CloudAreas.Lists.{from_map}
 use Rattle.compact_memories.specs.CloudMemory.cloud.CloudMemory.{CloudMemory}
 use Rattle.compact_memories.specs.CloudMemory.Memory.{IsPlacedBy}
 use Rattle.compact_memories.specs.CloudMemory.Rooms.{memory_of}
 use Rattle.compact_memories.specs.Checkpoints.Records.{commits_from, records_of}
 use Rattle.compact_memories.specs.Checkpoints.Known.{recipe_of, recipes_of, checkpoint_in}
-use Rattle.compact_memories.proofs.Checkpoints.Apartness.{contained, from_map}
+use Rattle.compact_memories.proofs.Checkpoints.Apartness.{contained}
 use Rattle.compact_memories.proofs.Checkpoints.EntryLaw.{is_entry}
 use Rattle.compact_memories.proofs.Checkpoints.Given.{Names, names_of, shares_given, commit_given, commit_there}
 use Rattle.compact_memories.proofs.Checkpoints.RecordsLaw.{records_law}
 use Rattle.compact_memories.specs.Moved.{PlacesApart, entry_place}
 use Rattle.fresh_checkpoints.specs.Fresh.{StandsAlone}
-
-some_is : {X : Type 0} (x y : X) → Some x ≡ Some y → x ≡ y
-some_is x y e = cc
-
-get_map : {X Y : Type 0} (f : X → Y) (xs : List X) (i : ℕ) (y : Y) → slice_get (map f xs) i ≡ Some y → (x : X) × (slice_get xs i ≡ Some x) × (f x ≡ y)
-get_map f [] i y e = absurd (let no : None ≡ Some y = e in cc)
-get_map f (x ∷ xs) zero y e = (x, refl, some_is (f x) y e)
-get_map f (x ∷ xs) (suc i) y e = get_map f xs i y e
-
-map_get : {X Y : Type 0} (f : X → Y) (xs : List X) (i : ℕ) (x : X) → slice_get xs i ≡ Some x → slice_get (map f xs) i ≡ Some (f x)
-map_get f [] i x e = absurd (let no : None ≡ Some x = e in cc)
-map_get f (y ∷ xs) zero x e = ap (λ z. Some (f z)) (some_is y x e)
-map_get f (y ∷ xs) (suc i) x e = map_get f xs i x e
-
--- a Commit among the records
-from_commits : (records : List Body) (c : CommitBody) → Contains (commits_in records) c → Contains records (bodies.Commit c)
-from_commits records c here = let f = from_flat commit_in records c here in by_kind f.0 f.1 f.2
-  where
-    by_kind : (body : Body) → Contains records body → Contains (commit_in body) c → Contains records (bodies.Commit c)
-    by_kind (bodies.Put user items) there none = absurd (contains_nothing c none)
-    by_kind (bodies.Commit d) there one = elim (contains_cases d [] c one) [
-      | inl same ↦ subst (λ (e : CommitBody). Contains records (bodies.Commit e)) same there
-      | inr none ↦ absurd (contains_nothing c none)
-    ]
-    by_kind (bodies.Delete d) there none = absurd (contains_nothing c none)
-    by_kind (bodies.Kept items) there none = absurd (contains_nothing c none)
-    by_kind (bodies.Spent s) there none = absurd (contains_nothing c none)
 
 module _ (header : Header) (image : Image) (list : List Command) (commands region : ℕ) (memory : CloudMemory) (f : StandsAlone header image list commands region memory) where
   abbrev records : List Body

@@ -1,11 +1,9 @@
 -- The chain of a checkpoint of a memory, in the place of another one.
-use Rattle.std.proofs.Common.{◌≡◌, ◌≢◌, ℕ, ◌+◌, ◌≤◌, List, [], ◌∷◌, ◌++◌, length, map, None, IsTrue, refl, sym, subst, arith, length-append}
+use Rattle.std.proofs.Common.{◌≡◌, ◌≢◌, ℕ, ◌+◌, ◌≤◌, List, [], ◌∷◌, ◌++◌, length, map, None, IsTrue, refl, sym, subst, arith}
 use Rattle.std.specs.Prelude.{All}
-use Rattle.std.specs.Int.{w32, to_be_bytes}
 use Rattle.cloud_disk.specs.CdEdges.area.Area.{Area}
 use Rattle.cloud_disk.specs.CdEdges.area.Area.TheVariants.{Journal}
 use Rattle.cloud_disk.specs.CdEdges.Disk.{Cloud, LeavesOnly, reads}
-use Rattle.cloud_disk.specs.JournalHalves.Records.{sized, chain}
 use Rattle.cloud_disk.specs.JournalHalves.Halves.{half_limit}
 use Rattle.cloud_disk.specs.JournalHalves.Journals.{Where, used_by, with_body}
 use Rattle.cloud_disk.specs.JournalStart.start.Header.{Header}
@@ -24,35 +22,11 @@ use Rattle.compact_memories.specs.Checkpoints.Laying.{records_len, checkpoint_be
 use Rattle.compact_memories.specs.Checkpoints.Records.{records_of}
 use Rattle.compact_memories.specs.Checkpoints.Known.{recipes_of, checkpoint_in}
 use Rattle.compact_memories.proofs.Checkpoints.RecordsLaw.{records_law}
+use Rattle.compact_memories.proofs.Checkpoints.Summed.{chain_more, chain_behind, chain_first}
 use Rattle.fresh_checkpoints.specs.Fresh.{IsNextMemory}
 use Rattle.fresh_checkpoints.specs.Switching.{IsNextChain, StandsForOneOf, IsReadOne, IsMigrating}
 use Rattle.fresh_checkpoints.proofs.Fresh.{holds}
 use Rattle.fresh_checkpoints.proofs.Switch.{switches, switched, migrates, migrated}
-
--- ---- lengths
-
-chain_more : (records : List Body) → length (chain (map body_bytes records)) ≡ records_len records
-chain_more [] = refl
-chain_more (body ∷ records) =
-    omega (
-      arith,
-      chain_more records,
-      length-append (sized (body_bytes body)) (chain (map body_bytes records)),
-      length-append (to_be_bytes w32 (length (body_bytes body))) (body_bytes body),
-    )
-
-chain_behind : (records : List Body) (bytes : List ℕ) → length (chain (map body_bytes records ++ bytes ∷ [])) ≡ records_len records + (length bytes + 5)
-chain_behind [] bytes = omega (arith, length-append (sized bytes) [], length-append (to_be_bytes w32 (length bytes)) bytes)
-chain_behind (body ∷ records) bytes =
-    omega (
-      arith,
-      chain_behind records bytes,
-      length-append (sized (body_bytes body)) (chain (map body_bytes records ++ bytes ∷ [])),
-      length-append (to_be_bytes w32 (length (body_bytes body))) (body_bytes body),
-    )
-
-chain_first : (start : List ℕ) (rest : List (List ℕ)) → length (chain (start ∷ rest)) ≡ length start + 5 + length (chain rest)
-chain_first start rest = omega (arith, length-append (sized start) (chain rest), length-append (to_be_bytes w32 (length start)) start)
 
 -- ---- the next chain
 

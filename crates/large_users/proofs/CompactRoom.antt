@@ -1,5 +1,5 @@
 -- The records of a memory without what is dead are short enough for a half, where no user keeps more than the rooms allow.
-use Rattle.std.proofs.Common.{◌≡◌, ℕ, ◌+◌, ◌*◌, ◌≤◌, List, [], ◌∷◌, ◌++◌, length, map, get_or, Some, None, refl, sym, ap, ◌∙◌, arith, inl, inr}
+use Rattle.std.proofs.Common.{◌≡◌, ℕ, ◌+◌, ◌≤◌, List, [], ◌∷◌, ◌++◌, length, map, get_or, Some, None, refl, sym, ap, ◌∙◌, arith, inl, inr}
 use Rattle.std.specs.List.{Contains}
 use Rattle.std.proofs.lemmas.Bool.{cases_lt}
 use Rattle.std.proofs.lemmas.List.{get_or_past}
@@ -35,20 +35,15 @@ use Rattle.compact_memories.specs.Kept.{live_at, kept_in, IsCompacted}
 use Rattle.compact_memories.specs.Passes.{entries_of, owned_len, recipes_len}
 use Rattle.compact_memories.proofs.KeptRows.{kept_row}
 use Rattle.compact_memories.proofs.Live.{live_gives}
+use Rattle.compact_memories.proofs.Checkpoints.RoomLaw.{spread, together, spents_len}
 use Rattle.large_users.specs.Large.{files_in, IsNonePassed, AreSized}
 use Rattle.large_users.proofs.Counts.{count_is}
-use Rattle.large_users.proofs.Lengths.{together, total_within, own_of, puts_short, has_of, commits_short, spents_len, spents_few}
+use Rattle.large_users.proofs.Lengths.{total_within, own_of, puts_short, has_of, commits_short, spents_few}
 use Rattle.large_users.proofs.Passed.{within_limits, no_limit, no_files, most_owners, most_files}
 
 empty_list : {X : Type 0} (xs : List X) → ((x : X) → Contains xs x → ⊥) → xs ≡ []
 empty_list [] none = refl
 empty_list (x ∷ xs) none = absurd (none x (contains_here x xs))
-
-spread : (rooms : UserRooms) → half_limit rooms ≡ 11595 + (97 * (rooms.users * rooms.owners) + 94 * (rooms.users * rooms.files) + 30 * rooms.users)
-spread rooms =
-    let a = mul-add rooms.users (97 * rooms.owners + 94 * rooms.files) 30 in
-    let b = mul-add rooms.users (97 * rooms.owners) (94 * rooms.files) in
-    omega (arith, a, b, mul_left_comm rooms.users 97 rooms.owners, mul_left_comm rooms.users 94 rooms.files, mul_comm rooms.users 30)
 
 module _ (rooms : UserRooms) (old memory : CloudMemory) (is : IsCompacted old (memory_of memory)) (none : IsNonePassed rooms (memory_of old)) (sized : AreSized memory) where
   abbrev user_at : ℕ → UserId

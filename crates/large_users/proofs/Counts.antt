@@ -1,12 +1,12 @@
 -- What passes over the slots of a memory's tables come to.
-use Rattle.std.proofs.Common.{◌≡◌, ◌≢◌, ◌⊎◌, ℕ, ◌+◌, ◌<◌, ◌≤◌, Bool, true, false, cond, List, [], ◌∷◌, ◌++◌, length, map, take, get_or, Option, Some, None, refl, sym, ap, ◌∙◌, subst, arith, inl, inr, eq-eqb, append-nil, length-append}
+use Rattle.std.proofs.Common.{◌≡◌, ◌≢◌, ◌⊎◌, ℕ, ◌+◌, ◌<◌, ◌≤◌, Bool, true, cond, List, [], ◌∷◌, length, map, take, get_or, Option, Some, None, refl, sym, ap, ◌∙◌, subst, arith, inl, inr, eq-eqb, length-append}
 use Rattle.std.specs.Prelude.{◌==◌, is_some, IsSome, IfSome, option_map, sum_by}
 use Rattle.std.specs.List.{Contains}
 use Rattle.std.specs.FinMap.{FinMap, get, IsAntisymmetric}
 use Rattle.std.specs.Cmp.{IsTotalOrder}
 use Rattle.std.specs.declared.cmp.Ordering.{Ordering}
 use Rattle.std.proofs.lemmas.Bool.{eqb-true, ne_eqb, cases_lt}
-use Rattle.std.proofs.lemmas.List.{length-map, take_all, take_more}
+use Rattle.std.proofs.lemmas.List.{length-map, take_all}
 use Rattle.std.proofs.lemmas.List.Sums.{sum_by-append}
 use Rattle.compact_memories.specs.FileIndex.key.Entry.{Entry}
 use Rattle.compact_memories.specs.FileIndex.key.FileKey.{FileKey}
@@ -14,38 +14,22 @@ use Rattle.compact_memories.specs.FileIndex.Order.{key_cmp, key_exact}
 use Rattle.compact_memories.proofs.FileIndexLaws.Order.{key_total}
 use Rattle.compact_memories.specs.PoolMap.Accounts.{keys_of}
 use Rattle.compact_memories.specs.PoolMap.Slots.{slot_of, IsListed}
-use Rattle.compact_memories.specs.ShareIndex.key.Owner.{Owner}
 use Rattle.compact_memories.proofs.ShareIndexLaws.Owning.{value-of}
-use Rattle.compact_memories.proofs.UserDedup.Once.{Once}
 use Rattle.compact_memories.proofs.UserDedup.Owned.{contains_nothing, contains_cases}
 use Rattle.compact_memories.proofs.CloudMemoryLaws.KeyCounts.{few_keys, many_keys}
-use Rattle.compact_memories.specs.Checkpoints.Picking.{onto, picked}
-use Rattle.compact_memories.proofs.Checkpoints.Picks.{picked-append}
-use Rattle.compact_memories.proofs.Checkpoints.Apartness.{Apart, in_map, from_map}
 use Rattle.compact_memories.proofs.Checkpoints.Sought.{from_picked, in_picked, apart_picked, map_picked}
 use Rattle.compact_memories.proofs.CompactLists.Sums.{sum_alike, sum_mapped}
 use Rattle.compact_memories.specs.Passes.{entry_at, entries_of, recipes_len}
 use Rattle.compact_memories.proofs.Weights.{sum_keys}
+use Rattle.compact_memories.proofs.CloudAreas.Apart.{Apart}
+use Rattle.compact_memories.proofs.CloudAreas.Lists.{in_map, from_map}
+use Rattle.compact_memories.proofs.KeptRows.{once_of, entry_gives, key_gives, len_at}
+use Rattle.compact_memories.proofs.Passing.{more_none, more_one}
 use Rattle.large_users.specs.declared.large.Entries.{Entries}
 use Rattle.large_users.specs.Counting.{IsCountOf, recipes_in, IsSeen, IsFound, AreSeen, IfBelow}
 use Rattle.large_users.specs.Large.{OfEach}
 
 -- ---- one slot more
-
-more : {S X : Type 0} (f : Option S → Option X) (slots : List (Option S)) (slot : ℕ) → slot < length slots
-    → picked f (take (slot + 1) slots) ≡ picked f (take slot slots) ++ onto (f (get_or slots slot None)) []
-more f slots slot below = ap (picked f) (take_more slots slot None below) ∙ picked-append f (take slot slots) (get_or slots slot None ∷ [])
-
-more_none : {S X : Type 0} (f : Option S → Option X) (slots : List (Option S)) (slot : ℕ) → slot < length slots
-    → f (get_or slots slot None) ≡ None → picked f (take (slot + 1) slots) ≡ picked f (take slot slots)
-more_none f slots slot below none =
-    more f slots slot below
-    ∙ ap (λ o. picked f (take slot slots) ++ onto o []) none
-    ∙ append-nil (picked f (take slot slots))
-
-more_one : {S X : Type 0} (f : Option S → Option X) (slots : List (Option S)) (slot : ℕ) (x : X) → slot < length slots
-    → f (get_or slots slot None) ≡ Some x → picked f (take (slot + 1) slots) ≡ picked f (take slot slots) ++ x ∷ []
-more_one f slots slot x below one = more f slots slot below ∙ ap (λ o. picked f (take slot slots) ++ onto o []) one
 
 module _ (user : ℕ) (slots : List (Option (FileKey × Entry))) (slot : ℕ) (below : slot < length slots) (so_far : Entries) (is : IsCountOf user slots slot so_far) where
   stays : entry_at user (get_or slots slot None) ≡ None → IsCountOf user slots (slot + 1) so_far
@@ -83,28 +67,6 @@ pub count_begins : (user : ℕ) (slots : List (Option (FileKey × Entry))) → I
 count_begins user slots = record { count = refl; bytes = refl; few = omega arith; small = omega arith }
 
 -- ---- over all slots
-
-once_of : {X : Type 0} (xs : List X) → Apart xs → Once xs
-once_of [] apart = tt
-once_of (x ∷ xs) apart = (apart.0, once_of xs apart.1)
-
-entry_gives : (user : ℕ) (e x : FileKey × Entry) → entry_at user (Some e) ≡ Some x → (e.0.user ≡ user) × (e ≡ x)
-entry_gives user e x is = by_test (e.0.user == user) refl is
-  where
-    by_test : (b : Bool) → (e.0.user == user) ≡ b → cond b (Some e) None ≡ Some x → (e.0.user ≡ user) × (e ≡ x)
-    by_test true t same = (eqb-true e.0.user user t, let two : Some e ≡ Some x = same in cc)
-    by_test false t same = absurd (let no : ◌≡◌ {A = Option (FileKey × Entry)} None (Some x) = same in cc)
-
-key_gives : (user : ℕ) (e : FileKey × Entry) (k : FileKey) → option_map (λ (x : FileKey × Entry). x.0) (entry_at user (Some e)) ≡ Some k → e.0 ≡ k
-key_gives user e k is = by_test (e.0.user == user) is
-  where
-    by_test : (b : Bool) → option_map (λ (x : FileKey × Entry). x.0) (cond b (Some e) None) ≡ Some k → e.0 ≡ k
-    by_test true same = let two : ◌≡◌ {A = Option FileKey} (Some e.0) (Some k) = same in cc
-    by_test false same = absurd (let no : ◌≡◌ {A = Option FileKey} None (Some k) = same in cc)
-
-len_at : Option Entry → ℕ
-len_at None = 0
-len_at (Some e) = e.len
 
 module _ (files : FinMap key_cmp Entry) (slots : List (Option (FileKey × Entry))) (user : ℕ) (l : IsListed files slots) where
   abbrev ours : List (FileKey × Entry)
@@ -223,15 +185,6 @@ module _ {K V : Type 0} (P : K → V → Type 0) (slots : List (Option (K × V))
   each_begins s k v lt at = absurd (omega (arith, lt))
 
 -- ---- owners
-
--- the owner in a slot, whatever its uses are
-pub owner_in : (o : Option (Owner × ℕ)) (k : Owner) → option_map (λ (p : Owner × ℕ). p.0) o ≡ Some k → (uses : ℕ) × (o ≡ Some (k, uses))
-owner_in None k is = absurd (let no : ◌≡◌ {A = Option Owner} None (Some k) = is in cc)
-owner_in (Some e) k is = let same : ◌≡◌ {A = Option Owner} (Some e.0) (Some k) = is in let key : e.0 ≡ k = cc in (e.1, ap (λ (q : Owner). Some (q, e.1)) key)
-
-pub no_owner : (o : Option (Owner × ℕ)) → option_map (λ (p : Owner × ℕ). p.0) o ≡ None → o ≡ None
-no_owner None is = refl
-no_owner (Some e) is = absurd (let no : ◌≡◌ {A = Option Owner} (Some e.0) None = is in cc)
 
 unseen : (from : ℕ) (least : Option ℕ) (user : ℕ) → from ≤ user → IfBelow least user → IsSeen from least user → ⊥
 unseen from None user le below seen = omega (arith, le, seen)

@@ -10,8 +10,6 @@ use Rattle.std.proofs.lemmas.List.Elements.{Contains-append_left, Contains-appen
 use native.Mathlib.Nat.{mul-add}
 use Rattle.record_body.specs.CdBase.ids.Fp.{Fp}
 use Rattle.record_body.specs.CdBase.place.Place.{Place}
-use Rattle.record_body.specs.CdBase.Order.{fp_cmp}
-use Rattle.std.specs.FinMap.{FinMap}
 use Rattle.compact_memories.specs.FileIndex.key.Entry.{Entry}
 use Rattle.compact_memories.specs.FileIndex.key.FileKey.{FileKey}
 use Rattle.compact_memories.specs.ShareIndex.key.Owner.{Owner}
@@ -23,23 +21,17 @@ use Rattle.record_body.specs.declared.body.CommitBody.{CommitBody}
 use Rattle.record_body.specs.FirstSpelling.{placed_bytes, item_bytes}
 use Rattle.record_body.specs.declared.body.SpentBody.{SpentBody}
 use Rattle.record_body.specs.Spelling as bodies
-use Rattle.record_body.specs.Spelling.{Body}
 use Rattle.compact_memories.proofs.UserDedup.Owned.{contains_here, contains_later}
 use Rattle.compact_memories.specs.CloudAreas.Checkpoints.{put_body}
 use Rattle.compact_memories.specs.Checkpoints.Laying.{record_len, records_len}
 use Rattle.compact_memories.specs.Checkpoints.Picking.{onto, picked, batched, batches}
 use Rattle.record_body.specs.MessageFields.Fingerprints.{batch_limit}
-use Rattle.compact_memories.specs.Checkpoints.Records.{owned_in, listed, items_of, items_from, put_of, puts_from, commit_at, spent_at, spents_of}
-use Rattle.compact_memories.proofs.Checkpoints.Apartness.{in_map}
+use Rattle.compact_memories.specs.Checkpoints.Records.{owned_in, listed, items_from, put_of, puts_from, commit_at, spent_at, spents_of}
 use Rattle.compact_memories.proofs.Checkpoints.FullBatches.{flat_batched}
 use Rattle.compact_memories.proofs.Checkpoints.Owns.{fps_are}
+use Rattle.compact_memories.proofs.CloudAreas.Lists.{in_map}
+use Rattle.compact_memories.proofs.Checkpoints.RoomLaw.{together, items_len}
 use Rattle.compact_memories.specs.Passes.{entries_of}
-
--- ---- records behind one another
-
-pub together : (xs ys : List Body) → records_len (xs ++ ys) ≡ records_len xs + records_len ys
-together [] ys = omega arith
-together (x ∷ xs) ys = omega (arith, together xs ys)
 
 -- ---- sums over users
 
@@ -125,10 +117,6 @@ user_short u (b ∷ bs) sized =
     let rest = user_short u bs (λ i c. all i (Contains-append_right b (flat_map itself bs) i c)) in
     omega (arith, here, rest, ap length cons, length-append b (flat_map itself bs))
 
-items_len : (places : FinMap fp_cmp Place) (before fps : List Fp) → length (items_of places before fps) ≡ length fps
-items_len places before [] = refl
-items_len places before (fp ∷ fps) = omega (arith, items_len places (before ++ fp ∷ []) fps)
-
 module _ (shares : Shares) (sized : (u : ℕ) (fp : Fp) → Contains (owned_in u shares.owner_slots) fp → length fp.0 ≡ 32) where
   items_sized : (u : ℕ) → Sized (items_from shares u 0)
   items_sized u item c =
@@ -199,10 +187,6 @@ commits_short (Some x ∷ slots) users sized none =
         ∙ sym (add-one (has_of slots x.0.user))
 
 -- ---- Spents
-
-pub spents_len : (ss : List SpentBody) → records_len (map bodies.Spent ss) ≡ 30 * length ss
-spents_len [] = refl
-spents_len (s ∷ ss) = omega (arith, spents_len ss)
 
 -- no more than there are users, where the others have spent nothing
 pub spents_few : (table : List Row) (users u k : ℕ) → users ≤ u + k → ((i : ℕ) → users ≤ u + i → get_or table i rows.nothing ≡ rows.nothing) → length (spents_of u table) ≤ k

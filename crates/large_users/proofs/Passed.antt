@@ -30,7 +30,8 @@ use Rattle.compact_memories.specs.CompactLists.Live.{live_of}
 use Rattle.compact_memories.specs.Kept.{kept_in}
 use Rattle.compact_memories.specs.Tables.{with_table}
 use Rattle.compact_memories.proofs.Keeping.{kept}
-use Rattle.migration_model.proofs.Large.{by_kept}
+use Rattle.compact_memories.proofs.UserDedup.Within.{neither}
+use Rattle.migration_model.proofs.Large.{by_kept, both_none}
 use Rattle.large_users.specs.declared.large.TooLarge.{TooLarge}
 use Rattle.large_users.specs.Counting.{recipes_in, IsFirstFrom, AreNoneBelow}
 use Rattle.large_users.specs.Large.{files_in, passed_in, full_of, IsFirstOf, IsFirstBy, IsCountedBy}
@@ -64,14 +65,6 @@ is_refused room used limit lt = by_test (nat_lt limit (used + 0)) (Decides-ltb l
     by_test : (b : Bool) → (limit < used + 0 → b ≡ true) → cond b (Some (full_with room used limit)) None ≡ Some (full_with room used limit)
     by_test true back = refl
     by_test false back = absurd (let t = back (omega (arith, lt)) in let no : false ≡ true = t in cc)
-
-neither : (one two : Option FullRoom) → option_or one two ≡ None → (one ≡ None) × (two ≡ None)
-neither None two e = (refl, e)
-neither (Some room) two e = absurd (let never : Some room ≡ None = e in cc)
-
-both_none : (one two : Option FullRoom) → one ≡ None → two ≡ None → option_or one two ≡ None
-both_none None two e f = f
-both_none (Some room) two e f = absurd (let never : Some room ≡ None = e in cc)
 
 -- ---- a user whose number isn't below that of the users
 

@@ -17,6 +17,7 @@ use Rattle.fresh_checkpoints.specs.CloudAreas.FormatOne.{passed_room, too_large_
 use Rattle.compact_lists.specs.Live.{live_of}
 use Rattle.compact_lists.proofs.RoomLaws.{by_end}
 use Rattle.compact_lists.proofs.Spent.{spent_kept, files_kept}
+use Rattle.compact_lists.proofs.UserDedup.Within.{neither}
 use Rattle.migration_model.specs.Migrating.{AreSmallEnough}
 
 pub by_kept : (shape : Shape) (cloud : ℕ) (rooms : UserRooms) (list : List Command) (user : UserId) → IsSound shape cloud list
@@ -60,11 +61,7 @@ refused_of room used limit full = by_test (nat_lt limit (used + 0)) (Decides-ltb
         subst (λ (f : FullRoom). (f.need ≡ 0) × (f.limit < f.used)) same (refl, no_more used limit (is refl))
     by_test false is e = absurd (let no : None ≡ Some full = e in cc)
 
-neither : (one two : Option FullRoom) → option_or one two ≡ None → (one ≡ None) × (two ≡ None)
-neither None two e = (refl, e)
-neither (Some room) two e = absurd (let never : Some room ≡ None = e in cc)
-
-both_none : (one two : Option FullRoom) → one ≡ None → two ≡ None → option_or one two ≡ None
+pub both_none : (one two : Option FullRoom) → one ≡ None → two ≡ None → option_or one two ≡ None
 both_none None two e f = f
 both_none (Some room) two e f = absurd (let never : Some room ≡ None = e in cc)
 

@@ -3,10 +3,8 @@ use Rattle.std.proofs.Common.{◌≡◌, ◌≢◌, ℕ, zero, suc, ◌+◌, ◌
 use Rattle.std.specs.Prelude.{All, MatchOption}
 use Rattle.std.specs.List.{flat_map}
 use Rattle.std.proofs.lemmas.Option.{same_Some}
-use Rattle.std.proofs.Props.{props}
 use Rattle.std.proofs.lemmas.List.{flat_map_more}
 use Rattle.std.proofs.lemmas.List.Elements.{All-nil, All-head, All-tail, All-push}
-use Rattle.audit_base.specs.CdBase.shape.Shape.{Shape}
 use Rattle.audit_base.specs.Certificate.line.Heading.{Heading}
 use Rattle.audit_base.specs.Certificate.line.CertificateLine.{CertificateLine}
 use Rattle.audit_base.specs.Certificate.line.CertificateLine.TheVariants as lines
@@ -14,6 +12,7 @@ use Rattle.audit_base.specs.Certificate.Lines.{Certificate, certificate_line, ce
 use Rattle.audit_base.specs.Certificate.Reading.{certificate_at}
 use Rattle.audit_base.specs.Judged.{Differ}
 use Rattle.audit_base.specs.Own.{DifferAt}
+use Rattle.audit_base.proofs.JournalStart.Whole.{same_shape}
 use Rattle.own_certificate.specs.Inner.{PartsAt}
 
 -- ---- the next element
@@ -238,17 +237,6 @@ not_parted_at own bytes None index Q parts is same = absurd (let no : None ≡ S
 not_parted_at own bytes (Some i) index Q parts is same = not_parted own bytes i parts same
 
 -- ---- headings
-
-same_shape : (a b : Shape) → a.n ≡ b.n → a.k ≡ b.k → a ≡ b
-same_shape a b en ek =
-    let Same : ℕ → ℕ → Type 0 = λ n k. (s : 2 ≤ k) (p : k < n) (f : n ≤ 16) → ◌≡◌ {A = Shape} a (record { n = n; k = k; several = s; spare = p; few = f }) in
-    let start : Same a.n a.k = λ s p f. alike a.n a.k a.several s a.spare p a.few f in
-    subst (λ (k : ℕ). Same b.n k) ek (subst (λ (n : ℕ). Same n a.k) en start) b.several b.spare b.few
-  where
-    alike : (n k : ℕ) (s t : 2 ≤ k) (p q : k < n) (f g : n ≤ 16) → ◌≡◌ {A = Shape} (record { n = n; k = k; several = s; spare = p; few = f }) (record { n = n; k = k; several = t; spare = q; few = g })
-    alike n k s t p q f g =
-        let one : IsProp (2 ≤ k) = hlevel props in let two : IsProp (k < n) = hlevel props in let three : IsProp (n ≤ 16) = hlevel props in
-        λ i. record { n = n; k = k; several = one s t i; spare = two p q i; few = three f g i }
 
 pub same_heading : (a b : Heading) → a.shape.n ≡ b.shape.n → a.shape.k ≡ b.shape.k → a.cloud.0 ≡ b.cloud.0 → a ≡ b
 same_heading a b en ek cloud =

@@ -26,7 +26,7 @@ use Rattle.share_server.specs.declared.copies.ReclaimErr.TheVariants as why
 use Rattle.share_server.specs.Copies.{OnReclaimFault, IfRottenThere, IsDoneOrFault, at_copies, AreLaid, KeepsCopies, KeepsAllBut, copied_so_far}
 use Rattle.reclaim.specs.Inner.{Steps, CopiesAll, AreRight}
 use Rattle.reclaim.specs.Reclaims.{IsOutOf, KeepsOtherRegion}
-use Rattle.reclaim.proofs.Whole.{more_right}
+use Rattle.reclaim.proofs.Whole.{more_right, further}
 
 -- ---- a step leaves less to copy
 
@@ -95,9 +95,6 @@ still_all : (old new : CloudStore) (copies : Copies) → KeepsAllBut old new →
 still_all old new copies same is = subst (λ (s : CloudStore). AreAllCopied s copies.copying) (sym same) (record { places = is.places; entries = is.entries })
 
 -- ---- what lies out of the copies' region
-
-further : (a b c : ℕ) → a ≤ b → b ≤ c → a ≤ c
-further a b c one two = omega (arith, one, two)
 
 out_of : (start end : ℕ) (b : Placed) → start ≤ end → IsOutOf start b → (b.place + length b.blob ≤ end) ⊎ (start + region_len ≤ b.place)
 out_of start end b le out = elim out [

@@ -1,7 +1,7 @@
 -- What of a memory is alive is what of its list is.
 use Rattle.std.proofs.Common.{◌≡◌, ℕ, ◌==◌, Bool, true, false, cond, List, [], ◌∷◌, length, map, Option, Some, None, refl, sym, ap, ◌∙◌, subst, arith, inl, inr, eq-eqb}
 use Rattle.std.specs.Prelude.{filter, option_map, IsSome}
-use Rattle.std.specs.FinMap.{FinMap, get}
+use Rattle.std.specs.FinMap.{get}
 use Rattle.std.specs.List.{Contains}
 use Rattle.std.proofs.lemmas.Bool.{cases_eq, eqb-true}
 use Rattle.share_server.specs.CdBase.ids.Fp.{Fp}
@@ -10,7 +10,6 @@ use Rattle.share_server.specs.CdBase.shape.Shape.{Shape}
 use Rattle.share_server.specs.CdBase.Order.{fp_exact}
 use Rattle.compact_memories.specs.FileIndex.key.Entry.{Entry}
 use Rattle.compact_memories.specs.FileIndex.key.FileKey.{FileKey}
-use Rattle.compact_memories.specs.ShareIndex.Order.{owner_cmp}
 use Rattle.compact_memories.specs.ShareIndex.Shares.{owners_of}
 use Rattle.compact_memories.proofs.ShareIndexLaws.Owning.{value-of}
 use Rattle.compact_memories.proofs.ShareIndexLaws.Placing.{fp_total}
@@ -26,7 +25,6 @@ use Rattle.compact_memories.specs.CloudMemory.cloud.CloudMemory.{CloudMemory}
 use Rattle.compact_memories.specs.CloudMemory.Memory.{Remembers, summary, summary_of}
 use Rattle.compact_memories.specs.CloudMemory.Rooms.{memory_of}
 use Rattle.compact_memories.specs.Checkpoints.Known.{AreListed, recipe_or}
-use Rattle.compact_memories.proofs.Checkpoints.Apartness.{Apart, are_apart, in_map, from_map}
 use Rattle.compact_memories.proofs.Checkpoints.Holders.{owners_some}
 use Rattle.compact_memories.proofs.Checkpoints.OwnLaw.{owner_of_own}
 use Rattle.compact_memories.proofs.Checkpoints.Sought.{from_picked, in_picked, apart_picked, map_picked}
@@ -36,6 +34,9 @@ use Rattle.compact_memories.proofs.CompactLists.Sums.{sum_alike, sum_mapped}
 use Rattle.compact_memories.specs.Kept.{live_at, live_places, live_entries, live_sum}
 use Rattle.compact_memories.proofs.Live.{live_as, live_from, live_to}
 use Rattle.compact_memories.proofs.Weights.{once_map, sum_keys}
+use Rattle.compact_memories.proofs.CloudAreas.Apart.{Apart, are_apart}
+use Rattle.compact_memories.proofs.CloudAreas.Lists.{in_map, from_map}
+use Rattle.compact_memories.proofs.Sums.{fp_live, first_of}
 use Rattle.reclaim.specs.Sums.{SumsOver, entry_of, HasEntry, recipe_len, IsDead, IsSumOf}
 
 once_filter : {X : Type 0} (p : X → Bool) (xs : List X) → Once xs → Once (filter p xs)
@@ -46,10 +47,6 @@ once_filter p (x ∷ xs) once = by_test (p x) (once_filter p xs once.1)
     by_test true rest = (λ c. once.0 (from_filter p xs x c).0, rest)
     by_test false rest = rest
 
-first_of : Option (ℕ × Fp) → ℕ
-first_of None = 0
-first_of (Some p) = p.0
-
 entry_there : (o : Option FileEntry) (e : Entry) → Some (summary e) ≡ option_map summary_of o → IsSome o × (e.len ≡ length (recipe_or o))
 unfolding first_of
 entry_there None e is = absurd (let no : Some (summary e) ≡ None = is in cc)
@@ -58,13 +55,6 @@ entry_there (Some entry) e is = (refl, ap first_of is)
 none_there : (o : Option FileEntry) → ◌≡◌ {A = Option (ℕ × Fp)} None (option_map summary_of o) → IsSome o → ⊥
 none_there None is some = let no : false ≡ true = some in cc
 none_there (Some entry) is some = let no : ◌≡◌ {A = Option (ℕ × Fp)} None (Some (summary_of entry)) = is in cc
-
-fp_live : (owners : FinMap owner_cmp ℕ) (e : List ℕ × Place) (fp : Fp) → option_map (λ (x : Fp × Place). x.0) (live_at owners (Some e)) ≡ Some fp → e.0 ≡ fp.0
-fp_live owners e fp is = by_test (owners_of owners e.0 == 0) is
-  where
-    by_test : (b : Bool) → option_map (λ (x : Fp × Place). x.0) (cond b None (Some (record { 0 = e.0 }, e.1))) ≡ Some fp → e.0 ≡ fp.0
-    by_test true e_none = absurd (let f : ◌≡◌ {A = Option Fp} None (Some fp) = e_none in cc)
-    by_test false same = let f : ◌≡◌ {A = Option Fp} (Some (record { 0 = e.0 })) (Some fp) = same in let g : ◌≡◌ {A = Fp} (record { 0 = e.0 }) fp = cc in ap (λ (x : Fp). x.0) g
 
 module _ (shape : Shape) (list : List Command) (old : CloudMemory) (r : Remembers shape list (memory_of old)) (l : AreListed old) where
   abbrev held : List Fp

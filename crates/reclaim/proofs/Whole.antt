@@ -56,7 +56,7 @@ copied_right old new end (b ∷ bs) right lie =
 ends_within : (place len long bound : ℕ) → long ≡ len → place + len ≤ bound → place + long ≤ bound
 ends_within place len long bound is le = omega (arith, is, le)
 
-further : (a b c : ℕ) → a ≤ b → b ≤ c → a ≤ c
+pub further : (a b c : ℕ) → a ≤ b → b ≤ c → a ≤ c
 further a b c one two = omega (arith, one, two)
 
 -- what lies in front of the bound stays right where that stays

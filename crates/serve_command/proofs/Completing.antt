@@ -14,7 +14,7 @@ use Rattle.share_server.specs.JournalHalves.Beginnings.{IsUnbegun}
 use Rattle.share_server.specs.JournalHalves.Findings.{IsFoundDamage}
 use Rattle.share_server.specs.JournalHalves.Halves.{IsCurrent}
 use Rattle.share_server.specs.CloudOpening.Spared.{IsOkOrFault}
-use Rattle.share_server.proofs.CloudOpening.Current.{not_unbegun}
+use Rattle.share_server.proofs.CommitJournal.Opening.{not_unbegun}
 use Rattle.share_server.proofs.CloudOpening.OneStart.{current_whole, unbegun_whole}
 use Rattle.share_server.specs.UserDedup.command.Command.{Command}
 use Rattle.share_server.specs.UserDedup.Spending.{IsWithin}

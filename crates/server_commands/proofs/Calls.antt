@@ -7,6 +7,7 @@ use Rattle.server_reads.specs.CdEdges.Disk.{Areas, Cloud, Image, LeavesOnly}
 use Rattle.server_reads.specs.CdEdges.Causes.{Rose}
 use Rattle.server_reads.specs.CdEdges.Shelf.{IsCall, HasFailed, KeepsCounts, Stays}
 use Rattle.server_reads.proofs.CdEdges.Moments.{weaker, told_on}
+use Rattle.server_reads.proofs.CdEdges.Calls.{called_twice}
 use Rattle.cloud_store.specs.CommitJournal.States as journals
 use Rattle.cloud_store.specs.JournalHalves.Journals.{Where}
 use Rattle.cloud_store.specs.declared.store.CloudStore.{CloudStore}
@@ -29,15 +30,6 @@ abbrev pub failed_read : Result (Unit {0}) BlobStop
 failed_read = Err stops.Failed
 
 -- ---- calls
-
-called_twice : (a b c : ℕ → Cloud) (number before mid now : ℕ) → IsCall a b number before mid → IsCall b c number mid now → IsCall a c number before now
-called_twice a b c number before mid now first second = record {
-  others = λ other ne. second.others other ne ∙ first.others other ne;
-  told = second.told ∙ first.told;
-  armings = second.armings ∙ first.armings;
-  later = omega (arith, first.later, second.later);
-  total_later = omega (arith, first.total_later, second.total_later);
-}
 
 failed_then : {T E : Type 0} (r : Result T E) (a b c : Cloud) (before mid now : ℕ) → KeepsCounts a b before mid → OnErr r (HasFailed b c mid now) → OnErr r (HasFailed a c before now)
 failed_then (Ok v) a b c before mid now kept failed = tt

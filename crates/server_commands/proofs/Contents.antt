@@ -1,7 +1,6 @@
 -- Which reply a content is.
-use Rattle.std.proofs.Common.{◌≡◌, ℕ, List, ◌∷◌, ◌++◌, length, get_or, take, drop, Result, Ok, Err, sym, ap, ◌∙◌, subst, arith}
+use Rattle.std.proofs.Common.{◌≡◌, ℕ, List, ◌∷◌, ◌++◌, get_or, drop, Result, Ok, Err, sym, ap, ◌∙◌, subst, arith}
 use Rattle.std.specs.Prelude.{OnOk, ◌≢◌}
-use Rattle.std.proofs.Math.Seq.{take-append_seam, drop-append_seam}
 use Rattle.server_reads.specs.CdBase.ids.Fp.{Fp}
 use Rattle.server_reads.specs.CdBase.ids.Tag.{Tag}
 use Rattle.server_reads.specs.CdBase.ids.UserId.{UserId}
@@ -12,6 +11,7 @@ use Rattle.server_reads.specs.Messages.reply.Reply.{Reply}
 use Rattle.server_reads.specs.Messages.reply.Reply.TheVariants as replies
 use Rattle.server_reads.specs.Messages.Replies.{IsReply}
 use Rattle.server_reads.specs.Allowed.{Replies}
+use Rattle.server_reads.proofs.Rotting.{fronts, rests}
 use Rattle.server_commands.specs.Leaving.{FindsNone}
 use Rattle.server_commands.specs.Serving.{IsGiven, Gives}
 use Rattle.server_commands.specs.Steps.{IsOfDelete}
@@ -21,12 +21,6 @@ pub one_kind : (content : List ℕ) (a b : ℕ) (more less : List ℕ) → conte
 one_kind content a b more less one two = ap (λ (l : List ℕ). get_or l 0 0) (sym one ∙ two)
 
 -- ---- Rotten
-
-fronts : (a b c d : List ℕ) → a ++ b ≡ c ++ d → length a ≡ length c → a ≡ c
-fronts a b c d e long = sym (take-append_seam a b) ∙ ap (take (length a)) e ∙ ap (λ n. take n (c ++ d)) long ∙ take-append_seam c d
-
-rests : (a b c d : List ℕ) → a ++ b ≡ c ++ d → length a ≡ length c → b ≡ d
-rests a b c d e long = sym (drop-append_seam a b) ∙ ap (drop (length a)) e ∙ ap (λ n. drop n (c ++ d)) long ∙ drop-append_seam c d
 
 -- what is said of two fingerprints is said of those that the content has
 pub rotten_said : (content : List ℕ) (P : Fp → Fp → Type 0) (a b c d : Fp) → IsReply content (replies.Rotten a b) → IsReply content (replies.Rotten c d) → P a b → P c d

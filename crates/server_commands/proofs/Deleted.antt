@@ -37,7 +37,7 @@ use Rattle.server_reads.specs.declared.blobs.BlobStop.TheVariants as stops
 use Rattle.server_reads.specs.Allowed.{Replies}
 use Rattle.server_reads.specs.Found.{HasNone, IsFoundRecipe}
 use Rattle.server_reads.specs.Reading.{HasReadCloud, IfRotten}
-use Rattle.server_reads.proofs.Calling.{rotten_at}
+use Rattle.server_reads.proofs.Calling.{rotten_at, Answer}
 use Rattle.server_reads.proofs.Held.{none_there}
 use Rattle.server_commands.specs.Executing.{IsStoreReady, Executes}
 use Rattle.server_commands.specs.Growing.{IsAdded}
@@ -47,7 +47,7 @@ use Rattle.server_commands.proofs.Calls.{ok_result, failed_result, ok_read, fail
 use Rattle.server_commands.proofs.Contents.{one_kind, rotten_said, rotten_leaves, delete_never_rotten, delete_adds, delete_gives, missing_given, rotten_of_delete}
 use Rattle.server_commands.proofs.Deletions.{missing_served}
 use Rattle.server_commands.proofs.Doing.{served_still, stays_executes, adds_executes}
-use Rattle.server_commands.proofs.EntryLaws.{Answer, keeping}
+use Rattle.server_commands.proofs.EntryLaws.{keeping}
 use Rattle.server_commands.proofs.Reread.{does_read, behind_read, both_read, both_failed, leaves_failed, leaves_rotten, counts_at}
 
 module _ (user : UserId) (tag : Tag) (version : Version) where

@@ -55,7 +55,7 @@ served_added full outcome reply command e is = ap (λ (o : Outcome). unless_full
 
 -- ---- nothing is added
 
-images_served : (s : CloudStore) (cloud : Cloud) (list : List Command) → ServesSome list s cloud → (image : Image) → IsImage cloud.now image → StandsFor image s.header list
+pub images_served : (s : CloudStore) (cloud : Cloud) (list : List Command) → ServesSome list s cloud → (image : Image) → IsImage cloud.now image → StandsFor image s.header list
 images_served s cloud list some image left = images_on s.header list some.c s.disk cloud some.serves.known.on image left
 
 pub served_still : (old new : CloudStore) (after : Cloud) (list : List Command) (request : Request) (content : List ℕ) (reply : Reply) → serves old list request ≡ only reply

@@ -1,5 +1,5 @@
 -- An entry's recipe, read by an open store.
-use Rattle.std.proofs.Common.{◌≡◌, ◌⊎◌, ℕ, ◌<◌, ◌≤◌, List, [], length, Some, Result, Ok, Err, IsTrue, refl, sym, ap, ◌∙◌, subst}
+use Rattle.std.proofs.Common.{◌≡◌, ◌⊎◌, ℕ, ◌<◌, ◌≤◌, List, [], length, Some, Ok, Err, IsTrue, refl, sym, ap, ◌∙◌, subst}
 use Rattle.std.specs.Prelude.{OnOk}
 use Rattle.std.specs.FinMap.{get}
 use Rattle.server_reads.specs.CdBase.Limits.{recipe_limit}
@@ -25,16 +25,13 @@ use Rattle.server_reads.specs.CloudMemory.Rooms.{memory_of}
 use Rattle.cloud_store.specs.declared.store.CloudStore.{CloudStore}
 use Rattle.cloud_store.specs.Store.{Serves}
 use Rattle.cloud_store.proofs.Keeping.{reads_serve, reads_settled}
-use Rattle.server_reads.specs.declared.blobs.BlobStop.{BlobStop}
 use Rattle.server_reads.specs.declared.blobs.BlobStop.TheVariants as stops
 use Rattle.server_reads.specs.Found.{IsOther, IsFoundRecipe, ReadsLog}
 use Rattle.server_reads.specs.Reading.{IfRotten}
 use Rattle.server_reads.proofs.Held.{entry_stands}
+use Rattle.server_reads.proofs.Calling.{Answer}
 use Rattle.server_commands.specs.Executing.{IsStoreReady}
 use Rattle.server_commands.specs.Steps.{HasOnlyReadRecipes, ReadsFile}
-
-abbrev pub Answer : Type 0
-Answer = Result (Unit {0}) BlobStop
 
 -- ---- what is found
 

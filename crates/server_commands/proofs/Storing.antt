@@ -1,14 +1,12 @@
 -- Shares that are new to a user: what they leave in the memory, where what is staged of them ends, and that each of them is one that the
 -- user doesn't own.
-use Rattle.std.proofs.Common.{◌≡◌, ℕ, ◌+◌, ◌≤◌, max, Bool, true, false, cond, List, [], ◌∷◌, ◌++◌, length, map, Option, Some, None, refl, sym, ap, ◌∙◌, arith}
-use Rattle.std.specs.Prelude.{All, is_some, ◌||◌, bytes_eq}
-use Rattle.std.specs.Option.{option_or}
+use Rattle.std.proofs.Common.{◌≡◌, ℕ, ◌+◌, ◌≤◌, max, Bool, true, false, cond, List, [], ◌∷◌, ◌++◌, length, map, Some, None, refl, sym, ap, ◌∙◌, arith}
+use Rattle.std.specs.Prelude.{All, is_some, ◌||◌}
 use Rattle.std.specs.FinMap.{FinMap, get}
 use Rattle.std.proofs.lemmas.List.{length-map}
 use Rattle.std.proofs.lemmas.List.Elements.{All-nil, All-cons, All-head, All-tail}
 use Rattle.server_reads.specs.CdBase.ids.Fp.{Fp}
 use Rattle.server_reads.specs.CdBase.ids.UserId.{UserId}
-use Rattle.server_reads.specs.CdBase.place.Place.{Place}
 use Rattle.server_reads.specs.ContainerLog.Laying.{lengths}
 use Rattle.server_reads.specs.ContainerLog.Places.{place_of, end_after, end_of_laid}
 use Rattle.server_reads.proofs.ContainerLog.Least.{place_behind}
@@ -23,11 +21,12 @@ use Rattle.server_reads.specs.CloudMemory.News.{AreOf, AreApart, AreNewTo}
 use Rattle.server_reads.specs.CloudMemory.Rooms.{memory_of}
 use Rattle.server_reads.specs.CloudMemory.Sharing.{AreOwned}
 use Rattle.server_reads.specs.CloudMemory.Steps.{end_with, with_item, with_items, with_put, part_in, parts_of}
-use Rattle.server_reads.proofs.MemoryProofs.Adding.{Others, others, rest_apart}
-use Rattle.server_reads.proofs.MemoryProofs.Puts.{place_for, placed_more}
+use Rattle.server_reads.proofs.MemoryProofs.Adding.{others, rest_apart}
 use Rattle.cloud_store.specs.declared.store.CloudStore.{CloudStore}
 use Rattle.cloud_store.specs.Store.{EndsMeet}
 use Rattle.cloud_store.specs.Adding.{IsShareNew, EndBehind, unplaced}
+use Rattle.cloud_store.proofs.Fields.{first_or}
+use Rattle.cloud_store.proofs.Held.{rest_fps, first_len, rest_lens, same_rest}
 use Rattle.server_commands.specs.Entering.{new_of, unowned_from, unowned, storing}
 use Rattle.server_commands.specs.Steps.{HasNewsStaged}
 
@@ -55,43 +54,6 @@ pub as_many : (news : List New) (strings : List (List ℕ)) → AreOf news strin
 as_many news strings of = sym (length-map news (λ (n : New). n.fp)) ∙ ap length of.fps ∙ length-map strings fingerprint
 
 -- ---- where what is staged ends
-
-same_test : (m : Memory) (user : UserId) (n : New) (x : Fp) → bytes_eq n.fp.0 x.0 ≡ false → get (with_item user m (part_in m n)).places x.0 ≡ get m.places x.0
-same_test m user n x other =
-    placed_more m user n x ∙ ap (λ (b : Bool). option_or (get m.places x.0) (cond b (Some (place_for m n)) None)) other ∙ or_none (get m.places x.0)
-  where
-    or_none : (o : Option Place) → option_or o None ≡ o
-    or_none None = refl
-    or_none (Some p) = refl
-
-abbrev first_or : Fp → List Fp → Fp
-first_or other [] = other
-first_or other (fp ∷ fps) = fp
-
-abbrev rest_fps : List Fp → List Fp
-rest_fps [] = []
-rest_fps (fp ∷ fps) = fps
-
-abbrev first_len : List ℕ → ℕ
-first_len [] = 0
-first_len (n ∷ ns) = n
-
-abbrev rest_lens : List ℕ → List ℕ
-rest_lens [] = []
-rest_lens (n ∷ ns) = ns
-
--- the others are tested as before
-same_rest : (m : Memory) (user : UserId) (n : New) (news : List New) (strings : List (List ℕ)) → map (λ (k : New). k.fp) news ≡ map fingerprint strings → Others n news
-    → unplaced (with_item user m (part_in m n)).places strings ≡ unplaced m.places strings
-same_rest m user n news [] fps other = refl
-same_rest m user n [] (s ∷ strings) fps other = absurd (let no : [] ≡ fingerprint s ∷ map fingerprint strings = fps in cc)
-same_rest m user n (k ∷ news) (s ∷ strings) fps other =
-    let fp_is : k.fp ≡ fingerprint s = ap (first_or k.fp) fps in
-    let mid = with_item user m (part_in m n) in
-    let test : is_some (get mid.places (fingerprint s).0) ≡ is_some (get m.places (fingerprint s).0) =
-    ap (λ (o : Option Place). is_some o) (same_test m user n (fingerprint s) (ap (λ (f : Fp). bytes_eq n.fp.0 f.0) (sym fp_is) ∙ other.0)) in
-    let rest = same_rest m user n news strings (ap rest_fps fps) other.1 in
-    λ i. cond (test i) (rest i) (s ∷ rest i)
 
 one_end : (end len : ℕ) (s : List ℕ) (rest : List (List ℕ)) (b : Bool) → len ≡ length s
     → end_of_laid (end_with end (cond b None (Some (record { at = place_of end len; len = len })))) (lengths rest) ≡ end_of_laid end (lengths (cond b rest (s ∷ rest)))

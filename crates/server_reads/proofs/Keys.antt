@@ -3,9 +3,7 @@ use Rattle.std.proofs.Common.{◌≡◌, ℕ, ◌≤◌, Bool, true, false, cond
 use Rattle.std.specs.Prelude.{filter, slice_get}
 use Rattle.std.proofs.lemmas.List.{take_all}
 use Rattle.std.proofs.Math.Seq.{take-append_seam}
-use Rattle.cloud_memory.specs.CdBase.ids.Tag.{Tag}
 use Rattle.cloud_memory.specs.CdBase.ids.UserId.{UserId}
-use Rattle.cloud_memory.specs.CdBase.ids.Version.{Version}
 use Rattle.cloud_memory.specs.CdBase.shape.Shape.{Shape}
 use Rattle.messages.specs.MessageFields.Keys.{is_above, IsKey, AreAbove, AreKeys}
 use Rattle.cloud_memory.specs.UserDedup.command.Command.{Command}
@@ -14,10 +12,8 @@ use Rattle.cloud_memory.specs.UserDedup.Cloud.{user_view}
 use Rattle.cloud_memory.specs.UserDedup.Pages.{sorted_keys}
 use Rattle.cloud_memory.specs.UserDedup.Pages.{key_of as file_key}
 use Rattle.cloud_memory.specs.Memory.{Memory, Remembers, keys_above}
+use Rattle.cloud_memory.proofs.UserDedup.Pages.{Key}
 use Rattle.server_reads.proofs.Rising.{keys_behind}
-
-abbrev Key : Type 0
-Key = Tag × Version
 
 -- ---- the next key
 

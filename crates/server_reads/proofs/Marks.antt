@@ -1,5 +1,5 @@
 -- Flags, one for each fingerprint, and the first fingerprint that lacks.
-use Rattle.std.proofs.Common.{◌≡◌, ℕ, suc, ◌+◌, Bool, ◌≤◌, true, false, cond, List, [], ◌∷◌, ◌++◌, length, take, drop, Some, sym, ap, ◌∙◌, arith, drop-cons, add-one}
+use Rattle.std.proofs.Common.{◌≡◌, ℕ, suc, ◌+◌, Bool, ◌≤◌, true, false, cond, List, [], ◌∷◌, ◌++◌, length, take, drop, Some, sym, ap, ◌∙◌, arith, add-one}
 use Rattle.std.specs.Prelude.{All, slice_get}
 use Rattle.std.proofs.lemmas.List.{take_more, drop_all, length-map}
 use Rattle.std.proofs.lemmas.List.Elements.{All-nil, All-cons}
@@ -17,9 +17,6 @@ use Rattle.server_reads.specs.Owned.{is_owned, owned_flag, owned_flags}
 
 pub one_more : {A : Type 0} (xs : List A) (i : ℕ) (x : A) → slice_get xs i ≡ Some x → take (i + 1) xs ≡ take i xs ++ x ∷ []
 one_more xs i x e = take_more xs i x (slice_get_within xs i x e) ∙ ap (λ y. take i xs ++ y ∷ []) (get_or_from_slice_get xs i x x e)
-
-pub front_gone : {A : Type 0} (xs : List A) (i : ℕ) (x : A) → slice_get xs i ≡ Some x → drop i xs ≡ x ∷ drop (i + 1) xs
-front_gone xs i x e = rw (add-one, drop-cons xs i x (slice_get_within xs i x e)) (ap (λ y. y ∷ drop (suc i) xs) (get_or_from_slice_get xs i x x e))
 
 pub lacks_here : (own : List Fp) (i : ℕ) (fp : Fp) (fps : List Fp) → is_among own fp ≡ false → lacking_from own i (fp ∷ fps) ≡ Some i
 lacks_here own i fp fps e = ap (λ b. cond b (lacking_from own (suc i) fps) (Some i)) e

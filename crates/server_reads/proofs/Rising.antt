@@ -1,44 +1,19 @@
 -- Keys that rise, and those that are above one of them.
-use Rattle.std.proofs.Common.{rules, ◌≡◌, Bool, true, false, cond, List, [], ◌∷◌, map, Option, Some, None, refl, sym, ap, ◌∙◌, subst, inl, inr}
+use Rattle.std.proofs.Common.{◌≡◌, Bool, true, false, cond, List, [], ◌∷◌, map, Option, Some, None, refl, sym, ap, ◌∙◌, subst}
 use Rattle.std.specs.Prelude.{filter}
 use Rattle.std.specs.List.{Contains}
-use Rattle.std.specs.declared.cmp.Ordering.{Ordering}
-use Rattle.std.specs.declared.cmp.Ordering.TheVariants.{Less, Equal, Greater}
-use Rattle.std.specs.Ordering.{nat_cmp, on, then_cmp, ordering_reverse, is_lt}
-use Rattle.std.specs.Cmp.{IsTotalOrder}
-use Rattle.std.specs.Cmp.Rules.{comparing}
-use Rattle.std.specs.Cmp.Lexicographic.{slice_cmp}
+use Rattle.std.specs.declared.cmp.Ordering.TheVariants.{Less}
+use Rattle.std.specs.Ordering.{ordering_reverse, is_lt}
 use Rattle.std.proofs.lemmas.Cmp.{tied_itself}
-use Rattle.cloud_memory.specs.CdBase.ids.Tag.{Tag}
-use Rattle.cloud_memory.specs.CdBase.ids.Version.{Version}
 use Rattle.messages.specs.MessageFields.Keys.{is_above, AreAbove}
 use Rattle.messages.specs.MessageFields.Keys.{key_cmp as cmp_keys}
 use Rattle.cloud_memory.specs.UserDedup.file_list.FileEntry.{FileEntry}
 use Rattle.cloud_memory.specs.UserDedup.Pages.{sorted_keys}
 use Rattle.cloud_memory.specs.UserDedup.Pages.{key_of as file_key}
-use Rattle.cloud_memory.proofs.UserDedup.Owned.{contains_here, contains_later, contains_nothing, contains_cases}
-use Rattle.cloud_memory.proofs.UserDedup.Pages.{sorted_above}
+use Rattle.cloud_memory.proofs.UserDedup.Owned.{contains_here, contains_later}
+use Rattle.cloud_memory.proofs.UserDedup.Pages.{sorted_above, Key}
+use Rattle.cloud_memory.proofs.Next.{less_above, keys_total, behind}
 use Rattle.cloud_memory.specs.Memory.{keys_above}
-
-abbrev Key : Type 0
-Key = Tag × Version
-
-less_above : (r : Ordering) → is_lt r ≡ true → r ≡ Less
-less_above Less e = refl
-less_above Equal e = cc
-less_above Greater e = cc
-
-keys_total : IsTotalOrder cmp_keys
-keys_total = let t : IsTotalOrder (then_cmp (on (λ (k : Key). k.0.0) (slice_cmp nat_cmp)) (on (λ (k : Key). k.1.0) nat_cmp)) = search (comparing, rules) in t
-
--- what stands behind a key of rising keys is above it
-behind : (key : Key) (keys : List Key) (k : Key) → AreAbove (Some key) keys → Contains keys k → cmp_keys key k ≡ Less
-behind key [] k a c = absurd (contains_nothing k c)
-behind key (other ∷ keys) k a c =
-    elim (contains_cases other keys k c) [
-      | inl same ↦ subst (λ y. cmp_keys key y ≡ Less) same (less_above (cmp_keys key other) a.0)
-      | inr later ↦ keys_total.trans key other k (less_above (cmp_keys key other) a.0) (behind other keys k a.1 later)
-    ]
 
 filter_all : (p : Key → Bool) (keys : List Key) → ((k : Key) → Contains keys k → p k ≡ true) → filter p keys ≡ keys
 filter_all p [] all = refl

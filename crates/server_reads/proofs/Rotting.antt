@@ -10,10 +10,10 @@ use Rattle.server_reads.specs.Allowed.{Replies, SharesReply, RecipeReply}
 use Rattle.server_reads.proofs.Calling.{kinds}
 
 -- two lists alike, with fronts of one length, have the same fronts and rests
-fronts : (a b c d : List ℕ) → a ++ b ≡ c ++ d → length a ≡ length c → a ≡ c
+pub fronts : (a b c d : List ℕ) → a ++ b ≡ c ++ d → length a ≡ length c → a ≡ c
 fronts a b c d e long = sym (take-append_seam a b) ∙ ap (take (length a)) e ∙ ap (λ n. take n (c ++ d)) long ∙ take-append_seam c d
 
-rests : (a b c d : List ℕ) → a ++ b ≡ c ++ d → length a ≡ length c → b ≡ d
+pub rests : (a b c d : List ℕ) → a ++ b ≡ c ++ d → length a ≡ length c → b ≡ d
 rests a b c d e long = sym (drop-append_seam a b) ∙ ap (drop (length a)) e ∙ ap (λ n. drop n (c ++ d)) long ∙ drop-append_seam c d
 
 same_named : (content : List ℕ) (a b c d : Fp) → IsReply content (replies.Rotten a b) → IsReply content (replies.Rotten c d) → c ≡ a

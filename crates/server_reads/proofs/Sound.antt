@@ -1,9 +1,9 @@
 -- What sound lists bring: shares and recipes of the lengths that they may have.
-use Rattle.std.proofs.Common.{◌≡◌, ℕ, ◌≤◌, List, [], ◌∷◌, ◌++◌, length, get_or, Some, None, sym, ap, subst, arith, inl, inr, ◌⊎◌, append-nil}
+use Rattle.std.proofs.Common.{◌≡◌, ℕ, ◌≤◌, List, [], ◌∷◌, ◌++◌, length, Some, None, sym, ap, subst, arith, inl, inr, ◌⊎◌, append-nil}
 use Rattle.std.specs.Prelude.{All}
 use Rattle.std.specs.List.{Contains, flat_map}
 use Rattle.std.proofs.lemmas.Bool.{cases_eq}
-use Rattle.std.proofs.lemmas.List.Elements.{All-nil, All-append, All-contains, Contains-get_or, Contains-push_cases}
+use Rattle.std.proofs.lemmas.List.Elements.{All-nil, All-append, All-contains, Contains-push_cases}
 use Rattle.std.proofs.lemmas.Grind.{flat_map-append}
 use Rattle.cloud_memory.specs.CdBase.ids.UserId.{UserId}
 use Rattle.cloud_memory.specs.CdBase.shape.Shape.{Shape}
@@ -27,9 +27,7 @@ use Rattle.cloud_memory.proofs.UserDedup.New.{are_new}
 use Rattle.cloud_memory.proofs.UserDedup.Views.{own_adds, others_stay}
 use Rattle.cloud_memory.proofs.UserDedup.Deleting.{entries_left}
 use Rattle.cloud_memory.proofs.UserDedup.Sound.{put_adds, commit_adds, deletes_from}
-
-all_from : {A : Type 0} (P : A → Type 0) (xs : List A) → ((x : A) → Contains xs x → P x) → All P xs
-all_from P xs f k d l = f (get_or xs k d) (Contains-get_or xs k d l)
+use Rattle.cloud_memory.proofs.UserDedup.Suiting.{all_from}
 
 -- a recipe of some byte, and no more than the most
 abbrev IsSmall : List ℕ → Type 0

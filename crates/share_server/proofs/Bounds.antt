@@ -27,7 +27,7 @@ use Rattle.server_requests.specs.UserDedup.command.Command.{Command}
 use Rattle.server_requests.specs.UserDedup.command.Command.TheVariants as commands
 use Rattle.server_requests.specs.UserDedup.Cloud.{fingerprint, user_view, is_of, commands_of, strings_of, strings_in, held_string, held_bytes}
 use Rattle.server_requests.specs.UserDedup.Dedup.{FullRoom, room_for, by_room, answer_over, IsSound}
-use Rattle.server_requests.specs.UserDedup.Owning.{is_among, first_lacking, new_strings}
+use Rattle.server_requests.specs.UserDedup.Owning.{first_lacking, new_strings}
 use Rattle.server_requests.specs.UserDedup.Pages.{entry_at}
 use Rattle.server_requests.specs.UserDedup.Requests.{fps_of, HasRecipe}
 use Rattle.server_requests.specs.UserDedup.Served.{served_by}
@@ -35,7 +35,7 @@ use Rattle.server_requests.specs.UserDedup.Spending.{SpentByUser, nothing, held_
 use Rattle.server_requests.proofs.UserDedup.New.{are_new}
 use Rattle.server_requests.proofs.UserDedup.Sound.{put_adds, commit_adds, deletes_from}
 use Rattle.server_requests.proofs.UserDedup.Spending.{commands_more, each_within}
-use Rattle.server_requests.proofs.UserDedup.Suiting.{suits}
+use Rattle.server_requests.proofs.UserDedup.Suiting.{suits, few_new}
 use Rattle.server_requests.proofs.UserDedup.Views.{held_is}
 use Rattle.server_requests.proofs.ServerReads.Sound.{strings_fit}
 
@@ -46,15 +46,6 @@ abbrev IsBounded : Command → Type 0
 IsBounded (commands.Put user shares) = (length shares ≤ 256) × All IsShare shares
 IsBounded (commands.Commit user tag version recipe) = length recipe ≤ 1180190
 IsBounded (commands.Delete user tag version) = Unit {0}
-
-few_new : (own : List Fp) (sent : List (List ℕ)) → length (new_strings own sent) ≤ length sent
-few_new own [] = omega arith
-few_new own (s ∷ sent) = by_test (is_among own (fingerprint s)) (few_new own sent) (few_new (own ++ fingerprint s ∷ []) sent)
-  where
-    by_test : (b : Bool) → length (new_strings own sent) ≤ length sent → length (new_strings (own ++ fingerprint s ∷ []) sent) ≤ length sent
-        → length (cond b (new_strings own sent) (s ∷ new_strings (own ++ fingerprint s ∷ []) sent)) ≤ suc (length sent)
-    by_test true old new = omega arith
-    by_test false old new = omega arith
 
 all_new : (own : List Fp) (sent : List (List ℕ)) → All IsShare sent → All IsShare (new_strings own sent)
 all_new own sent all k d l = All-contains IsShare sent (get_or (new_strings own sent) k d) all ((are_new own sent).among (get_or (new_strings own sent) k d) (Contains-get_or (new_strings own sent) k d l)).0

@@ -15,8 +15,9 @@ use Rattle.blob_copy.specs.CloudOpening.Exact.{Replays, Ended, Early, Taken, Ref
 use Rattle.blob_copy.specs.CloudOpening.Spared.{MayBegin, Spares}
 use Rattle.blob_copy.specs.CloudOpening.Steps.{IsOfRecords}
 use Rattle.blob_copy.proofs.CloudOpening.Bounds.{closes_kind}
-use Rattle.blob_copy.proofs.CloudOpening.Current.{same_start, not_unbegun}
+use Rattle.blob_copy.proofs.CloudOpening.Current.{same_start}
 use Rattle.blob_copy.proofs.CloudOpening.OneStart.{unbegun_whole, current_whole}
+use Rattle.blob_copy.proofs.CommitJournal.Opening.{not_unbegun}
 use Rattle.share_server.specs.Openings.{NotBegunIs, HasNoOther, OtherStoreIs}
 
 -- ---- records

@@ -1,5 +1,5 @@
 -- What an opening makes of a peer.
-use Rattle.std.proofs.Common.{◌≡◌, inl, ℕ, Bool, true, false, List, Result, Ok, Err, IsTrue, refl, sym, ◌∙◌, subst}
+use Rattle.std.proofs.Common.{◌≡◌, inl, ℕ, Bool, true, false, List, Result, Ok, Err, IsTrue, refl, sym, ◌∙◌, subst, []}
 use Rattle.std.specs.Prelude.{IfOk, OnOk, OnErr}
 use Rattle.server_requests.specs.CdEdges.Causes.{Rose}
 use Rattle.server_requests.specs.CdEdges.area.Area.TheVariants.{Journal}
@@ -32,6 +32,7 @@ use Rattle.share_server.specs.Serving.{ServesAs, ReopensAs, IsUnopened, an_error
 use Rattle.share_server.specs.Steps.{OpensAs}
 use Rattle.share_server.proofs.ByteLaws.{other_store_is}
 use Rattle.share_server.proofs.Peers.{open_serves, closed_serves, shut_closed, read_stands, may_hold, none_unbegun}
+use Rattle.share_server.specs.Names.{HasNoJournal}
 
 -- the same list and pending command, and the counts of the cloud
 still_peer : Peer → Cloud → Peer
@@ -191,3 +192,7 @@ is_unopened old new before after error shut format rooms exact whole spares = re
 pub read_to_end : (s : CloudStore) (header : Header) (cloud : Cloud) (r : Result ℕ OpenErr) → IfOk r (λ commands. IsReadWhole header s.disk.journal (memory_of s.memory) commands cloud) → OnOk r (IsReadToEnd s cloud)
 read_to_end s header cloud (Err e) is = tt
 read_to_end s header cloud (Ok commands) is = (is.w, is.ended)
+
+-- areas without a journal stand for no commands
+abbrev pub NoneStands : Type 0
+NoneStands = (image : Image) (header : Header) → HasNoJournal image → StandsFor image header []

@@ -1,5 +1,5 @@
 -- A store that serves a list, and one that is shut, as a peer.
-use Rattle.std.proofs.Common.{◌≡◌, ⊎_elim, inl, ℕ, List, ◌∷◌, ◌++◌, [], Option, Some, None, refl, sym, ◌∙◌, subst}
+use Rattle.std.proofs.Common.{◌≡◌, ⊎_elim, inl, ℕ, List, ◌∷◌, ◌++◌, [], Some, refl, sym, ◌∙◌, subst}
 use Rattle.server_requests.specs.CdBase.shape.Shape.{Shape}
 use Rattle.server_requests.specs.CdEdges.area.Area.TheVariants.{Journal}
 use Rattle.server_requests.specs.CdEdges.Disk.{Cloud, Image, IsImage, reads}
@@ -10,24 +10,22 @@ use Rattle.server_requests.specs.JournalStart.start.Header.{Header}
 use Rattle.server_requests.specs.JournalStart.Ranges.{AreRooms}
 use Rattle.server_requests.specs.Messages.request.Request.{Request}
 use Rattle.server_requests.specs.UserDedup.command.Command.{Command}
-use Rattle.server_requests.specs.UserDedup.Dedup.{Outcome, FullRoom, answer_over, room_for, by_room, unless_full}
+use Rattle.server_requests.specs.UserDedup.Dedup.{answer_over}
 use Rattle.server_requests.specs.UserDedup.Exec.{Peer, MaySettleAs}
 use Rattle.server_requests.specs.UserDedup.Served.{served_by}
 use Rattle.server_requests.specs.UserDedup.Spending.{full_for, IsWithin}
 use Rattle.server_requests.proofs.UserDedup.Within.{next_within}
+use Rattle.server_requests.proofs.ServerCommands.Doing.{images_served}
 use Rattle.blob_copy.specs.CloudAreas.Peers.{ImagesNow}
 use Rattle.blob_copy.specs.CloudAreas.Standing.{StandsFor}
-use Rattle.blob_copy.proofs.CloudOpening.DiskProofs.Standing.{images_on}
+use Rattle.blob_copy.proofs.CommitJournal.Opening.{not_unbegun}
+use Rattle.blob_copy.proofs.UserDedup.Served.{has_room}
 use Rattle.blob_copy.specs.CloudOpening.RecordLaws.Leaving.{MayHold}
-use Rattle.blob_copy.proofs.CloudOpening.Current.{not_unbegun}
 use Rattle.server_requests.specs.CloudStore.store.CloudStore.{CloudStore}
 use Rattle.server_requests.specs.CloudStore.Store.{IsOpen, ServesSome}
 use Rattle.share_server.specs.Serving.{ServesAs, settled_with}
 
 -- ---- a store that serves a list
-
-pub images_served : (s : CloudStore) (cloud : Cloud) (list : List Command) → ServesSome list s cloud → (image : Image) → IsImage cloud.now image → StandsFor image s.header list
-images_served s cloud list some image left = images_on s.header list some.c s.disk cloud some.serves.known.on image left
 
 -- it stands as the peer with that list and nothing pending
 pub open_serves : (s : CloudStore) (cloud : Cloud) (list : List Command) → ServesSome list s cloud → ServesAs s cloud (settled_with list cloud)
@@ -78,21 +76,6 @@ none_unbegun image header list stands none = ⊎_elim
     (λ empty. empty.1) stands.1
 
 -- ---- a command that is added
-
-by_answer : (full : Command → Option FullRoom) (outcome : Outcome) (c command : Command) (room : Option FullRoom) → full c ≡ room → outcome.adds ≡ Some c
-    → (by_room outcome room).adds ≡ Some command → full command ≡ None
-by_answer full outcome c command None is adds e =
-    let same : c ≡ command = (let both : Some c ≡ Some command = sym adds ∙ e in cc) in
-    subst (λ (d : Command). full d ≡ None) same is
-by_answer full outcome c command (Some room) is adds e = absurd (let no : None ≡ Some command = e in cc)
-
-by_added : (full : Command → Option FullRoom) (outcome : Outcome) (command : Command) (added : Option Command) → outcome.adds ≡ added
-    → (by_room outcome (room_for full added)).adds ≡ Some command → full command ≡ None
-by_added full outcome command None is e = absurd (let no : None ≡ Some command = sym is ∙ e in cc)
-by_added full outcome command (Some c) is e = by_answer full outcome c command (full c) refl is e
-
-has_room : (full : Command → Option FullRoom) (outcome : Outcome) (command : Command) → (unless_full full outcome).adds ≡ Some command → full command ≡ None
-has_room full outcome command e = by_added full outcome command outcome.adds refl e
 
 pub within_more : (rooms : UserRooms) (shape : Shape) (cloud : ℕ) (list : List Command) (request : Request) (command : Command) → IsWithin shape rooms list
     → (served_by rooms shape cloud list request).adds ≡ Some command → IsWithin shape rooms (list ++ command ∷ [])

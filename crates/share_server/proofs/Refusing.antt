@@ -1,5 +1,5 @@
 -- What the replies aren't that say that a server isn't opened, or that a device failed.
-use Rattle.std.proofs.Common.{◌≡◌, ℕ, List, ◌∷◌, get_or, refl, sym, ap, ◌∙◌, subst, arith}
+use Rattle.std.proofs.Common.{◌≡◌, ℕ, List, ◌∷◌, refl, sym, ap, ◌∙◌, subst, arith}
 use Rattle.std.specs.Prelude.{◌≢◌}
 use Rattle.server_requests.specs.CdBase.ids.Fp.{Fp}
 use Rattle.server_requests.specs.CdBase.shape.Shape.{Shape}
@@ -22,11 +22,9 @@ use Rattle.server_requests.specs.ServerCommands.Entering.{Enters}
 use Rattle.blob_copy.specs.CloudOpening.CloudMemory.Memory.{Memory}
 use Rattle.server_requests.specs.CloudStore.store.CloudStore.{CloudStore}
 use Rattle.server_requests.specs.CloudStore.Store.{IsOpen}
+use Rattle.server_requests.proofs.ServerReads.Calling.{kinds}
 use Rattle.share_server.specs.Refusals.{IsRefusal, IsErrorReply, MayCome}
 use Rattle.share_server.specs.Serving.{Answered, an_error}
-
-kinds : (content : List ℕ) (a b : ℕ) (xs ys : List ℕ) → content ≡ a ∷ xs → content ≡ b ∷ ys → a ≡ b
-kinds content a b xs ys one two = ap (λ (l : List ℕ). get_or l 0 0) (sym one ∙ two)
 
 rotten_or : (content : List ℕ) (reply : Reply) (same : Reply) (named found : Fp) → IsReply content reply → reply ≡ same → IsReply content (replies.Rotten named found)
     → content ≡ reply_bytes same

@@ -29,6 +29,7 @@ use Rattle.first_laws.specs.FirstRecords.Limits.{limit_of}
 use Rattle.large_users.specs.Large.{IsNonePassed, IsCountedBy}
 use Rattle.large_users.specs.MigrationModel.Migrating.{AreSmallEnough, header_two}
 use Rattle.cloud_opening.specs.Synced.{AreSynced, BeginsSynced}
+use Rattle.cloud_opening.proofs.Synced.{counts_still}
 use Rattle.store_migration.specs.declared.errors.MigrateErr.{MigrateErr}
 use Rattle.store_migration.specs.declared.errors.MigrateErr.TheVariants as why
 use Rattle.store_migration.specs.Answers.{MigratedAs, OnFault, IfAnswered, IfRefused, IfNoMemory}
@@ -224,9 +225,6 @@ kept_counts cloud now = record { cloud = refl; total = refl }
 
 pub no_call : (clouds : ℕ → Cloud) (number now : ℕ) → IsCall clouds clouds number now now
 no_call clouds number now = record { others = λ other ne. refl; told = refl; armings = refl; later = omega arith; total_later = omega arith }
-
-counts_still : (a b c : Cloud) (before mid now : ℕ) → KeepsCounts a b before mid → KeepsCounts b c mid now → KeepsCounts a c before now
-counts_still a b c before mid now first second = record { cloud = second.cloud ∙ first.cloud; total = second.total ∙ first.total }
 
 -- the counts of calls behind some that were Ok
 pub counted_behind : (result : Result ℕ MigrateErr) (a b c : ℕ → Cloud) (number before mid now : ℕ) → IsCall a b number before mid → KeepsCounts (a number) (b number) before mid

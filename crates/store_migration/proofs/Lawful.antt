@@ -1,21 +1,19 @@
 -- Each record of a chain of format 1 that lays a list is taken, and the memory that is left is what they leave.
-use Rattle.std.proofs.Common.{◌≡◌, ◌⊎◌, inl, inr, ℕ, ◌+◌, ◌-◌, ◌*◌, ◌≤◌, List, [], ◌∷◌, ◌++◌, length, map, take, drop, nat_lt, Option, Some, None, Result, Ok, Err, refl, sym, ◌∙◌, ap, subst, arith, append_assoc, append-nil, length-append}
+use Rattle.std.proofs.Common.{◌≡◌, ◌⊎◌, inl, inr, ℕ, ◌+◌, ◌-◌, ◌*◌, ◌≤◌, List, [], ◌∷◌, ◌++◌, length, map, drop, nat_lt, Option, Some, None, Result, Ok, Err, refl, sym, ◌∙◌, ap, subst, arith, append_assoc, append-nil, length-append}
 use Rattle.std.specs.Prelude.{All}
-use Rattle.std.proofs.Math.Seq.{take-append-add}
-use Rattle.std.proofs.lemmas.List.{drop_at}
 use Rattle.std.proofs.lemmas.List.Elements.{All-head, All-tail}
 use Rattle.fresh_checkpoints.specs.CdEdges.area.Area.TheVariants.{Journal, Shares, Recipes}
 use Rattle.fresh_checkpoints.specs.CdEdges.Disk.{Image}
-use Rattle.cloud_opening.specs.JournalHalves.Records.{sized, chain, IsJournal}
+use Rattle.cloud_opening.specs.JournalHalves.Records.{IsJournal}
 use Rattle.cloud_opening.specs.JournalHalves.Frames.{IsClosed, IsRecord}
 use Rattle.cloud_opening.proofs.JournalHalves.Headed.{one_record}
-use Rattle.cloud_opening.proofs.JournalHalves.Unique.{undamaged, whole_record}
+use Rattle.cloud_opening.proofs.JournalHalves.Unique.{undamaged}
 use Rattle.cloud_opening.specs.JournalStart.start.Checkpoint.{Checkpoint}
 use Rattle.cloud_opening.specs.JournalStart.start.Header.{Header}
 use Rattle.cloud_opening.specs.JournalStart.start.Start.{Start}
 use Rattle.cloud_opening.specs.JournalStart.Ranges.{IsBehind}
 use Rattle.cloud_opening.specs.JournalStart.Spelling.{start_bytes, records_of, commands_of, region_of, recipes_end_of}
-use Rattle.fresh_checkpoints.specs.JournalHalves.Halves.{half_len, half_of}
+use Rattle.fresh_checkpoints.specs.JournalHalves.Halves.{half_len}
 use Rattle.fresh_checkpoints.specs.JournalHalves.Findings.{part_of}
 use Rattle.cloud_opening.specs.RecordBody.Spelling.{Body, body_bytes, FitsBody}
 use Rattle.cloud_opening.specs.UserDedup.command.Command.{Command}
@@ -29,6 +27,7 @@ use Rattle.cloud_opening.specs.RecordLaws.Fronts.{is_inside}
 use Rattle.cloud_opening.proofs.RecordLaws.Chain.{checkpoint_within}
 use Rattle.cloud_opening.specs.Exact.{ground_of, ReadsFor, Recipe, Nothing}
 use Rattle.cloud_opening.proofs.Opened.{not_open, not_broken}
+use Rattle.cloud_opening.proofs.Lawful.{rest_after, record_first, closed_end, part_journal}
 use Rattle.first_laws.specs.FirstRecords.errors.FirstErr.{FirstErr}
 use Rattle.first_laws.specs.FirstRecords.Judging.{JudgesFirst}
 use Rattle.first_laws.proofs.FirstRecords.OneAnswer.{one_answer}
@@ -85,42 +84,6 @@ module _ (g : Ground) (half : ℕ) (start : Start) (recipes : List ℕ) (new : M
   by_end rest gate records old answer c full (Broken l k n at byte o damage) = absurd (not_broken rest gate at byte c damage)
 
 -- ---- records by their bytes
-
--- the rest behind the first record
-rest_after : (b : List ℕ) (bodies : List (List ℕ)) (rest : List ℕ) → IsJournal (b ∷ bodies) rest → IsJournal bodies (drop (5 + length b) rest)
-rest_after b bodies rest j =
-    let front = 1 ∷ sized b in let behind = chain bodies ++ j.gate ∷ j.behind in
-    let long : 5 + length b ≡ length front = omega (arith) in
-    let whole : rest ≡ front ++ behind = j.spelled ∙ append_assoc front (chain bodies) (j.gate ∷ j.behind) in
-    record {
-      gate = j.gate;
-      behind = j.behind;
-      sizes = j.sizes.1;
-      shut = j.shut;
-      spelled = ap (λ (l : List ℕ). drop (5 + length b) l) whole ∙ ap (λ (n : ℕ). drop n (front ++ behind)) long ∙ drop_at front behind (length front) refl;
-    }
-
-record_first : (b : List ℕ) (bodies : List (List ℕ)) (rest : List ℕ) → IsJournal (b ∷ bodies) rest → IsRecord rest b
-record_first b bodies rest j = whole_record b bodies j.gate j.behind rest j.sizes.0 j.spelled
-
-closed_end : (rest : List ℕ) → IsJournal [] rest → IsClosed rest
-closed_end rest j = record { gate = j.gate; behind = j.behind; shut = j.shut; spelled = j.spelled }
-
--- a chain within its half
-part_journal : (bodies : List (List ℕ)) (half : ℕ) (journal : List ℕ) → IsJournal bodies (half_of half journal) → length (chain bodies) + 1 ≤ half_len → IsJournal bodies (part_of half journal)
-part_journal bodies half journal j within =
-    let front = chain bodies ++ j.gate ∷ [] in
-    let long : length front ≡ length (chain bodies) + 1 = omega (arith, length-append (chain bodies) (j.gate ∷ [])) in
-    let m = half_len - length front in
-    let sum : half_len ≡ length front + m = omega (arith, long, within) in
-    let whole : half_of half journal ≡ front ++ j.behind = j.spelled ∙ sym (append_assoc (chain bodies) (j.gate ∷ []) j.behind) in
-    record {
-      gate = j.gate;
-      behind = take m j.behind;
-      sizes = j.sizes;
-      shut = j.shut;
-      spelled = ap (take half_len) whole ∙ ap (λ (n : ℕ). take n (front ++ j.behind)) sum ∙ take-append-add front j.behind m ∙ append_assoc (chain bodies) (j.gate ∷ []) (take m j.behind);
-    }
 
 -- a start of format 1 names no region
 no_region : (half : ℕ) (o : Option Checkpoint) → IsBehind half 1 o → region_of o ≡ 0

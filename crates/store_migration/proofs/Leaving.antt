@@ -1,5 +1,5 @@
 -- What a migration leaves of a cloud, whatever it stands for: the syncs and the reading, and then the checkpoint.
-use Rattle.std.proofs.Common.{◌≡◌, ◌≢◌, inl, inr, ℕ, Result, Ok, Err, OnOk, IfOk, refl, sym, ◌∙◌, ap, subst}
+use Rattle.std.proofs.Common.{◌≡◌, ◌≢◌, inl, inr, ℕ, Result, Ok, Err, IfOk, refl, sym, ◌∙◌, ap, subst}
 use Rattle.fresh_checkpoints.specs.CdBase.ids.CloudNo.{CloudNo}
 use Rattle.fresh_checkpoints.specs.CdBase.shape.Shape.{Shape}
 use Rattle.fresh_checkpoints.specs.CdEdges.area.Area.{Area}
@@ -11,7 +11,7 @@ use Rattle.fresh_checkpoints.proofs.CdEdges.Since.{image_of_stable}
 use Rattle.cloud_opening.specs.CommitJournal.States as journals
 use Rattle.cloud_opening.specs.JournalStart.rooms.UserRooms.{UserRooms}
 use Rattle.cloud_opening.specs.Synced.{AreSynced}
-use Rattle.cloud_opening.proofs.Synced.{synced_at}
+use Rattle.cloud_opening.proofs.Synced.{synced_at, on_ok}
 use Rattle.fresh_checkpoints.specs.JournalHalves.Journals.{Where, HasChain, IsEither}
 use Rattle.fresh_checkpoints.specs.CloudMemory.Memory.{Memory}
 use Rattle.fresh_checkpoints.specs.CloudMemory.Rooms.{memory_of}
@@ -65,10 +65,6 @@ with_others : (old : Cloud) (image : Image) (other : Area) → other ≢ Journal
 with_others old image Journal ne = absurd (ne refl)
 with_others old image Shares ne = refl
 with_others old image Recipes ne = refl
-
-on_ok : {T E : Type 0} (result : Result T E) (P Q : Type 0) → (P → Q) → OnOk result P → OnOk result Q
-on_ok (Ok value) P Q f is = f is
-on_ok (Err e) P Q f is = tt
 
 -- The areas of c0 were synced, and its journal was read to its end at c1. What came behind is a checkpoint in the place of its chain.
 module _ (shape : Shape) (cloud_no : CloudNo) (rooms : UserRooms) (memory : CloudMemory) (journal : journals.JournalState) (w : Where) (c0 c1 c2 : Cloud)

@@ -1,7 +1,6 @@
 pub mod Along
 pub mod Answering
 pub mod Asking
-pub mod AtGate
 pub mod Cases
 pub mod Lawful
 pub mod Leaving

@@ -1,22 +1,21 @@
 -- A journal of format 1 that is read into the memory, over the areas of a cloud.
-use Rattle.std.proofs.Common.{◌≡◌, inl, inr, ℕ, ◌+◌, ◌*◌, ◌<◌, ◌≤◌, List, [], ◌∷◌, length, drop, Option, Some, None, Result, Ok, Err, OnOk, refl, sym, ◌∙◌, ap, subst, arith, length-append}
+use Rattle.std.proofs.Common.{◌≡◌, inl, inr, ℕ, ◌+◌, ◌*◌, ◌<◌, ◌≤◌, List, length, drop, Option, Some, None, Result, Ok, Err, OnOk, refl, sym, ◌∙◌, ap, subst, arith}
 use Rattle.fresh_checkpoints.specs.CdBase.ids.CloudNo.{CloudNo}
 use Rattle.fresh_checkpoints.specs.CdBase.shape.Shape.{Shape}
 use Rattle.fresh_checkpoints.specs.CdEdges.area.Area.{Area}
 use Rattle.fresh_checkpoints.specs.CdEdges.area.Area.TheVariants.{Journal, Shares, Recipes}
 use Rattle.fresh_checkpoints.specs.CdEdges.Disk.{Store, Areas, Cloud, Image, reads}
 use Rattle.fresh_checkpoints.specs.CdEdges.Shelf.{stable, Stays}
-use Rattle.cloud_opening.specs.JournalHalves.Records.{chain}
 use Rattle.cloud_opening.specs.JournalStart.start.Checkpoint.{Checkpoint}
 use Rattle.cloud_opening.specs.JournalStart.start.Header.{Header}
 use Rattle.cloud_opening.specs.JournalStart.start.Start.{Start}
 use Rattle.cloud_opening.specs.JournalStart.Ranges.{IsBehind, usual_rooms}
-use Rattle.cloud_opening.specs.JournalStart.Spelling.{start_bytes, region_of, recipes_end_of}
+use Rattle.cloud_opening.specs.JournalStart.Spelling.{region_of, recipes_end_of}
 use Rattle.fresh_checkpoints.specs.JournalHalves.Halves.{half_len}
 use Rattle.fresh_checkpoints.specs.JournalHalves.Journals.{Where}
 use Rattle.fresh_checkpoints.specs.JournalHalves.Findings.{part_of}
 use Rattle.cloud_opening.specs.CommitJournal.Openings.{IsOpened}
-use Rattle.cloud_opening.specs.CommitJournal.States.{JournalState, IsJournalReading, IsJournalEnded}
+use Rattle.cloud_opening.specs.CommitJournal.States.{JournalState, IsJournalEnded}
 use Rattle.fresh_checkpoints.specs.CloudMemory.cloud.CloudMemory.{CloudMemory}
 use Rattle.fresh_checkpoints.specs.CloudMemory.Fitting.{FitsRecords}
 use Rattle.fresh_checkpoints.specs.CloudMemory.Greatest.{KeepsGreatest}
@@ -30,6 +29,7 @@ use Rattle.cloud_opening.specs.Exact.{ground_of}
 use Rattle.cloud_opening.specs.Steps.{HasChainEnded}
 use Rattle.cloud_opening.specs.Synced.{AreSynced}
 use Rattle.cloud_opening.proofs.Synced.{synced_at}
+use Rattle.cloud_opening.proofs.Loaded.{gate_behind}
 use Rattle.large_users.specs.MigrationModel.Migrating.{header_one}
 use Rattle.store_migration.specs.declared.errors.OldErr.{OldErr}
 use Rattle.store_migration.specs.declared.errors.OldErr.TheVariants.{NotBegun, Damaged, OtherStore, RoomsTooSmall}
@@ -79,12 +79,6 @@ loads_past g half recipes store before new end error is past error_is =
     inr (subst (λ (n : ℕ). g.recipes_len < n) is past, error_is ∙ ap (past_err half) is)
 
 -- ---- over the areas
-
--- the gate behind the start
-gate_behind : (state : JournalState) (store : Store) (w : Where) → IsJournalReading state store w → w.bodies ≡ [] → state.current.gate ≡ length (start_bytes w.start) + 5
-gate_behind state store w reading none =
-    let gate : state.current.gate ≡ length (chain (start_bytes w.start ∷ [])) = reading.read.gate ∙ ap (λ (l : List (List ℕ)). length (chain (start_bytes w.start ∷ l))) none in
-    omega (arith, gate, length-append (start_bytes w.start) [])
 
 -- format 1 has no regions
 no_region : (half format : ℕ) (o : Option Checkpoint) → format ≡ 1 → IsBehind half format o → region_of o ≡ 0

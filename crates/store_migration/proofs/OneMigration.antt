@@ -1,21 +1,16 @@
 -- One answer alone comes of a migration, whatever the bytes of the areas are.
-use Rattle.std.proofs.Common.{◌≡◌, ◌≢◌, ◌⊎◌, ℕ, ◌+◌, ◌*◌, ◌<◌, ◌≤◌, Bool, List, length, take, drop, nat_lt, Option, Some, None, Result, Ok, Err, OnOk, refl, sym, ◌∙◌, ap, subst, arith, inl, inr}
+use Rattle.std.proofs.Common.{◌≡◌, ◌≢◌, ◌⊎◌, ℕ, ◌+◌, ◌*◌, ◌<◌, ◌≤◌, Bool, List, length, drop, nat_lt, Option, Some, None, Result, Ok, Err, OnOk, refl, sym, ◌∙◌, ap, subst, arith, inl, inr}
 use Rattle.std.proofs.lemmas.Bool.{cases_lt}
 use Rattle.std.specs.Prelude.{slice_index}
 use Rattle.std.specs.Int.{w64, to_be_bytes}
 use Rattle.fresh_checkpoints.specs.CdBase.ids.CloudNo.{CloudNo}
 use Rattle.fresh_checkpoints.specs.CdBase.ids.UserId.{UserId}
-use Rattle.fresh_checkpoints.specs.CdBase.place.Place.{Place}
 use Rattle.fresh_checkpoints.specs.CdBase.shape.Shape.{Shape}
 use Rattle.fresh_checkpoints.specs.CdEdges.area.Area.TheVariants.{Journal, Recipes}
 use Rattle.fresh_checkpoints.specs.CdEdges.Disk.{Image}
 use Rattle.cloud_opening.specs.JournalHalves.Frames.{IsRecord}
 use Rattle.cloud_opening.proofs.JournalHalves.Headed.{one_record}
 use Rattle.cloud_opening.proofs.JournalHalves.Unique.{undamaged}
-use Rattle.cloud_opening.specs.FileIndex.key.Entry.{Entry}
-use Rattle.cloud_opening.specs.RecordBody.Reading.{body_at}
-use Rattle.cloud_opening.specs.RecordBody.Spelling.{Body}
-use Rattle.cloud_opening.specs.RecordBody.body.BodyErr.{BodyErr}
 use Rattle.cloud_opening.specs.JournalStart.rooms.UserRooms.{UserRooms}
 use Rattle.cloud_opening.specs.JournalStart.start.Header.{Header}
 use Rattle.cloud_opening.specs.JournalStart.start.Start.{Start}
@@ -24,15 +19,16 @@ use Rattle.fresh_checkpoints.specs.JournalHalves.Halves.{half_len, IsCurrent}
 use Rattle.cloud_opening.specs.UserDedup.Dedup.{FullRoom}
 use Rattle.fresh_checkpoints.specs.CloudMemory.Memory.{Memory}
 use Rattle.cloud_opening.specs.RecordChecks.ground.Ground.{Ground}
-use Rattle.cloud_opening.specs.RecordChecks.Checks.{Asks, ByCommit, ByDelete, AsksFor}
 use Rattle.first_laws.specs.FirstRecords.errors.FirstErr.{FirstErr}
 use Rattle.first_laws.specs.FirstRecords.Judging.{JudgesFirst}
 use Rattle.first_laws.proofs.FirstRecords.OneAnswer.{one_answer}
 use Rattle.fresh_checkpoints.specs.CompactMemories.Kept.{commands_in}
-use Rattle.cloud_opening.specs.Exact.{ReadsFor, Recipe, Nothing}
-use Rattle.cloud_opening.proofs.Current.{same_half, same_start, not_unbegun}
+use Rattle.fresh_checkpoints.proofs.CommitJournal.Opening.{not_unbegun}
+use Rattle.cloud_opening.specs.Exact.{ReadsFor}
+use Rattle.cloud_opening.proofs.Current.{same_half, same_start}
 use Rattle.cloud_opening.proofs.Opened.{not_open, not_broken}
 use Rattle.cloud_opening.proofs.OneStart.{one_damage, one_found, unbegun_whole, current_whole}
+use Rattle.cloud_opening.proofs.OneOpening.{one_read}
 use Rattle.large_users.specs.Large.{passed_in, IsFirstPassed, IsNonePassed}
 use Rattle.large_users.specs.MigrationModel.Migrating.{header_one}
 use Rattle.store_migration.specs.declared.errors.OldErr.{OldErr}
@@ -42,27 +38,6 @@ use Rattle.store_migration.specs.declared.errors.MigrateErr.TheVariants as why
 use Rattle.store_migration.specs.Exact.{IsNewHeader, end_place, old_err, ReplaysFirst, Ended, Early, Taken, Refused, Broken, ReplaysAllFirst}
 use Rattle.store_migration.specs.Exact as exact
 use Rattle.store_migration.specs.Exact.{ReadsOld, Migrates}
-
--- ---- what is read for a record
-
-body_of : (b b2 : Body) (r : Result Body BodyErr) → r ≡ Ok b → r ≡ Ok b2 → b ≡ b2
-body_of b b2 r x y = let same : Ok b ≡ Ok b2 = sym x ∙ y in cc
-
-entry_of : (e e2 : Entry) (o : Option Entry) → o ≡ Some e → o ≡ Some e2 → e ≡ e2
-entry_of e e2 o x y = let same : Some e ≡ Some e2 = sym x ∙ y in cc
-
-one_asked : (g : Ground) (inside : Bool) (m : Memory) (b : Body) (p q : Place) → Asks g inside m b p → Asks g inside m b q → p ≡ q
-one_asked g inside m b p q (ByCommit c lies none) (ByCommit c2 lies2 none2) = refl
-one_asked g inside m b p q (ByDelete d e is few) (ByDelete d2 e2 is2 few2) = ap (λ (x : Entry). record { at = x.at; len = x.len }) (entry_of e e2 _ is is2)
-
-one_place : (g : Ground) (inside : Bool) (m : Memory) (body : List ℕ) (p q : Place) → AsksFor g inside m body p → AsksFor g inside m body q → p ≡ q
-one_place g inside m body p q a b = one_asked g inside m a.0 p q a.2 (subst (λ (x : Body). Asks g inside m x q) (sym (body_of a.0 b.0 (body_at body) a.1 b.1)) b.2)
-
-one_read : (g : Ground) (inside : Bool) (m : Memory) (body recipes one two : List ℕ) → ReadsFor g inside m body recipes one → ReadsFor g inside m body recipes two → one ≡ two
-one_read g inside m body recipes one two (Recipe p asks) (Recipe q asks2) = ap (λ (x : Place). take x.len (drop x.at recipes)) (one_place g inside m body p q asks asks2)
-one_read g inside m body recipes one two (Recipe p asks) (Nothing none) = absurd (none p asks)
-one_read g inside m body recipes one two (Nothing none) (Recipe p asks) = absurd (none p asks)
-one_read g inside m body recipes one two (Nothing none) (Nothing none2) = refl
 
 -- ---- a record
 

@@ -16,7 +16,7 @@ use Rattle.fresh_checkpoints.specs.CloudMemory.Memory.{Memory}
 use Rattle.cloud_opening.specs.RecordChecks.ground.Ground.{Ground}
 use Rattle.first_laws.specs.FirstRecords.Judging.{JudgesFirst}
 use Rattle.cloud_opening.specs.Exact.{ReadsFor}
-use Rattle.cloud_opening.proofs.Stepping.{restaged}
+use Rattle.cloud_opening.proofs.Stepping.{restaged, record_at, closed_at}
 use Rattle.store_migration.specs.declared.errors.OldErr.{OldErr}
 use Rattle.store_migration.specs.declared.errors.OldErr.TheVariants.{Damaged}
 use Rattle.store_migration.specs.declared.errors.MigrateErr.{MigrateErr}
@@ -24,7 +24,6 @@ use Rattle.store_migration.specs.declared.errors.MigrateErr.TheVariants as why
 use Rattle.store_migration.specs.Answers.{OnFault}
 use Rattle.store_migration.specs.Exact.{ReplaysFirst, Ended, Early, Taken, Refused, Broken}
 use Rattle.store_migration.specs.Steps.{From, IsFirstOneAs, NextAs}
-use Rattle.store_migration.proofs.AtGate.{record_at, closed_at}
 
 module _ (g : Ground) (recipes : List ℕ) (store : Store) (old mid : JournalState) (w : Where) (before : Memory) (reading : IsJournalReading old store w) where
   -- the same from an equal place

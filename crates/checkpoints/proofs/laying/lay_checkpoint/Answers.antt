@@ -1,10 +1,11 @@
 use Rattle.std.proofs.Common.{◌+◌, ◌≤◌, refl, sym, ◌∙◌, subst, arith}
 use Rattle.cloud_disk.proofs.CdEdges.Calls.{called_twice}
 use Rattle.cloud_disk.proofs.CdEdges.Moments.{told_on}
+use Rattle.cloud_disk.proofs.Both.{failed_later, counts_kept}
 use Rattle.cloud_disk.specs.CommitJournal.Turning.{used_of}
 use Rattle.cloud_disk.specs.CommitJournal.States.{state_of, next_of}
 use Rattle.checkpoints.specs.Laying.{IsNextInBuffer, records_len, checkpoint_behind}
-use Rattle.checkpoints.proofs.Along.{still_either, next_some, next_len, laid_images, further, all_laid, all_used, settled_images, settled_on, others_on, gate_on, failed_later, failed_as, counts_kept}
+use Rattle.checkpoints.proofs.Along.{still_either, next_some, next_len, laid_images, further, all_laid, all_used, settled_images, settled_on, others_on, gate_on, failed_as}
 use Rattle.checkpoints.proofs.laying.lay_checkpoint.Goals as goal
 
 -- ---- the loop

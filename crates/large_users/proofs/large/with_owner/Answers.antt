@@ -2,8 +2,9 @@ use Rattle.compact_memories.specs.PoolMap.Slots.{slot_of}
 use Rattle.std.proofs.Common.{◌≡◌, rules, length, sym, refl}
 use Rattle.compact_memories.specs.ShareIndex.key.Owner.{Owner}
 use Rattle.compact_memories.specs.ShareIndex.Order.{owner_of}
+use Rattle.compact_memories.proofs.Passing.{owner_in, no_owner}
 use Rattle.large_users.specs.Large.{IsOwnerSized}
-use Rattle.large_users.proofs.Counts.{owner_in, no_owner, each_more, each_key, each_none, seen_more, seen_key, seen_none, found_more}
+use Rattle.large_users.proofs.Counts.{each_more, each_key, each_none, seen_more, seen_key, seen_none, found_more}
 use Rattle.large_users.proofs.large.with_owner.Goals as goal
 
 pub returns-in-Some-clause-seen : goal.returns-in-Some-clause-seen

@@ -1,7 +1,8 @@
 use Rattle.std.proofs.Common.{rules, ◌≡◌, ◌≤◌, ◌+◌, true, false, drop, length, sym, ap, ◌∙◌, arith}
 use Rattle.cloud_memory.specs.Rooms.{memory_of}
+use Rattle.cloud_memory.proofs.Lists.{front_gone}
 use Rattle.server_reads.specs.Owned.{is_owned, unowned_from}
-use Rattle.server_reads.proofs.Marks.{front_gone, none_behind}
+use Rattle.server_reads.proofs.Marks.{none_behind}
 use Rattle.server_reads.proofs.Unowned.{same_test, unowned_here, unowned_later, unowned_is}
 use Rattle.server_reads.proofs.owning.first_foreign.Goals as goal
 
