@@ -11,6 +11,7 @@ use Rattle.lane_steps.specs.UploadJob.Upload.{FileVersion}
 use Rattle.replay_core.specs.Session.event.Event.{Event}
 use Rattle.replay_core.specs.SessionModel.Steps.{version_of}
 use Rattle.replay_core.specs.SessionModel.Kept.{upload_of, uploads}
+use Rattle.replay_core.proofs.ScriptLines.Bringing.{range_split}
 use Rattle.generated_session.specs.Drawn.{file_of}
 use Rattle.generated_session.specs.Lines.{user_at, version_at, file_path, upload_lines, get_line, generated_lines}
 use Rattle.generated_session.specs.Progress.{IsFileOf}
@@ -30,16 +31,6 @@ pub gets_so_far : (n : ℕ) → map get_line (range_with_len 1 (n + 1)) ≡ map 
 gets_so_far n =
     let e : 1 + n ≡ n + 1 = omega arith in
     ap (map get_line) (range_more 1 n ∙ ap (λ (k : ℕ). range_with_len 1 n ++ k ∷ []) e) ∙ map-append get_line (range_with_len 1 n) ((n + 1) ∷ [])
-
-range_split : (a m k : ℕ) → range_with_len a (m + suc k) ≡ range_with_len a m ++ (a + m) ∷ range_with_len (a + m + 1) k
-range_split a zero k =
-    let e : 0 + suc k ≡ suc k = omega arith in
-    let f : a + 0 ≡ a = omega arith in
-    subst (λ (n : ℕ). range_with_len a n ≡ (a + 0) ∷ range_with_len (a + 0 + 1) k) (sym e) (subst (λ (b : ℕ). a ∷ range_with_len (a + 1) k ≡ b ∷ range_with_len (b + 1) k) (sym f) refl)
-range_split a (suc m) k =
-    let e : suc m + suc k ≡ suc (m + suc k) = omega arith in
-    let f : a + 1 + m ≡ a + suc m = omega arith in
-    ap (range_with_len a) e ∙ ap (λ (l : List ℕ). a ∷ l) (range_split (a + 1) m k ∙ ap (λ (b : ℕ). range_with_len (a + 1) m ++ b ∷ range_with_len (b + 1) k) f)
 
 -- the numbers from 1 to n, those so far first
 range_at : (i n : ℕ) → i < n → (k : ℕ) × (range_with_len 1 n ≡ range_with_len 1 i ++ (i + 1) ∷ range_with_len (i + 2) k)

@@ -14,7 +14,7 @@ use Rattle.replay_core.specs.SessionModel.Steps.{step_line}
 use Rattle.replay_core.specs.SessionModel.Kept.{upload_of, uploads}
 use Rattle.replay_core.specs.SessionModel.Run.{Answered, script_of, answers_of}
 use Rattle.replay_core.specs.ScriptLines.Stepping.{stored_if}
-use Rattle.replay_core.proofs.Sessions.{script_more}
+use Rattle.replay_core.proofs.Sessions.{script_more, answers_more}
 use Rattle.generated_session.specs.declared.numbers.Numbers.{Numbers}
 use Rattle.generated_session.specs.Numbers.{stored_in, sent_in, known_in, GivesUploaded, Counts, bytes_in, HasNumbers}
 use Rattle.generated_session.specs.Progress.{sent_by, known_by, no_numbers, HasAddedAnswers}
@@ -113,10 +113,6 @@ counts_more P (y ∷ xs) x c d (inr k) h = inr (k.0, counts_more P xs x c d k.1 
 
 uploads_more : (script : List Event) (event : Event) → uploads (script ++ event ∷ []) ≡ uploads script ++ upload_of event
 uploads_more script event = flat_map-append upload_of script (event ∷ []) ∙ ap (λ (l : List FileVersion). uploads script ++ l) (append-nil (upload_of event))
-
-answers_more : (history : List Answered) (a : Answered) → answers_of (history ++ a ∷ []) ≡ answers_of history ++ a.answers
-answers_more history a =
-    flat_map-append (λ (b : Answered). b.answers) history (a ∷ []) ∙ ap (λ (l : List Line). answers_of history ++ l) (append-nil a.answers)
 
 abbrev pub Gives : List FileVersion → Answered → Type 0
 Gives files a = GivesUploaded files a.event a.answers

@@ -3,7 +3,6 @@ use Rattle.std.proofs.Common.{◌≡◌, ℕ, zero, suc, ◌+◌, ◌-◌, ◌*�
 use Rattle.std.specs.Prelude.{min, not, find, is_none, option_map, unwrap_or}
 use Rattle.std.specs.List.{Contains, flat_map, concat, range_with_len}
 use Rattle.std.proofs.Math.Seq.{drop-append-add}
-use Rattle.std.proofs.lemmas.Nat.{xor_lt}
 use Rattle.std.proofs.lemmas.List.{get_or-map, length-map, take_at}
 use Rattle.std.proofs.lemmas.List.Elements.{All-get_or}
 use Rattle.std.proofs.lemmas.List.Concat.{flat_map-cons}
@@ -14,9 +13,7 @@ use Rattle.file_recipe.specs.CdBase.ids.Tag.{Tag}
 use Rattle.file_recipe.specs.CdBase.ids.UserId.{UserId}
 use Rattle.file_recipe.specs.CdBase.ids.Version.{Version}
 use Rattle.file_recipe.specs.CdBase.shape.Shape.{Shape}
-use Rattle.gf256.proofs.Laws.{product_lt}
-use Rattle.gf256.specs.Field.{product}
-use Rattle.file_recipe.specs.ReedSolomon.Interpolation.{combine, interpolant}
+use Rattle.file_recipe.specs.ReedSolomon.Interpolation.{interpolant}
 use Rattle.file_recipe.specs.ReedSolomon.Dispersal.{AreChoice, row, share_byte, share_of}
 use Rattle.restore_job.specs.CaontRs.Opening.{opened}
 use Rattle.restore_job.specs.CaontRs.Package.{share, package_of}
@@ -28,6 +25,7 @@ use Rattle.restore_job.proofs.Recipe.Written.{again}
 use Rattle.file_recipe.specs.FileRecipe.{secrets, recipe_of, recipe_bytes, item_of as item_for}
 use Rattle.file_recipe.proofs.Recipes.{recipe_fits}
 use Rattle.file_recipe.proofs.Secrets.{secrets_joined}
+use Rattle.file_recipe.proofs.CaontRs.Openings.{combine_lt}
 use Rattle.restore_job.specs.UserDedup.Cloud.{fingerprint, user_view, held_string}
 use Rattle.restore_job.specs.UserDedup.Pages.{entry_at}
 use Rattle.restore_job.specs.UserDedup.command.Command.{Command}
@@ -40,7 +38,7 @@ use Rattle.kept_files.specs.Kept.{Keeps, key_of}
 
 -- ---- recipes
 
-by_entry : (shape : Shape) (o : Option FileEntry) (bytes : List ℕ) (r : Recipe) → option_map (λ entry. entry.recipe) o ≡ Some bytes → recipe_at shape bytes ≡ Ok r
+pub by_entry : (shape : Shape) (o : Option FileEntry) (bytes : List ℕ) (r : Recipe) → option_map (λ entry. entry.recipe) o ≡ Some bytes → recipe_at shape bytes ≡ Ok r
     → option_map (λ (entry : FileEntry). recipe_read (recipe_at shape entry.recipe)) o ≡ Some r
 by_entry shape None bytes r e read = absurd (let f : None ≡ Some bytes = e in cc)
 by_entry shape (Some entry) bytes r e read =
@@ -108,11 +106,6 @@ parts_bytes : (xss : List (List ℕ)) → AreBytes (concat xss) → (i : ℕ) �
 parts_bytes [] all i j = omega arith
 parts_bytes (xs ∷ xss) all zero j = front_bytes xs (concat xss) all j
 parts_bytes (xs ∷ xss) all (suc i) j = parts_bytes xss (back_bytes xs (concat xss) all) i j
-
-combine_lt : (w v : ℕ → ℕ) (n : ℕ) → combine w v n < 256
-unfolding combine
-combine_lt w v zero = omega arith
-combine_lt w v (suc n) = xor_lt 8 (combine w v n) (product (w n) (v n)) (combine_lt w v n) (product_lt (w n) (v n))
 
 pub share_bytes : (s : Shape) (j : ℕ) (text : List ℕ) → AreBytes (share s j text)
 unfolding share share_of share_byte interpolant

@@ -32,7 +32,7 @@ reply_one : (bytes : List ℕ) (a b : Reply) → IsBytes bytes → IsReply bytes
 reply_one bytes a b known one two =
     let e : ok_reply a ≡ ok_reply b = sym ((reply_law bytes a known).1 one) ∙ (reply_law bytes b known).1 two in cc
 
-abbrev some_request : Request → Option Request
+abbrev pub some_request : Request → Option Request
 some_request r = Some r
 
 pub some_is : (a b : Request) → some_request a ≡ some_request b → a ≡ b

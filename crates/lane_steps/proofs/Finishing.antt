@@ -38,7 +38,7 @@ pub record Along {L : Type 0} (t : LinkTelling L) (talk : L → ℕ → Talk →
   pub later : t.losses old ≤ t.losses mid
   pub lossless : IsTrue (t.lossless old) → IsTrue (t.lossless mid)
 
-no_others : {L : Type 0} (t : LinkTelling L) (cloud : ℕ) (link : L) → LeavesOthers t cloud link link
+pub no_others : {L : Type 0} (t : LinkTelling L) (cloud : ℕ) (link : L) → LeavesOthers t cloud link link
 no_others t cloud link = record { stands = λ other p ne stands. stands; reaches = refl; shape = refl; told = refl; full = refl }
 
 pub along_none : {L : Type 0} (t : LinkTelling L) (talk : L → ℕ → Talk → Type 0) (cloud : ℕ) (link : L) (views : List LaneView) (before : List LaneNews) → cloud < length views → IsOnItsWay (t.shape link) views → IsTrue (t.reaches link cloud)

@@ -1,5 +1,5 @@
 -- What holds of a lane at each of its steps.
-use Rattle.std.proofs.Common.{◌≡◌, ℕ, zero, suc, ◌<◌, ◌≤◌, ◌^◌, Bool, true, false, cond, eqb, List, [], ◌∷◌, ◌++◌, length, map, Option, Some, None, Result, Ok, Err, refl, sym, ◌∙◌, subst, arith}
+use Rattle.std.proofs.Common.{◌≡◌, ℕ, zero, suc, ◌<◌, ◌≤◌, ◌^◌, Bool, true, false, cond, eqb, List, [], ◌∷◌, ◌++◌, length, map, Some, None, Result, Ok, Err, refl, sym, ◌∙◌, subst, arith}
 use Rattle.std.specs.Prelude.{All}
 use Rattle.std.specs.List.{list_all, AllByRecursion}
 use Rattle.std.proofs.lemmas.List.{length-map}
@@ -26,6 +26,7 @@ use Rattle.upload_job.specs.Upload.{Work}
 use Rattle.upload_job.specs.Lane.{LaneState, Asking, Sending, Committing, Done, Refused, onward, unflagged, lane_request, lane_after, past_known, IsAnswer}
 use Rattle.upload_job.specs.Lanes.{LaneView, Answers}
 use Rattle.lane_steps.proofs.Sent.{IsSent, query_sent, put_sent, commit_sent}
+use Rattle.lane_steps.proofs.Asking.{some_request}
 
 -- what a lane has to bring is what requests may have
 pub record CanBring (shape : Shape) (w : Work) : Type 0 where
@@ -48,10 +49,7 @@ pub record IsLane (shape : Shape) (lane : LaneView) : Type 0 where
 
 -- ---- its request
 
-abbrev some_request : Request → Option Request
-some_request r = Some r
-
-same_request : (a b : Request) → some_request a ≡ some_request b → a ≡ b
+pub same_request : (a b : Request) → some_request a ≡ some_request b → a ≡ b
 same_request a b e = cc
 
 named : (batch : List (List ℕ)) → AreShares batch → AreFps (map fingerprint batch)

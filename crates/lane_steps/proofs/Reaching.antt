@@ -1,10 +1,11 @@
 -- Each lane to which a job comes asks what a cloud reads.
-use Rattle.std.proofs.Common.{◌≡◌, ℕ, zero, suc, ◌+◌, ◌-◌, ◌*◌, ◌<◌, ◌≤◌, ◌^◌, Bool, true, false, cond, List, [], ◌∷◌, ◌++◌, length, map, take, drop, get_or, Some, None, Result, refl, sym, subst, arith}
+use Rattle.std.proofs.Common.{◌≡◌, ℕ, zero, suc, ◌+◌, ◌-◌, ◌*◌, ◌<◌, ◌≤◌, ◌^◌, Bool, true, false, cond, List, [], ◌∷◌, ◌++◌, length, map, take, drop, get_or, Some, None, Result, refl, sym, subst, arith, ap, ◌∙◌}
 use Rattle.std.specs.Prelude.{All, min}
 use Rattle.std.specs.List.{AllByRecursion, range_with_len}
 use Rattle.std.proofs.Math.Nat.{mul-le-mul_right}
 use Rattle.std.proofs.lemmas.List.{length-take, length-drop}
 use Rattle.std.proofs.lemmas.List.Elements.{All-nil, All-cons, All-head, All-tail, All-take, All-drop, All-map, All-from_get_or}
+use Rattle.std.proofs.lemmas.List.FromFn.{length-map-range_with_len}
 use Rattle.sha2.proofs.Facts256.{length-sha256}
 use Rattle.grammar.specs.CdBase.Lengths.{share_len_of}
 use Rattle.grammar.specs.CdBase.Limits.{IsPath}
@@ -121,3 +122,14 @@ sent_at shape (lane ∷ lanes) (suc i) request all e = sent_at shape lanes i req
 -- what a lane asks, its cloud reads
 pub is_sent : (shape : Shape) (lanes : List LaneView) (i : ℕ) (request : Request) → IsReached shape lanes → request_at lanes i ≡ Some request → IsSent shape request
 is_sent shape lanes i request reached e = sent_at shape lanes i request (are_lanes shape lanes reached) e
+
+-- ---- as many lanes as clouds
+
+pub answered_len : (old : List LaneView) (i : ℕ) (content : List ℕ) (result : Result LaneNews LaneErr) (new : List LaneView) → AnswersAt old i content result new → length new ≡ length old
+answered_len [] i content result new a = absurd a
+answered_len (lane ∷ lanes) zero content result new a = ap length a.2
+answered_len (lane ∷ lanes) (suc i) content result new a = ap length a.2 ∙ ap suc (answered_len lanes i content result a.0 a.1)
+
+pub reached_len : (shape : Shape) (lanes : List LaneView) → IsReached shape lanes → length lanes ≡ shape.n
+reached_len shape _ (Begun v named few user number) = length-map-range_with_len (λ cloud. begun (work_of shape v cloud)) 0 shape.n
+reached_len shape _ (Answered old new i content result reached answers) = answered_len old i content result new answers ∙ reached_len shape old reached

@@ -61,7 +61,7 @@ others_on t cloud old mid new one two = record {
 -- ---- what the cloud stands for
 
 -- two links tell the same of what their clouds do
-record Alike {L : Type 0} (t : LinkTelling L) (one two : L) : Type 0 where
+pub record Alike {L : Type 0} (t : LinkTelling L) (one two : L) : Type 0 where
   pub shape : t.shape two ≡ t.shape one
   pub told : t.told two ≡ t.told one
   pub full : t.full two ≡ t.full one
@@ -69,7 +69,7 @@ record Alike {L : Type 0} (t : LinkTelling L) (one two : L) : Type 0 where
 alike_on : {L : Type 0} (t : LinkTelling L) (cloud : ℕ) (one two three : L) → Alike t one two → LeavesOthers t cloud two three → Alike t one three
 alike_on t cloud one two three alike others = record { shape = others.shape ∙ alike.shape; told = others.told ∙ alike.told; full = others.full ∙ alike.full }
 
-does_alike : {L : Type 0} (t : LinkTelling L) (cloud : ℕ) (one two : L) (p q : Peer) (request : Request) (reply : Reply) → Alike t one two → Does t cloud two p request reply q → Does t cloud one p request reply q
+pub does_alike : {L : Type 0} (t : LinkTelling L) (cloud : ℕ) (one two : L) (p q : Peer) (request : Request) (reply : Reply) → Alike t one two → Does t cloud two p request reply q → Does t cloud one p request reply q
 does_alike t cloud one two p q request reply alike does =
     subst (λ (f : ℕ → List Command → Command → Option FullRoom). Exec (t.shape one) (t.told one cloud) (served (t.shape one) cloud (f cloud)) p request reply q) alike.full
     (subst (λ (b : ℕ → Bool). Exec (t.shape one) (b cloud) (served (t.shape one) cloud (t.full two cloud)) p request reply q) alike.told

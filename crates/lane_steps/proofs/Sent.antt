@@ -9,25 +9,19 @@ use Rattle.grammar.specs.CdBase.ids.Tag.{Tag}
 use Rattle.grammar.specs.CdBase.ids.UserId.{UserId}
 use Rattle.grammar.specs.CdBase.ids.Version.{Version}
 use Rattle.grammar.specs.CdBase.shape.Shape.{Shape}
-use Rattle.grammar.proofs.Laws.{Whole, lawful_then, lawful_whole}
-use Rattle.grammar.proofs.FieldLaws.{IsBytes, Anything}
-use Rattle.upload_job.specs.MessageFields.Fingerprints.{fps_bytes, AreFps}
-use Rattle.upload_job.specs.MessageFields.Shares.{share_bytes, shares_bytes, IsShare, AreShares}
+use Rattle.upload_job.specs.MessageFields.Fingerprints.{AreFps}
+use Rattle.upload_job.specs.MessageFields.Shares.{share_bytes, IsShare, AreShares}
 use Rattle.upload_job.specs.MessageFields.Keys.{key_bytes, IsKey}
-use Rattle.upload_job.proofs.MessageFields.PartLaws.{lawful_u32}
-use Rattle.upload_job.proofs.MessageFields.FpLaws.{lawful_fps}
-use Rattle.upload_job.proofs.MessageFields.ShareLaws.{lawful_shares}
-use Rattle.upload_job.proofs.MessageFields.KeyLaws.{lawful_key}
 use Rattle.upload_job.specs.Messages.request.Request.{Request}
 use Rattle.upload_job.specs.Messages.request.Request.TheVariants as requests
 use Rattle.upload_job.specs.Messages.Parts.{placed}
 use Rattle.upload_job.specs.Messages.Requests.{request_bytes, FitsRequest}
-use Rattle.upload_job.specs.Messages.RequestReading.{query_left, put_left, commit_left, fields_left, request_left, request_at}
-use Rattle.upload_job.proofs.Messages.ByKind.{whole_rest}
+use Rattle.upload_job.specs.Messages.RequestReading.{fields_left, request_left, request_at}
 use Rattle.upload_job.specs.Recipe.recipe.Recipe.{Recipe}
 use Rattle.upload_job.specs.Recipe.Spelling.{IsRecipe}
 use Rattle.upload_job.specs.Recipe.Reading.{recipe_at}
 use Rattle.upload_job.proofs.RecipeLaws.Written.{again, longest, length-spelling}
+use Rattle.upload_job.proofs.Messages.RequestLaws.{query_laws, put_laws, commit_laws}
 use Rattle.upload_job.specs.UserDedup.Requests.{HasRecipe, recipe_read, whole_read, asked_at}
 
 -- A cloud of the shape reads the request from its bytes, which are a frame's.
@@ -38,18 +32,6 @@ pub record IsSent (shape : Shape) (request : Request) : Type 0 where
   pub framed : length (request_bytes request) ≤ 4194304
 
 -- ---- what is written is read
-
-query_laws : Whole IsBytes {A = ℕ × List Fp} query_left (λ x. requests.Query (record { 0 = x.0 }) x.1) (λ x. to_be_bytes w32 x.0 ++ fps_bytes x.1) (λ x. (x.0 < 2 ^ 32) × AreFps x.1)
-unfolding query_left
-query_laws = lawful_whole IsBytes Anything tt (lawful_then IsBytes Anything lawful_u32 lawful_fps) (λ x. requests.Query (record { 0 = x.0 }) x.1)
-
-put_laws : Whole IsBytes {A = ℕ × List (List ℕ)} put_left (λ x. requests.Put (record { 0 = x.0 }) x.1) (λ x. to_be_bytes w32 x.0 ++ shares_bytes x.1) (λ x. (x.0 < 2 ^ 32) × AreShares x.1)
-unfolding put_left
-put_laws = lawful_whole IsBytes Anything tt (lawful_then IsBytes Anything lawful_u32 lawful_shares) (λ x. requests.Put (record { 0 = x.0 }) x.1)
-
-commit_laws : Whole IsBytes {A = (ℕ × (Tag × Version)) × List ℕ} commit_left (λ p. requests.Commit (record { 0 = p.0.0 }) p.0.1.0 p.0.1.1 p.1) (λ p. (to_be_bytes w32 p.0.0 ++ key_bytes p.0.1) ++ p.1) (λ p. ((p.0.0 < 2 ^ 32) × IsKey p.0.1) × (1 ≤ length p.1))
-unfolding commit_left
-commit_laws = whole_rest (lawful_then IsBytes Anything lawful_u32 lawful_key) (λ x. requests.Commit (record { 0 = x.0 }) x.1.0 x.1.1)
 
 read_by : (r : Request) → request_left (request_bytes r) ≡ Ok r → request_at (request_bytes r) ≡ Ok r
 unfolding request_at

@@ -1,5 +1,5 @@
 -- A cloud that stands for something gives a reply that the lane's request may have.
-use Rattle.std.proofs.Common.{◌≡◌, inl, inr, ℕ, ◌<◌, Bool, true, false, List, length, map, Option, Some, None, refl, sym, subst}
+use Rattle.std.proofs.Common.{◌≡◌, inl, inr, ℕ, ◌<◌, Bool, true, false, List, length, map, Some, None, refl, sym, subst}
 use Rattle.std.specs.Bool.{MatchBool}
 use Rattle.grammar.specs.CdBase.ids.Fp.{Fp}
 use Rattle.grammar.specs.CdBase.ids.UserId.{UserId}
@@ -17,6 +17,8 @@ use Rattle.upload_job.proofs.UserDedup.Suiting.{served_suits}
 use Rattle.upload_job.specs.Upload.{Work}
 use Rattle.upload_job.specs.Lane.{LaneState, Asking, Sending, Committing, Done, Refused, unflagged, lane_request, IsAnswer}
 use Rattle.grammar.specs.CdBase.shape.Shape.{Shape}
+use Rattle.lane_steps.proofs.Asking.{some_request}
+use Rattle.lane_steps.proofs.Lanes.{same_request}
 
 pub does_suit : {L : Type 0} (t : LinkTelling L) (cloud : ℕ) (old : L) (p q : Peer) (request : Request) (reply : Reply) → TellsSound t old → cloud < 256 → FitsRequest request → HasRecipe (t.shape old) request
     → t.stands old cloud p → Does t cloud old p request reply q → IsReplyTo (items_of (t.shape old) request) request reply
@@ -37,12 +39,6 @@ query_any m n user fps reply is = is
 put_any : (m n : ℕ) (user : UserId) (shares : List (List ℕ)) (reply : Reply) → IsReplyTo m (requests.Put user shares) reply → IsReplyTo n (requests.Put user shares) reply
 put_any m n user shares replies.Fault is = is
 put_any m n user shares reply is = is
-
-abbrev some_request : Request → Option Request
-some_request r = Some r
-
-same_request : (a b : Request) → some_request a ≡ some_request b → a ≡ b
-same_request a b e = cc
 
 abbrev Given : Shape → Reply → Request → Type 0
 Given shape reply request = IsReplyTo (items_of shape request) request reply

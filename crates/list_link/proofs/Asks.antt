@@ -7,21 +7,20 @@ use Rattle.user_dedup.specs.CdBase.Reading.{AreBytes}
 use Rattle.user_dedup.specs.CdBase.shape.Shape.{Shape}
 use Rattle.user_dedup.specs.MessageFields.Keys.{key_bytes}
 use Rattle.user_dedup.specs.Recipe.recipe.Recipe.{Recipe}
-use Rattle.user_dedup.specs.Recipe.Reading.{placed as recipe_placed, recipe_left, recipe_at}
-use Rattle.user_dedup.specs.Messages.Parts.{placed}
+use Rattle.user_dedup.specs.Recipe.Reading.{recipe_at}
 use Rattle.user_dedup.specs.Messages.request.Request.{Request}
 use Rattle.user_dedup.specs.Messages.request.Request.TheVariants as requests
 use Rattle.user_dedup.specs.Messages.reply.Reply.TheVariants as replies
 use Rattle.user_dedup.specs.Messages.Requests.{FitsRequest, request_bytes}
 use Rattle.user_dedup.specs.Messages.Replies.{FitsReply, reply_bytes}
-use Rattle.user_dedup.specs.Messages.RequestReading.{request_left, request_at}
+use Rattle.user_dedup.specs.Messages.RequestReading.{request_at}
 use Rattle.user_dedup.proofs.Messages.RequestLaws.{request_law}
 use Rattle.user_dedup.specs.declared.command.Command.{Command}
 use Rattle.user_dedup.specs.Requests.{HasRecipe, recipe_read, whole_read, asked_at}
 use Rattle.user_dedup.specs.Dedup.{Outcome, only, answer_over, IsSound, Added, FullRoom, room_for, by_room}
 use Rattle.user_dedup.specs.Exec.{Peer}
 use Rattle.user_dedup.specs.Link.{Asks, AsksNothing, LeavesOthers, serves}
-use Rattle.user_dedup.proofs.Asked.{asked_law}
+use Rattle.user_dedup.proofs.Asked.{asked_law, bad, recipe_within, request_within, read_err}
 use Rattle.user_dedup.proofs.Suiting.{suits}
 use Rattle.list_link.specs.declared.answers.ServedReply.{ServedReply}
 use Rattle.list_link.specs.declared.store.ListLink.{ListLink}
@@ -32,25 +31,6 @@ use Rattle.list_link.specs.Tells.{list_of, telling, HasTakenCommand}
 
 abbrev good : Request → Result Request ℕ
 good request = Ok request
-
-abbrev bad : {A : Type 0} → ℕ → Result A ℕ
-bad at = Err at
-
-recipe_within : (shape : Shape) (bytes : List ℕ) (at : ℕ) → recipe_at shape bytes ≡ Err at → at ≤ length bytes
-unfolding recipe_at
-recipe_within shape bytes at e = go (recipe_left shape bytes) e
-  where
-    go : (r : Result Recipe ℕ) → recipe_placed bytes r ≡ Err at → at ≤ length bytes
-    go (Ok recipe) e = absurd (let f : Ok recipe ≡ bad at = e in cc)
-    go (Err left) e = let f : bad {A = Recipe} (length bytes - left) ≡ bad at = e in let same : length bytes - left ≡ at = cc in omega arith
-
-request_within : (bytes : List ℕ) (at : ℕ) → request_at bytes ≡ Err at → at ≤ length bytes
-unfolding request_at
-request_within bytes at e = go (request_left bytes) e
-  where
-    go : (r : Result Request ℕ) → placed bytes r ≡ Err at → at ≤ length bytes
-    go (Ok request) e = absurd (let f : Ok request ≡ bad at = e in cc)
-    go (Err left) e = let f : bad {A = Request} (length bytes - left) ≡ bad at = e in let same : length bytes - left ≡ at = cc in omega arith
 
 pub recipe_place_fits : (shape : Shape) (bytes : List ℕ) (at : ℕ) → recipe_at shape bytes ≡ Err at → length bytes ≤ 4194304 → at + 45 < 2 ^ 32
 recipe_place_fits shape bytes at e few = let within = recipe_within shape bytes at e in omega arith
@@ -66,10 +46,6 @@ few_bytes content (requests.GetRecipe user tag version) e few = tt
 few_bytes content (requests.GetShares user fps) e few = tt
 few_bytes content (requests.List user after) e few = tt
 few_bytes content (requests.Delete user tag version) e few = tt
-
-read_err : (request : Request) (found : Result Recipe ℕ) (at : ℕ) → recipe_read request found ≡ Err at → (p : ℕ) × (found ≡ Err p) × (at ≡ 45 + p)
-read_err request (Ok recipe) at e = absurd (let f : Ok request ≡ bad at = e in cc)
-read_err request (Err p) at e = (p, refl, let f : bad {A = Request} (45 + p) ≡ bad at = e in let same : 45 + p ≡ at = cc in sym same)
 
 whole_err : (shape : Shape) (q : Request) (at : ℕ) → HasFewBytes q → whole_read shape (Ok q) ≡ Err at → at < 2 ^ 32
 whole_err shape requests.Hello at few e = absurd (let f : Ok requests.Hello ≡ bad at = e in cc)

@@ -24,6 +24,7 @@ use Rattle.user_dedup.specs.Owning.{is_among, new_strings}
 use Rattle.user_dedup.specs.Pages.{entry_at}
 use Rattle.user_dedup.specs.Requests.{fps_of, fps_read}
 use Rattle.user_dedup.proofs.Views.{view_next}
+use Rattle.user_dedup.proofs.Pages.{Key}
 
 pub view_more : (shape : Shape) (list : List Command) (user : UserId) (i : ℕ) (d : Command) → i < length list
     → user_view shape (take (i + 1) list) user ≡ cond (is_of user (get_or list i d)) (view_after shape (user_view shape (take i list) user) (get_or list i d)) (user_view shape (take i list) user)
@@ -34,15 +35,6 @@ pub held_more : (list : List Command) (fp : Fp) (i : ℕ) (d : Command) → i < 
 held_more list fp i d l =
     ap (λ (l : List Command). held_string l fp) (drop_more list i d l)
     ∙ find-append (has_fingerprint fp) (strings_of (get_or list i d)) (flat_map strings_of (drop (i + 1) list))
-
-pub few_new : (own : List Fp) (sent : List (List ℕ)) → length (new_strings own sent) ≤ length sent
-few_new own [] = omega arith
-few_new own (s ∷ sent) = by_test (is_among own (fingerprint s)) (few_new own sent) (few_new (own ++ fingerprint s ∷ []) sent)
-  where
-    by_test : (b : Bool) → length (new_strings own sent) ≤ length sent → length (new_strings (own ++ fingerprint s ∷ []) sent) ≤ length sent
-        → length (cond b (new_strings own sent) (s ∷ new_strings (own ++ fingerprint s ∷ []) sent)) ≤ suc (length sent)
-    by_test true old new = omega arith
-    by_test false old new = omega arith
 
 pub held_here : (list : List Command) (fp : Fp) (i : ℕ) (d : Command) (s : List ℕ) → i < length list → d ≡ get_or list i d → Some s ≡ find (has_fingerprint fp) (strings_of d)
     → Some s ≡ held_string (drop i list) fp
@@ -110,9 +102,6 @@ new_turn whole found found' seen seen' shares i s l e was found_is seen_is =
     ∙ ap (λ (l : List Fp). found' ++ new_strings l rest) (sym seen_is)
 
 -- ---- pages
-
-abbrev Key : Type 0
-Key = Tag × Version
 
 abbrev no_keys : List Key
 no_keys = []

@@ -12,6 +12,7 @@ use Rattle.share_server.specs.CdEdges.Shelf.{stable, IsCall, HasFailed, KeepsCou
 use Rattle.share_server.specs.CdEdges.Shelf as shelves
 use Rattle.share_server.proofs.CdEdges.Moments.{moved, stayed}
 use Rattle.share_server.proofs.CdEdges.Torn.{only}
+use Rattle.share_server.proofs.Openings.{NoneStands}
 use Rattle.share_server.specs.JournalStart.rooms.UserRooms.{UserRooms}
 use Rattle.share_server.specs.JournalStart.start.Header.{Header}
 use Rattle.share_server.specs.CommitJournal.errors.OpenErr.{OpenErr}
@@ -225,9 +226,6 @@ none_sound shape number cloud list settles = subst (IsSound shape number) (sym (
 -- areas that are all empty stand for no commands, and these are within any rooms
 abbrev pub EmptyStands : Type 0
 EmptyStands = (image : Image) → ((area : Area) → image area ≡ []) → HasNoJournal image
-
-abbrev pub NoneStands : Type 0
-NoneStands = (image : Image) (header : Header) → HasNoJournal image → StandsFor image header []
 
 abbrev pub NoneWithin : Type 0
 NoneWithin = (shape : Shape) (rooms : UserRooms) → IsWithin shape rooms []

@@ -1,37 +1,17 @@
 -- The place at which content is no request fits its field.
-use Rattle.std.proofs.Common.{◌≡◌, ℕ, ◌+◌, ◌-◌, ◌<◌, ◌≤◌, ◌^◌, List, ◌++◌, length, Result, Ok, Err, refl, sym, ap, arith, length-append}
+use Rattle.std.proofs.Common.{◌≡◌, ℕ, ◌+◌, ◌-◌, ◌<◌, ◌≤◌, ◌^◌, List, ◌++◌, length, Result, Ok, Err, refl, ap, arith, length-append}
 use Rattle.std.specs.Int.{w32, to_be_bytes}
 use Rattle.share_server.specs.CdBase.Reading.{AreBytes}
 use Rattle.share_server.specs.CdBase.shape.Shape.{Shape}
 use Rattle.share_server.specs.MessageFields.Keys.{key_bytes}
-use Rattle.share_server.specs.Recipe.recipe.Recipe.{Recipe}
-use Rattle.share_server.specs.Recipe.Reading.{placed as recipe_placed, recipe_left, recipe_at}
-use Rattle.share_server.specs.Messages.Parts.{placed}
+use Rattle.share_server.specs.Recipe.Reading.{recipe_at}
 use Rattle.share_server.specs.Messages.request.Request.{Request}
 use Rattle.share_server.specs.Messages.request.Request.TheVariants as requests
 use Rattle.share_server.specs.Messages.Requests.{request_bytes}
-use Rattle.share_server.specs.Messages.RequestReading.{request_left, request_at}
+use Rattle.share_server.specs.Messages.RequestReading.{request_at}
 use Rattle.share_server.proofs.Messages.RequestLaws.{request_law}
-use Rattle.share_server.specs.UserDedup.Requests.{recipe_read, whole_read, asked_at}
-
-abbrev bad : {A : Type 0} → ℕ → Result A ℕ
-bad at = Err at
-
-recipe_within : (shape : Shape) (bytes : List ℕ) (at : ℕ) → recipe_at shape bytes ≡ Err at → at ≤ length bytes
-unfolding recipe_at
-recipe_within shape bytes at e = go (recipe_left shape bytes) e
-  where
-    go : (r : Result Recipe ℕ) → recipe_placed bytes r ≡ Err at → at ≤ length bytes
-    go (Ok recipe) e = absurd (let f : Ok recipe ≡ bad at = e in cc)
-    go (Err left) e = let f : bad {A = Recipe} (length bytes - left) ≡ bad at = e in let same : length bytes - left ≡ at = cc in omega arith
-
-request_within : (bytes : List ℕ) (at : ℕ) → request_at bytes ≡ Err at → at ≤ length bytes
-unfolding request_at
-request_within bytes at e = go (request_left bytes) e
-  where
-    go : (r : Result Request ℕ) → placed bytes r ≡ Err at → at ≤ length bytes
-    go (Ok request) e = absurd (let f : Ok request ≡ bad at = e in cc)
-    go (Err left) e = let f : bad {A = Request} (length bytes - left) ≡ bad at = e in let same : length bytes - left ≡ at = cc in omega arith
+use Rattle.share_server.proofs.UserDedup.Asked.{bad, recipe_within, request_within, read_err}
+use Rattle.share_server.specs.UserDedup.Requests.{whole_read, asked_at}
 
 -- the recipe of a Commit is a part of the content
 abbrev Within : Request → ℕ → Type 0
@@ -55,10 +35,6 @@ within content (requests.GetRecipe user tag version) e few = tt
 within content (requests.GetShares user fps) e few = tt
 within content (requests.List user after) e few = tt
 within content (requests.Delete user tag version) e few = tt
-
-read_err : (request : Request) (found : Result Recipe ℕ) (at : ℕ) → recipe_read request found ≡ Err at → (p : ℕ) × (found ≡ Err p) × (at ≡ 45 + p)
-read_err request (Ok recipe) at e = absurd (let f : Ok request ≡ bad at = e in cc)
-read_err request (Err p) at e = (p, refl, let f : bad {A = Request} (45 + p) ≡ bad at = e in let same : 45 + p ≡ at = cc in sym same)
 
 whole_err : (shape : Shape) (q : Request) (at : ℕ) → Within q 4194304 → whole_read shape (Ok q) ≡ Err at → at < 2 ^ 32
 whole_err shape requests.Hello at few e = absurd (let f : Ok requests.Hello ≡ bad at = e in cc)

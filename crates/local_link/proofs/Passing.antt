@@ -39,7 +39,7 @@ use Rattle.local_link.proofs.Standing.{images_now, header_stays, peer_moves}
 
 -- ---- what adds nothing
 
-adds_none : (shape : Shape) (cloud : ℕ) (full : List Command → Command → Option FullRoom) (list : List Command) (r : Request) → AddsNothing r → (served shape cloud full list r).adds ≡ None
+pub adds_none : (shape : Shape) (cloud : ℕ) (full : List Command → Command → Option FullRoom) (list : List Command) (r : Request) → AddsNothing r → (served shape cloud full list r).adds ≡ None
 adds_none shape cloud full list requests.Hello none = refl
 adds_none shape cloud full list (requests.Query user fps) none = refl
 adds_none shape cloud full list (requests.Put user shares) none = absurd none

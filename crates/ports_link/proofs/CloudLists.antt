@@ -220,7 +220,7 @@ lines_apart (line ∷ lines) a b port apart (inr one) (inl two) =
     absurd (line_port (λ other. other ≢ line.1) lines a port one apart.0 (sym two.1))
 lines_apart (line ∷ lines) a b port apart (inr one) (inr two) = lines_apart lines a b port apart.1 one two
 
-abbrev line_on : ℕ → CloudLine
+abbrev pub line_on : ℕ → CloudLine
 line_on port = record { port = Some port; ended = false }
 
 -- how a cloud is reached behind some lines: as before, or by one of them
@@ -365,3 +365,15 @@ through asked count t u ports all meets =
       long = long;
       many = many;
     }
+
+-- ---- other ports
+
+-- a port that isn't among these
+pub not_first : (line : CloudNo × ℕ) (rest : List (CloudNo × ℕ)) (port : ℕ) → ¬ Contains (ports_of (line ∷ rest)) port
+    → port ≢ line.1
+not_first line rest port none e =
+    none (subst (λ (n : ℕ). Contains (ports_of (line ∷ rest)) n) (sym e) (contains_here line.1 (ports_of rest)))
+
+pub not_later : (line : CloudNo × ℕ) (rest : List (CloudNo × ℕ)) (port : ℕ) → ¬ Contains (ports_of (line ∷ rest)) port
+    → ¬ Contains (ports_of rest) port
+not_later line rest port none c = none (contains_later line.1 (ports_of rest) port c)

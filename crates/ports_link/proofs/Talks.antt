@@ -4,9 +4,10 @@ use Rattle.std.proofs.lemmas.List.{get_or-set_same, get_or-set_other}
 use Rattle.std.proofs.lemmas.Bool.{cases_eq, cases_lt}
 use Rattle.std.proofs.lemmas.List.Concat.{flat_map-append}
 use Rattle.user_dedup.specs.Link.{Talk, first_reply, later_replies, said}
-use Rattle.user_dedup.specs.Frames.Frames.{IsContent, AreContents, frame, stream, length_in}
+use Rattle.user_dedup.specs.Frames.Frames.{IsContent, frame, stream, length_in}
 use Rattle.std.proofs.lemmas.Slice.Eq.{bytes_eq-Decides}
 use Rattle.user_dedup.proofs.Frames.FrameLaws.{one_frame, length_in-frame, length-frame}
+use Rattle.user_dedup.proofs.Frames.StreamLaws.{AreContents-append}
 use Rattle.transcript.specs.CdEdges.Ports.{Telling, Port, OthersStay, Sent}
 use Rattle.ports_link.specs.declared.lines.CloudLine.{CloudLine}
 use Rattle.ports_link.specs.Exchange.{NoFrame}
@@ -14,10 +15,6 @@ use Rattle.ports_link.specs.Lines.{AsksOn, Hears, Ends, Deaf, line_of, no_line}
 use Rattle.ports_link.specs.Tells.{HasAsked, BringsReplies, HasComing, HasTalk, HasPassedOnPort}
 
 -- ---- requests
-
-AreContents-append : (one two : List (List ℕ)) → AreContents one → AreContents two → AreContents (one ++ two)
-AreContents-append [] two s t = t
-AreContents-append (a ∷ one) two s t = (s.0, AreContents-append one two s.1 t)
 
 asked_more : (bytes : List ℕ) (contents : List (List ℕ)) (request : List ℕ) → IsContent request → HasAsked bytes contents → HasAsked (bytes ++ frame request) (contents ++ request ∷ [])
 asked_more bytes contents request lawful asked = record {
@@ -89,7 +86,7 @@ left old new port before after request reply talk lawful asked coming (Deaf dead
 
 -- ---- lines
 
-some_same : (a b : ℕ) → Some a ≡ Some b → a ≡ b
+pub some_same : (a b : ℕ) → Some a ≡ Some b → a ≡ b
 some_same a b e = cc
 
 nat_cases : (a b : ℕ) → (a ≡ b) ⊎ (a ≢ b)

@@ -24,6 +24,7 @@ use Rattle.subset_restore.specs.RestoreJob.Restored.{Unrestored}
 use Rattle.subset_restore.specs.RestoreJob.Steps.{Compares, NoShares, OpensTo, RecipeRefused, Refuses, SharesFrom, Takes}
 use Rattle.subset_restore.specs.RestoreJob.error.RestoreErr.{RestoreErr}
 use Rattle.subset_restore.specs.RestoreJob.error.RestoreErr.TheVariants as errors
+use Rattle.kept_files.proofs.RestoreJob.Held.{refused}
 
 -- One of the exchanges was with this cloud, for the recipe or for shares, and this came.
 pub record HasHeard (user : UserId) (tag : Tag) (version : Version) (log : List CloudExchange) (c : CloudNo) (answer : Reply) : Type 0 where
@@ -33,9 +34,6 @@ pub record HasHeard (user : UserId) (tag : Tag) (version : Version) (log : List 
   pub bytes : AreBytes x.reply
   pub read : (let is : Result Reply ℕ = Ok answer in reply_at x.reply ≡ is)
   pub asked : IsRequest x.request (requests.GetRecipe user tag version) ⊎ ((fps : List Fp) × IsRequest x.request (requests.GetShares user fps))
-
-abbrev refused : {A : Type 0} → RestoreErr → Result A RestoreErr
-refused e = Err e
 
 same_error : {A : Type 0} (e f : RestoreErr) → refused {A = A} f ≡ refused e → f ≡ e
 same_error e f is = cc

@@ -18,6 +18,7 @@ use Rattle.lane_steps.specs.UserDedup.Dedup.{FullRoom}
 use Rattle.lane_steps.specs.UserDedup.Exec.{Peer, served}
 use Rattle.lane_steps.proofs.UserDedup.Owned.{contains_here, contains_later, contains_nothing, contains_cases}
 use Rattle.lane_steps.proofs.UserDedup.Sound.{found_entry}
+use Rattle.lane_steps.proofs.UserDedup.Pages.{sorted_has}
 use Rattle.kept_files.specs.Kept.{key_of, Keeps}
 use Rattle.lane_steps.specs.UploadJob.Upload.{FileVersion, work_of}
 use Rattle.lane_steps.specs.UploadJob.Lane.{LaneState, Asking, Sending, Committing, Done, Refused}
@@ -31,7 +32,6 @@ use Rattle.rebuild.specs.Rebuilding.{Progressed, nothing_yet, lane_ended, Brings
 use Rattle.rebuild.specs.Kept.{HasVersion, HasAnother, RefillsKept, SkipCaused, SkipsCaused}
 use Rattle.rebuild.proofs.Finding.{kept_is_found}
 use Rattle.rebuild.proofs.Lanes.{IsQuiet, Later, later_same, later_then, has_later, other_later, run_later, run_exists, lane_done}
-use Rattle.rebuild.proofs.Sorted.{sorted_has}
 
 abbrev pub skip_for : Tag × Version → SkipWhy → Skip
 skip_for key why = record { tag = key.0; version = key.1; why = why }
@@ -215,7 +215,7 @@ module _ (shape : Shape) (target : ℕ) (full : List Command → Command → Opt
 
 -- ---- from the keys of the first cloud
 
-contains_map : {A B : Type 0} (g : A → B) (xs : List A) (x : A) → Contains xs x → Contains (map g xs) (g x)
+pub contains_map : {A B : Type 0} (g : A → B) (xs : List A) (x : A) → Contains xs x → Contains (map g xs) (g x)
 contains_map g [] x h = absurd (contains_nothing x h)
 contains_map {A} {B} g (y ∷ xs) x h =
     elim (contains_cases y xs x h) [
@@ -232,11 +232,11 @@ found_is shape lists from user (key ∷ keys) f h =
       | inr later ↦ found_is shape lists from user keys f later
     ]
 
-some_entry : (o : Option FileEntry) (bytes : List ℕ) → option_map (λ entry. entry.recipe) o ≡ Some bytes → (entry : FileEntry) × (o ≡ Some entry)
+pub some_entry : (o : Option FileEntry) (bytes : List ℕ) → option_map (λ entry. entry.recipe) o ≡ Some bytes → (entry : FileEntry) × (o ≡ Some entry)
 some_entry None bytes e = absurd (let f : None ≡ Some bytes = e in cc)
 some_entry (Some entry) bytes e = (entry, refl)
 
-has_key : (shape : Shape) (cloud : ℕ) (list : List Command) (user : UserId) (path : List ℕ) (version : Version) (file : List ℕ) → Keeps shape cloud list user path version file
+pub has_key : (shape : Shape) (cloud : ℕ) (list : List Command) (user : UserId) (path : List ℕ) (version : Version) (file : List ℕ) → Keeps shape cloud list user path version file
     → Contains (keys_in shape list user) (key_of shape path version)
 has_key shape cloud list user path version file keeps =
     let files : List FileEntry = (user_view shape list user).files in

@@ -35,7 +35,7 @@ failed e = Err e
 
 -- ---- the clouds that are read
 
-rises_by : (xs : List ℕ) → IsStrictlyIncreasing xs → (t d : ℕ) → (t + 1) + d < length xs → slice_index xs t < slice_index xs ((t + 1) + d)
+pub rises_by : (xs : List ℕ) → IsStrictlyIncreasing xs → (t d : ℕ) → (t + 1) + d < length xs → slice_index xs t < slice_index xs ((t + 1) + d)
 rises_by xs rises t zero lt = let e : t + 1 ≡ (t + 1) + 0 = omega arith in subst (λ (n : ℕ). slice_index xs t < slice_index xs n) e (rises t (omega arith))
 rises_by xs rises t (suc d) lt =
     let e : ((t + 1) + d) + 1 ≡ (t + 1) + suc d = omega arith in

@@ -27,7 +27,7 @@ use Rattle.kept_files.specs.RestoreJob.Asking.{Leads as ReadLeads, is_loss}
 use Rattle.kept_files.specs.RestoreJob.Refusals.{Names}
 use Rattle.kept_files.specs.RestoreJob.error.RestoreErr.{RestoreErr}
 use Rattle.kept_files.specs.RestoreJob.error.RestoreErr.TheVariants as refusals
-use Rattle.kept_files.proofs.RestoreJob.Leading.{may_on, may_stay}
+use Rattle.kept_files.proofs.RestoreJob.Leading.{may_on, may_stay, passes_on}
 use Rattle.rebuild.specs.declared.error.SkipWhy.{SkipWhy}
 use Rattle.rebuild.specs.declared.error.RebuildErr.{RebuildErr}
 use Rattle.rebuild.specs.declared.error.RebuildErr.TheVariants as errors
@@ -76,10 +76,6 @@ failed_found (step_errors.Strange kind) found = refl
 failed_found step_errors.NoMemory found = refl
 
 -- ---- the way over the link
-
-passes_on : {L : Type 0} (t : LinkTelling L) (clouds : List ℕ) (old mid new : L) (es fs : List Exchange) → Passes t (ReadsFrom clouds) old es mid → Passes t (ReadsFrom clouds) mid fs new → Passes t (ReadsFrom clouds) old (es ++ fs) new
-passes_on t clouds old mid new [] fs one two = subst (λ x. Passes t (ReadsFrom clouds) x fs new) one two
-passes_on t clouds old mid new (e ∷ es) fs one two = (one.0, (one.1.0, one.1.1, passes_on t clouds one.1.0 mid new es fs one.1.2 two))
 
 pub reading_on : {L : Type 0} (t : LinkTelling L) (from : List ℕ) (old mid new : L) → Reading t from old mid → Reading t from mid new → Reading t from old new
 reading_on t from old mid new one two = (one.0 ++ two.0, passes_on t from old mid new one.0 two.0 one.1 two.1)

@@ -3,7 +3,7 @@ use Rattle.std.proofs.Common.{◌≡◌, ◌⊎◌, ℕ, ◌<◌, ◌≤◌, ◌
 use Rattle.std.specs.Prelude.{IsTrue, MatchOption, ◌==◌}
 use Rattle.std.specs.List.{count_by, range_with_len}
 use Rattle.std.proofs.lemmas.Option.{same_Some}
-use Rattle.std.proofs.lemmas.Bool.{cases_eq, ne_eqb}
+use Rattle.std.proofs.lemmas.Bool.{cases_eq}
 use Rattle.std.proofs.lemmas.List.{length-map}
 use Rattle.std.proofs.lemmas.List.FromFn.{length-range_with_len}
 use Rattle.lane_steps.specs.CdEdges.Causes.{Rose}
@@ -27,9 +27,9 @@ use Rattle.lane_steps.specs.declared.error.StepErr.{StepErr}
 use Rattle.lane_steps.specs.declared.error.StepErr.TheVariants as step_errors
 use Rattle.lane_steps.specs.Steps.{Heard, LaneSteps, LostAsk}
 use Rattle.lane_steps.proofs.Views.{lane_with}
-use Rattle.lane_steps.proofs.Runs.{run_of, along_more, tell_more}
+use Rattle.lane_steps.proofs.Runs.{run_of, along_more, tell_more, Alike}
 use Rattle.kept_files.specs.RestoreJob.Asking.{MayRead}
-use Rattle.kept_files.proofs.RestoreJob.Leading.{rose_on, may_stay, counts_on}
+use Rattle.kept_files.proofs.RestoreJob.Leading.{rose_on, may_stay, counts_on, put, put_here, put_other}
 use Rattle.rebuild.specs.declared.error.RebuildErr.{RebuildErr}
 use Rattle.rebuild.specs.declared.error.RebuildErr.TheVariants as errors
 use Rattle.rebuild.specs.Found.{Finding}
@@ -40,18 +40,9 @@ use Rattle.rebuild.specs.Turns.{LaneEnded, LaneGoes, SaidLast}
 use Rattle.rebuild.proofs.Telling.{goes_along, goes_there, reply_always}
 use Rattle.rebuild.proofs.Lacking.{never_lacking}
 use Rattle.rebuild.proofs.Cutting.{first_request, goes_on, same_counts, with_fault, with_first}
-use Rattle.rebuild.proofs.Turning.{Alike, BringEnds, fault_rose, peer_turns, EndsAll, GoesFurther, HasEnded, PeerTurns, expected, follows, last_turn, untold_by, no_memory, never_damaged, never_rotten}
+use Rattle.rebuild.proofs.Turning.{BringEnds, fault_rose, peer_turns, EndsAll, GoesFurther, HasEnded, PeerTurns, expected, follows, last_turn, untold_by, no_memory, never_damaged, never_rotten}
 
 -- ---- one cloud of the link
-
-abbrev put : (ℕ → Peer) → ℕ → Peer → ℕ → Peer
-put peers cloud q x = cond (x == cloud) q (peers x)
-
-put_here : (peers : ℕ → Peer) (cloud : ℕ) (q : Peer) → put peers cloud q cloud ≡ q
-put_here peers cloud q = ap (λ (b : Bool). cond b q (peers cloud)) (eq-eqb cloud cloud refl)
-
-put_other : (peers : ℕ → Peer) (cloud : ℕ) (q : Peer) (x : ℕ) → (x ≡ cloud → ⊥) → put peers cloud q x ≡ peers x
-put_other peers cloud q x ne = ap (λ (b : Bool). cond b q (peers x)) (ne_eqb x cloud ne)
 
 -- where the target went by its turns
 pub record Moved {L A : Type 0} (t : LinkTelling L) (talk : L → ℕ → Talk → Type 0) (target : ℕ) (from : List ℕ) (old new : L) (result : Result A RebuildErr)

@@ -191,19 +191,19 @@ put_by full user (s ∷ ss) e = put_room (commands.Put user (s ∷ ss)) _ (full 
 
 -- ---- the end of a lane
 
-goes_on : (batches : List (List (List ℕ))) → onward batches ≡ Done → ⊥
+pub goes_on : (batches : List (List (List ℕ))) → onward batches ≡ Done → ⊥
 goes_on [] e = cc
 goes_on (batch ∷ rest) e = cc
 
-past_by : (b : Bool) (batch : List (List ℕ)) (flags : List ℕ) (rest : List (List (List ℕ))) → cond b (onward rest) (Sending batch flags rest) ≡ Done → ⊥
+pub past_by : (b : Bool) (batch : List (List ℕ)) (flags : List ℕ) (rest : List (List (List ℕ))) → cond b (onward rest) (Sending batch flags rest) ≡ Done → ⊥
 past_by true batch flags rest e = goes_on rest e
 past_by false batch flags rest e = cc
 
-past_goes_on : (batch : List (List ℕ)) (flags : List ℕ) (rest : List (List (List ℕ))) → past_known batch flags rest ≡ Done → ⊥
+pub past_goes_on : (batch : List (List ℕ)) (flags : List ℕ) (rest : List (List (List ℕ))) → past_known batch flags rest ≡ Done → ⊥
 past_goes_on batch flags rest e = past_by (list_all (λ flag. flag == 1) flags) batch flags rest e
 
 -- a lane that had a request comes to its end by a Commit that is answered so
-done_by : (w : Work) (lane : LaneState) (said : Reply) (request : Request) → lane_request w lane ≡ Some request → lane_after w lane said ≡ Done → (lane ≡ Done) ⊎ ((lane ≡ Committing) × (said ≡ replies.Committed))
+pub done_by : (w : Work) (lane : LaneState) (said : Reply) (request : Request) → lane_request w lane ≡ Some request → lane_after w lane said ≡ Done → (lane ≡ Done) ⊎ ((lane ≡ Committing) × (said ≡ replies.Committed))
 done_by w (Asking batch rest) (replies.Hello n k cloud format) request asked e = absurd cc
 done_by w (Asking batch rest) (replies.Known flags) request asked e = absurd (past_goes_on batch flags rest e)
 done_by w (Asking batch rest) (replies.Stored new) request asked e = absurd cc

@@ -16,7 +16,6 @@ pub mod Opens
 pub mod Pages
 pub mod Paging
 pub mod Passing
-pub mod Sorted
 pub mod Stable
 pub mod Staying
 pub mod Telling

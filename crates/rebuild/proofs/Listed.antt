@@ -1,13 +1,11 @@
 -- What a page of a user's keys tells.
-use Rattle.std.proofs.Common.{◌≡◌, ◌⊎◌, ℕ, Bool, true, false, List, [], ◌∷◌, Option, Result, Ok, Err, refl, sym, ap, ◌∙◌, subst, inl, inr}
+use Rattle.std.proofs.Common.{◌≡◌, ◌⊎◌, ℕ, false, List, [], ◌∷◌, Option, Result, Ok, Err, refl, sym, ap, ◌∙◌, subst, inl, inr}
 use Rattle.std.specs.Prelude.{IsTrue, IfErr}
 use Rattle.std.specs.List.{Contains}
 use Rattle.lane_steps.specs.CdEdges.Causes.{Rose}
 use Rattle.lane_steps.specs.CdBase.Reading.{AreBytes}
 use Rattle.lane_steps.specs.CdBase.ids.CloudNo.{CloudNo}
-use Rattle.lane_steps.specs.CdBase.ids.Tag.{Tag}
 use Rattle.lane_steps.specs.CdBase.ids.UserId.{UserId}
-use Rattle.lane_steps.specs.CdBase.ids.Version.{Version}
 use Rattle.lane_steps.specs.CdBase.shape.Shape.{Shape}
 use Rattle.lane_steps.specs.Messages.request.Request.TheVariants as requests
 use Rattle.lane_steps.specs.Messages.reply.Reply.{Reply}
@@ -17,18 +15,16 @@ use Rattle.lane_steps.specs.UserDedup.Cloud.{user_view}
 use Rattle.lane_steps.specs.UserDedup.Pages.{page_of}
 use Rattle.lane_steps.specs.UserDedup.Exec.{Peer}
 use Rattle.lane_steps.specs.UserDedup.Link.{LinkTelling, Asks}
-use Rattle.lane_steps.proofs.UserDedup.Owned.{contains_here, contains_cases, contains_nothing}
-use Rattle.kept_files.specs.RestoreJob.Asking.{Reads, ReadFails, TellsAll, Leads}
+use Rattle.lane_steps.proofs.UserDedup.Owned.{contains_here}
+use Rattle.lane_steps.proofs.UserDedup.Pages.{Key}
+use Rattle.kept_files.specs.RestoreJob.Asking.{Reads, ReadFails, Leads}
 use Rattle.kept_files.specs.RestoreJob.Refusals.{Names}
 use Rattle.kept_files.specs.RestoreJob.error.RestoreErr.{RestoreErr}
 use Rattle.kept_files.specs.RestoreJob.error.RestoreErr.TheVariants as errors
-use Rattle.kept_files.proofs.RestoreJob.Causing.{FaultRose}
+use Rattle.kept_files.proofs.RestoreJob.Causing.{FaultRose, untold, only_told}
 use Rattle.kept_files.proofs.RestoreJob.Held.{heard_moves, lost_moves}
 use Rattle.kept_files.proofs.RestoreJob.Leading.{Moves, leads_to}
 use Rattle.rebuild.specs.Steps.{ReadCauses, RefusesPage, PageIs, PageFrom, PageTold}
-
-abbrev Key : Type 0
-Key = Tag × Version
 
 abbrev Listed : Type 0
 Listed = Result (List Key) RestoreErr
@@ -196,17 +192,6 @@ page_moves t shape user above cloud old new content result same bytes asks from 
     (λ p q fails at. by_fault shape user cloud above result p q fails (subst (λ (x : Result Reply ℕ). PageFrom cloud x result) at from))
 
 -- ---- the cloud of a link
-
-untold : (b : Bool) → (IsTrue b → ⊥) → b ≡ false
-untold true never = absurd (never refl)
-untold false never = refl
-
-only_told : {L : Type 0} (t : LinkTelling L) (link : L) (cloud : ℕ) → IsTrue (t.told link cloud) → TellsAll t link (cloud ∷ [])
-only_told t link cloud told c has =
-    elim (contains_cases cloud [] c has) [
-      | inl same ↦ subst (λ (x : ℕ). IsTrue (t.told link x)) same told
-      | inr none ↦ absurd (contains_nothing c none)
-    ]
 
 caused_at : {L : Type 0} (t : LinkTelling L) (link : L) (shape : Shape) (user : UserId) (cloud : CloudNo) (above : Option Key) (result : Listed) (a b : ℕ → Peer) → NamesOne cloud result → FaultRose result (a cloud.0) (b cloud.0)
     → (IsTrue (t.told link cloud.0) → PeerTold shape user cloud above result (a cloud.0) (b cloud.0)) → ReadCauses t link result a b

@@ -100,7 +100,7 @@ opened_long shape len points shares bytes whole e =
 
 -- ---- the shares of a name
 
-abbrev name_share : Recipe → List ℕ
+abbrev pub name_share : Recipe → List ℕ
 name_share r = r.name_share
 
 name_lens : (b : Bool) (rest : Option ℕ) → cond (not b) (Some 0) rest ≡ None → b ≡ true

@@ -41,7 +41,7 @@ use Rattle.rebuild.specs.Over.{ReadCaused}
 use Rattle.rebuild.specs.Rebuilding.{up_to}
 use Rattle.rebuild.specs.declared.naming.NameErr.{NameErr}
 use Rattle.rebuild.specs.Steps.{NameIs, UnnamedAs, ReadCauses, ReadEnds, RefusedAs, VersionEnds, OpensTold, FindsTold, found_of, judged_by, skip_as, unless_differs}
-use Rattle.rebuild.proofs.Names.{opened_most}
+use Rattle.rebuild.proofs.Names.{opened_most, name_share}
 
 -- ---- how long a file is
 
@@ -141,14 +141,8 @@ refused_caused t link shape user key e (Err f) a b refused caused = subst (λ (x
 
 -- ---- the recipes came
 
-abbrev name_share : Recipe → List ℕ
-name_share r = r.name_share
-
 abbrev recipe_of : Given → Recipe
 recipe_of given = given.recipe
-
-abbrev cloud_of : Given → ℕ
-cloud_of given = given.cloud
 
 shares_given : (all : List Given) → flat_map (λ (given : Given). given.recipe.name_share) all ≡ flat_map name_share (map recipe_of all)
 shares_given [] = refl

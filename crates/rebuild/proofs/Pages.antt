@@ -3,9 +3,7 @@ use Rattle.std.proofs.Common.{◌≡◌, ◌≢◌, ◌⊎◌, ℕ, suc, ◌<◌
 use Rattle.std.specs.List.{Contains}
 use Rattle.std.proofs.lemmas.List.{take-append-drop}
 use Rattle.lane_steps.specs.CdBase.ids.CloudNo.{CloudNo}
-use Rattle.lane_steps.specs.CdBase.ids.Tag.{Tag}
 use Rattle.lane_steps.specs.CdBase.ids.UserId.{UserId}
-use Rattle.lane_steps.specs.CdBase.ids.Version.{Version}
 use Rattle.lane_steps.specs.CdBase.shape.Shape.{Shape}
 use Rattle.lane_steps.specs.Messages.request.Request.{Request}
 use Rattle.lane_steps.specs.UserDedup.command.Command.{Command}
@@ -16,6 +14,7 @@ use Rattle.lane_steps.specs.UserDedup.Exec.{Peer, CountsOn}
 use Rattle.lane_steps.specs.UserDedup.Link.{LinkTelling, Talk, serves}
 use Rattle.lane_steps.specs.UserDedup.Pages.{page_of}
 use Rattle.lane_steps.proofs.UserDedup.Owned.{contains_nothing}
+use Rattle.lane_steps.proofs.UserDedup.Pages.{Key}
 use Rattle.lane_steps.specs.Runs.{LaneTurn}
 use Rattle.kept_files.specs.RestoreJob.Asking.{MayRead, AreOnlyAsked, Reads}
 use Rattle.kept_files.specs.RestoreJob.Asking.{HasAskedClouds as ReadAsked, Leads as ReadLeads}
@@ -40,9 +39,6 @@ use Rattle.rebuild.proofs.Paging.{from_start, last_page, next_page}
 use Rattle.rebuild.proofs.Passing.{asked_as, asked_none, asked_on, asked_reads, own_none, own_on, own_reads}
 use Rattle.rebuild.proofs.Telling.{lanes_none}
 use Rattle.rebuild.proofs.Whole.{ReadBy, told_runs}
-
-abbrev Key : Type 0
-Key = Tag × Version
 
 abbrev pub ended : Result (Unit {0}) RebuildErr
 ended = Ok (tt {0})

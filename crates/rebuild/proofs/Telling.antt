@@ -70,7 +70,7 @@ module _ (shape : Shape) (user : UserId) (target : ℕ) where
 
 -- ---- whose requests
 
-some_request : (a b : Request) → Some a ≡ Some b → a ≡ b
+pub some_request : (a b : Request) → Some a ≡ Some b → a ≡ b
 some_request a b e = cc
 
 asked_for : (w : Work) (state : LaneState) (request : Request) → lane_request w state ≡ Some request → asker request ≡ w.user

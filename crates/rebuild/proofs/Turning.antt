@@ -32,12 +32,15 @@ use Rattle.lane_steps.specs.UploadJob.Upload.{Work}
 use Rattle.lane_steps.specs.UploadJob.Lane.{LaneState, Asking, Sending, Committing, Done, Refused, onward, lane_request, news_of, unflagged}
 use Rattle.lane_steps.specs.Runs.{LaneTurn, Progress, request_of, progress_after, LaneAlong, Tell}
 use Rattle.lane_steps.specs.Steps.{Heard}
+use Rattle.lane_steps.proofs.Runs.{others_on, Alike, does_alike}
+use Rattle.lane_steps.proofs.Finishing.{no_others}
 use Rattle.rebuild.specs.declared.error.RebuildErr.{RebuildErr}
 use Rattle.rebuild.specs.declared.error.RebuildErr.TheVariants as errors
 use Rattle.rebuild.specs.Rebuilding.{Progressed, lane_ended, last_said}
 use Rattle.kept_files.proofs.RestoreJob.Leading.{counts_on}
 use Rattle.rebuild.specs.Over.{TargetAlong}
 use Rattle.rebuild.specs.Filling.{EndsBy, IsThere, StopsBy, last_of}
+use Rattle.rebuild.proofs.Telling.{some_request}
 
 -- ---- which replies a told target gives
 
@@ -72,9 +75,6 @@ commit_kind full None None command recipe = by_full (full command)
     by_full : (room : Option FullRoom) → Answered Committing (by_room (record { reply = replies.Committed; adds = Some command }) room).reply
     by_full None = tt
     by_full (Some room) = tt
-
-some_request : (a b : Request) → Some a ≡ Some b → a ≡ b
-some_request a b e = cc
 
 module _ (shape : Shape) (cloud : ℕ) (full : List Command → Command → Option FullRoom) where
   served_kind : (w : Work) (state : LaneState) (request : Request) (list : List Command) → lane_request w state ≡ Some request → Answered state (served shape cloud full list request).reply
@@ -282,18 +282,6 @@ follows w state lacked request reply asks (inr fault) = subst (Follows w state l
 
 -- ---- the target's turns over the link
 
--- two links tell the same of what their clouds do
-pub record Alike {L : Type 0} (t : LinkTelling L) (one two : L) : Type 0 where
-  pub shape : t.shape two ≡ t.shape one
-  pub told : t.told two ≡ t.told one
-  pub full : t.full two ≡ t.full one
-
-pub does_alike : {L : Type 0} (t : LinkTelling L) (cloud : ℕ) (one two : L) (p q : Peer) (request : Request) (reply : Reply) → Alike t one two → Does t cloud two p request reply q → Does t cloud one p request reply q
-does_alike t cloud one two p q request reply alike does =
-    subst (λ (f : ℕ → List Command → Command → Option FullRoom). Exec (t.shape one) (t.told one cloud) (served (t.shape one) cloud (f cloud)) p request reply q) alike.full
-    (subst (λ (b : ℕ → Bool). Exec (t.shape one) (b cloud) (served (t.shape one) cloud (t.full two cloud)) p request reply q) alike.told
-    (subst (λ (s : Shape). Exec s (t.told two cloud) (served s cloud (t.full two cloud)) p request reply q) alike.shape does))
-
 -- the turns from one state that the target stood for
 pub record PeerTurns {L : Type 0} (t : LinkTelling L) (talk : L → ℕ → Talk → Type 0) (target : ℕ) (from : List ℕ) (base old new : L) (lane last : Progress) (told : List LaneNews) (p : Peer) : Type 0 where
   pub end : Peer
@@ -304,18 +292,6 @@ pub record PeerTurns {L : Type 0} (t : LinkTelling L) (talk : L → ℕ → Talk
   pub stands : t.stands new target end
   pub counts : CountsOn p end
   pub others : LeavesOthers t target old new
-
-others_on : {L : Type 0} (t : LinkTelling L) (cloud : ℕ) (old mid new : L) → LeavesOthers t cloud old mid → LeavesOthers t cloud mid new → LeavesOthers t cloud old new
-others_on t cloud old mid new one two = record {
-  stands = λ other p ne stands. two.stands other p ne (one.stands other p ne stands);
-  reaches = two.reaches ∙ one.reaches;
-  shape = two.shape ∙ one.shape;
-  told = two.told ∙ one.told;
-  full = two.full ∙ one.full;
-}
-
-pub no_others : {L : Type 0} (t : LinkTelling L) (cloud : ℕ) (link : L) → LeavesOthers t cloud link link
-no_others t cloud link = record { stands = λ other p ne stands. stands; reaches = refl; shape = refl; told = refl; full = refl }
 
 pub peer_turns : {L : Type 0} (t : LinkTelling L) (talk : L → ℕ → Talk → Type 0) (target : ℕ) (from : List ℕ) (base old new : L) (lane last : Progress) (turns : List (LaneTurn L)) (told : List LaneNews) (p : Peer)
     → Alike t base old → LaneAlong (Heard t talk target) lane old turns last new → Tell lane.lane turns told → t.stands old target p → PeerTurns t talk target from base old new lane last told p

@@ -68,7 +68,7 @@ moments_more : (history : List Answered) (a : Answered) → moments_of (history 
 moments_more history a =
     flat_map-append (λ (b : Answered). b.moments) history (a ∷ []) ∙ ap (λ (l : List Moment). moments_of history ++ l) (append-nil a.moments)
 
-answers_more : (history : List Answered) (a : Answered) → answers_of (history ++ a ∷ []) ≡ answers_of history ++ a.answers
+pub answers_more : (history : List Answered) (a : Answered) → answers_of (history ++ a ∷ []) ≡ answers_of history ++ a.answers
 answers_more history a =
     flat_map-append (λ (b : Answered). b.answers) history (a ∷ []) ∙ ap (λ (l : List Line). answers_of history ++ l) (append-nil a.answers)
 

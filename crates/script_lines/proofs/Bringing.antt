@@ -13,6 +13,7 @@ use Rattle.session_model.specs.UserDedup.command.Command.{Command}
 use Rattle.session_model.specs.UserDedup.Exec.{Peer, MaySettleAs}
 use Rattle.session_model.specs.UserDedup.Link.{Talk}
 use Rattle.session_model.proofs.UserDedup.Owned.{contains_here}
+use Rattle.session_model.proofs.Parts.{put}
 use Rattle.session_model.specs.UploadJob.news.LaneNews.{LaneNews}
 use Rattle.session_model.specs.UploadJob.Lane.{LaneState, news_of}
 use Rattle.session_model.specs.UploadJob.Lanes.{LaneView, with_state}
@@ -37,7 +38,7 @@ use Rattle.script_lines.specs.Does.{Images, Does, IsLineCut}
 use Rattle.script_lines.specs.Jobs.{job_lanes, with_job}
 use Rattle.script_lines.specs.Stepping.{stored_if}
 use Rattle.script_lines.specs.Finishing.{lane_lines, IsBrought, Finished, FinishedPart}
-use Rattle.script_lines.proofs.Going.{put, leaves_join, left_at, images_weaker, images_still}
+use Rattle.script_lines.proofs.Going.{leaves_join, left_at, images_weaker, images_still}
 use Rattle.script_lines.proofs.Walking.{views_are, jobs_with, run_along, along_run, along_more, heard_step, Walked, walk, along_leaves}
 use Rattle.script_lines.proofs.Reaching.{lanes_with}
 use Rattle.script_lines.proofs.Lines.{text_more, stored_same, step_leaves}
@@ -375,7 +376,7 @@ module _ {V : Type 0} (clouds : V → ℕ → Cloud) (talk : LocalLink V → ℕ
 
 -- ---- the lanes in a row, and the line
 
-range_split : (a m k : ℕ) → range_with_len a (m + suc k) ≡ range_with_len a m ++ (a + m) ∷ range_with_len (a + m + 1) k
+pub range_split : (a m k : ℕ) → range_with_len a (m + suc k) ≡ range_with_len a m ++ (a + m) ∷ range_with_len (a + m + 1) k
 range_split a zero k =
     let e : 0 + suc k ≡ suc k = omega arith in
     let f : a + 0 ≡ a = omega arith in

@@ -28,6 +28,7 @@ use Rattle.session_model.specs.UserDedup.Exec.{Peer, Exec, ExecTold, ExecUntold,
 use Rattle.session_model.specs.UserDedup.Link.{Asks, LeavesOthers, exchange_of}
 use Rattle.session_model.specs.UserDedup.Requests.{asked_at}
 use Rattle.session_model.proofs.UserDedup.Asked.{asked_law}
+use Rattle.session_model.proofs.Parts.{put}
 use Rattle.session_model.specs.UploadJob.Lanes.{LaneView}
 use Rattle.session_model.specs.LocalLink.link.LocalLink.{LocalLink}
 use Rattle.session_model.specs.LocalLink.Tells.{is_delivered, full_at, telling, PassesOn}
@@ -38,7 +39,7 @@ use Rattle.session_model.specs.Vault.{Setting, Vault, HasVaultExecuted}
 use Rattle.session_model.specs.Steps.{IsDeleteLine}
 use Rattle.script_lines.specs.At.{IsAt, KeepsOtherClouds}
 use Rattle.script_lines.specs.Does.{Images, Goes, IsLineCut}
-use Rattle.script_lines.proofs.Going.{put, before_exec, moves, executes, images_executed, leaves_rest, cut_behind}
+use Rattle.script_lines.proofs.Going.{before_exec, moves, executes, images_executed, leaves_rest, cut_behind}
 
 -- ---- what is said of a reply
 

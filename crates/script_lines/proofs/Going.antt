@@ -1,7 +1,7 @@
 -- A link at the clouds of a vault, and what one call on one cloud leaves of it.
-use Rattle.std.proofs.Common.{◌≡◌, ℕ, ◌<◌, ◌≤◌, Bool, cond, List, [], ◌∷◌, refl, sym, ap, ◌∙◌, subst, inl, inr, eq-eqb, eqb, arith, append-nil}
-use Rattle.std.specs.Prelude.{◌≢◌, IsTrue, Option, Some}
-use Rattle.std.proofs.lemmas.Bool.{cases_eq, ne_eqb}
+use Rattle.std.proofs.Common.{◌≡◌, ℕ, ◌<◌, ◌≤◌, Bool, List, [], ◌∷◌, refl, sym, ap, ◌∙◌, subst, inl, inr, arith, append-nil}
+use Rattle.std.specs.Prelude.{IsTrue, Option, Some}
+use Rattle.std.proofs.lemmas.Bool.{cases_eq}
 use Rattle.recipe.specs.CdBase.shape.Shape.{Shape}
 use Rattle.session_model.specs.CdEdges.Disk.{Cloud}
 use Rattle.session_model.proofs.CdEdges.Moments.{weaker, left_alone, started, at_end}
@@ -22,6 +22,7 @@ use Rattle.session_model.specs.LocalLink.link.LocalLink.{LocalLink}
 use Rattle.session_model.specs.LocalLink.servers.Servers.{Servers}
 use Rattle.session_model.specs.LocalLink.Tells.{rooms_of, rooms_at, header_at, full_at, telling, serving_at, StandsAt, LeavesRest}
 use Rattle.session_model.proofs.OfLocalLink.Passing.{read_images}
+use Rattle.session_model.proofs.Parts.{put, put_here, put_other}
 use Rattle.session_model.specs.Session.event.Event.{Event}
 use Rattle.session_model.specs.Transcript.line.Line.{Line}
 use Rattle.session_model.specs.Vault.{Setting, Vault, HasVaultExecuted, served_at}
@@ -32,17 +33,6 @@ use Rattle.script_lines.specs.At.{header_in, LinkAt, IsAt, KeepsOtherClouds}
 use Rattle.script_lines.specs.Does.{Images, Goes, IsLeftByCut, IsLineCut}
 
 -- ---- clouds by number, one of which goes on
-
-pub put : (ℕ → Peer) → ℕ → Peer → ℕ → Peer
-put peers cloud p x = cond (eqb x cloud) p (peers x)
-
-pub put_here : (peers : ℕ → Peer) (cloud : ℕ) (p : Peer) → put peers cloud p cloud ≡ p
-unfolding put
-put_here peers cloud p = ap (λ (b : Bool). cond b p (peers cloud)) (eq-eqb cloud cloud refl)
-
-pub put_other : (peers : ℕ → Peer) (cloud : ℕ) (p : Peer) (x : ℕ) → x ≢ cloud → put peers cloud p x ≡ peers x
-unfolding put
-put_other peers cloud p x ne = ap (λ (b : Bool). cond b p (peers x)) (ne_eqb x cloud ne)
 
 -- before a request that a cloud executes
 abbrev pub before_exec : (ℕ → Peer) → ℕ → Request → Reply → Moment

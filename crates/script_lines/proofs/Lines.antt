@@ -25,12 +25,13 @@ use Rattle.session_model.specs.Vault.{Setting, Vault, lanes_of, with_lanes}
 use Rattle.session_model.specs.Steps.{Moment, quiet, cloud_no, step_line, all_done, stored_line, LaneStep}
 use Rattle.session_model.specs.Headline.{IsPartOf}
 use Rattle.session_model.specs.Session.Texts.{text_of}
+use Rattle.session_model.proofs.Parts.{put}
 use Rattle.script_lines.specs.declared.error.CarryErr.{CarryErr}
 use Rattle.script_lines.specs.At.{LinkAt, IsAt, KeepsOtherClouds}
 use Rattle.script_lines.specs.Does.{Images, Goes, IsLineCut}
 use Rattle.script_lines.specs.Jobs.{job_lanes, with_job}
 use Rattle.script_lines.specs.Stepping.{stored_if, step_lines, IsTold}
-use Rattle.script_lines.proofs.Going.{put, before_exec, images_still, leaves_rest, leaves_all, cut_behind, cut_before}
+use Rattle.script_lines.proofs.Going.{before_exec, images_still, leaves_rest, leaves_all, cut_behind, cut_before}
 use Rattle.script_lines.proofs.Reaching.{lanes_with}
 use Rattle.script_lines.proofs.Walking.{views_are, jobs_with, same_job, heard_step}
 

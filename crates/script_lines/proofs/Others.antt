@@ -44,6 +44,7 @@ use Rattle.session_model.specs.LocalLink.servers.Servers.{Servers}
 use Rattle.session_model.specs.LocalLink.Tells.{rooms_at, header_at, is_delivered, telling, StandsAt, LeavesRest}
 use Rattle.session_model.specs.LocalLink.Calls.{Armed}
 use Rattle.session_model.proofs.OfLocalLink.Passing.{read_images, read_others, read_same}
+use Rattle.session_model.proofs.Parts.{put, put_here, put_other}
 use Rattle.session_model.specs.Session.event.Event.TheVariants as events
 use Rattle.session_model.specs.Session.Spelling.{AreSources}
 use Rattle.session_model.specs.Transcript.line.Line.{Line}
@@ -62,7 +63,7 @@ use Rattle.script_lines.proofs.Getting.{GetsIf, got_by}
 use Rattle.script_lines.proofs.Walking.{views_are}
 use Rattle.session_model.specs.ShareServer.Refusals.{IsDamage}
 use Rattle.script_lines.specs.Stepping.{IsOpening}
-use Rattle.script_lines.proofs.Going.{put, put_here, put_other, before_exec, now_by, moves, executes, listed, images_weaker, images_still, images_one, images_executed, header_is, asks_rooms}
+use Rattle.script_lines.proofs.Going.{before_exec, now_by, moves, executes, listed, images_weaker, images_still, images_one, images_executed, header_is, asks_rooms}
 
 -- ---- a new job
 

@@ -38,7 +38,7 @@ use Rattle.session_model.specs.Transcript.line.Line.TheVariants as lines
 use Rattle.session_model.specs.Vault.{Setting, Vault}
 use Rattle.session_model.specs.Steps.{Moment, cloud_no, moment_of, list_refusal, EndsListing, behind_page, ListRun, entry_line, list_lines}
 use Rattle.session_model.specs.Session.Texts.{text_of}
-use Rattle.session_model.proofs.Parts.{fault_of, fails}
+use Rattle.session_model.proofs.Parts.{fault_of, fails, put}
 use Rattle.session_model.proofs.Parts as parts
 use Rattle.script_lines.specs.declared.listing.Listing.{Listing}
 use Rattle.script_lines.specs.declared.listing.NoPage.{NoPage}
@@ -46,7 +46,7 @@ use Rattle.script_lines.specs.declared.listing.NoPage.TheVariants as no_pages
 use Rattle.script_lines.specs.At.{LinkAt, IsAt}
 use Rattle.script_lines.specs.Does.{Images, Goes, IsLineCut, CarriesOut, IsCutOff}
 use Rattle.script_lines.specs.Paging.{IsListReply, TakesPage, HasAddedPage, PageAsked, PageTurns, TurnsBy, Listed, Lists, SaysNoPage}
-use Rattle.script_lines.proofs.Going.{put, moves, executes, images_executed, images_still, left_at, cut_behind}
+use Rattle.script_lines.proofs.Going.{moves, executes, images_executed, images_still, left_at, cut_behind}
 use Rattle.script_lines.proofs.Lines.{text_join}
 use Rattle.script_lines.proofs.Bringing.{images_later}
 

@@ -1,32 +1,18 @@
 -- The jobs to which replies came.
-use Rattle.std.proofs.Common.{◌≡◌, ℕ, zero, suc, ◌-◌, ◌<◌, Bool, true, false, List, [], ◌∷◌, length, refl, sym, ap, ◌∙◌, subst, inl, inr, arith}
-use Rattle.std.specs.Prelude.{◌↔◌, IsTrue, All, Result, slice_index_or, slice_set}
+use Rattle.std.proofs.Common.{◌≡◌, ℕ, ◌-◌, ◌<◌, Bool, true, false, List, [], length, refl, sym, ap, subst, inl, inr}
+use Rattle.std.specs.Prelude.{◌↔◌, IsTrue, All, slice_index_or, slice_set}
 use Rattle.std.proofs.lemmas.List.{length-set, get_or-set_same, get_or-set_other}
 use Rattle.std.proofs.lemmas.List.Sums.{AllPass-from_list_all, list_all-from_AllPass}
 use Rattle.std.proofs.lemmas.Bool.{cases_eq}
-use Rattle.std.proofs.lemmas.List.FromFn.{length-map-range_with_len}
 use Rattle.recipe.specs.CdBase.shape.Shape.{Shape}
-use Rattle.session_model.specs.UploadJob.news.LaneNews.{LaneNews}
-use Rattle.session_model.specs.UploadJob.news.LaneErr.{LaneErr}
-use Rattle.session_model.specs.UploadJob.Upload.{work_of}
 use Rattle.session_model.specs.UploadJob.Lane.{LaneState, Asking, Sending, Committing, Done, Refused}
-use Rattle.session_model.specs.UploadJob.Lanes.{LaneView, AnswersAt, begun}
-use Rattle.session_jobs.specs.LaneSteps.Reached.{IsReached, Begun, Answered}
+use Rattle.session_model.specs.UploadJob.Lanes.{LaneView}
+use Rattle.session_jobs.specs.LaneSteps.Reached.{IsReached}
+use Rattle.session_jobs.proofs.LaneSteps.Reaching.{reached_len}
+use Rattle.session_jobs.proofs.Numbered.{place_in}
 use Rattle.session_model.specs.Session.Spelling.{IsJob}
 use Rattle.session_model.specs.Steps.{is_done, all_done}
 use Rattle.script_lines.specs.Jobs.{job_lanes, with_job, AreReached}
-
-answered_len : (old : List LaneView) (i : ℕ) (content : List ℕ) (result : Result LaneNews LaneErr) (new : List LaneView) → AnswersAt old i content result new → length new ≡ length old
-answered_len [] i content result new a = absurd a
-answered_len (lane ∷ lanes) zero content result new a = ap length a.2
-answered_len (lane ∷ lanes) (suc i) content result new a = ap length a.2 ∙ ap suc (answered_len lanes i content result a.0 a.1)
-
-pub reached_len : (shape : Shape) (lanes : List LaneView) → IsReached shape lanes → length lanes ≡ shape.n
-reached_len shape _ (Begun v named few user number) = length-map-range_with_len (λ cloud. begun (work_of shape v cloud)) 0 shape.n
-reached_len shape _ (Answered old new i content result reached answers) = answered_len old i content result new answers ∙ reached_len shape old reached
-
-place_in : (jobs : List (List LaneView)) (job : ℕ) → IsJob (length jobs) job → job - 1 < length jobs
-place_in jobs job is = let one = is.0 in let last = is.1 in omega arith
 
 module _ (shape : Shape) (jobs : List (List LaneView)) (job : ℕ) (is : IsJob (length jobs) job) where
   place : job - 1 < length jobs

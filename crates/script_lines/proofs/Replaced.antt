@@ -29,6 +29,7 @@ use Rattle.session_model.specs.LocalLink.link.LocalLink.{LocalLink}
 use Rattle.session_model.specs.LocalLink.Tells.{rooms_at, header_at, telling, StandsAt, LeavesRest}
 use Rattle.session_model.specs.LocalLink.Calls.{Replaces}
 use Rattle.session_model.proofs.OfLocalLink.Calling.{was_before}
+use Rattle.session_model.proofs.Parts.{put, put_here, put_other}
 use Rattle.session_model.specs.Session.event.Event.TheVariants as events
 use Rattle.session_model.specs.Transcript.line.Line.{Line}
 use Rattle.session_model.specs.Transcript.line.Line.TheVariants as lines
@@ -39,7 +40,7 @@ use Rattle.session_model.specs.Headline.{IsPartOf}
 use Rattle.script_lines.specs.At.{LinkAt, IsAt, header_in}
 use Rattle.script_lines.specs.Does.{Goes}
 use Rattle.script_lines.specs.Replacing.{IsNewStore, FailsFresh}
-use Rattle.script_lines.proofs.Going.{put, put_here, put_other, now_by, moves, listed, images_weaker, images_one, header_is}
+use Rattle.script_lines.proofs.Going.{now_by, moves, listed, images_weaker, images_one, header_is}
 use Rattle.script_lines.proofs.Others.{Opened}
 
 -- ---- small

@@ -7,14 +7,13 @@ use Rattle.recipe.specs.CdBase.shape.Shape.{Shape}
 use Rattle.session_model.specs.CdEdges.Disk.{Cloud}
 use Rattle.session_model.proofs.CdEdges.Moments.{joined, weaker}
 use Rattle.deletions.specs.Messages.request.Request.{Request}
-use Rattle.deletions.specs.Messages.request.Request.TheVariants as requests
 use Rattle.deletions.specs.Messages.reply.Reply.{Reply}
 use Rattle.deletions.specs.Messages.Replies.{IsReply}
 use Rattle.session_model.specs.UserDedup.command.Command.{Command}
 use Rattle.session_model.specs.UserDedup.Dedup.{FullRoom, Outcome}
 use Rattle.session_model.specs.UserDedup.Exec.{Peer, MaySettleAs, KeepsPeer, CountsOn, Settles, Exec, served}
-use Rattle.session_model.specs.UserDedup.Link.{Exchange, Talk, Passes, ReadsFrom, AddsNothing, Does, LosesAsk}
-use Rattle.session_model.specs.UserDedup.Requests.{asked_at, HasRecipe}
+use Rattle.session_model.specs.UserDedup.Link.{Exchange, Talk, Passes, ReadsFrom, Does, LosesAsk}
+use Rattle.session_model.specs.UserDedup.Requests.{asked_at}
 use Rattle.session_model.proofs.UserDedup.Asked.{asked_law}
 use Rattle.session_model.proofs.UserDedup.Owned.{contains_here, contains_later}
 use Rattle.session_model.specs.CloudAreas.Peers.{StandsForSome, ImagesSince, MayBecome}
@@ -22,7 +21,7 @@ use Rattle.session_model.specs.UserDedup.Spending.{full_for}
 use Rattle.session_jobs.specs.LaneSteps.Runs.{LaneTurn}
 use Rattle.session_model.specs.LocalLink.link.LocalLink.{LocalLink}
 use Rattle.session_model.specs.LocalLink.Tells.{server_at, rooms_at, header_at, full_at, telling, serving_at, StandsAt, IsPeer, PassesOn}
-use Rattle.session_model.proofs.OfLocalLink.Passing.{read_images}
+use Rattle.session_model.proofs.OfLocalLink.Passing.{read_images, adds_none, has_recipe}
 use Rattle.session_model.proofs.OfLocalLink.Standing.{peer_moves}
 use Rattle.session_model.specs.RestoreJob.Asking.{MayRead}
 use Rattle.session_model.specs.RestoreJob.error.RestoreErr.TheVariants as restore_errors
@@ -35,26 +34,6 @@ use Rattle.script_lines.proofs.Going.{leaves_rest, leaves_all, leaves_join, imag
 use Rattle.session_model.specs.JournalStart.start.Header.{Header}
 
 -- ---- what is read adds nothing
-
-adds_none : (shape : Shape) (cloud : ℕ) (full : List Command → Command → Option FullRoom) (list : List Command) (r : Request) → AddsNothing r → (served shape cloud full list r).adds ≡ None
-adds_none shape cloud full list requests.Hello none = refl
-adds_none shape cloud full list (requests.Query user fps) none = refl
-adds_none shape cloud full list (requests.Put user shares) none = absurd none
-adds_none shape cloud full list (requests.Commit user tag version recipe) none = absurd none
-adds_none shape cloud full list (requests.GetRecipe user tag version) none = refl
-adds_none shape cloud full list (requests.GetShares user fps) none = refl
-adds_none shape cloud full list (requests.List user after) none = refl
-adds_none shape cloud full list (requests.Delete user tag version) none = absurd none
-
-has_recipe : (shape : Shape) (r : Request) → AddsNothing r → HasRecipe shape r
-has_recipe shape requests.Hello none = tt
-has_recipe shape (requests.Query user fps) none = tt
-has_recipe shape (requests.Put user shares) none = absurd none
-has_recipe shape (requests.Commit user tag version recipe) none = absurd none
-has_recipe shape (requests.GetRecipe user tag version) none = tt
-has_recipe shape (requests.GetShares user fps) none = tt
-has_recipe shape (requests.List user after) none = tt
-has_recipe shape (requests.Delete user tag version) none = absurd none
 
 pub may_in : (p q : Peer) → MayRead p q → (list : List Command) → MaySettleAs q list → MaySettleAs p list
 may_in p q may = by_way may.0

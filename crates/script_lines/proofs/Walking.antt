@@ -5,6 +5,7 @@ use Rattle.std.proofs.lemmas.List.{set-get_or}
 use Rattle.std.proofs.lemmas.List.Elements.{Contains-append_left, Contains-append_right}
 use Rattle.session_model.specs.CdEdges.Disk.{Cloud}
 use Rattle.session_model.proofs.CdEdges.Moments.{joined}
+use Rattle.session_model.proofs.Parts.{put}
 use Rattle.session_model.specs.CloudAreas.Peers.{StandsForSome}
 use Rattle.deletions.specs.Messages.request.Request.{Request}
 use Rattle.deletions.specs.Messages.reply.Reply.{Reply}
@@ -23,7 +24,7 @@ use Rattle.session_model.specs.Run.{IsListIn}
 use Rattle.script_lines.specs.At.{LinkAt, KeepsOtherClouds, header_in}
 use Rattle.script_lines.specs.Does.{Images}
 use Rattle.script_lines.specs.Jobs.{job_lanes, with_job}
-use Rattle.script_lines.proofs.Going.{put, before_exec, moves, executes, images_weaker, images_executed, images_still, leaves_rest, leaves_all, leaves_join}
+use Rattle.script_lines.proofs.Going.{before_exec, moves, executes, images_weaker, images_executed, images_still, leaves_rest, leaves_all, leaves_join}
 
 -- ---- jobs by their numbers
 

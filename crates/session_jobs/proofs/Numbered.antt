@@ -7,7 +7,7 @@ use Rattle.lane_steps.specs.UploadJob.Lanes.{LaneView}
 use Rattle.session.specs.Spelling.{IsJob}
 use Rattle.session_jobs.specs.Jobs.{job_lanes}
 
-place_in : (jobs : List (List LaneView)) (job : ℕ) → IsJob (length jobs) job → job - 1 < length jobs
+pub place_in : (jobs : List (List LaneView)) (job : ℕ) → IsJob (length jobs) job → job - 1 < length jobs
 place_in jobs job is = let one = is.0 in let last = is.1 in omega arith
 
 -- what holds of the lanes at its place holds of the job's lanes

@@ -1,19 +1,16 @@
 -- The disks of clouds that keep a version give it.
-use Rattle.std.proofs.Common.{◌≡◌, ℕ, true, List, [], sym, ◌∙◌, subst, inl, inr, ◌⊎◌}
+use Rattle.std.proofs.Common.{◌≡◌, ℕ, List, [], subst, inl, inr, ◌⊎◌}
 use Rattle.std.specs.List.{Contains}
-use Rattle.std.proofs.lemmas.Bool.{false≢true}
 use Rattle.session_model.specs.CdEdges.area.Area.TheVariants.{Journal}
 use Rattle.session_model.specs.CdEdges.Disk.{Cloud, Image, reads}
 use Rattle.session_model.specs.JournalStart.start.Header.{Header}
 use Rattle.read_command.specs.JournalHalves.Beginnings.{IsUnbegun}
-use Rattle.read_command.specs.JournalHalves.Halves.{is_half_begun}
-use Rattle.read_command.specs.JournalHalves.Journals.{Where, HasChain}
-use Rattle.read_command.proofs.JournalHalves.Current.{begun_half}
 use Rattle.read_command.specs.CloudAreas.Standing.{StandsFor, where_of}
 use Rattle.lane_steps.specs.UserDedup.command.Command.{Command}
 use Rattle.lane_steps.specs.UploadJob.Upload.{FileVersion}
 use Rattle.read_command.specs.KeptFiles.Kept.{Keeps, key_of}
 use Rattle.read_command.proofs.KeptFiles.Giving.{kept_is_given}
+use Rattle.read_command.proofs.CloudAreas.Numbers.{not_unbegun}
 use Rattle.read_command.specs.LocalLink.Calls.{header_of}
 use Rattle.read_command.specs.Disks.{IsReadable}
 use Rattle.session_model.proofs.RebuildLaws.Cut.{is_in}
@@ -43,15 +40,6 @@ module _ (named : List ℕ) (P : ℕ → List Command → Type 0) (each : (cloud
   chosen = record { lists = λ cloud. pick cloud (is_in named cloud); holds = λ cloud has. picked cloud (is_in named cloud) has }
 
 -- ---- one disk
-
--- a journal with a chain has a half that is begun
-not_unbegun : (journal : List ℕ) (w : Where) → HasChain journal w → IsUnbegun journal → ⊥
-not_unbegun journal w has none =
-    let begun = begun_half journal w.half w.start has.current.begun in
-    elim has.current.is_half [
-      | inl first ↦ false≢true (sym none.first ∙ subst (λ (h : ℕ). is_half_begun h journal ≡ true) first begun)
-      | inr second ↦ false≢true (sym none.second ∙ subst (λ (h : ℕ). is_half_begun h journal ≡ true) second begun)
-    ]
 
 -- a list that keeps a version isn't empty, so its store is begun
 begun : (image : Image) (header : Header) (list : List Command) (cloud : ℕ) (v : FileVersion) → StandsFor image header list → Keeps header.shape cloud list v.user v.path v.number v.file → ¬ IsUnbegun (image Journal)

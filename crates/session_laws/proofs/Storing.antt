@@ -5,7 +5,7 @@ use Rattle.std.specs.List.{Contains, range_with_len}
 use Rattle.std.proofs.lemmas.Bool.{cases_eq, cases_lt}
 use Rattle.std.proofs.lemmas.List.{length-map}
 use Rattle.std.proofs.lemmas.List.FromFn.{length-range_with_len}
-use Rattle.std.proofs.lemmas.List.Elements.{Contains-append_left, Contains-append_right, Contains-append_cases}
+use Rattle.std.proofs.lemmas.List.Elements.{Contains-append_left, Contains-append_right}
 use Rattle.lane_steps.specs.CdBase.shape.Shape.{Shape}
 use Rattle.session_model.specs.CdEdges.Causes.{Rose}
 use Rattle.session_model.specs.CdEdges.Disk.{Cloud}
@@ -27,9 +27,9 @@ use Rattle.session_model.specs.Transcript.line.Line.TheVariants as lines
 use Rattle.session_model.specs.Vault.{Setting, JobState, Vault, HasVaultExecuted, lanes_at, lanes_of, with_lanes, with_lanes_at, new_job, opening}
 use Rattle.session_model.specs.Steps.{Moment, DropStep, FinishLanes, LaneStep, VStep, all_done, is_done, step_line, stored_line, version_of}
 use Rattle.session_model.specs.Run.{Answered, Turns, script_of}
-use Rattle.session_model.specs.Kept.{upload_of, uploads}
+use Rattle.session_model.specs.Kept.{uploads}
 use Rattle.session_model.specs.Headline.{Session, IsRun, event_of, script_in}
-use Rattle.session_model.proofs.Acknowledged.{Splits}
+use Rattle.session_model.proofs.Acknowledged.{uploads_front, splits}
 use Rattle.session_model.proofs.Counts.{keeps_finish, keeps_run}
 use Rattle.session_model.proofs.Faults.{rose_on, then_rose}
 use Rattle.session_model.proofs.Jobs.{AreJobs, AreOf, Brings, brings_turns, versions}
@@ -195,19 +195,6 @@ job_covers shape (j ∷ jobs) zero are ranged i lt =
     let r = ranged j.version (contains_here j.version (versions jobs)) in
     subst (Covers shape) (sym (work_is shape j.version 0 j.lanes i are.0 lt)) (covered shape j.version (0 + i) r.path r.few)
 job_covers shape (j ∷ jobs) (suc place) are ranged i lt = job_covers shape jobs place are.1 (λ v has. ranged v (contains_later j.version (versions jobs) v has)) i lt
-
-splits : (s : Setting) (old : Vault) (xs : List Answered) (a : Answered) (ys : List Answered) (new : Vault) → Turns s old (xs ++ a ∷ ys) new → Splits s old xs a ys new
-splits s old [] a ys new t = record { mid = old; front = refl; before = t.0; step = t.1; behind = t.2 }
-splits s old (x ∷ xs) a ys new t =
-    let r = splits s x.after xs a ys new t.2 in
-    record { mid = r.mid; front = (t.0, t.1, r.front); before = r.before; step = r.step; behind = r.behind }
-
-uploads_front : (xs ys : List Answered) (more : List Event) (v : FileVersion) → Contains (uploads (script_of xs)) v → Contains (uploads (script_of (xs ++ ys) ++ more)) v
-uploads_front [] ys more v has = absurd (contains_nothing v has)
-uploads_front (x ∷ xs) ys more v has = elim (Contains-append_cases (upload_of x.event) (uploads (script_of xs)) v has) [
-  | inl here ↦ Contains-append_left (upload_of x.event) (uploads (script_of (xs ++ ys) ++ more)) v here
-  | inr later ↦ Contains-append_right (upload_of x.event) (uploads (script_of (xs ++ ys) ++ more)) v (uploads_front xs ys more v later)
-]
 
 pub stores_all : (clouds : ℕ → Cloud) (run : Session) → IsRun clouds run → StoresAll run
 stores_all clouds run is earlier later a job e finish free =

@@ -80,7 +80,7 @@ moments_behind : (xs : List Answered) (a : Answered) (ys : List Answered) (m : M
 moments_behind [] a ys m has = Contains-append_right a.moments (moments_of ys) m has
 moments_behind (x ∷ xs) a ys m has = Contains-append_right x.moments (moments_of (xs ++ a ∷ ys)) m (moments_behind xs a ys m has)
 
-uploads_front : (xs ys : List Answered) (more : List Event) (v : FileVersion) → Contains (uploads (script_of xs)) v → Contains (uploads (script_of (xs ++ ys) ++ more)) v
+pub uploads_front : (xs ys : List Answered) (more : List Event) (v : FileVersion) → Contains (uploads (script_of xs)) v → Contains (uploads (script_of (xs ++ ys) ++ more)) v
 uploads_front [] ys more v has = absurd (contains_nothing v has)
 uploads_front (x ∷ xs) ys more v has = elim (Contains-append_cases (upload_of x.event) (uploads (script_of xs)) v has) [
   | inl here ↦ Contains-append_left (upload_of x.event) (uploads (script_of (xs ++ ys) ++ more)) v here
@@ -96,7 +96,7 @@ pub record Splits (s : Setting) (old : Vault) (xs : List Answered) (a : Answered
   pub step : VStep s mid a.event a.answers a.moments a.after
   pub behind : Turns s a.after ys new
 
-splits : (s : Setting) (old : Vault) (xs : List Answered) (a : Answered) (ys : List Answered) (new : Vault) → Turns s old (xs ++ a ∷ ys) new → Splits s old xs a ys new
+pub splits : (s : Setting) (old : Vault) (xs : List Answered) (a : Answered) (ys : List Answered) (new : Vault) → Turns s old (xs ++ a ∷ ys) new → Splits s old xs a ys new
 splits s old [] a ys new t = record { mid = old; front = refl; before = t.0; step = t.1; behind = t.2 }
 splits s old (x ∷ xs) a ys new t =
     let r = splits s x.after xs a ys new t.2 in

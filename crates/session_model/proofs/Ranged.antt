@@ -1,8 +1,7 @@
 -- The ranges of what the lines of a session say.
-use Rattle.std.proofs.Common.{◌≡◌, ℕ, zero, suc, ◌+◌, ◌-◌, ◌<◌, ◌≤◌, List, [], ◌∷◌, length, get_or, ◌∙◌, subst, inl, inr, arith}
+use Rattle.std.proofs.Common.{◌≡◌, ℕ, ◌+◌, ◌-◌, ◌<◌, ◌≤◌, List, [], ◌∷◌, length, get_or, ◌∙◌, subst, inl, inr, arith}
 use Rattle.std.specs.Prelude.{slice_index}
 use Rattle.std.specs.List.{Contains}
-use Rattle.std.specs.List.Sorted.{IsStrictlyIncreasing}
 use Rattle.std.proofs.lemmas.List.Elements.{Contains-append_cases}
 use Rattle.std.proofs.lemmas.List.{get_or_default, get_or_past}
 use Rattle.std.proofs.lemmas.Bool.{cases_lt}
@@ -13,6 +12,7 @@ use Rattle.session.specs.CdBase.shape.Shape.{Shape}
 use Rattle.rebuild.specs.ReedSolomon.Dispersal.{AreChoice}
 use Rattle.subset_restore.proofs.UserDedup.Owned.{contains_cases, contains_nothing}
 use Rattle.rebuild.specs.UploadJob.Upload.{FileVersion}
+use Rattle.rebuild.proofs.Ended.{rises_by}
 use Rattle.subset_restore.specs.Subsets.{subsets, IsSubset}
 use Rattle.subset_restore.proofs.Choices.{each_is_subset}
 use Rattle.subset_restore.proofs.Elements.{all_of, of_all}
@@ -38,14 +38,6 @@ byte_at bytes are i = elim (cases_lt i (length bytes)) [
 ]
 
 -- ---- clouds
-
-rises_by : (xs : List ℕ) → IsStrictlyIncreasing xs → (t d : ℕ) → (t + 1) + d < length xs → slice_index xs t < slice_index xs ((t + 1) + d)
-rises_by xs rises t zero lt = let e : t + 1 ≡ (t + 1) + 0 = omega arith in subst (λ (n : ℕ). slice_index xs t < slice_index xs n) e (rises t (omega arith))
-rises_by xs rises t (suc d) lt =
-    let e : ((t + 1) + d) + 1 ≡ (t + 1) + suc d = omega arith in
-    let one = rises_by xs rises t d (omega arith) in
-    let two = rises ((t + 1) + d) (omega arith) in
-    subst (λ (n : ℕ). slice_index xs t < slice_index xs n) e (omega (arith, one, two))
 
 -- a choice of k of some clouds
 pub chosen_of : (shape : Shape) (named subset : List ℕ) → AreSources shape named → IsSubset shape.k named subset → AreClouds shape subset

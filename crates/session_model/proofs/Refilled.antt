@@ -1,15 +1,13 @@
 -- A rebuild that brings a version leaves lists at the target that keep it; and a device that fails on the way has its count rise.
-use Rattle.std.proofs.Common.{◌≡◌, ℕ, ◌≤◌, ◌<◌, Bool, true, false, cond, List, [], ◌∷◌, ◌++◌, map, Option, Some, None, Result, Ok, Err, refl, sym, ap, ◌∙◌, subst, inl, inr, ◌⊎◌, arith}
-use Rattle.std.specs.Prelude.{IsTrue, ◌==◌, slice_index, option_map, MatchOption, IsSomeAnd}
-use Rattle.std.specs.List.{Contains, list_all}
+use Rattle.std.proofs.Common.{◌≡◌, ℕ, ◌≤◌, ◌<◌, true, List, [], ◌∷◌, ◌++◌, Option, Some, None, Result, Ok, Err, refl, sym, ap, ◌∙◌, subst, inl, inr, ◌⊎◌, arith}
+use Rattle.std.specs.Prelude.{IsTrue, slice_index, MatchOption, IsSomeAnd}
+use Rattle.std.specs.List.{Contains}
 use Rattle.std.proofs.lemmas.List.Elements.{Contains-append_left, Contains-push}
 use Rattle.std.proofs.lemmas.Grind.{flat_map-append}
 use Rattle.std.proofs.lemmas.Option.{same_Some}
 use Rattle.session.specs.CdEdges.Causes.{Rose}
 use Rattle.session.specs.CdBase.ids.Tag.{Tag}
-use Rattle.session.specs.CdBase.ids.UserId.{UserId}
 use Rattle.session.specs.CdBase.ids.Version.{Version}
-use Rattle.session.specs.CdBase.shape.Shape.{Shape}
 use Rattle.subset_restore.specs.CaontRs.Package.{share}
 use Rattle.rebuild.specs.FileRecipe.FileRecipe.{secrets}
 use Rattle.rebuild.specs.ReedSolomon.Dispersal.{AreChoice}
@@ -17,17 +15,14 @@ use Rattle.rebuild.specs.Messages.request.Request.{Request}
 use Rattle.rebuild.specs.Messages.reply.Reply.{Reply}
 use Rattle.rebuild.specs.Messages.reply.Reply.TheVariants as replies
 use Rattle.subset_restore.specs.UserDedup.command.Command.{Command}
-use Rattle.subset_restore.specs.UserDedup.file_list.FileEntry.{FileEntry}
-use Rattle.subset_restore.specs.UserDedup.Cloud.{fingerprint, strings_of, user_view}
-use Rattle.subset_restore.specs.UserDedup.Pages.{entry_at, sorted_keys, key_of as key_of_entry}
+use Rattle.subset_restore.specs.UserDedup.Cloud.{fingerprint, strings_of}
 use Rattle.subset_restore.specs.UserDedup.Exec.{Peer, MaySettleAs, Exec, ExecTold}
-use Rattle.subset_restore.proofs.UserDedup.Owned.{contains_cases, contains_nothing, contains_here, contains_later}
-use Rattle.subset_restore.proofs.UserDedup.Sound.{found_entry}
+use Rattle.subset_restore.proofs.UserDedup.Owned.{contains_cases, contains_nothing}
 use Rattle.subset_restore.specs.UserDedup.Spending.{full_for}
 use Rattle.subset_restore.specs.UserDedup.Cloud.{strings_in}
 use Rattle.rebuild.specs.UploadJob.news.LaneNews.TheVariants as lane_news
-use Rattle.rebuild.specs.UploadJob.Upload.{FileVersion, Work, work_of}
-use Rattle.rebuild.specs.UploadJob.Lane.{LaneState, Asking, Sending, Committing, Done, Refused, onward, past_known, lane_request, lane_after, news_of}
+use Rattle.rebuild.specs.UploadJob.Upload.{FileVersion, work_of}
+use Rattle.rebuild.specs.UploadJob.Lane.{LaneState, Asking, Sending, Committing, Done, Refused, lane_request, news_of}
 use Rattle.rebuild.specs.LaneSteps.Runs.{LaneTurn, Progress, LaneRun, progress_after}
 use Rattle.rebuild.specs.KeptFiles.Kept.{Keeps, key_of}
 use Rattle.rebuild.specs.declared.error.SkipWhy.{SkipWhy}
@@ -35,10 +30,10 @@ use Rattle.rebuild.specs.declared.error.SkipWhy.TheVariants as whys
 use Rattle.rebuild.specs.declared.skips.Rebuilt.{Rebuilt}
 use Rattle.rebuild.specs.Found.{Finding, finding_under, first_of, keys_in}
 use Rattle.rebuild.specs.Rebuilding.{Progressed, nothing_yet, lane_ended, last_said, lane_of, BringsOne, BringsAll, Rebuilds}
-use Rattle.rebuild.proofs.Bringing.{brought_all, first_in, skip_for}
+use Rattle.rebuild.proofs.Bringing.{brought_all, first_in, skip_for, contains_map, has_key}
 use Rattle.rebuild.proofs.Finding.{kept_is_found}
-use Rattle.rebuild.proofs.Sorted.{sorted_has}
 use Rattle.rebuild.proofs.Turning.{fault_rose}
+use Rattle.rebuild.proofs.Lanes.{goes_on, done_by}
 use Rattle.session_model.specs.Vault.{Setting, served_at}
 use Rattle.session_model.proofs.With.{all_counts, one_all}
 use Rattle.session_model.proofs.Growing.{Grows, grows_lane_run, grows_brought}
@@ -46,76 +41,6 @@ use Rattle.session_model.proofs.Committed.{IsUpload, executed_keeps}
 use Rattle.session_model.proofs.Lines.{KeepsAll, keeps_on}
 
 -- ---- where a lane ends
-
-goes_on : (batches : List (List (List ℕ))) → onward batches ≡ Done → ⊥
-goes_on [] e = cc
-goes_on (batch ∷ rest) e = cc
-
-past_by : (b : Bool) (batch : List (List ℕ)) (flags : List ℕ) (rest : List (List (List ℕ))) → cond b (onward rest) (Sending batch flags rest) ≡ Done → ⊥
-past_by true batch flags rest e = goes_on rest e
-past_by false batch flags rest e = cc
-
-past_goes_on : (batch : List (List ℕ)) (flags : List ℕ) (rest : List (List (List ℕ))) → past_known batch flags rest ≡ Done → ⊥
-past_goes_on batch flags rest e = past_by (list_all (λ flag. flag == 1) flags) batch flags rest e
-
--- a lane that had a request comes to its end by a Commit that is answered so
-done_by : (w : Work) (lane : LaneState) (said : Reply) (request : Request) → lane_request w lane ≡ Some request → lane_after w lane said ≡ Done → (lane ≡ Done) ⊎ ((lane ≡ Committing) × (said ≡ replies.Committed))
-done_by w (Asking batch rest) (replies.Hello n k cloud format) request asked e = absurd cc
-done_by w (Asking batch rest) (replies.Known flags) request asked e = absurd (past_goes_on batch flags rest e)
-done_by w (Asking batch rest) (replies.Stored new) request asked e = absurd cc
-done_by w (Asking batch rest) replies.Committed request asked e = absurd cc
-done_by w (Asking batch rest) replies.Exists request asked e = absurd cc
-done_by w (Asking batch rest) (replies.Lacking place) request asked e = absurd cc
-done_by w (Asking batch rest) (replies.Recipe bytes) request asked e = absurd cc
-done_by w (Asking batch rest) replies.Missing request asked e = absurd cc
-done_by w (Asking batch rest) (replies.Shares shares) request asked e = absurd cc
-done_by w (Asking batch rest) (replies.NotYours place) request asked e = absurd cc
-done_by w (Asking batch rest) (replies.Entries entries) request asked e = absurd cc
-done_by w (Asking batch rest) replies.Deleted request asked e = absurd cc
-done_by w (Asking batch rest) (replies.Full room used need limit) request asked e = absurd cc
-done_by w (Asking batch rest) replies.Fault request asked e = absurd cc
-done_by w (Asking batch rest) (replies.Damaged at byte) request asked e = absurd cc
-done_by w (Asking batch rest) (replies.Rotten named found) request asked e = absurd cc
-done_by w (Asking batch rest) (replies.Malformed at) request asked e = absurd cc
-done_by w (Asking batch rest) replies.NoMemory request asked e = absurd cc
-done_by w (Sending batch flags rest) (replies.Hello n k cloud format) request asked e = absurd cc
-done_by w (Sending batch flags rest) (replies.Known marks) request asked e = absurd cc
-done_by w (Sending batch flags rest) (replies.Stored new) request asked e = absurd (goes_on rest e)
-done_by w (Sending batch flags rest) replies.Committed request asked e = absurd cc
-done_by w (Sending batch flags rest) replies.Exists request asked e = absurd cc
-done_by w (Sending batch flags rest) (replies.Lacking place) request asked e = absurd cc
-done_by w (Sending batch flags rest) (replies.Recipe bytes) request asked e = absurd cc
-done_by w (Sending batch flags rest) replies.Missing request asked e = absurd cc
-done_by w (Sending batch flags rest) (replies.Shares shares) request asked e = absurd cc
-done_by w (Sending batch flags rest) (replies.NotYours place) request asked e = absurd cc
-done_by w (Sending batch flags rest) (replies.Entries entries) request asked e = absurd cc
-done_by w (Sending batch flags rest) replies.Deleted request asked e = absurd cc
-done_by w (Sending batch flags rest) (replies.Full room used need limit) request asked e = absurd cc
-done_by w (Sending batch flags rest) replies.Fault request asked e = absurd cc
-done_by w (Sending batch flags rest) (replies.Damaged at byte) request asked e = absurd cc
-done_by w (Sending batch flags rest) (replies.Rotten named found) request asked e = absurd cc
-done_by w (Sending batch flags rest) (replies.Malformed at) request asked e = absurd cc
-done_by w (Sending batch flags rest) replies.NoMemory request asked e = absurd cc
-done_by w Committing (replies.Hello n k cloud format) request asked e = absurd cc
-done_by w Committing (replies.Known flags) request asked e = absurd cc
-done_by w Committing (replies.Stored new) request asked e = absurd cc
-done_by w Committing replies.Committed request asked e = inr (refl, refl)
-done_by w Committing replies.Exists request asked e = absurd cc
-done_by w Committing (replies.Lacking place) request asked e = absurd (goes_on w.batches e)
-done_by w Committing (replies.Recipe bytes) request asked e = absurd cc
-done_by w Committing replies.Missing request asked e = absurd cc
-done_by w Committing (replies.Shares shares) request asked e = absurd cc
-done_by w Committing (replies.NotYours place) request asked e = absurd cc
-done_by w Committing (replies.Entries entries) request asked e = absurd cc
-done_by w Committing replies.Deleted request asked e = absurd cc
-done_by w Committing (replies.Full room used need limit) request asked e = absurd cc
-done_by w Committing replies.Fault request asked e = absurd cc
-done_by w Committing (replies.Damaged at byte) request asked e = absurd cc
-done_by w Committing (replies.Rotten named found) request asked e = absurd cc
-done_by w Committing (replies.Malformed at) request asked e = absurd cc
-done_by w Committing replies.NoMemory request asked e = absurd cc
-done_by w Done said request asked e = absurd cc
-done_by w Refused said request asked e = absurd cc
 
 -- a lane that didn't stop the rebuild came to its end, or its version is skipped
 ended_by : (key : Tag × Version) (lane : LaneState) (said : Reply) (r : Progressed) → (lane_ended key lane said r).stop ≡ None
@@ -261,26 +186,6 @@ module _ (s : Setting) (c : ℕ) (told : IsTrue (s.told c)) (v : FileVersion) (g
       ]
 
 -- ---- from the keys of the first cloud
-
-contains_map : {A B : Type 0} (g : A → B) (xs : List A) (x : A) → Contains xs x → Contains (map g xs) (g x)
-contains_map g [] x h = absurd (contains_nothing x h)
-contains_map {A} {B} g (y ∷ xs) x h =
-    elim (contains_cases y xs x h) [
-      | inl same ↦ subst (λ (z : A). Contains (map g (y ∷ xs)) (g z)) same (contains_here (g y) (map g xs))
-      | inr later ↦ contains_later (g y) (map g xs) (g x) (contains_map g xs x later)
-    ]
-
-some_entry : (o : Option FileEntry) (bytes : List ℕ) → option_map (λ entry. entry.recipe) o ≡ Some bytes → (entry : FileEntry) × (o ≡ Some entry)
-some_entry None bytes e = absurd (let f : None ≡ Some bytes = e in cc)
-some_entry (Some entry) bytes e = (entry, refl)
-
-has_key : (shape : Shape) (cloud : ℕ) (list : List Command) (user : UserId) (path : List ℕ) (version : Version) (file : List ℕ) → Keeps shape cloud list user path version file
-    → Contains (keys_in shape list user) (key_of shape path version)
-has_key shape cloud list user path version file keeps =
-    let files : List FileEntry = (user_view shape list user).files in
-    let some = some_entry (entry_at files (key_of shape path version)) _ keeps.entry in
-    let found = found_entry files (key_of shape path version) some.0 some.1 in
-    subst (λ (k : Tag × Version). Contains (sorted_keys (map key_of_entry files)) k) found.0 (sorted_has (map key_of_entry files) (key_of_entry some.0) (contains_map key_of_entry files some.0 found.1))
 
 -- A version that all clouds keep which were read, and that isn't skipped, each list keeps that the target may settle as.
 pub refilled : (s : Setting) (c : ℕ) (told : IsTrue (s.told c)) (v : FileVersion) (good : IsUpload v) (Known : List ℕ → Type 0)

@@ -8,11 +8,12 @@ use Rattle.local_link.specs.CommitJournal.errors.OpenErr.TheVariants as errors
 use Rattle.rebuild.specs.Messages.request.Request.{Request}
 use Rattle.rebuild.specs.Messages.reply.Reply.{Reply}
 use Rattle.subset_restore.specs.UserDedup.command.Command.{Command}
-use Rattle.subset_restore.specs.UserDedup.Dedup.{FullRoom, Outcome, answer_over, by_room, room_for, unless_full}
+use Rattle.subset_restore.specs.UserDedup.Dedup.{answer_over}
 use Rattle.subset_restore.specs.UserDedup.Exec.{Peer, Answers, Exec, ExecTold, ExecUntold, FailsTold, IsCut, MaySettleAs, KeepsPeer, Settles}
 use Rattle.subset_restore.specs.UserDedup.Spending.{IsWithin, full_for}
 use Rattle.subset_restore.proofs.UserDedup.Spending.{none_within}
 use Rattle.subset_restore.proofs.UserDedup.Within.{next_within}
+use Rattle.subset_restore.proofs.UserDedup.Served.{has_room}
 use Rattle.local_link.specs.ShareServer.Serving.{ReopensAs}
 use Rattle.subset_restore.specs.RestoreJob.Asking.{MayRead}
 use Rattle.session.specs.declared.event.Event.{Event}
@@ -22,21 +23,6 @@ use Rattle.session_model.specs.Steps.{ReopensUntold, RestartStep, ReplaceStep}
 use Rattle.session_model.specs.Headline.{Session, IsRun}
 use Rattle.session_model.proofs.Lasting.{Lasting, lasts_over}
 use Rattle.session_model.proofs.Settled.{only_list}
-
--- ---- what is added has room
-
-by_answer : (full : Command → Option FullRoom) (outcome : Outcome) (c command : Command) (room : Option FullRoom) → full c ≡ room → outcome.adds ≡ Some c → (by_room outcome room).adds ≡ Some command → full command ≡ None
-by_answer full outcome c command None is adds e =
-    let same : c ≡ command = (let both : Some c ≡ Some command = sym adds ∙ e in cc) in
-    subst (λ (d : Command). full d ≡ None) same is
-by_answer full outcome c command (Some room) is adds e = absurd (let no : None ≡ Some command = e in cc)
-
-by_added : (full : Command → Option FullRoom) (outcome : Outcome) (command : Command) (added : Option Command) → outcome.adds ≡ added → (by_room outcome (room_for full added)).adds ≡ Some command → full command ≡ None
-by_added full outcome command None is e = absurd (let no : None ≡ Some command = sym is ∙ e in cc)
-by_added full outcome command (Some c) is e = by_answer full outcome c command (full c) refl is e
-
-has_room : (full : Command → Option FullRoom) (outcome : Outcome) (command : Command) → (unless_full full outcome).adds ≡ Some command → full command ≡ None
-has_room full outcome command e = by_added full outcome command outcome.adds refl e
 
 -- ---- a cloud
 

@@ -5,12 +5,12 @@ use Rattle.std.specs.List.{Contains, list_all, range_with_len}
 use Rattle.session.specs.CdBase.ids.Tag.{Tag}
 use Rattle.session.specs.CdBase.ids.Version.{Version}
 use Rattle.session.specs.CdBase.ids.UserId.{UserId}
-use Rattle.session.specs.CdBase.ids.CloudNo.{CloudNo}
 use Rattle.session.specs.CdBase.shape.Shape.{Shape}
 use Rattle.session.specs.CdEdges.Causes.{Rose}
 use Rattle.local_link.specs.CommitJournal.errors.OpenErr.{OpenErr}
 use Rattle.local_link.specs.CommitJournal.errors.OpenErr.TheVariants as errors
 use Rattle.rebuild.specs.MessageFields.Keys.{key_limit}
+pub use Rattle.rebuild.specs.Found.{cloud_no}
 use Rattle.rebuild.specs.Messages.request.Request.{Request}
 use Rattle.rebuild.specs.Messages.request.Request.TheVariants as requests
 use Rattle.rebuild.specs.Messages.reply.Reply.{Reply}
@@ -98,9 +98,6 @@ as_told lane_news.Fault = news.Fault
 as_told (lane_news.Damaged at byte) = news.Damaged at byte
 as_told (lane_news.Rotten named found) = news.Rotten named found
 as_told lane_news.NoMemory = news.NoMemory
-
-abbrev pub cloud_no : ℕ → CloudNo
-cloud_no cloud = record { 0 = cloud }
 
 abbrev pub step_line : ℕ → ℕ → LaneNews → Line
 step_line job cloud told = lines.Step job (cloud_no cloud) (as_told told)

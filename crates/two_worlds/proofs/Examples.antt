@@ -4,7 +4,6 @@ use Rattle.std.specs.Prelude.{All, IsTrue, IsSomeAnd}
 use Rattle.std.specs.List.{Contains}
 use Rattle.recipe.specs.CdBase.ids.UserId.{UserId}
 use Rattle.recipe.specs.CdBase.ids.Version.{Version}
-use Rattle.recipe.specs.CdBase.shape.Shape.{Shape}
 use Rattle.session_model.specs.CdEdges.Causes.{Rose}
 use Rattle.session_model.specs.CdEdges.Disk.{Cloud}
 use Rattle.rabin_chunker.specs.Cuts.{start_at, ends_after, last_end, ends}
@@ -16,6 +15,7 @@ use Rattle.session_model.specs.Messages.reply.Reply.TheVariants as replies
 use Rattle.session_model.specs.UserDedup.Cloud.{strings_in}
 use Rattle.session_model.specs.UserDedup.Exec.{Peer}
 use Rattle.session_model.proofs.UserDedup.Owned.{contains_cases, contains_nothing}
+use Rattle.session_model.proofs.UserDedup.Rows.{shape}
 use Rattle.session_model.specs.UploadJob.Upload.{FileVersion, shares_for}
 use Rattle.session_model.specs.LaneSteps.Runs.{LaneTurn}
 use Rattle.session_model.specs.LocalLink.Calls.{no_commands}
@@ -89,9 +89,6 @@ module _ (v : Vault) where
   answers_of_eight = refl
 
 -- ---- a session that meets the premises: two users upload empty files, one lists its own, and a cloud is opened again
-
-abbrev shape : Shape
-shape = record { n = 4; k = 3; several = omega arith; spare = omega arith; few = omega arith }
 
 module _ (rooms : UserRooms) (clouds : ℕ → Cloud) (fresh : MayStand shape clouds) where
   abbrev all_told : Setting

@@ -1,5 +1,5 @@
 -- There is one session of a script over told clouds whose counts don't rise.
-use Rattle.std.proofs.Common.{◌≡◌, ℕ, zero, suc, ◌+◌, ◌-◌, ◌<◌, ◌^◌, Bool, true, false, List, [], ◌∷◌, ◌++◌, length, map, None, Result, Ok, Err, refl, sym, ap, ◌∙◌, subst, inl, inr, arith}
+use Rattle.std.proofs.Common.{◌≡◌, ℕ, ◌+◌, ◌-◌, ◌<◌, ◌^◌, Bool, true, false, List, [], ◌∷◌, ◌++◌, length, map, None, Result, Ok, Err, refl, sym, ap, ◌∙◌, subst, inl, inr, arith}
 use Rattle.std.specs.Prelude.{min}
 use Rattle.std.specs.Bool.{MatchBool}
 use Rattle.std.specs.List.{Contains, range_with_len}
@@ -12,7 +12,6 @@ use Rattle.session_model.specs.Messages.request.Request.TheVariants as requests
 use Rattle.session_model.specs.Messages.reply.Reply.{Reply}
 use Rattle.session_model.specs.Messages.reply.Reply.TheVariants as replies
 use Rattle.session_model.specs.UserDedup.Exec.{Peer}
-use Rattle.session_model.proofs.UserDedup.Owned.{contains_cases, contains_nothing}
 use Rattle.session_model.specs.UserDedup.Cloud.{counted}
 use Rattle.session_model.specs.ShareServer.Serving.{ReopensAs}
 use Rattle.session_model.specs.LocalLink.Calls.{Armed}
@@ -32,6 +31,7 @@ use Rattle.two_worlds.proofs.Own.{Still}
 use Rattle.two_worlds.proofs.Once.{Rested, Once, executes_once, rested_executes, lane_once, drop_once, finish_once, list_once, get_once}
 use Rattle.two_worlds.proofs.Refilled.{rebuild_once}
 use Rattle.two_worlds.proofs.Turns.{AllStill}
+use Rattle.two_worlds.proofs.Lines.{in_range}
 
 -- ---- lines on one cloud
 
@@ -128,13 +128,6 @@ deleted_once cloud (replies.Malformed at) l1 l2 x y = absurd x
 deleted_once cloud replies.NoMemory l1 l2 x y = absurd x
 
 -- ---- each line
-
-in_range : (start n c : ℕ) → Contains (range_with_len start n) c → c < start + n
-in_range start zero c has = absurd (contains_nothing c has)
-in_range start (suc n) c has = elim (contains_cases start (range_with_len (start + 1) n) c has) [
-  | inl same ↦ let e : start ≡ c = same in omega (arith, e)
-  | inr later ↦ let h = in_range (start + 1) n c later in omega (arith, h)
-]
 
 module _ (s : Setting) (told : (c : ℕ) → c < s.shape.n → s.told c ≡ true) where
   module _ (old : Vault) (a1 a2 : List Line) (m1 m2 : List Moment) (n1 n2 : Vault) (rested : Rested old.peers)

@@ -1,5 +1,5 @@
 -- The lanes of a job, as contracts see them.
-use Rattle.std.proofs.Common.{◌≡◌, ◌↔◌, ℕ, zero, suc, ◌<◌, Bool, true, false, List, [], ◌∷◌, length, get_or, set, drop, Some, None, Option, Result, refl, sym, ap, ◌∙◌, subst, arith}
+use Rattle.std.proofs.Common.{◌≡◌, ◌↔◌, ℕ, zero, suc, ◌<◌, Bool, true, false, List, [], ◌∷◌, length, get_or, set, drop, Some, None, Option, Result, refl, sym, ap, ◌∙◌, subst, arith, map}
 use Rattle.std.specs.Prelude.{All, IsSome, slice_get}
 use Rattle.std.proofs.lemmas.List.{get_or_default, length-map}
 use Rattle.std.proofs.lemmas.List.Elements.{All-nil, All-cons}
@@ -12,7 +12,7 @@ use Rattle.upload_job.specs.declared.news.LaneNews.{LaneNews}
 use Rattle.upload_job.specs.declared.news.LaneErr.{LaneErr}
 use Rattle.upload_job.specs.Upload.{Work, in_batches}
 use Rattle.upload_job.specs.Lane.{LaneState, Done, onward, lane_request}
-use Rattle.upload_job.specs.Lanes.{LaneView, request_at, IsAsked, IsDoneAt, Answers, AnswersAt}
+use Rattle.upload_job.specs.Lanes.{LaneView, request_at, IsAsked, IsDoneAt, Answers, AnswersAt, with_state}
 use Rattle.upload_job.specs.Index.{HasShares, IsLane, AreLanes, shares_in, lane_in, lanes_in, state_in, moved_to, next_in}
 
 pub length-lanes_in : (key : VersionKey) (lanes : List Lane) → length (lanes_in key lanes) ≡ length lanes
@@ -168,3 +168,13 @@ are_moved key lanes seen i old m next view some are lt there e =
     let asks : IsSome (request_of (lane_in key old)) = subst (λ (r : Option Request). IsSome r) (sym (request_found key lanes seen i old view lt there)) some in
     lanes_set lanes i m are lt
     (subst IsLane (sym e) (moved_is old next is (held (lane_in key old).work (shares_in old.recalled.bytes old.wanted.items) old.stage old.shares old.recalled.bytes asks is.1)))
+
+-- ---- what lanes work at
+
+abbrev pub works : List LaneView → List Work
+works lanes = map (λ (lane : LaneView). lane.work) lanes
+
+pub state_works : (lanes : List LaneView) (i : ℕ) (state : LaneState) → works (with_state lanes i state) ≡ works lanes
+state_works [] i state = refl
+state_works (lane ∷ lanes) zero state = refl
+state_works (lane ∷ lanes) (suc i) state = ap (λ (l : List Work). lane.work ∷ l) (state_works lanes i state)

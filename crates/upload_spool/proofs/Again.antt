@@ -17,7 +17,7 @@ use Rattle.commit_journal.specs.CdEdges.area.Area.TheVariants.{Journal}
 use Rattle.commit_journal.specs.CdEdges.Disk.{Image}
 use Rattle.commit_journal.specs.JournalHalves.Records.{IsDamage, LastGate, BadLength, AreBodies, IsJournal, chain, sized}
 use Rattle.commit_journal.proofs.JournalHalves.Headed.{one_record}
-use Rattle.commit_journal.proofs.JournalHalves.Unique.{undamaged, whole_record}
+use Rattle.commit_journal.proofs.JournalHalves.Unique.{undamaged, whole_record, head_of, tail_of}
 use Rattle.commit_journal.specs.JournalStart.fault.StartFault.{StartFault}
 use Rattle.commit_journal.specs.JournalStart.start.Start.{Start}
 use Rattle.commit_journal.specs.JournalStart.Reading.{Fields, start_at, fields_of}
@@ -40,7 +40,7 @@ use Rattle.upload_spool.specs.declared.error.SpoolErr.TheVariants as errors
 use Rattle.upload_spool.specs.declared.records.RecordFault.{RecordFault}
 use Rattle.upload_spool.proofs.Begins.{current_begun}
 use Rattle.upload_spool.proofs.Chains.{one_more}
-use Rattle.upload_spool.proofs.Opened.{all_said}
+use Rattle.upload_spool.proofs.Opened.{all_said, good, same_good}
 use Rattle.upload_spool.proofs.Readings.{job_read, lane_read}
 
 -- ---- what its records say
@@ -87,12 +87,6 @@ say_parts : (shape : Shape) (front back : List (List ℕ)) (before last : Option
 say_parts shape [] back before last say = (before, refl, say)
 say_parts shape (body ∷ front) back before last say = let parts = say_parts shape front back (Some say.0) last say.2 in (parts.0, (say.0, say.1, parts.1), parts.2)
 
-abbrev good : Notes → Result Notes RecordFault
-good notes = Ok notes
-
-same_good : (a b : Notes) → good a ≡ good b → a ≡ b
-same_good a b e = cc
-
 good_or_not : (notes : Notes) (fault : RecordFault) → good notes ≡ Err fault → ⊥
 good_or_not notes fault e = cc
 
@@ -114,12 +108,6 @@ record_right shape v lanes fits are front body more same notes say fault e =
     good_or_not parts.2.0 fault (sym parts.2.1 ∙ ap (λ (o : Option Notes). with_record shape o body) mid ∙ e)
 
 -- ---- open records before a chain's end
-
-head_of : (a b : ℕ) (xs ys : List ℕ) → a ∷ xs ≡ b ∷ ys → a ≡ b
-head_of a b xs ys e = cc
-
-tail_of : (a b : ℕ) (xs ys : List ℕ) → a ∷ xs ≡ b ∷ ys → xs ≡ ys
-tail_of a b xs ys e = cc
 
 tail_lists : (x y : List ℕ) (xs ys : List (List ℕ)) → x ∷ xs ≡ y ∷ ys → xs ≡ ys
 tail_lists x y xs ys e = cc

@@ -4,22 +4,15 @@ use Rattle.std.specs.List.{range_with_len}
 use Rattle.grammar.specs.CdBase.shape.Shape.{Shape}
 use Rattle.upload_job.specs.declared.news.LaneNews.{LaneNews}
 use Rattle.upload_job.specs.declared.news.LaneErr.{LaneErr}
-use Rattle.upload_job.specs.Lane.{LaneState, Done}
+use Rattle.upload_job.specs.Lane.{Done}
 use Rattle.upload_job.specs.Upload.{FileVersion, Work, work_of}
 use Rattle.upload_job.specs.Lanes.{LaneView, begun, lanes_begun, lanes_resumed, with_state, entered_at, AnswersAt}
+use Rattle.upload_job.proofs.Laning.{works, state_works}
 use Rattle.upload_spool.specs.States.{IsJobOf}
-
-abbrev works : List LaneView → List Work
-works lanes = map (λ (lane : LaneView). lane.work) lanes
 
 begun_works : (shape : Shape) (v : FileVersion) (clouds : List ℕ) → works (map (λ (cloud : ℕ). begun (work_of shape v cloud)) clouds) ≡ map (work_of shape v) clouds
 begun_works shape v [] = refl
 begun_works shape v (cloud ∷ clouds) = ap (λ (l : List Work). work_of shape v cloud ∷ l) (begun_works shape v clouds)
-
-state_works : (lanes : List LaneView) (i : ℕ) (state : LaneState) → works (with_state lanes i state) ≡ works lanes
-state_works [] i state = refl
-state_works (lane ∷ lanes) zero state = refl
-state_works (lane ∷ lanes) (suc i) state = ap (λ (l : List Work). lane.work ∷ l) (state_works lanes i state)
 
 entered_works : (lanes : List LaneView) (clouds : List ℕ) → works (entered_at lanes clouds) ≡ works lanes
 entered_works lanes [] = refl

@@ -132,10 +132,10 @@ lane_bad : (shape : Shape) (noted : List CloudNo) (lane : CloudNo) → is_lane s
 unfolding lane_at
 lane_bad shape noted lane is = rw (is) refl
 
-abbrev good : Notes → Result Notes RecordFault
+abbrev pub good : Notes → Result Notes RecordFault
 good notes = Ok notes
 
-same_good : (a b : Notes) → good a ≡ good b → a ≡ b
+pub same_good : (a b : Notes) → good a ≡ good b → a ≡ b
 same_good a b e = cc
 
 lane_said : (shape : Shape) (notes more : Notes) (lane : CloudNo) (b : Bool) → is_lane shape notes.lanes lane.0 ≡ b → more_notes notes (lane_in shape notes.lanes (lane_bytes lane)) ≡ Ok more

@@ -5,8 +5,9 @@ use Rattle.lane_steps.specs.UploadJob.news.LaneNews.{LaneNews}
 use Rattle.lane_steps.specs.UploadJob.Lanes.{LaneView}
 use Rattle.replay_core.specs.LocalLink.Tells.{is_delivered, telling}
 use Rattle.lane_steps.specs.Steps.{Finishes}
+use Rattle.lane_steps.proofs.Reaching.{reached_len}
 use Rattle.replay_core.specs.ScriptLines.Jobs.{with_job}
-use Rattle.replay_core.proofs.ScriptLines.Reaching.{reached_len, count_with, lanes_with, all_done_is}
+use Rattle.replay_core.proofs.ScriptLines.Reaching.{count_with, lanes_with, all_done_is}
 use Rattle.replay_core.proofs.ScriptLines.Bringing.{lane_cut, one_leaves}
 use Rattle.generated_session.specs.declared.numbers.Numbers.{Numbers}
 use Rattle.generated_session.specs.Progress.{sent_by, known_by}

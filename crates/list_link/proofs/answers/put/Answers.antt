@@ -1,5 +1,5 @@
 use Rattle.std.proofs.Common.{ap, arith, length}
-use Rattle.list_link.proofs.Steps.{few_new}
+use Rattle.user_dedup.proofs.Suiting.{few_new}
 use Rattle.list_link.proofs.answers.put.Goals as goal
 
 pub overflow_cast-result : goal.overflow_cast-result

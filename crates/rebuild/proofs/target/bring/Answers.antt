@@ -7,10 +7,10 @@ use Rattle.lane_steps.specs.Reached.{IsOnItsWay, ForOne, BegunAlone}
 use Rattle.lane_steps.specs.Runs.{Progress, starting, lane_at}
 use Rattle.rebuild.specs.Rebuilding.{lane_of}
 use Rattle.rebuild.proofs.Landing.{target_leads, step_moves, lane_is, lanes_long, ended_moves, memory_moves, lane_still}
-use Rattle.rebuild.proofs.Turning.{no_others}
 use Rattle.lane_steps.specs.UserDedup.Link.{serves}
 use Rattle.lane_steps.specs.Steps.{Heard}
 use Rattle.lane_steps.specs.declared.error.StepErr.{StepErr}
+use Rattle.lane_steps.proofs.Finishing.{no_others}
 use Rattle.rebuild.specs.declared.error.RebuildErr.{RebuildErr}
 use Rattle.rebuild.specs.Over.{Leads, is_lost}
 use Rattle.rebuild.specs.Turns.{LaneEnded, LaneGoes}
