@@ -6,7 +6,8 @@ use Rattle.audit.specs.declared.errors.AuditErr.TheVariants as audits
 use Rattle.command_cloud.specs.BackupCommand.Writing.{Output}
 use Rattle.command_cloud.specs.Opened.{CloudCall, CloudFails, IsUnfailing}
 use Rattle.command_cloud.specs.Unhindered.{IsOpeningUnhindered}
-use Rattle.command_cloud.proofs.Completing.{not_risen, opens, status_of}
+use Rattle.command_cloud.proofs.Completing.{opens, status_of}
+use Rattle.command_cloud.proofs.ServeCommand.Completing.{not_risen}
 use Rattle.audit_command.specs.Audited.{IsCloudAudited, Unmade, Unopened, Audited}
 use Rattle.audit_command.specs.Said.{audit_status}
 

@@ -6,7 +6,6 @@ use Rattle.std.specs.Prelude.{Result, All}
 use Rattle.std.specs.List.{Contains}
 use Rattle.std.proofs.lemmas.List.Elements.{All-nil, All-cons, All-head, All-tail}
 use Rattle.std.proofs.lemmas.List.Concat.{flat_map-append}
-use Rattle.ports_link.proofs.UserDedup.Owned.{contains_here, contains_later}
 use Rattle.transcript.specs.CdBase.ids.CloudNo.{CloudNo}
 use Rattle.transcript.specs.CdEdges.Ports.{Telling, Port}
 use Rattle.ports_link.specs.UserDedup.Link.{Talk, SaysNothingElse}
@@ -189,16 +188,6 @@ went_stopped tells behind old new line rest views after halts.NoMemory before te
   go = NoMemory (line ∷ rest) views after [];
   wrote = tt;
 }
-
--- a port that isn't among these stays
-pub not_first : (line : CloudNo × ℕ) (rest : List (CloudNo × ℕ)) (port : ℕ) → ¬ Contains (ports_of (line ∷ rest)) port
-    → port ≢ line.1
-not_first line rest port none e =
-    none (subst (λ (n : ℕ). Contains (ports_of (line ∷ rest)) n) (sym e) (contains_here line.1 (ports_of rest)))
-
-pub not_later : (line : CloudNo × ℕ) (rest : List (CloudNo × ℕ)) (port : ℕ) → ¬ Contains (ports_of (line ∷ rest)) port
-    → ¬ Contains (ports_of rest) port
-not_later line rest port none c = none (contains_later line.1 (ports_of rest) port c)
 
 pub not_here : (line : CloudNo × ℕ) (rest : List (CloudNo × ℕ)) → AreApart (ports_of (line ∷ rest))
     → ¬ Contains (ports_of rest) line.1

@@ -3,7 +3,6 @@ pub mod Walking
 pub mod Pieces
 pub mod LaneAsks
 pub mod Working
-pub mod Reaching
 pub mod Joining
 pub mod Ordering
 pub mod Finishing

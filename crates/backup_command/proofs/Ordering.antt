@@ -1,12 +1,14 @@
 -- Clouds that were greeted, in the order of their numbers.
 use Rattle.std.proofs.Common.{◌≡◌, ◌≢◌, ℕ, suc, ◌+◌, ◌<◌, ◌≤◌, Bool, true, false, List, [], ◌∷◌, ◌++◌, length, refl}
 use Rattle.std.proofs.Common.{sym, ap, ◌∙◌, subst, arith}
-use Rattle.std.proofs.Common.{IsTrue, Some, set, replicate, length-set}
+use Rattle.std.proofs.Common.{IsTrue, set, replicate, length-set}
 use Rattle.std.specs.Prelude.{All}
 use Rattle.std.specs.List.{Contains}
 use Rattle.std.proofs.lemmas.List.{get_or-set_same, get_or-set_other, length-replicate, length_push}
 use Rattle.std.proofs.lemmas.List.Elements.{All-nil, All-cons, All-head, All-tail}
 use Rattle.ports_link.proofs.UserDedup.Owned.{contains_here, contains_later}
+use Rattle.ports_link.proofs.CloudLists.{line_on}
+use Rattle.ports_link.proofs.Talks.{some_same}
 use Rattle.transcript.specs.CdBase.ids.CloudNo.{CloudNo}
 use Rattle.transcript.specs.CdEdges.Ports.{Telling}
 use Rattle.ports_link.specs.declared.lines.CloudLine.{CloudLine}
@@ -71,9 +73,6 @@ few_dialled dialled other n same long few =
 
 -- ---- a link over their lines
 
-abbrev pub line_on : ℕ → CloudLine
-line_on port = record { port = Some port; ended = false }
-
 kept_line : (base : List CloudLine) (lines : List (CloudNo × ℕ)) (cloud : ℕ)
     → All (λ other. other ≢ cloud) (clouds_of lines) → line_of (with_ports base lines) cloud ≡ line_of base cloud
 kept_line base [] cloud apart = refl
@@ -117,10 +116,7 @@ have_ports lines (line ∷ part) reach =
     has : line_of lines line.0.0 ≡ line_on line.1 → IsTrue (has_port lines line.0.0)
     has e = rw e refl
 
-some_same : (a b : ℕ) → Some a ≡ Some b → a ≡ b
-some_same a b e = cc
-
-open_coming : (is_ended : Bool) (bytes : List ℕ) (coming : List (List ℕ)) → is_ended ≡ false
+pub open_coming : (is_ended : Bool) (bytes : List ℕ) (coming : List (List ℕ)) → is_ended ≡ false
     → HasComing is_ended bytes coming → BringsReplies bytes coming
 open_coming false bytes coming e has = has
 open_coming true bytes coming e has = absurd (let f : true ≡ false = e in cc)

@@ -24,6 +24,7 @@ use Rattle.lane_steps.proofs.Views.{lane_with, with_twice}
 use Rattle.ports_link.specs.declared.link.PortsLink.{PortsLink}
 use Rattle.ports_link.specs.Lines.{line_of}
 use Rattle.ports_link.specs.Tells.{HasAsked, HasComing, BringsReplies, telling}
+use Rattle.ports_link.proofs.Talks.{some_same}
 use Rattle.backup_command.specs.declared.halt.Halt.{Halt}
 use Rattle.backup_command.specs.declared.halt.Halt.TheVariants as halts
 use Rattle.backup_command.specs.Said.{SaidOn, SaysBehind, greeted}
@@ -70,9 +71,6 @@ work_kept Does p last old new (t ∷ turns) along =
     work_kept Does (progress_after p t.reply) last along.3.0 new turns along.3.2
 
 -- ---- on a port
-
-some_same : (a b : ℕ) → Some a ≡ Some b → a ≡ b
-some_same a b e = cc
 
 rose_on : (a b c : ℕ) → a ≤ b → Rose b c → Rose a c
 rose_on a b c le rose = omega (arith, rose)

@@ -1,27 +1,19 @@
 -- What a lane has to bring stays, whatever comes of it.
-use Rattle.std.proofs.Common.{◌≡◌, ℕ, zero, suc, List, [], ◌∷◌, map, Option, Some, None, refl, ap, ◌∙◌, Ok, Err}
+use Rattle.std.proofs.Common.{◌≡◌, ℕ, List, Option, Some, None, ap, ◌∙◌, Ok, Err}
 use Rattle.std.specs.Prelude.{Result}
 use Rattle.transcript.specs.CdEdges.Ports.{Telling}
 use Rattle.ports_link.specs.Messages.request.Request.{Request}
 use Rattle.lane_steps.specs.UploadJob.news.LaneNews.{LaneNews}
-use Rattle.lane_steps.specs.UploadJob.Lane.{LaneState, Refused}
-use Rattle.lane_steps.specs.UploadJob.Upload.{Work}
+use Rattle.lane_steps.specs.UploadJob.Lane.{Refused}
 use Rattle.lane_steps.specs.UploadJob.Lanes.{LaneView, with_state}
 use Rattle.lane_steps.specs.Runs.{request_of}
 use Rattle.lane_steps.specs.declared.error.StepErr.{StepErr}
 use Rattle.lane_steps.specs.declared.error.StepErr.TheVariants as errors
 use Rattle.lane_steps.specs.Steps.{LaneSteps, Finishes}
+use Rattle.lane_steps.proofs.UploadJob.Laning.{works, state_works}
 use Rattle.ports_link.specs.declared.link.PortsLink.{PortsLink}
 use Rattle.ports_link.specs.Tells.{telling}
 use Rattle.backup_command.specs.Steps.{Talked}
-
-abbrev pub works : List LaneView → List Work
-works lanes = map (λ (lane : LaneView). lane.work) lanes
-
-pub state_works : (lanes : List LaneView) (i : ℕ) (state : LaneState) → works (with_state lanes i state) ≡ works lanes
-state_works [] i state = refl
-state_works (lane ∷ lanes) zero state = refl
-state_works (lane ∷ lanes) (suc i) state = ap (λ (l : List Work). lane.work ∷ l) (state_works lanes i state)
 
 module _ {P : Type 0} (tells : P → Telling) (faults : P → ℕ) (cloud : ℕ) where
   step_works : (views after : List LaneView) (mid new : PortsLink P) (o : Option Request) (e : StepErr)

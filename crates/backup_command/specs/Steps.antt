@@ -23,6 +23,7 @@ use Rattle.ports_link.specs.declared.meeting.MeetErr.TheVariants as unmet
 use Rattle.ports_link.specs.declared.refused.Refused.{Refused}
 use Rattle.ports_link.specs.Dialled.{AreApart}
 use Rattle.ports_link.specs.Hellos.{HaveTalks, clouds_of}
+pub use Rattle.ports_link.specs.Hellos.{ports_of}
 use Rattle.ports_link.specs.Meeting.{MeetsAll}
 use Rattle.backup_command.specs.declared.halt.Halt.{Halt}
 use Rattle.backup_command.specs.declared.halt.Halt.TheVariants as halts
@@ -64,9 +65,6 @@ pub record IsCloudReady {P : Type 0} (behind : Telling) (tells : P → Telling) 
   pub port : (line_of link.lines.items.items line.0.0).port ≡ Some line.1
   pub talk : IsTrue behind.told → (coming : List (List ℕ)) × BringsReplies (behind.port line.1).to_come coming
       × HasTalk (tells link.ports.now) link.lines.items.items line.0.0 (greeted coming)
-
-abbrev pub ports_of : List (CloudNo × ℕ) → List ℕ
-ports_of lines = map (λ (line : CloudNo × ℕ). line.1) lines
 
 -- With none of these clouds anything was said behind its Hello. No two of them are one, and no two of their ports.
 pub record AreReady {P : Type 0} (behind : Telling) (tells : P → Telling) (link : PortsLink P)

@@ -19,13 +19,9 @@ use Rattle.generated_session.specs.SessionModel.Headline.{Session, Begun, IsRun,
 use Rattle.generated_session.proofs.SessionModel.Counts.{counts_last}
 use Rattle.generated_session.specs.ReplayCore.Endings.{ReplayCall, EndingLine, HasStatusCause, HasRead, HasReadSome, IsDue, IsOfScript, IsOfShelf, IsOfStore, IsFirstFilled, IsWrongAt, MayFailIn}
 use Rattle.generated_session.specs.ReplayCore.Endings as due_lines
+use Rattle.migrate_command.proofs.ServeCommand.Completing.{not_risen}
 use Rattle.cd_top.specs.Complete.{IsStill, IsReplayUnhindered}
 use Rattle.cd_top.specs.Replay.{IsReplayed}
-
--- ---- counts
-
-pub not_risen : (before now : ℕ) → IsStill before now → Rose before now → ⊥
-not_risen before now still rose = omega (arith, still.0, still.1, rose)
 
 -- ---- a script that is read to its end has no wrong line
 

@@ -12,13 +12,15 @@ use Rattle.generated_session.specs.Numbers.{summary_text}
 use Rattle.generated_session.specs.Generates as generator
 use Rattle.generated_session.specs.Generates.{Order, Passing, Generates, WritesSummary, IsSummed}
 use Rattle.command_words.specs.Asked.{AskedSession}
+use Rattle.migrate_command.proofs.ServeCommand.Texts.{appends_nothing}
+use Rattle.migrate_command.proofs.ServeCommand.Completing.{not_risen}
 use Rattle.cd_top.specs.Ends.{WantsLast, WantsNone, HasLastLine, Silent, Said, CutShort, Unsaid}
 use Rattle.cd_top.specs.Generate.{IsCaused, IsDue, IsSessionClosed, Whole, Short, Makes, NoPlace, MadeTo, NothingFails, IsGenerated, order_of}
 use Rattle.cd_top.specs.Read.{Around}
 use Rattle.cd_top.specs.Replay.{ending_text}
 use Rattle.cd_top.proofs.Closing.{other_status, rose_since}
-use Rattle.cd_top.proofs.Completing.{not_risen, counts_unopened}
-use Rattle.cd_top.proofs.Texts.{appends_both, appends_nothing}
+use Rattle.cd_top.proofs.Completing.{counts_unopened}
+use Rattle.cd_top.proofs.Texts.{appends_both}
 
 -- ---- the end of the session, and its text
 

@@ -13,10 +13,11 @@ use Rattle.read_command.specs.Disks.{AreReadable, IsSpared, KeepsDisks}
 use Rattle.read_command.specs.Ends.{Outside, CountsSink, Gives, GivesAnyway, IsOfOpening, Says}
 use Rattle.read_command.specs.KeptFiles.Kept.{key_of}
 use Rattle.command_words.specs.Asked.{AskedRead}
+use Rattle.migrate_command.proofs.ServeCommand.Texts.{appends_nothing}
 use Rattle.cd_top.specs.Read.{Around, IsClosed, IsVersionRead, ReadTo, NoPlace, given_of}
 use Rattle.cd_top.specs.Read.{last_line, status_of}
 use Rattle.cd_top.specs.Replay.{WritesFront}
-use Rattle.cd_top.proofs.Texts.{appends_both, appends_nothing}
+use Rattle.cd_top.proofs.Texts.{appends_both}
 
 -- where the openings ended it the sink wasn't called
 still : (end : ReadEnd) (before now : ℕ) → IsOfOpening end → CountsSink before now end → now ≡ before

@@ -1,5 +1,5 @@
 -- Texts that were written one after another.
-use Rattle.std.proofs.Common.{◌≡◌, ℕ, List, [], ◌++◌, take, drop, Option, Some, None, sym, ap, ◌∙◌, append_assoc, append-nil}
+use Rattle.std.proofs.Common.{◌≡◌, ℕ, List, ◌++◌, take, drop, Option, Some, None, ap, ◌∙◌, append_assoc}
 use Rattle.std.specs.Io.KnownBytes.{Appends}
 use Rattle.std.proofs.lemmas.List.{take-append-drop}
 use Rattle.cd_top.specs.Replay.{WritesFront}
@@ -10,10 +10,6 @@ appends_both None middle after x y first second = tt
 appends_both (Some xs) None after x y first second = absurd first
 appends_both (Some xs) (Some ys) None x y first second = absurd second
 appends_both (Some xs) (Some ys) (Some zs) x y first second = second ∙ ap (λ l. l ++ y) first ∙ append_assoc xs x y
-
-pub appends_nothing : (before : Option (List ℕ)) → Appends before before []
-appends_nothing None = tt
-appends_nothing (Some xs) = sym (append-nil xs)
 
 -- a sink took so many bytes of a text
 pub front_at : (before after : Option (List ℕ)) (text read : List ℕ) (sent : ℕ) → read ≡ text → Appends before after (take sent read) → WritesFront text before after

@@ -1,6 +1,7 @@
 -- When a replay answers 0, or runs out of memory: a script within the limits, clouds that are empty and told, and
 -- nothing that fails.
-use Rattle.std.specs.Prelude.{◌≡◌, ℕ, ◌-◌, ◌^◌, ◌<◌, List, Some, IsTrue}
+use Rattle.std.specs.Prelude.{◌≡◌, ℕ, ◌<◌, List, Some, IsTrue}
+pub use Rattle.migrate_command.specs.ServeCommand.Complete.{IsStill}
 use Rattle.command_words.specs.CdBase.shape.Shape.{Shape}
 use Rattle.command_words.specs.JournalStart.rooms.UserRooms.{UserRooms}
 use Rattle.delete_command.specs.CdEdges.area.Area.{Area}
@@ -16,10 +17,6 @@ pub record IsScript (script : List ℕ) (shape : Shape) : Type 0 where
   pub place : ScriptPlace
   pub reaches : Reaches script shape rooms events place
   pub ends : IsEnd place
-
--- the count didn't rise, and isn't at its last value
-abbrev pub IsStill : ℕ → ℕ → Type 0
-IsStill before now = (now ≡ before) × (before < 2 ^ 64 - 1)
 
 abbrev pub IsNew : Cloud → Type 0
 IsNew cloud = IsTrue cloud.told × ((area : Area) → IsEmptyAt cloud area)

@@ -1,7 +1,6 @@
 -- Where nothing fails, the cloud is opened unless memory runs out, and what is due is written: each other way has a cause that isn't there.
-use Rattle.std.proofs.Common.{◌≡◌, ◌⊎◌, inl, inr, ℕ, ◌-◌, ◌^◌, ◌+◌, ◌≤◌, List, Ok, ◌∙◌, arith}
+use Rattle.std.proofs.Common.{◌≡◌, ◌⊎◌, inl, inr, ℕ, ◌-◌, ◌^◌, ◌+◌, ◌≤◌, List, Ok, ◌∙◌}
 use Rattle.backup_command.specs.Writing.{Output, HasWrittenOrCause, InFull, InPart, NotAtAll}
-use Rattle.backup_command.specs.CdEdges.Causes.{Rose}
 use Rattle.backup_command.specs.CdEdges.area.Area.TheVariants.{Journal}
 use Rattle.backup_command.specs.CdEdges.Disk.{Image, reads}
 use Rattle.backup_command.specs.CdEdges.Shelf.{HasFailed, KeepsCounts}
@@ -9,6 +8,7 @@ use Rattle.cloud_opening.specs.CloudAreas.Standing.{StandsFor}
 use Rattle.serve_command.specs.ShareServer.Serving.{an_error}
 use Rattle.serve_command.specs.CloudOpening.Spared.{IsOkOrFault}
 use Rattle.serve_command.proofs.CloudOpening.OneStart.{current_whole}
+use Rattle.serve_command.proofs.Completing.{not_risen}
 use Rattle.cloud_opening.specs.CommitJournal.errors.OpenErr.{OpenErr}
 use Rattle.cloud_opening.specs.CommitJournal.errors.OpenErr.TheVariants as errors
 use Rattle.cloud_opening.specs.CommitJournal.Openings.{OnFault}
@@ -19,9 +19,6 @@ use Rattle.serve_command.specs.Complete.{IsStill}
 use Rattle.cloud_opening.specs.UserDedup.command.Command.{Command}
 use Rattle.command_cloud.specs.Opened.{CloudCall, IsNotOpened, NoRooms, InRooms, header_within}
 use Rattle.command_cloud.specs.Unhindered.{IsOpeningUnhindered}
-
-pub not_risen : (before now : ℕ) → IsStill before now → Rose before now → ⊥
-not_risen before now still rose = omega (arith, still.0, still.1, rose)
 
 -- the starts of areas that stand for a list and are begun aren't damaged
 not_damaged : (image : Image) (header : Header) (list : List Command) (at byte : ℕ) → StandsFor image header list

@@ -4,7 +4,7 @@ use Rattle.std.specs.Prelude.{IfOk, OnOk}
 use Rattle.backup_command.specs.CdBase.ids.CloudNo.{CloudNo}
 use Rattle.backup_command.specs.CdBase.shape.Shape.{Shape}
 use Rattle.backup_command.specs.CdEdges.area.Area.TheVariants.{Journal}
-use Rattle.backup_command.specs.CdEdges.Disk.{Cloud, Image, reads}
+use Rattle.backup_command.specs.CdEdges.Disk.{Cloud, reads}
 use Rattle.backup_command.specs.CdEdges.Shelf.{IsCall, HasFailed, KeepsCounts, Stays}
 use Rattle.cloud_opening.specs.CloudAreas.Standing.{StandsFor}
 use Rattle.serve_command.specs.CloudMemory.Memory.{Remembers}
@@ -19,13 +19,13 @@ use Rattle.cloud_opening.specs.CommitJournal.errors.OpenErr.{OpenErr}
 use Rattle.cloud_opening.specs.CommitJournal.errors.OpenErr.TheVariants as errors
 use Rattle.cloud_opening.specs.CommitJournal.Openings.{OnFault}
 use Rattle.cloud_opening.specs.JournalHalves.Beginnings.{IsUnbegun}
-use Rattle.cloud_opening.specs.JournalHalves.Halves.{IsCurrent}
 use Rattle.cloud_opening.specs.JournalStart.rooms.UserRooms.{UserRooms}
 use Rattle.cloud_opening.specs.JournalStart.start.Header.{Header}
-use Rattle.cloud_opening.specs.JournalStart.start.Start.{Start}
 use Rattle.cloud_opening.specs.JournalStart.Ranges.{AreRooms}
 use Rattle.serve_command.specs.Served.{HasRooms, IsUnreadable}
 use Rattle.serve_command.proofs.Openings.{comes_to}
+use Rattle.serve_command.proofs.Completing.{OneHeader}
+use Rattle.serve_command.proofs.InRooms.{no_rooms}
 use Rattle.cloud_opening.specs.UserDedup.command.Command.{Command}
 use Rattle.cloud_opening.specs.UserDedup.Cloud.{counted}
 use Rattle.cloud_opening.specs.UserDedup.Spending.{IsWithin}
@@ -33,11 +33,6 @@ use Rattle.command_cloud.specs.declared.opening.Unopened.{Unopened}
 use Rattle.command_cloud.specs.declared.opening.Unopened.TheVariants as unopened
 use Rattle.command_cloud.specs.Opened.{CloudCall, IsShut, IsNotOpened, NoRooms, InRooms, StandsWithin, cloud_call, header_within}
 use Rattle.command_cloud.specs.Opens.{OpenedBy, OpensIn, OpensCloud}
-
--- areas that stand for a list by a header have it in the start of their current half
-abbrev pub OneHeader : Type 0
-OneHeader = (image : Image) (header : Header) (list : List Command) (half : ℕ) (start : Start) → StandsFor image header list
-    → ¬ IsUnbegun (image Journal) → IsCurrent (image Journal) half start → start.header ≡ header
 
 -- What an opening says that begins nothing, by a header.
 pub record Reopened (header : Header) (server : Server) (old new : ℕ → Cloud) (before now : ℕ) (result : Result ℕ OpenErr)
@@ -163,10 +158,6 @@ behind_search rooms shape cloud old mid new before middle now result same still 
     in_cloud rooms (cloud_call shape cloud old new before now) result
     (subst (λ (n : ℕ). OpensIn rooms (cloud_call shape cloud old new n now) result) still
     (subst (λ (k : Cloud). OpensIn rooms (cloud_call shape cloud k new middle now) result) same opens))
-
--- a search that ended with this error
-abbrev pub no_rooms : OpenErr → Result UserRooms OpenErr
-no_rooms error = Err error
 
 counts_by : (error : OpenErr) (failed kept : Type 0) → OnFault (no_rooms error) failed kept → OnFault (an_error error) failed kept
 counts_by errors.Fault failed kept counts = counts

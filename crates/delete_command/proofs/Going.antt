@@ -1,15 +1,12 @@
 -- One cloud, and the clouds behind it.
-use Rattle.std.proofs.Common.{◌≡◌, ◌≢◌, ℕ, Bool, true, false, List, [], ◌∷◌, ◌++◌, Ok, Err, IsTrue, refl, sym, ap, ◌∙◌, subst}
+use Rattle.std.proofs.Common.{◌≡◌, ℕ, Bool, true, false, List, [], ◌∷◌, ◌++◌, Ok, Err, IsTrue, refl, sym, ap, ◌∙◌}
 use Rattle.std.proofs.Common.{append_assoc, append-nil}
 use Rattle.std.specs.Prelude.{All, Result, ◌↔◌, ◌&&◌}
-use Rattle.std.specs.List.{Contains}
 use Rattle.std.proofs.lemmas.List.Elements.{All-nil, All-cons, All-head, All-tail}
-use Rattle.ports_link.proofs.UserDedup.Owned.{contains_here, contains_later}
 use Rattle.deletions.specs.CdBase.ids.CloudNo.{CloudNo}
 use Rattle.ports_link.specs.CdEdges.Ports.{Telling}
 use Rattle.deletions.specs.Transcript.Transcript.{line_text}
 use Rattle.deletions.specs.Transcript.line.Line.{Line}
-use Rattle.ports_link.specs.Hellos.{ports_of}
 use Rattle.delete_command.specs.declared.asking.AskHalt.{AskHalt}
 use Rattle.delete_command.specs.declared.asking.AskHalt.TheVariants as halts
 use Rattle.delete_command.specs.Asks.{NoneLeft, Next, Fails}
@@ -59,13 +56,3 @@ went_more request t mid u at behind one (Err halts.Lost) before between text fir
   joined before between text first.0 rest.0 first.3 rest.2,
 )
 went_more request t mid u at behind one (Err halts.NoMemory) before between text first rest = tt
-
--- a port that isn't among these
-pub not_first : (line : CloudNo × ℕ) (rest : List (CloudNo × ℕ)) (port : ℕ) → ¬ Contains (ports_of (line ∷ rest)) port
-    → port ≢ line.1
-not_first line rest port none e =
-    none (subst (λ (n : ℕ). Contains (ports_of (line ∷ rest)) n) (sym e) (contains_here line.1 (ports_of rest)))
-
-pub not_later : (line : CloudNo × ℕ) (rest : List (CloudNo × ℕ)) (port : ℕ) → ¬ Contains (ports_of (line ∷ rest)) port
-    → ¬ Contains (ports_of rest) port
-not_later line rest port none c = none (contains_later line.1 (ports_of rest) port c)

@@ -2,7 +2,7 @@
 use Rattle.std.proofs.Common.{◌≡◌, ◌⊎◌, inl, inr, ℕ, List, None, Some, Result, Ok, Err, sym, ◌∙◌}
 use Rattle.command_cloud.specs.BackupCommand.Writing.{Output, HasWrittenOrCause, InFull, InPart, NotAtAll}
 use Rattle.command_cloud.specs.Opened.{CloudCall}
-use Rattle.command_cloud.proofs.Completing.{not_risen}
+use Rattle.command_cloud.proofs.ServeCommand.Completing.{not_risen}
 use Rattle.store_migration.specs.JournalStart.rooms.UserRooms.{UserRooms}
 use Rattle.store_migration.specs.MigrationModel.Migrating.{AreSmallEnough}
 use Rattle.store_migration.specs.Answers.{MigratedAs, OnFault}

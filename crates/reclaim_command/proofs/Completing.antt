@@ -3,7 +3,8 @@ use Rattle.std.proofs.Common.{◌≡◌, ◌⊎◌, inl, inr, ℕ, Result, Ok, E
 use Rattle.command_cloud.specs.BackupCommand.Writing.{Output}
 use Rattle.command_cloud.specs.Opened.{CloudCall, CloudFails, IsUnfailing}
 use Rattle.command_cloud.specs.Unhindered.{IsOpeningUnhindered}
-use Rattle.command_cloud.proofs.Completing.{not_risen, opens, status_of}
+use Rattle.command_cloud.proofs.Completing.{opens, status_of}
+use Rattle.command_cloud.proofs.ServeCommand.Completing.{not_risen}
 use Rattle.reclaim.specs.ShareServer.Copies.{IsDoneOrFault, OnReclaimFault}
 use Rattle.reclaim.specs.ShareServer.copies.ReclaimErr.{ReclaimErr}
 use Rattle.reclaim.specs.ShareServer.copies.ReclaimErr.TheVariants as errors

@@ -1,5 +1,5 @@
 -- The lines of a link over clouds that rise.
-use Rattle.std.proofs.Common.{◌≡◌, ℕ, ◌<◌, ◌≤◌, List, [], ◌∷◌, length, Some, false, refl, sym, ◌∙◌, ap, subst, arith}
+use Rattle.std.proofs.Common.{◌≡◌, ℕ, ◌<◌, ◌≤◌, List, [], ◌∷◌, length, refl, sym, ◌∙◌, ap, subst, arith}
 use Rattle.std.proofs.Common.{set, replicate, length-set, inl, inr}
 use Rattle.std.specs.Prelude.{All}
 use Rattle.std.specs.List.Sorted.{IsStrictlyIncreasing}
@@ -9,15 +9,13 @@ use Rattle.ports_link.specs.CdBase.Numbers.{numbers_of}
 use Rattle.ports_link.specs.CdBase.ids.CloudNo.{CloudNo}
 use Rattle.ports_link.specs.CdBase.shape.Shape.{Shape}
 use Rattle.ports_link.proofs.UserDedup.Owned.{contains_here, contains_later, contains_cases, contains_nothing}
+use Rattle.ports_link.proofs.CloudLists.{line_on}
 use Rattle.ports_link.specs.declared.lines.CloudLine.{CloudLine}
 use Rattle.ports_link.specs.Lines.{line_of, lines_for, no_line, with_ports}
 use Rattle.ports_link.specs.Hellos.{clouds_of}
 use Rattle.restore_command.proofs.Lists.{Apart, NoneIs, apart}
 use Rattle.restore_command.specs.Calls.{named_in, ports_of}
 use Rattle.restore_command.proofs.Passing.{AreOn}
-
-abbrev pub line_on : ℕ → CloudLine
-line_on port = record { port = Some port; ended = false }
 
 -- each of these clouds is reached on its port
 abbrev pub AreReachedBy : List CloudLine → List (CloudNo × ℕ) → Type 0

@@ -14,6 +14,7 @@ use Rattle.ports_link.specs.Messages.ReplyReading.{reply_at}
 use Rattle.ports_link.specs.Messages.reply.Reply.{Reply}
 use Rattle.subset_restore.specs.Recipe.recipe.Recipe.{Recipe}
 use Rattle.ports_link.proofs.UserDedup.Owned.{contains_cases, contains_nothing}
+use Rattle.ports_link.proofs.Talks.{some_same}
 use Rattle.ports_link.specs.UserDedup.Link.{Talk}
 use Rattle.ports_link.specs.declared.lines.CloudLine.{CloudLine}
 use Rattle.ports_link.specs.Lines.{line_of}
@@ -39,9 +40,6 @@ use Rattle.restore_command.proofs.Passing.{not_empty}
 contents_behind : (one two : List (List ℕ)) → AreContents (one ++ two) → AreContents two
 contents_behind [] two are = are
 contents_behind (a ∷ one) two are = contents_behind one two are.1
-
-some_same : (a b : ℕ) → Some a ≡ Some b → a ≡ b
-some_same a b e = cc
 
 talked : (t u : Telling) (first last : List CloudLine) (line : CloudNo × ℕ) (before after : Talk)
     (sent received : List (List ℕ))

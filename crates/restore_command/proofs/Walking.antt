@@ -17,6 +17,7 @@ use Rattle.subset_restore.specs.RestoreJob.error.RestoreErr.{RestoreErr}
 use Rattle.subset_restore.specs.RestoreJob.error.RestoreErr.TheVariants as errors
 use Rattle.ports_link.specs.Hellos.{HaveTalks, clouds_of, hello}
 use Rattle.ports_link.specs.declared.greeting.Greeted.{Greeted}
+use Rattle.ports_link.proofs.CloudLists.{line_on}
 use Rattle.subset_restore.specs.Subsets.{IsSubset, subsets}
 use Rattle.subset_restore.specs.Tries.{Try, GoneThrough, NoneYet, Passed, Refused, HasRefused, HoldsRefuser, refuser}
 use Rattle.subset_restore.specs.Ends.{Sought, AllRefused, OneRestore, WasLost}
@@ -25,7 +26,7 @@ use Rattle.subset_restore.proofs.Elements.{contains_end, contains_front, of_all}
 use Rattle.restore_command.specs.Calls.{RestoreCall, ports_of, tag_in}
 use Rattle.restore_command.specs.Tried.{AreRefused, IsFetch, IsRestoreRefused, IsStop, Heard}
 use Rattle.restore_command.proofs.Choosing.{Chosen, choose, cloud_of, line_at, port_of}
-use Rattle.restore_command.proofs.Lines.{AreReachedBy, line_on}
+use Rattle.restore_command.proofs.Lines.{AreReachedBy}
 use Rattle.restore_command.proofs.Passing.{AreOn, Kept, kept, open_on, others}
 use Rattle.restore_command.proofs.Saying.{fetch_of, fetched_fresh, stop_fresh, stop_of}
 use Rattle.restore_command.proofs.Lists.{apart}

@@ -10,6 +10,7 @@ use Rattle.ports_link.specs.CdEdges.Ports.{Telling}
 use Rattle.ports_link.specs.declared.greeting.Greeted.{Greeted}
 use Rattle.ports_link.specs.declared.judging.AskedClouds.TheVariants as asked
 use Rattle.ports_link.specs.Dialled.{AreDialled}
+pub use Rattle.ports_link.specs.Hellos.{ports_of}
 use Rattle.ports_link.specs.Meeting.{MeetsAll}
 use Rattle.ports_link.specs.Sending.{SendsOnly}
 use Rattle.ports_link.specs.UserDedup.Link.{IsReading}
@@ -32,10 +33,6 @@ tag_in shape path = record { 0 = tag_at shape path }
 -- the clouds of some lines
 abbrev pub named_in : List (CloudNo × ℕ) → List CloudNo
 named_in lines = map (λ (line : CloudNo × ℕ). line.0) lines
-
--- the ports of some lines
-abbrev pub ports_of : List (CloudNo × ℕ) → List ℕ
-ports_of lines = map (λ (line : CloudNo × ℕ). line.1) lines
 
 -- Each address was dialled, in order, and asked Hello before the next was dialled, and each reply was as asked: they are
 -- as many clouds of a shape as give a file back, or more, and they rise.

@@ -14,13 +14,13 @@ use Rattle.share_server.specs.JournalHalves.Beginnings.{IsUnbegun}
 use Rattle.share_server.specs.JournalHalves.Findings.{IsFoundDamage}
 use Rattle.share_server.specs.JournalHalves.Halves.{IsCurrent}
 use Rattle.share_server.specs.CloudOpening.Spared.{IsOkOrFault}
-use Rattle.share_server.proofs.CommitJournal.Opening.{not_unbegun}
 use Rattle.share_server.proofs.CloudOpening.OneStart.{current_whole, unbegun_whole}
 use Rattle.share_server.specs.UserDedup.command.Command.{Command}
 use Rattle.share_server.specs.UserDedup.Spending.{IsWithin}
 use Rattle.share_server.proofs.UserDedup.Spending.{none_within}
+use Rattle.share_server.proofs.CommitJournal.Opening.{not_unbegun}
+use Rattle.share_server.proofs.Openings.{NoneStands}
 use Rattle.share_server.specs.CloudAreas.Standing.{StandsFor}
-use Rattle.share_server.specs.Names.{HasNoJournal}
 use Rattle.share_server.specs.Serving.{an_error}
 use Rattle.serve_command.specs.Serving.{RepliesOne}
 use Rattle.serve_command.specs.Complete.{IsStill, HasList, IsNew, IsServeUnhindered}
@@ -28,7 +28,7 @@ use Rattle.serve_command.specs.Served.{ServeCall, old_cloud, own_header, IsOpeni
 use Rattle.serve_command.specs.Served.{IsUnopenedOrServed}
 use Rattle.serve_command.proofs.Running.{run_later}
 
-not_risen : (before now : ℕ) → IsStill before now → Rose before now → ⊥
+pub not_risen : (before now : ℕ) → IsStill before now → Rose before now → ⊥
 not_risen before now still rose = omega (arith, still.0, still.1, rose)
 
 -- nor did it rise in between
@@ -36,10 +36,6 @@ not_risen_since : (before after now : ℕ) → IsStill before now → min before
 not_risen_since before after now still later rose = omega (arith, still.0, still.1, later, rose)
 
 -- ---- the list that is served
-
--- areas without a journal stand for no commands
-abbrev pub NoneStands : Type 0
-NoneStands = (image : Image) (header : Header) → HasNoJournal image → StandsFor image header []
 
 -- areas that stand for a list by a header have it in the start of their current half
 abbrev pub OneHeader : Type 0

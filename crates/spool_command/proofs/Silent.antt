@@ -1,5 +1,5 @@
 -- Clouds that were greeted, of which nothing was asked.
-use Rattle.std.proofs.Common.{◌≡◌, ℕ, ◌≤◌, Bool, true, false, List, [], ◌∷◌, drop, length, Some, Err, IsTrue, refl, sym, ap, ◌∙◌, subst}
+use Rattle.std.proofs.Common.{◌≡◌, ℕ, ◌≤◌, List, [], ◌∷◌, drop, length, Err, IsTrue, refl, sym, ap, ◌∙◌, subst}
 use Rattle.std.specs.Prelude.{All}
 use Rattle.std.specs.List.{Contains}
 use Rattle.std.proofs.lemmas.List.Elements.{All-nil, All-cons, All-head, All-tail}
@@ -15,16 +15,11 @@ use Rattle.upload_spool.specs.UploadJob.Lanes.{LaneView}
 use Rattle.backup_command.specs.Said.{SaidOn, SaysNothing, greeted}
 use Rattle.backup_command.specs.Lanes.{Tells, numbered}
 use Rattle.backup_command.specs.Steps.{AreGreetedOn, IsNumbered}
-use Rattle.backup_command.proofs.Ordering.{few_dialled, line_on, lines_reach}
+use Rattle.backup_command.proofs.Ordering.{few_dialled, lines_reach, open_coming}
+use Rattle.backup_command.proofs.PortsLinkLaws.CloudLists.{line_on}
+use Rattle.backup_command.proofs.PortsLinkLaws.Talks.{some_same}
 use Rattle.spool_command.specs.declared.interruption.Interruption.TheVariants.{Memory}
 use Rattle.spool_command.specs.Noted.{LanesNoted, MemoryLacked}
-
-some_same : (a b : ℕ) → Some a ≡ Some b → a ≡ b
-some_same a b e = cc
-
-open_coming : (is_ended : Bool) (bytes : List ℕ) (coming : List (List ℕ)) → is_ended ≡ false → HasComing is_ended bytes coming → BringsReplies bytes coming
-open_coming false bytes coming e has = has
-open_coming true bytes coming e has = absurd (let f : true ≡ false = e in cc)
 
 abbrev Talked : Telling → List CloudLine → ℕ → Type 0
 Talked behind lines cloud = (coming : List (List ℕ)) × HasTalk behind lines cloud (record { asked = hello ∷ []; coming = coming })

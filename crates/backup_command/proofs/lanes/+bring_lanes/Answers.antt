@@ -6,8 +6,9 @@ use Rattle.transcript.specs.CdBase.ids.CloudNo.{CloudNo}
 use Rattle.transcript.specs.CdBase.shape.Shape.{Shape}
 use Rattle.lane_steps.specs.Reached.{IsReached}
 use Rattle.ports_link.specs.Tells.{telling}
+use Rattle.ports_link.proofs.CloudLists.{not_first, not_later}
 use Rattle.backup_command.specs.Steps.{AreReady, IsCloudReady, LanesWent, ports_of}
-use Rattle.backup_command.proofs.Joining.{went_none, went_more, went_stopped, rest_ready, not_first, not_later}
+use Rattle.backup_command.proofs.Joining.{went_none, went_more, went_stopped, rest_ready}
 use Rattle.backup_command.proofs.Joining.{not_here}
 use Rattle.backup_command.specs.Sends.{IsAskOn, SendsOn}
 use Rattle.backup_command.proofs.Pieces.{first_line, later_lines, on_none, on_twice}

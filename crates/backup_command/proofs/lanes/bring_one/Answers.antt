@@ -1,11 +1,11 @@
 use Rattle.std.proofs.Common.{◌<◌, ℕ, List, sym, subst}
 use Rattle.lane_steps.specs.UploadJob.news.LaneNews.{LaneNews}
 use Rattle.lane_steps.specs.Steps.{Finishes}
+use Rattle.lane_steps.proofs.Reaching.{reached_len}
 use Rattle.ports_link.specs.Tells.{telling}
 use Rattle.backup_command.specs.Steps.{Talked, Puts}
 use Rattle.backup_command.proofs.LaneAsks.{reached_own}
 use Rattle.backup_command.proofs.Pieces.{sends_all}
-use Rattle.backup_command.proofs.Reaching.{reached_len}
 use Rattle.backup_command.proofs.Walking.{goes, leaves_all, talks_all, lost_all}
 use Rattle.backup_command.proofs.Working.{works_all}
 use Rattle.backup_command.proofs.lanes.bring_one.Goals as goal

@@ -5,8 +5,9 @@ use Rattle.deletions.specs.CdBase.ids.CloudNo.{CloudNo}
 use Rattle.ports_link.specs.Hellos.{ports_of}
 use Rattle.delete_command.specs.declared.asking.AskHalt.{AskHalt}
 use Rattle.delete_command.specs.Steps.{Went, both}
-use Rattle.delete_command.proofs.Going.{went_none, went_stopped, went_more, not_first, not_later}
+use Rattle.delete_command.proofs.Going.{went_none, went_stopped, went_more}
 use Rattle.ports_link.proofs.Sending.{sends_none, sends_twice}
+use Rattle.ports_link.proofs.CloudLists.{not_first, not_later}
 use Rattle.delete_command.proofs.asking.+ask_each.Goals as goal
 
 pub returns-in_default-clause-went : goal.returns-in_default-clause-went

@@ -8,10 +8,11 @@ use Rattle.backup_command.specs.LaneSteps.Reached.{IsReached}
 use Rattle.upload_spool.specs.States.{state_of, IsJobOf}
 use Rattle.backup_command.specs.PortsLink.Tells.{telling}
 use Rattle.backup_command.specs.Steps.{AreReady, IsCloudReady, ports_of}
-use Rattle.backup_command.proofs.Joining.{rest_ready, not_first, not_later, not_here}
+use Rattle.backup_command.proofs.Joining.{rest_ready, not_here}
 use Rattle.backup_command.specs.Sends.{IsAskOn, SendsOn}
 use Rattle.backup_command.proofs.Pieces.{first_line, later_lines, on_none, on_twice}
-use Rattle.backup_command.proofs.Reaching.{reached_len}
+use Rattle.backup_command.proofs.LaneSteps.Reaching.{reached_len}
+use Rattle.backup_command.proofs.PortsLinkLaws.CloudLists.{not_first, not_later}
 use Rattle.spool_command.specs.declared.interruption.Interruption.{Interruption}
 use Rattle.spool_command.specs.Noted.{NotedWent}
 use Rattle.spool_command.proofs.Joining.{went_none, went_more, went_stopped, went_unnoted}
