@@ -28,7 +28,7 @@ use Rattle.restore_command.specs.Calls.{RestoreCall, named_in}
 use Rattle.restore_command.specs.Spoken.{none_ended}
 use Rattle.restore_command.specs.Tried.{AreCounted, AreRefused, CameBy, FileFrom, IsFetch, IsStop, NotFrom}
 use Rattle.restore_command.proofs.Choosing.{Chosen, choose, same_lines}
-use Rattle.restore_command.proofs.Counting.{counted_over}
+use Rattle.restore_command.proofs.Counting.{counted_over, named_over}
 use Rattle.restore_command.proofs.Lines.{AreReachedBy, numbers_in}
 use Rattle.restore_command.proofs.Saying.{stop_fresh}
 use Rattle.restore_command.proofs.Walking.{wanted, walk, walked_none, stop_on, fetch_on, choice_rises, open_line}
@@ -159,6 +159,8 @@ module _ {P : Type 0} (tells : P → Telling) (faults : P → ℕ) (start : Port
             (subst (λ (b : List ℕ). Brought greeted.shape came.subset b file) none came.brought);
         from = tells came.mid.ports.now;
         count = faults came.mid.ports.now;
+        named = named_over t talk (wanted tells faults start greeted call bytes first reach rises) bytes start came.mid
+            came.tries came.refused;
         counted = subst (λ (n : ℕ). AreCounted n came.tries (faults came.mid.ports.now)) since
             (counted_over t talk (wanted tells faults start greeted call bytes first reach rises) bytes start came.mid
             came.tries came.refused);
@@ -192,6 +194,8 @@ module _ {P : Type 0} (tells : P → Telling) (faults : P → ℕ) (start : Port
     first_is = came.first_is;
     gone = came.gone;
     each = came.each;
+    named = named_over t talk (wanted tells faults start greeted call bytes first reach rises) bytes start end came.tries
+        came.refused;
     counted = subst (λ (n : ℕ). AreCounted call.faults_before came.tries n) until
         (subst (λ (n : ℕ). AreCounted n came.tries (faults end.ports.now)) since
         (counted_over t talk (wanted tells faults start greeted call bytes first reach rises) bytes start end came.tries

@@ -8,6 +8,7 @@ use Rattle.ports_link.specs.CdEdges.Ports.{Telling}
 use Rattle.subset_restore.specs.RestoreJob.Asking.{is_loss}
 use Rattle.subset_restore.specs.RestoreJob.Brought.{Brought}
 use Rattle.subset_restore.specs.RestoreJob.Exchanges.{Unlost}
+use Rattle.subset_restore.specs.RestoreJob.Refusals.{Names}
 use Rattle.subset_restore.specs.RestoreJob.error.RestoreErr.{RestoreErr}
 use Rattle.subset_restore.specs.RestoreJob.error.RestoreErr.TheVariants as errors
 use Rattle.subset_restore.specs.Subsets.{subsets}
@@ -66,6 +67,10 @@ AreCounted count [] after = after ≡ count
 AreCounted count (x ∷ tries) after = (between : ℕ) × (count ≤ between) × (is_loss x.refusal ≡ true → Rose count between)
     × AreCounted between tries after
 
+-- Each refusal names clouds of its own choice alone.
+abbrev pub AreNamed : List Try → Type 0
+AreNamed tries = All (λ (x : Try). Names (Contains x.subset) x.refusal) tries
+
 -- ---- all of them
 
 -- The file came from k of the clouds, these ones: the first choice in order from which it wasn't refused and of which
@@ -84,6 +89,7 @@ pub record FileFrom (call : RestoreCall) (greeted : Greeted) (behind : Telling) 
   pub brought : Brought greeted.shape (clouds_of chosen) [] bytes
   pub from : Telling
   pub count : ℕ
+  pub named : AreNamed tries
   pub counted : AreCounted call.faults_before tries count
   pub later : count ≤ call.faults_after
   pub refused : IsTrue call.before.told → AreRefused call greeted behind tries from
@@ -104,6 +110,7 @@ pub record NotFrom (call : RestoreCall) (greeted : Greeted) (behind : Telling) (
   pub gone : GoneThrough (subsets greeted.shape.k (clouds_of greeted.lines.items)) tries
   pub each : All (λ subset. WasTried tries subset ⊎ HoldsRefuser tries subset)
       (subsets greeted.shape.k (clouds_of greeted.lines.items))
+  pub named : AreNamed tries
   pub counted : AreCounted call.faults_before tries call.faults_after
   pub refused : IsTrue call.before.told → AreRefused call greeted behind tries call.after
   pub exact : IsTrue call.before.told → length greeted.lines.items ≡ greeted.shape.k

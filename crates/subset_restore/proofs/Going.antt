@@ -226,7 +226,7 @@ module _ {L : Type 0} (t : LinkTelling L) (talk : L → ℕ → Talk → Type 0)
             (λ x has is. rose_off (t.losses start) (t.losses now) (t.losses new) (f.lost x has is) later)
             (λ is. rose_on (t.losses start) (t.losses now) (t.losses new) f.asked.later (step.asked.lost is));
         lossless = λ h. of_more (λ x. is_loss x.refusal ≡ false) tries y (f.lossless h) (step.asked.lossless (f.asked.lossless h).1).0;
-        refused = all_refused_more t talk s bytes start now new tries y f.refused (record { asked = step.asked; said = step.said; passed = step.passed; beside = step.beside; readable = step.readable });
+        refused = all_refused_more t talk s bytes start now new tries y f.refused (record { asked = step.asked; named = names; said = step.said; passed = step.passed; beside = step.beside; readable = step.readable });
         leads = λ these. leads_on (among these t) s.clouds subset s.clouds start now new _ _ (TriesStand t start s (tries ++ y ∷ []) bytes these) _ _ (AllStand s (tries ++ y ∷ []) bytes)
             (f.leads these) (told_among t these start now f.asked.told) (step_says now new subset bytes (Err e) step these)
             (λ x has. has) step.among
@@ -341,7 +341,7 @@ module _ {L : Type 0} (t : LinkTelling L) (talk : L → ℕ → Talk → Type 0)
     brought = brought;
     mid = now;
     refused = f.refused;
-    restored = record { asked = step.asked; said = step.said; passed = step.passed; beside = step.beside; readable = step.readable };
+    restored = record { asked = step.asked; named = tt; said = step.said; passed = step.passed; beside = step.beside; readable = step.readable };
     leads = leads_to t s.clouds s.clouds start new (CameAlone t start s tries done subset bytes bytes' (λ x. true)) (AllCaused t start s tries) _ _
         (leads_whole t s.clouds start new (CameAlone t start s tries done subset bytes bytes' (λ x. true)) _ (came_any now new done tries subset rest bytes' f free step split (λ x. true)))
         (λ x has. has) (λ a c only r known. all_caused tries a c f.named r.shown) (λ a c only r. r);

@@ -1,5 +1,5 @@
 -- How a restore from any k of some clouds ends.
-use Rattle.std.specs.Prelude.{◌≡◌, ℕ, ◌⊎◌, Bool, List, [], ◌∷◌, ◌++◌, length, Result, Ok, Err, All}
+use Rattle.std.specs.Prelude.{◌≡◌, ℕ, ◌⊎◌, Bool, List, [], ◌∷◌, ◌++◌, length, Result, Ok, Err, All, IfErr}
 use Rattle.std.specs.List.{Contains}
 use Rattle.transcript.specs.CdBase.ids.Tag.{Tag}
 use Rattle.transcript.specs.CdBase.ids.UserId.{UserId}
@@ -12,7 +12,7 @@ use Rattle.restore_job.specs.Asking.{HasAskedClouds, Leads, LeadsAny, AreRead, R
 use Rattle.restore_job.specs.Brought.{Brought}
 use Rattle.restore_job.specs.Exchanges.{LostSaid, RestorePassed, RestoreSaid, Unlost}
 use Rattle.restore_job.specs.Reading.{Ends, Restores}
-use Rattle.restore_job.specs.Refusals.{Caused, ShownAmong}
+use Rattle.restore_job.specs.Refusals.{Caused, Names, ShownAmong}
 use Rattle.restore_job.specs.Restored.{Unrestored, restored_file}
 use Rattle.restore_job.specs.declared.error.RestoreErr.{RestoreErr}
 use Rattle.restore_job.specs.declared.error.RestoreErr.TheVariants as errors
@@ -68,10 +68,11 @@ pub record NoneFailed (s : Sought) (losses losses_after : ℕ) (before after : �
 
 -- One restore from a choice of clouds: what was asked and passed on, and how its result follows from what came. Where an
 -- ask was lost, what is to come of the other clouds is told. Each reply can be read but that which the result calls lost
--- or strange.
+-- or strange. A refusal names no clouds but these.
 pub record OneRestore {L : Type 0} (t : LinkTelling L) (talk : L → ℕ → Talk → Type 0) (s : Sought)
     (subset old new : List ℕ) (before : L) (result : Result (Unit {0}) RestoreErr) (after : L) : Type 0 where
   pub asked : HasAskedClouds t subset before after (is_lost result)
+  pub named : IfErr result (Names (Contains subset))
   pub said : Unlost result (RestoreSaid talk before after s.shape s.user s.tag s.version subset old new result)
   pub passed : Unlost result (RestorePassed t talk before after s.shape s.user s.tag s.version subset old new result)
   pub beside : LostSaid talk before after result
