@@ -3,6 +3,7 @@
 ghost use Rattle.std.specs.Prelude.{◌≡◌, ◌<◌, IsTrue, IfOk, vec_len};
 ghost use Rattle.backup_command.specs.CdEdges.area.Area.TheVariants.{Journal};
 ghost use Rattle.backup_command.specs.CdEdges.Shelf.{IsCall};
+ghost use Rattle.cloud_opening.specs.JournalHalves.Records.{window_len};
 ghost use Rattle.cloud_opening.specs.JournalStart.Ranges.{AreRooms};
 ghost use Rattle.serve_command.specs.Served.{HasRooms};
 ghost use Rattle.command_cloud.specs.Opened.{cloud_call};
@@ -52,7 +53,7 @@ fn open_in<V: Shelf>(
 
 // A window for what a journal's halves begin with.
 fn taken(alloc: Global) -> Result<Vec<u8>, NoMemory>
-    ensures { IfOk result (λ window. vec_len window ≡ 65541) }
+    ensures { IfOk result (λ window. vec_len window ≡ window_len) }
 {
     Ok(vec![in alloc; 0u8; WINDOW]?)
 }

@@ -45,6 +45,7 @@ impl<'a, V: Shelf> LocalLink<'a, V> {
     ghost use Rattle.std.specs.List.{Contains};
     ghost use Rattle.share_server.specs.CdEdges.Shelf.{IsCall, HasFailed, KeepsCounts, Arms, Refreshes};
     ghost use Rattle.share_server.specs.CdEdges.Shelf as device;
+    ghost use Rattle.cloud_opening.specs.JournalHalves.Records.{window_len};
     ghost use Rattle.share_server.specs.JournalHalves.Findings as findings;
     ghost use Rattle.share_server.specs.Frames.Frames.{frame_limit};
     ghost use Rattle.share_server.specs.Messages.request.Request.{Request};
@@ -190,7 +191,7 @@ impl<'a, V: Shelf> LocalLink<'a, V> {
     /// Finds the current half of the cloud's journal, and its start, through a window of 65,541 bytes:
     /// `journal_halves::find`. No server changes, and nothing that is told does.
     pub fn find(&mut self, cloud: CloudNo, window: &mut [u8]) -> Result<Found, FindErr>
-        requires { length window.old ≡ 65541 }
+        requires { length window.old ≡ window_len }
         ensures found { IsTrue ((telling V.cloud_at).told self.old cloud.0)
             → findings.FindIs ((V.cloud_at self.old.shelf.now cloud.0).now Journal).read result }
         ensures start { IfOk result (λ found. IsStart found.half found.start) }

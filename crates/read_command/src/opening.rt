@@ -3,6 +3,7 @@
 ghost use Rattle.std.specs.Prelude.{◌≡◌, ◌<◌, ℕ, List, [], ◌∷◌, length, All, IsTrue, MatchOption, IfOk, IfErr, OnOk};
 ghost use Rattle.commit_journal.specs.CdEdges.area.Area.TheVariants.{Journal};
 ghost use Rattle.commit_journal.specs.CdEdges.Shelf.{HasFailed, Stays};
+ghost use Rattle.commit_journal.specs.JournalHalves.Records.{window_len};
 ghost use Rattle.commit_journal.specs.JournalStart.rooms.UserRooms.{UserRooms};
 ghost use Rattle.commit_journal.specs.JournalStart.Ranges.{AreRooms};
 ghost use Rattle.read_command.specs.declared.end.ReadEnd.TheVariants.{ShelfFault};
@@ -26,7 +27,7 @@ fn named_rooms<V: Shelf>(
     cloud: CloudNo,
     window: &mut [u8],
 ) -> Result<UserRooms, ReadEnd>
-    requires { length window.old ≡ 65541 }
+    requires { length window.old ≡ window_len }
     ensures allowed { IfOk result AreRooms }
     ensures named { IsTrue (V.cloud_at link.old.shelf.now cloud.0).told
         → IfOk result (NamesRooms ((V.cloud_at link.old.shelf.now cloud.0).now Journal).read) }
@@ -83,7 +84,7 @@ fn open_cloud<V: Shelf>(
     window: &mut [u8],
 ) -> Result<(), ReadEnd>
     requires reached { cloud.0 < link.old.servers.shape.n }
-    requires window { length window.old ≡ 65541 }
+    requires window { length window.old ≡ window_len }
     ensures opens { Opening V.cloud_at link.old.servers.shape (V.cloud_at link.old.shelf.now cloud.0)
         (V.faults link.old.shelf.now) link.new (V.faults link.new.shelf.now) cloud.0 result }
     ensures rest { LeavesRest V.cloud_at cloud.0 link.old link.new }
@@ -113,7 +114,7 @@ pub fn open_clouds<V: Shelf>(
     clouds: &[CloudNo],
     window: &mut [u8],
 ) -> Result<(), ReadEnd>
-    requires window { length window.old ≡ 65541 }
+    requires window { length window.old ≡ window_len }
     requires rising { IsStrictlyIncreasing (numbers_of clouds.now) }
     requires within { All (λ cloud. cloud < link.old.servers.shape.n) (numbers_of clouds.now) }
     ensures opened { OnOk result (AreOpened V.cloud_at (V.faults link.old.shelf.now) (V.faults link.new.shelf.now)

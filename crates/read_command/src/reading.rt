@@ -1,6 +1,7 @@
 //! Reading a version of a file.
 
 ghost use Rattle.std.specs.Prelude.{◌≡◌, ◌<◌, ◌≤◌, ℕ, List, [], length, All, IsTrue, IfOk, IfErr, vec_len};
+ghost use Rattle.commit_journal.specs.JournalHalves.Records.{window_len};
 ghost use Rattle.commit_journal.specs.JournalStart.rooms.UserRooms.{UserRooms};
 ghost use Rattle.commit_journal.specs.CdBase.Limits.{IsPath};
 ghost use Rattle.cloud_areas.specs.UserDedup.command.Command.{Command};
@@ -22,7 +23,7 @@ use subset_restore::{RestoreErr, restore_any};
 
 // A window for what a journal's halves begin with.
 fn taken(alloc: Global) -> Result<Vec<u8>, NoMemory>
-    ensures { IfOk result (λ window. vec_len window ≡ 65541) }
+    ensures { IfOk result (λ window. vec_len window ≡ window_len) }
 {
     Ok(vec![in alloc; 0u8; WINDOW]?)
 }
@@ -36,7 +37,7 @@ fn restore_opened<V: Shelf>(
     file: &mut Bytes,
 ) -> Result<Result<(), RestoreErr>, ReadEnd>
     requires shape { link.old.servers.shape ≡ wanted.now.shape }
-    requires window { length window.old ≡ 65541 }
+    requires window { length window.old ≡ window_len }
     requires fate { link.old.fate ≡ Deliver }
     requires empty { file.old ≡ [] }
     requires path { IsPath wanted.now.path.now }

@@ -1,6 +1,7 @@
 //! The rooms of a cloud.
 
 ghost use Rattle.std.specs.Prelude.{◌≡◌, length, IsTrue, IsErr, IfOk, IfErr, Ok, Err};
+ghost use Rattle.journal_halves.specs.Records.{window_len};
 ghost use Rattle.share_server.specs.CdEdges.area.Area.{Area};
 ghost use Rattle.share_server.specs.CdEdges.Shelf.{IsCall, HasFailed, KeepsCounts, Stays};
 ghost use Rattle.share_server.specs.CommitJournal.Openings.{OnFault};
@@ -19,7 +20,7 @@ pub fn rooms_of<V: Shelf>(
     cloud: CloudNo,
     window: &mut [u8],
 ) -> Result<UserRooms, OpenErr>
-    requires { length window.old ≡ 65541 }
+    requires { length window.old ≡ window_len }
     ensures allowed { IfOk result AreRooms }
     ensures found { IsTrue (V.cloud_at shelf.old cloud.0).told
         → IfOk result (HasRooms ((V.cloud_at shelf.old cloud.0).now Area.Journal).read) }
