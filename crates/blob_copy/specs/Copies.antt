@@ -4,6 +4,7 @@ use Rattle.compact_lists.specs.CdBase.ids.Fp.{Fp}
 use Rattle.compact_lists.specs.CdBase.place.Place.{Place}
 use Rattle.fresh_checkpoints.specs.CdEdges.area.Area.TheVariants.{Journal, Shares, Recipes}
 use Rattle.fresh_checkpoints.specs.CdEdges.Disk.{Cloud, Store, Image, IsOutside, MayLeave}
+use Rattle.fresh_checkpoints.specs.CloudAreas.Placing.{region_len}
 use Rattle.record_laws.specs.ContainerLog.Laying.{Placed, IsAt}
 use Rattle.record_laws.specs.ContainerLog.Places.{place_of, end_after}
 use Rattle.record_laws.specs.FileIndex.key.Entry.{Entry}
@@ -57,10 +58,6 @@ pub record HasCopied (store : CloudStore) (from to : Copying) (old new : Image) 
   pub entries_lie : All (IsAt (new Recipes)) (copies_at (old Recipes) store.disk.recipes.end (map entry_blob entries))
 
 -- ---- what stays beside the copies
-
--- the bytes of a region of an area of blobs
-abbrev pub region_len : ℕ
-region_len = 34359738368
 
 -- where the region of the copies ends
 abbrev pub copies_end : CloudStore → ℕ

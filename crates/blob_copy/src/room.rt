@@ -10,16 +10,8 @@ ghost use Rattle.cloud_store.specs.CloudOpening.Roomy.{SpendWithin, IsRoomy};
 ghost use Rattle.blob_copy.specs.Switched.{IsRowWithin};
 
 use compact_lists::{UserId, UserRooms};
-use fresh_checkpoints::CloudMemory;
+use fresh_checkpoints::{CloudMemory, LEAST_RECIPES, LEAST_SHARES, REGION_LEN};
 use record_laws::Spent;
-
-// The bytes of a region of an area of blobs.
-const REGION: u64 = 34_359_738_368;
-
-// What shares and recipes may take before anything is kept.
-const LEAST_SHARES: u64 = 8_589_934_592;
-
-const LEAST_RECIPES: u64 = 1_073_741_824;
 
 // Whether a row is within a user's rooms.
 fn is_row_within(row: Spent, rooms: &UserRooms) -> bool
@@ -44,10 +36,10 @@ fn are_rows_within(memory: &CloudMemory, rooms: &UserRooms) -> bool
 
 // Whether an end lies no further on in its region than so many bytes and twice what was spent.
 fn is_near(end: u64, region: u8, least: u64, spent: u64) -> bool
-    requires { least ≤ 8589934592 }
+    requires { least ≤ least_shares }
     ensures { IsTrue result ↔ (end ≤ region_start region + least + 2 * spent) }
 {
-    let start = u64::from(region) * REGION;
+    let start = u64::from(region) * REGION_LEN;
     end <= (start + least).saturating_add(spent.saturating_mul(2))
 }
 

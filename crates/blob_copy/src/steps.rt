@@ -28,10 +28,7 @@ use crate::staging::{copy_recipes, copy_shares};
 use crate::{CopyErr, Copying};
 use cloud_store::CloudStore;
 use compact_lists::CloudNo;
-use fresh_checkpoints::{CloudDisk, CloudMemory, Reclaimed, Shelf, live_sum};
-
-// The bytes of a region of an area of blobs.
-const REGION: u64 = 34_359_738_368;
+use fresh_checkpoints::{CloudDisk, CloudMemory, REGION_LEN, Reclaimed, Shelf, live_sum};
 
 /// Begins a copy: nothing is copied, and both logs end where the other region begins. What is staged is forgotten. No
 /// command may be added until the copies are switched to or forgotten.
@@ -47,7 +44,7 @@ pub fn start(store: &mut CloudStore) -> Copying
     ensures settled { IsSettled store.new }
 {
     let other = 1 - store.region;
-    let begin = u64::from(other) * REGION;
+    let begin = u64::from(other) * REGION_LEN;
     store.disk.reset(begin, begin);
     Copying {
         place_slot: 0,

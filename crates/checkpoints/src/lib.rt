@@ -18,12 +18,13 @@ mod whole;
 
 pub use chains::OwnerChains;
 pub use cloud_disk::{
-    Area, CloudDisk, Failed, Header, OpenErr, Shelf, Start, UserRooms, half_limit, law_of_laying,
+    Area, CloudDisk, Failed, Header, OpenErr, REGION_LEN, Shelf, Start, UserRooms, half_limit,
+    law_of_laying,
 };
 pub use cloud_memory::laws::law_of_fitting;
 pub use cloud_memory::{
-    BodyBuf, CloudMemory, CommitBody, DeleteBody, FileIndex, Full, LogFull, New, PutItem,
-    ShareIndex, Spent,
+    BodyBuf, CONTAINER, CloudMemory, CommitBody, DeleteBody, FileIndex, Full, LogFull, New,
+    PutItem, ShareIndex, Spent,
 };
 pub use entire::checkpoint;
 pub use laying::{CheckpointHead, lay_checkpoint};

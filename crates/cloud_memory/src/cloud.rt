@@ -40,15 +40,12 @@ ghost use Rattle.cloud_memory.specs.Inner.{Entered};
 use crate::places::{farther, place_behind};
 use crate::uses::{lower_all, raise_all};
 use crate::{Full, New};
-use cloud_areas::{CommitBody, PutItem, UserRooms};
+use cloud_areas::{CommitBody, PutItem, REGION_LEN, UserRooms};
 use file_index::{Entry, FileIndex, IndexErr};
 use recipe::RecipeView;
 use share_index::ShareIndex;
 use spent_table::{Fp, NoMemory, Place, Room, Spent, SpentTable, Tag, UserId, Version};
 use std::alloc::Global;
-
-// The bytes of a region of an area of blobs.
-const REGION: u64 = 34_359_738_368;
 
 /// What a server remembers of its cloud's list of commands: where each share lies, how often each user's entries name
 /// what the user owns, the entry of each version, what each user has spent, and where shares and recipes end.
@@ -97,8 +94,8 @@ impl CloudMemory {
         self.shares.clear();
         self.files.clear();
         self.spent.clear();
-        self.shares_end = u64::from(region) * REGION;
-        self.recipes_end = u64::from(region) * REGION;
+        self.shares_end = u64::from(region) * REGION_LEN;
+        self.recipes_end = u64::from(region) * REGION_LEN;
     }
 
     /// Whether the user owns the fingerprint.

@@ -20,7 +20,7 @@ mod uses;
 pub use cloud::CloudMemory;
 pub use cloud_areas::{
     BodyBuf, BodyErr, BodyView, CONTAINER, CommitBody, DeleteBody, FoundItem, FoundKept, KeptItem,
-    KeptItems, Link, Log, LogFull, Lost, PutItem, PutItems, SpentBody, UserRooms,
+    KeptItems, Link, Log, LogFull, Lost, PutItem, PutItems, REGION_LEN, SpentBody, UserRooms,
 };
 pub use file_index::{Entry, FileIndex, FileKey};
 pub use recipe::RecipeView;

@@ -1,6 +1,7 @@
 //! The ends of both logs, once all records are taken.
 
 ghost use Rattle.std.specs.Prelude.{◌≡◌, ◌↔◌, ◌+◌, ◌*◌, ◌≤◌, Some, IsSome, IsTrue};
+ghost use Rattle.cloud_disk.specs.CloudAreas.Chains.{least_shares};
 ghost use Rattle.cloud_disk.specs.CloudAreas.Placing.{region_start};
 ghost use Rattle.cloud_disk.specs.CommitJournal.errors.OpenErr.TheVariants as answers;
 ghost use Rattle.cloud_disk.specs.CommitJournal.Openings.{OnFault};
@@ -9,23 +10,15 @@ ghost use Rattle.record_laws.specs.RecordChecks.damage.Damage.{Damage as Field};
 ghost use Rattle.cloud_opening.specs.Exact.{Closes, shares_bound, recipes_bound, number_behind};
 ghost use Rattle.cloud_opening.specs.Steps.{IsTraced, IsOfRecords};
 
-use cloud_disk::{OpenErr, Start};
+use cloud_disk::{LEAST_RECIPES, LEAST_SHARES, OpenErr, REGION_LEN, Start};
 use record_laws::{CloudMemory, Damage, Ground, Taking};
-
-// The bytes of a region of an area of blobs.
-const REGION: u64 = 34_359_738_368;
-
-// What shares and recipes may take before anything was spent.
-const LEAST_SHARES: u64 = 8_589_934_592;
-
-const LEAST_RECIPES: u64 = 1_073_741_824;
 
 // Whether an end lies no further on in its region than so many bytes and twice what was spent.
 fn is_within(end: u64, region: u8, least: u64, spent: u64) -> bool
-    requires { least ≤ 8589934592 }
+    requires { least ≤ least_shares }
     ensures { IsTrue result ↔ (end ≤ region_start region + least + 2 * spent) }
 {
-    let start = u64::from(region) * REGION;
+    let start = u64::from(region) * REGION_LEN;
     end <= (start + least).saturating_add(spent.saturating_mul(2))
 }
 

@@ -11,11 +11,8 @@ ghost use Rattle.compact_memories.specs.Kept.{live_in, live_places, entries_in, 
 ghost use Rattle.compact_memories.specs.Relaid.{share_len, entry_len, PlacesSoFar, ArePlacesMoved};
 ghost use Rattle.compact_memories.specs.Relaid.{EntriesSoFar, AreEntriesMoved};
 
-use checkpoints::CloudMemory;
+use checkpoints::{CONTAINER, CloudMemory};
 use compact_lists::Place;
-
-// The bytes of a container.
-const CONTAINER: u64 = 4_194_304;
 
 // How many bytes lie unused between an end and the place of a blob of this length behind it.
 fn gap_behind(end: u64, len: u64) -> u64

@@ -13,14 +13,11 @@ ghost use Rattle.compact_memories.specs.Passes.{SetSoFar, row_of};
 use crate::copied::{move_entries, move_places};
 use crate::dropping::drop_dead;
 use crate::rows::fill_rows;
-use checkpoints::{CloudMemory, Spent};
+use checkpoints::{CloudMemory, REGION_LEN, Spent};
 use compact_lists::UserId;
 
 // As many users as a cloud may have.
 const USERS: u32 = 256;
-
-// The bytes of a region of an area of blobs.
-const REGION: u64 = 34_359_738_368;
 
 // The row of a user.
 fn row_at(rows: &[Spent], user: u32) -> Spent
@@ -63,7 +60,7 @@ fn first_place(region: u8) -> u64
     requires { region ≤ 1 }
     ensures { result ≡ region_start region }
 {
-    u64::from(region) * REGION
+    u64::from(region) * REGION_LEN
 }
 
 /// Takes out the places of what no user owns, gives what is alive its places one behind another from the region's first

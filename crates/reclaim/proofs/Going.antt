@@ -7,6 +7,7 @@ use Rattle.share_server.specs.CdEdges.Shelf.{IsCall, KeepsCounts}
 use Rattle.share_server.proofs.CdEdges.Calls.{called_twice, failed_after}
 use Rattle.share_server.proofs.CdEdges.Moments.{joined, told_on}
 use Rattle.compact_memories.specs.UserDedup.command.Command.{Command}
+use Rattle.compact_memories.specs.CloudAreas.Placing.{region_len}
 use Rattle.compact_memories.specs.CloudAreas.Standing.{Chain, StandsFor}
 use Rattle.compact_memories.specs.FileIndex.key.Entry.{Entry}
 use Rattle.compact_memories.specs.FileIndex.key.FileKey.{FileKey}
@@ -16,7 +17,7 @@ use Rattle.compact_memories.specs.ContainerLog.Places.{end_of_laid}
 use Rattle.compact_memories.specs.Checkpoints.Picking.{onto, picked}
 use Rattle.share_server.specs.BlobCopy.CompactMemories.Kept.{live_at}
 use Rattle.share_server.specs.BlobCopy.CompactMemories.Moved.{lens_of, entry_lens}
-use Rattle.share_server.specs.BlobCopy.Copies.{HasCopied, KeepsBeside, region_len}
+use Rattle.share_server.specs.BlobCopy.Copies.{HasCopied, KeepsBeside}
 use Rattle.share_server.specs.BlobCopy.Copying.{AreAllCopied, copies_start, shares_so_far, entries_so_far}
 use Rattle.share_server.specs.CloudStore.store.CloudStore.{CloudStore}
 use Rattle.share_server.specs.CloudStore.Store.{IsOpen}

@@ -10,8 +10,8 @@ use Rattle.share_server.specs.CdBase.place.Place.{Place}
 use Rattle.share_server.specs.CdBase.shape.Shape.{Shape}
 use Rattle.share_server.specs.CdEdges.area.Area.TheVariants.{Journal, Shares, Recipes}
 use Rattle.share_server.specs.CdEdges.Disk.{Cloud}
+use Rattle.compact_memories.specs.CloudAreas.Placing.{region_len}
 use Rattle.compact_memories.specs.ContainerLog.Laying.{Placed, IsAt}
-use Rattle.share_server.specs.BlobCopy.Copies.{region_len}
 use Rattle.compact_memories.specs.FileIndex.key.Entry.{Entry}
 use Rattle.compact_memories.specs.FileIndex.Files.{key_of}
 use Rattle.compact_memories.specs.UserDedup.command.Command.{Command}

@@ -7,10 +7,7 @@ ghost use Rattle.record_checks.specs.Checks.{Lies, RecipeLies};
 ghost use Rattle.cloud_memory.specs.Rooms.{memory_of};
 
 use crate::Ground;
-use cloud_memory::{CONTAINER, CloudMemory, CommitBody, Place, RECIPE_LIMIT};
-
-// The bytes of a region of an area of blobs.
-const REGION: u64 = 34_359_738_368;
+use cloud_memory::{CONTAINER, CloudMemory, CommitBody, Place, RECIPE_LIMIT, REGION_LEN};
 
 // Whether so many bytes from the place on lie in one container.
 fn is_in_one(at: u64, len: u32) -> bool
@@ -30,7 +27,7 @@ fn is_within(area: u64, at: u64, len: u32) -> bool
 pub fn first_of(region: u8) -> u64
     ensures { result ≡ region_start region }
 {
-    u64::from(region) * REGION
+    u64::from(region) * REGION_LEN
 }
 
 /// Whether a blob lies in the region that begins at `first`, in one container, in the area, and behind the checkpoint
