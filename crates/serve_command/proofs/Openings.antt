@@ -25,7 +25,7 @@ use Rattle.serve_command.specs.Serving.{ServesOne, standing}
 use Rattle.share_server.specs.UserDedup.Cloud.{counted}
 use Rattle.share_server.specs.Names.{header_of}
 use Rattle.share_server.specs.CloudStore.Store.{IsOpen}
-use Rattle.share_server.specs.Serving.{IsServing, an_error, settled_with}
+use Rattle.share_server.specs.Serving.{IsServing, an_error, settled_with, IsReadToEnd}
 use Rattle.share_server.specs.declared.server.Server.{Server}
 use Rattle.serve_command.specs.Runs.{ServeRun}
 use Rattle.serve_command.specs.Served.{ServeCall, ServeOutput, own_header, IsOpeningRefused, HasServed, IsLeftOpen, IsReported, IsUnopenedToServe, IsOpenedToServe}
@@ -63,6 +63,7 @@ pub record Reopened (header : Header) (server : Server) (old new : ℕ → Cloud
   pub exact : IsTrue (old header.cloud.0).told
       → OnFault result (Unit {0}) (Opens header true (reads (old header.cloud.0).now) (memory_of server.store.memory) result)
   pub areas : IsTrue (old header.cloud.0).told → Spares header true (old header.cloud.0) (new header.cloud.0) result
+  pub read : IsTrue (old header.cloud.0).told → OnOk result (IsReadToEnd server.store (new header.cloud.0))
   pub call : IsCall old new header.cloud.0 before now
   pub counts : OnFault result (HasFailed (old header.cloud.0) (new header.cloud.0) before now)
       (KeepsCounts (old header.cloud.0) (new header.cloud.0) before now)
@@ -190,6 +191,7 @@ module _ (shape : Shape) (rooms : UserRooms) (cloud : CloudNo) (address : List �
       counts = opening.counts;
       told = opening.call.told;
       exact = λ told. (commands, opening.exact told, opening.areas told);
+      read = opening.read;
       kept = opening.kept;
     }
 

@@ -32,7 +32,7 @@ use Rattle.serve_command.specs.Serving.{HeldStore, RepliesOne, ServesOne, standi
 use Rattle.serve_command.specs.declared.served.Served.{Served}
 use Rattle.share_server.specs.Names.{header_of}
 use Rattle.share_server.specs.CloudStore.Store.{IsOpen}
-use Rattle.share_server.specs.Serving.{an_error, settled_with, some_commands}
+use Rattle.share_server.specs.Serving.{an_error, settled_with, some_commands, IsReadToEnd}
 use Rattle.ports_link.specs.Transcript.Endings.{ending_text}
 use Rattle.ports_link.specs.Transcript.ending.Ending.TheVariants as endings
 use Rattle.serve_command.specs.Lines.{ready_text, connection_text, serving_text}
@@ -198,7 +198,7 @@ Ends status address count out all after now = IsDone status address count out al
     ⊎ (IsStopped status address count out all after now ⊎ IsConnectionRefused status address count out all after now)
 
 -- What the opening left, of an open server: no count rose. Over a told cloud its memory is what the bytes of the areas
--- came to, record by record; they are spared; and each image since stands for one of the lists that the images stood
+-- came to, record by record; its journal was read to its end; they are spared; and each image since stands for one of the lists that the images stood
 -- for.
 pub record IsLeftOpen (rooms : UserRooms) (call : ServeCall) (opened : HeldStore) : Type 0 where
   pub header : opened.store.header ≡ own_header rooms call
@@ -208,6 +208,7 @@ pub record IsLeftOpen (rooms : UserRooms) (call : ServeCall) (opened : HeldStore
   pub exact : IsTrue (old_cloud call).told → (commands : ℕ)
       × Opens (own_header rooms call) true (reads (old_cloud call).now) (memory_of opened.store.memory) (Ok commands)
       × Spares (own_header rooms call) true (old_cloud call) opened.cloud (some_commands commands)
+  pub read : IsTrue (old_cloud call).told → IsReadToEnd opened.store opened.cloud
   pub kept : IsTrue (old_cloud call).told → (lists : List (List Command))
       → ImagesNow (old_cloud call) (own_header rooms call) (Contains lists)
       → ImagesSince (old_cloud call) opened.cloud (own_header rooms call) (Contains lists)

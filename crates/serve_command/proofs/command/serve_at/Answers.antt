@@ -25,6 +25,7 @@ returns-in-Ok-clause-served g c =
       other_store = r.other_store;
       exact = r.exact;
       areas = r.areas;
+      read = r.read;
       call = r.call;
       counts = r.counts;
     }) in
@@ -61,6 +62,7 @@ returns-in-Err-clause-served g c =
       other_store = r.other_store;
       exact = r.exact;
       areas = r.areas;
+      read = r.read;
       call = r.call;
       counts = r.counts;
     })) c.refuse.result c.refuse.ensures refl refl)
