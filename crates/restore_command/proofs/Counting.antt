@@ -7,7 +7,7 @@ use Rattle.subset_restore.specs.Ends.{Sought, AllRefused}
 use Rattle.subset_restore.specs.Tries.{Try}
 use Rattle.subset_restore.specs.RestoreJob.Refusals.{Names}
 use Rattle.subset_restore.proofs.Elements.{all_of}
-use Rattle.restore_command.specs.Tried.{AreCounted, AreNamed}
+use Rattle.restore_command.specs.Tried.{AreCounted, AreTriesNamed}
 
 pub counted_over : {L : Type 0} (t : LinkTelling L) (talk : L → ℕ → Talk → Type 0) (s : Sought) (bytes : List ℕ)
     (start end : L) (tries : List Try) → AllRefused t talk s bytes start tries end
@@ -30,7 +30,7 @@ each_named t talk s bytes start end (y ∷ tries) all x has = elim (contains_cas
 ]
 
 pub named_over : {L : Type 0} (t : LinkTelling L) (talk : L → ℕ → Talk → Type 0) (s : Sought) (bytes : List ℕ)
-    (start end : L) (tries : List Try) → AllRefused t talk s bytes start tries end → AreNamed tries
+    (start end : L) (tries : List Try) → AllRefused t talk s bytes start tries end → AreTriesNamed tries
 named_over t talk s bytes start end tries all =
     all_of (λ (x : Try). Names (Contains x.subset) x.refusal) tries
     (each_named t talk s bytes start end tries all)

@@ -68,8 +68,8 @@ AreCounted count (x ∷ tries) after = (between : ℕ) × (count ≤ between) ×
     × AreCounted between tries after
 
 -- Each refusal names clouds of its own choice alone.
-abbrev pub AreNamed : List Try → Type 0
-AreNamed tries = All (λ (x : Try). Names (Contains x.subset) x.refusal) tries
+abbrev pub AreTriesNamed : List Try → Type 0
+AreTriesNamed tries = All (λ (x : Try). Names (Contains x.subset) x.refusal) tries
 
 -- ---- all of them
 
@@ -89,7 +89,7 @@ pub record FileFrom (call : RestoreCall) (greeted : Greeted) (behind : Telling) 
   pub brought : Brought greeted.shape (clouds_of chosen) [] bytes
   pub from : Telling
   pub count : ℕ
-  pub named : AreNamed tries
+  pub named : AreTriesNamed tries
   pub counted : AreCounted call.faults_before tries count
   pub later : count ≤ call.faults_after
   pub refused : IsTrue call.before.told → AreRefused call greeted behind tries from
@@ -110,7 +110,7 @@ pub record NotFrom (call : RestoreCall) (greeted : Greeted) (behind : Telling) (
   pub gone : GoneThrough (subsets greeted.shape.k (clouds_of greeted.lines.items)) tries
   pub each : All (λ subset. WasTried tries subset ⊎ HoldsRefuser tries subset)
       (subsets greeted.shape.k (clouds_of greeted.lines.items))
-  pub named : AreNamed tries
+  pub named : AreTriesNamed tries
   pub counted : AreCounted call.faults_before tries call.faults_after
   pub refused : IsTrue call.before.told → AreRefused call greeted behind tries call.after
   pub exact : IsTrue call.before.told → length greeted.lines.items ≡ greeted.shape.k
