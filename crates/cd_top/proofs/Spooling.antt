@@ -5,11 +5,12 @@ use Rattle.delete_command.specs.CdEdges.Disk.{Cloud}
 use Rattle.delete_command.specs.CdEdges.Shelf.{IsCall}
 use Rattle.command_words.specs.Asked.{AskedFile, AskedSpool, AskedResume}
 use Rattle.spool_command.specs.BackupCommand.Reading.{Input}
+use Rattle.spool_command.specs.BackupCommand.Sends.{HasSentOwn}
 use Rattle.spool_command.specs.BackupCommand.Writing.{Output, IsSilent}
 use Rattle.delete_command.specs.PortsLink.Dialled.{OnlyDialled}
 use Rattle.spool_command.specs.declared.spooling.SpooledFile.{SpooledFile}
-use Rattle.spool_command.specs.Spooled.{IsSpooled, SparesFilled}
-use Rattle.spool_command.specs.Resumed.{IsResumed}
+use Rattle.spool_command.specs.Spooled.{IsSpooled, SparesFilled, call_of}
+use Rattle.spool_command.specs.Resumed.{HasSentKept, IsResumed}
 use Rattle.cd_top.specs.Clients.{PortsAround}
 use Rattle.cd_top.specs.Spool.{Beside, beside, outside_of, IsUnplaced, IsFolderAlone, IsAskedVersion, Spools, NoFolder, InFolder}
 use Rattle.cd_top.specs.Spool.{Resumes, NoKept, Kept}
@@ -40,19 +41,24 @@ pub spooled_in : (status : ℕ) (s : AskedSpool) (file : SpooledFile) (many : �
     → many ≡ length s.file.addresses → ((cloud : ℕ) → middle cloud ≡ old cloud) → count ≡ total → IsAskedVersion s.file file
     → IsSpooled status (outside_of many (beside middle new count total_after lines)) file input out
     → SparesFilled (middle 0) (new 0) → IsFolderAlone (beside middle new count total_after lines)
+    → (IsTrue lines.before.told → HasSentOwn (call_of (outside_of many (beside middle new count total_after lines)) file) input)
     → Spools status s (beside old new total total_after lines) unread input out
 spooled_in status s file many old middle new total count total_after lines unread input out few same kept asked spooled
-    spared alone =
+    spared alone sends =
     subst₂ (λ (o : ℕ → Cloud) (n : ℕ). Spools status s (beside o new n total_after lines) unread input out)
     (λ i cloud. same cloud i) kept (InFolder file asked (subst (λ (m : ℕ).
-    IsSpooled status (outside_of m (beside middle new count total_after lines)) file input out) few spooled) spared alone)
+    IsSpooled status (outside_of m (beside middle new count total_after lines)) file input out) few spooled) spared alone
+    (subst (λ (m : ℕ). IsTrue lines.before.told → HasSentOwn (call_of (outside_of m (beside middle new count total_after lines)) file) input)
+    few sends))
 
 pub resumed_in : (status : ℕ) (r : AskedResume) (many : ℕ) (old middle new : ℕ → Cloud) (total count total_after : ℕ)
     (lines : PortsAround) (out : Output) → many ≡ length r.addresses → ((cloud : ℕ) → middle cloud ≡ old cloud)
     → count ≡ total → IsResumed status (outside_of many (beside middle new count total_after lines)) out
     → IsFolderAlone (beside middle new count total_after lines)
+    → (IsTrue lines.before.told → HasSentKept (outside_of many (beside middle new count total_after lines)))
     → Resumes status r (beside old new total total_after lines) out
-resumed_in status r many old middle new total count total_after lines out few same kept resumed alone =
+resumed_in status r many old middle new total count total_after lines out few same kept resumed alone sends =
     subst₂ (λ (o : ℕ → Cloud) (n : ℕ). Resumes status r (beside o new n total_after lines) out)
     (λ i cloud. same cloud i) kept (Kept (subst (λ (m : ℕ).
-    IsResumed status (outside_of m (beside middle new count total_after lines)) out) few resumed) alone)
+    IsResumed status (outside_of m (beside middle new count total_after lines)) out) few resumed) alone
+    (subst (λ (m : ℕ). IsTrue lines.before.told → HasSentKept (outside_of m (beside middle new count total_after lines))) few sends))

@@ -5,6 +5,7 @@ use Rattle.command_words.specs.Asked.{AskedFile}
 use Rattle.spool_command.specs.BackupCommand.BackedUp as backing
 use Rattle.spool_command.specs.BackupCommand.BackedUp.{IsBackedUp}
 use Rattle.spool_command.specs.BackupCommand.Reading.{Input}
+use Rattle.spool_command.specs.BackupCommand.Sends.{HasSentOwn}
 use Rattle.spool_command.specs.BackupCommand.Writing.{Output}
 use Rattle.delete_command.specs.Deleted as deleting
 use Rattle.delete_command.specs.Deleted.{IsDeleted}
@@ -38,10 +39,11 @@ backup_of f l = record {
 }
 
 -- The file in the source was backed up: what was read, sent, received and written, by the way it ended. Ports that were
--- open before are as they were.
+-- open before are as they were, and whatever the end is, nothing was sent but Hellos and the requests of the file's job.
 pub record BacksUp (status : ℕ) (f : AskedFile) (l : PortsAround) (input : Input) (out : Output) : Type 0 where
   pub backed_up : IsBackedUp status (backup_of f l) input out
   pub others : IsTrue l.before.told → backing.OnlyDialled l.before l.after
+  pub sends : IsTrue l.before.told → HasSentOwn (backup_of f l) input
   pub told : l.after.told ≡ l.before.told
 
 -- what is asked to be restored, over these ports

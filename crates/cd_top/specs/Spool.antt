@@ -5,11 +5,12 @@ use Rattle.delete_command.specs.CdEdges.Disk.{Cloud}
 use Rattle.delete_command.specs.CdEdges.Shelf.{IsCall}
 use Rattle.command_words.specs.Asked.{AskedFile, AskedSpool, AskedResume}
 use Rattle.spool_command.specs.BackupCommand.Reading.{Input}
+use Rattle.spool_command.specs.BackupCommand.Sends.{HasSentOwn}
 use Rattle.spool_command.specs.BackupCommand.Writing.{Output, IsSilent}
 use Rattle.delete_command.specs.PortsLink.Dialled.{OnlyDialled}
 use Rattle.spool_command.specs.declared.spooling.SpooledFile.{SpooledFile}
-use Rattle.spool_command.specs.Spooled.{IsSpooled, SpoolOutside, SparesFilled}
-use Rattle.spool_command.specs.Resumed.{IsResumed}
+use Rattle.spool_command.specs.Spooled.{IsSpooled, SpoolOutside, SparesFilled, call_of}
+use Rattle.spool_command.specs.Resumed.{HasSentKept, IsResumed}
 use Rattle.cd_top.specs.Clients.{PortsAround}
 
 -- what is told before and after: the clouds of the shelf, how often it had failed and has failed, and the ports
@@ -65,15 +66,19 @@ pub record IsAskedVersion (f : AskedFile) (file : SpooledFile) : Type 0 where
 
 -- The whole promise of `spool`: DIR failed, and nothing was read of the source; or the file in the source was backed up, and
 -- kept in the folder until each cloud has it: what was read, sent, received, kept and written, by the way it ended. A folder that
--- isn't empty stays as it is.
+-- isn't empty stays as it is. Whatever the end is, nothing was sent but Hellos and the requests of the file's job.
 pub data Spools (status : ℕ) (s : AskedSpool) (c : Beside) (unread : Type 0) (input : Input) (out : Output) : Type 0 where
   NoFolder : unread → IsUnplaced status c out → Spools status s c unread input out
   InFolder : (file : SpooledFile) → IsAskedVersion s.file file
       → IsSpooled status (outside_of (length s.file.addresses) c) file input out
-      → SparesFilled (c.old 0) (c.new 0) → IsFolderAlone c → Spools status s c unread input out
+      → SparesFilled (c.old 0) (c.new 0) → IsFolderAlone c
+      → (IsTrue c.lines.before.told → HasSentOwn (call_of (outside_of (length s.file.addresses) c) file) input)
+      → Spools status s c unread input out
 
 -- That of `resume`: DIR failed; or the job that the folder keeps went on: what was sent, received, kept and written, by the
--- way it ended.
+-- way it ended. Whatever the end is, nothing was sent but Hellos and the requests of that job.
 pub data Resumes (status : ℕ) (r : AskedResume) (c : Beside) (out : Output) : Type 0 where
   NoKept : IsUnplaced status c out → Resumes status r c out
-  Kept : IsResumed status (outside_of (length r.addresses) c) out → IsFolderAlone c → Resumes status r c out
+  Kept : IsResumed status (outside_of (length r.addresses) c) out → IsFolderAlone c
+      → (IsTrue c.lines.before.told → HasSentKept (outside_of (length r.addresses) c))
+      → Resumes status r c out

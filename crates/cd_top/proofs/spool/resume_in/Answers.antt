@@ -14,3 +14,4 @@ returns g c =
     (g.V.Shelf.faults c.root.new.self) _ _ _ (sym (length-map c.args.asked.now.addresses.now string_bytes))
     c.root.ensures.stays c.in-Ok.ensures.cause.still c.resume.ensures.resumed
     (alone_in _ c.resume.ensures.call c.resume.ensures.others c.resume.ensures.told c.resume.ensures.later)
+    c.resume.ensures.sends

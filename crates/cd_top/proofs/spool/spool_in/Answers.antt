@@ -15,3 +15,4 @@ returns g c =
     c.root.ensures.stays c.in-Ok.ensures.cause.still (record { user = refl; path = refl; version = refl })
     c.spool.ensures.spooled c.spool.ensures.spared
     (alone_in _ c.spool.ensures.call c.spool.ensures.others c.spool.ensures.told c.spool.ensures.later)
+    c.spool.ensures.sends
