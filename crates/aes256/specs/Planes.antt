@@ -44,7 +44,7 @@ abbrev pub no_planes : Planes
 no_planes = record { p0 = []; p1 = []; p2 = []; p3 = []; p4 = []; p5 = []; p6 = []; p7 = [] }
 
 -- the round keys' planes, against the key's words
-pub record IsKey (rounds : List Planes) (words : List ℕ) : Type 0 where
+pub record AreRoundKeyPlanes (rounds : List Planes) (words : List ℕ) : Type 0 where
   pub first : (k : ℕ) → k < 8 → IsBlock (slice_index_or rounds 0 no_planes) k (round_key words 0)
   pub others : (r k : ℕ) → 0 < r → r < 15 → k < 8 → IsRoundKey (slice_index_or rounds r no_planes) k (round_key words r)
 

@@ -1,7 +1,7 @@
 //! The cipher (FIPS 197, 5.1) with a key of 8 words.
 ghost use Rattle.std.specs.Prelude.{◌≡◌, ℕ, ◌<◌, List};
 ghost use Rattle.aes256.specs.Cipher.{cipher, cipher_with, key_words};
-ghost use Rattle.aes256.specs.Planes.{IsBlock, IsKey};
+ghost use Rattle.aes256.specs.Planes.{IsBlock, AreRoundKeyPlanes};
 
 use crate::planes::{Planes, add, spread};
 use crate::rounds::{last_round, round};
@@ -22,7 +22,7 @@ impl Model for Key {
 
     ghost view = { λ k. k.bytes };
 
-    ghost invariant = { λ k. IsKey k.rounds (key_words k.bytes 52) };
+    ghost invariant = { λ k. AreRoundKeyPlanes k.rounds (key_words k.bytes 52) };
 }
 
 impl Key {
@@ -41,7 +41,7 @@ impl Key {
 /// The cipher text of eight blocks at once.
 #[inline(always)]
 pub(crate) fn encrypt(rounds: &[Planes; 15], s: Planes) -> Planes
-    ensures { (k : ℕ) (text words : List ℕ) → k < 8 → IsBlock s k text → IsKey rounds.now words
+    ensures { (k : ℕ) (text words : List ℕ) → k < 8 → IsBlock s k text → AreRoundKeyPlanes rounds.now words
         → IsBlock result k (cipher_with words text) }
 {
     let first = rounds[0];

@@ -2,7 +2,7 @@
 ghost use Rattle.std.specs.Prelude.{◌≡◌, ℕ, ◌+◌, ◌*◌, ◌/◌, ◌%◌, ◌<◌, ◌≤◌, ◌^◌, List, length, slice_index, bit_xor};
 ghost use Rattle.aes256.specs.Cipher.{added, cipher_with};
 ghost use Rattle.aes256.specs.Mask.{counter_block, mask};
-ghost use Rattle.aes256.specs.Planes.{IsKey, lanes_at};
+ghost use Rattle.aes256.specs.Planes.{AreRoundKeyPlanes, lanes_at};
 
 use crate::cipher::encrypt;
 use crate::planes::Planes;
@@ -24,7 +24,7 @@ fn counter(i: u64) -> u8x16
 #[inline(always)]
 fn masks(rounds: &[Planes; 15], i: u64) -> Planes
     requires { i + 8 < 2 ^ 64 }
-    ensures { (k p : ℕ) (words : List ℕ) → k < 8 → p < 16 → IsKey rounds.now words
+    ensures { (k p : ℕ) (words : List ℕ) → k < 8 → p < 16 → AreRoundKeyPlanes rounds.now words
         → slice_index (lanes_at result p) k ≡ slice_index (cipher_with words (counter_block (i + k))) p }
 {
     let c0 = counter(i);

@@ -1,7 +1,7 @@
 //! The key schedule (FIPS 197, 5.2).
 ghost use Rattle.std.specs.Prelude.{◌≡◌, ℕ, ◌<◌, ◌≤◌};
 ghost use Rattle.aes256.specs.Cipher.{key_words, s_box, step_of};
-ghost use Rattle.aes256.specs.Planes.{IsKey};
+ghost use Rattle.aes256.specs.Planes.{AreRoundKeyPlanes};
 
 use crate::planes::{Planes, spread, xor};
 use std::simd::prelude::*;
@@ -58,7 +58,7 @@ fn expand(key: &[u8; 32]) -> [u8; 240]
 /// The round keys of a key, at each of the eight blocks alike. From round 1 on, {63} is added to each byte, since
 /// `substitute` leaves it out.
 pub(crate) fn round_keys(key: &[u8; 32]) -> [Planes; 15]
-    ensures { IsKey result (key_words key.now 52) }
+    ensures { AreRoundKeyPlanes result (key_words key.now 52) }
 {
     let words = expand(key);
     let start = u8x16::from_slice(&words[..16]);

@@ -25,7 +25,7 @@ use Rattle.blob_audit.specs.AuditBase.errors.CheckErr.TheVariants as checks
 use Rattle.blob_audit.specs.AuditBase.Judged.{JudgedIs}
 use Rattle.blob_audit.specs.AuditBase.Whole.{Tables, tables_of, ArePlaced, IsOwned, IsStored, IsRottenNow, WholeNow}
 use Rattle.blob_audit.specs.AuditBase.Whole as rotten
-use Rattle.audit.specs.Audits.{Appends, AuditIs, AuditPasses, OnAuditFault, IfRotten, CheckPasses, OnCheckFault}
+use Rattle.audit.specs.Audits.{AppendsCertificate, AuditIs, AuditPasses, OnAuditFault, IfCheckRotten, CheckPasses, OnCheckFault}
 use Rattle.audit.specs.Inner.{own_in, number_in, audit_error, check_error, IsAudited, IsChecked}
 use Rattle.audit.proofs.Serving.{whole}
 
@@ -138,7 +138,7 @@ module _ (store : CloudStore) (old new : ℕ → Cloud) (before now : ℕ) where
   rotten_never reading.NoMemory is told w = tt
 
   rotten_ends : (e : ReadErr) → (IsTrue (old n).told → GoodIs store.header.shape (reads (new n).now) t (Err e)) → IsTrue (old n).told
-      → IfRotten (Err (check_error e)) (IsRottenNow store.header.shape (reads (new n).now) t)
+      → IfCheckRotten (Err (check_error e)) (IsRottenNow store.header.shape (reads (new n).now) t)
   rotten_ends reading.Fault is told = tt
   rotten_ends (reading.Rotten named found) is told = is told
   rotten_ends reading.NoMemory is told = tt
@@ -183,7 +183,7 @@ abbrev refusal : CheckErr → Result ℕ CheckErr
 refusal e = Err e
 
 module _ (store : CloudStore) (text : List ℕ) (old : ℕ → Cloud) (before : ℕ) where
-  no_rotten : (P : Fp → Fp → Type 0) (e : CheckErr) → ((named found : Fp) → refusal e ≢ refusal (checks.Rotten named found)) → IfRotten (Err e) P
+  no_rotten : (P : Fp → Fp → Type 0) (e : CheckErr) → ((named found : Fp) → refusal e ≢ refusal (checks.Rotten named found)) → IfCheckRotten (Err e) P
   no_rotten P (checks.Malformed line at) never = tt
   no_rotten P checks.OtherCloud never = tt
   no_rotten P (checks.Differs line) never = tt

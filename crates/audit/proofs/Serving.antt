@@ -29,7 +29,7 @@ use Rattle.cloud_disk.specs.CloudAreas.Standing.{Chain}
 use Rattle.cloud_disk.specs.Disk.{Disk}
 use Rattle.blob_audit.specs.CloudMemory.cloud.CloudMemory.{CloudMemory}
 use Rattle.blob_audit.specs.CloudMemory.Memory.{summary, summary_of}
-use Rattle.cloud_store.specs.Checkpoints.Known.{IsKnown}
+use Rattle.cloud_store.specs.Checkpoints.Known.{IsDiskKnown}
 use Rattle.cloud_disk.specs.JournalStart.start.Header.{Header}
 use Rattle.cloud_disk.proofs.CloudAreas.Lists.{in_map}
 use Rattle.cloud_store.specs.declared.store.CloudStore.{CloudStore}
@@ -48,7 +48,7 @@ named : (shape : Shape) (bytes : List ℕ) (r : Recipe) → IsRecipe shape bytes
 named shape bytes r is = ap (fps_of shape) is.spelled ∙ ap fps_read (again shape r is.fits)
 
 module _ (header : Header) (list : List Command) (c : Chain) (commands region : ℕ) (memory : CloudMemory) (disk : Disk) (cloud : Cloud)
-    (k : IsKnown header list c commands region memory disk cloud) where
+    (k : IsDiskKnown header list c commands region memory disk cloud) where
   abbrev shape : Shape
   shape = header.shape
 

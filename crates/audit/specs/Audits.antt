@@ -23,9 +23,9 @@ remembered server = tables_of server.store.memory
 -- ---- an audit
 
 -- what it leaves in its buffer
-abbrev pub Appends : Certificate → Result ℕ AuditErr → List ℕ → List ℕ → Type 0
-Appends own (Ok count) before now = (count ≡ own.count) × (now ≡ before ++ certificate_text own)
-Appends own (Err e) before now = now ≡ before
+abbrev pub AppendsCertificate : Certificate → Result ℕ AuditErr → List ℕ → List ℕ → Type 0
+AppendsCertificate own (Ok count) before now = (count ≡ own.count) × (now ≡ before ++ certificate_text own)
+AppendsCertificate own (Err e) before now = now ≡ before
 
 -- by the areas
 abbrev pub AuditIs : Image → Tables → Result ℕ AuditErr → Type 0
@@ -50,14 +50,14 @@ OnAuditFault (Err audits.NoMemory) failed other = other
 
 -- ---- a check
 
-abbrev pub IfRotten : Result ℕ CheckErr → (Fp → Fp → Type 0) → Type 0
-IfRotten (Ok count) P = Unit {0}
-IfRotten (Err (checks.Malformed line at)) P = Unit {0}
-IfRotten (Err checks.OtherCloud) P = Unit {0}
-IfRotten (Err (checks.Differs line)) P = Unit {0}
-IfRotten (Err (checks.Rotten named found)) P = P named found
-IfRotten (Err checks.Fault) P = Unit {0}
-IfRotten (Err checks.NoMemory) P = Unit {0}
+abbrev pub IfCheckRotten : Result ℕ CheckErr → (Fp → Fp → Type 0) → Type 0
+IfCheckRotten (Ok count) P = Unit {0}
+IfCheckRotten (Err (checks.Malformed line at)) P = Unit {0}
+IfCheckRotten (Err checks.OtherCloud) P = Unit {0}
+IfCheckRotten (Err (checks.Differs line)) P = Unit {0}
+IfCheckRotten (Err (checks.Rotten named found)) P = P named found
+IfCheckRotten (Err checks.Fault) P = Unit {0}
+IfCheckRotten (Err checks.NoMemory) P = Unit {0}
 
 -- a fact where the text was refused before anything was read
 abbrev pub IfUnread : Result ℕ CheckErr → Type 0 → Type 0

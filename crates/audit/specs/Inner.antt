@@ -16,7 +16,7 @@ use Rattle.blob_audit.specs.AuditBase.Own.{own}
 use Rattle.blob_audit.specs.AuditBase.Whole.{tables_of, IsRottenNow, WholeNow}
 use Rattle.audit.specs.declared.errors.AuditErr.{AuditErr}
 use Rattle.audit.specs.declared.errors.AuditErr.TheVariants as audits
-use Rattle.audit.specs.Audits.{Appends, AuditIs, AuditPasses, OnAuditFault, IfRotten, IfUnread, CheckPasses, OnCheckFault}
+use Rattle.audit.specs.Audits.{AppendsCertificate, AuditIs, AuditPasses, OnAuditFault, IfCheckRotten, IfUnread, CheckPasses, OnCheckFault}
 
 abbrev pub own_in : CloudStore → Certificate
 own_in store = own store.header.shape store.header.cloud (tables_of store.memory)
@@ -36,7 +36,7 @@ check_error reading.NoMemory = checks.NoMemory
 
 -- an audit of a store
 pub record IsAudited (store : CloudStore) (old new : ℕ → Cloud) (before now : ℕ) (result : Result ℕ AuditErr) (had has : List ℕ) : Type 0 where
-  pub appends : Appends (own_in store) result had has
+  pub appends : AppendsCertificate (own_in store) result had has
   pub judged : IsTrue (old (number_in store)).told → AuditIs (reads (new (number_in store)).now) (tables_of store.memory) result
   pub passes : (list : List Command) (c : Chain) → Serves list c store (old (number_in store)) → AuditPasses result
   pub stays : Stays (old (number_in store)) (new (number_in store))
@@ -49,7 +49,8 @@ pub record IsChecked (store : CloudStore) (text : List ℕ) (old new : ℕ → C
   pub judged : JudgedIs (own_in store) text result
   pub whole : IsTrue (old (number_in store)).told → OnOk result (WholeNow store.header.shape (reads (new (number_in store)).now) (tables_of store.memory))
   pub rotten : IsTrue (old (number_in store)).told
-      → IfRotten result (IsRottenNow store.header.shape (reads (new (number_in store)).now) (tables_of store.memory))
+      → IfCheckRotten result (IsRottenNow store.header.shape (reads (new (number_in store)).now)
+      (tables_of store.memory))
   pub passes : (list : List Command) (c : Chain) → Serves list c store (old (number_in store)) → text ≡ certificate_text (own_in store) → CheckPasses result
   pub stays : Stays (old (number_in store)) (new (number_in store))
   pub call : IsCall old new (number_in store) before now

@@ -8,7 +8,7 @@ ghost use Rattle.cloud_disk.specs.CloudAreas.Standing.{Chain};
 ghost use Rattle.cloud_store.specs.Store.{IsOpen, Serves};
 ghost use Rattle.share_server.specs.Serving.{number_of};
 ghost use Rattle.audit.specs.Inner.{audit_error, IsAudited};
-ghost use Rattle.audit.specs.Audits.{own_of, remembered, Appends, AuditIs, AuditPasses, OnAuditFault};
+ghost use Rattle.audit.specs.Audits.{own_of, remembered, AppendsCertificate, AuditIs, AuditPasses, OnAuditFault};
 
 use crate::AuditErr;
 use blob_audit::{ReadErr, read_stored};
@@ -62,7 +62,7 @@ pub fn audit<V: Shelf>(
     out: &mut Bytes,
 ) -> Result<u32, AuditErr>
     requires open { IsOpen server.old.store }
-    ensures appends { Appends (own_of server.old) result out.old out.new }
+    ensures appends { AppendsCertificate (own_of server.old) result out.old out.new }
     ensures judged { IsTrue (V.cloud_at shelf.old (number_of server.old)).told
         → AuditIs (reads (V.cloud_at shelf.new (number_of server.old)).now) (remembered server.old) result }
     ensures passes { (list : List Command) (c : Chain)

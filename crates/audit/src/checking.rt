@@ -11,7 +11,7 @@ ghost use Rattle.own_certificate.specs.Certificate.Lines.{certificate_text};
 ghost use Rattle.blob_audit.specs.AuditBase.Judged.{JudgedIs};
 ghost use Rattle.blob_audit.specs.AuditBase.Whole.{IsRottenNow, WholeNow};
 ghost use Rattle.audit.specs.Inner.{check_error, IsChecked};
-ghost use Rattle.audit.specs.Audits.{own_of, remembered, IfRotten, IfUnread, CheckPasses, OnCheckFault};
+ghost use Rattle.audit.specs.Audits.{own_of, remembered, IfCheckRotten, IfUnread, CheckPasses, OnCheckFault};
 
 use blob_audit::{CheckErr, ReadErr, read_good};
 use cloud_store::CloudStore;
@@ -77,7 +77,7 @@ pub fn check<V: Shelf>(
     ensures whole { IsTrue (V.cloud_at shelf.old (number_of server.old)).told → OnOk result
         (WholeNow server.old.store.header.shape (reads (V.cloud_at shelf.new (number_of server.old)).now)
         (remembered server.old)) }
-    ensures rotten { IsTrue (V.cloud_at shelf.old (number_of server.old)).told → IfRotten result
+    ensures rotten { IsTrue (V.cloud_at shelf.old (number_of server.old)).told → IfCheckRotten result
         (IsRottenNow server.old.store.header.shape (reads (V.cloud_at shelf.new (number_of server.old)).now)
         (remembered server.old)) }
     ensures passes { (list : List Command) (c : Chain)

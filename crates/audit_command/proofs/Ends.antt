@@ -1,7 +1,7 @@
 -- An audit and a check by an open server, behind the opening.
 use Rattle.std.proofs.Common.{◌≡◌, ℕ, List, [], ◌++◌, Result, Ok, Err, sym, ap, ◌∙◌, subst}
 use Rattle.std.specs.Prelude.{OnOk}
-use Rattle.audit.specs.Audits.{Appends, IfRotten, OnAuditFault, OnCheckFault}
+use Rattle.audit.specs.Audits.{AppendsCertificate, IfCheckRotten, OnAuditFault, OnCheckFault}
 use Rattle.audit.specs.declared.errors.AuditErr.{AuditErr}
 use Rattle.audit.specs.declared.errors.AuditErr.TheVariants as audits
 use Rattle.audit.specs.AuditBase.Judged.{JudgedIs}
@@ -37,7 +37,7 @@ use Rattle.command_cloud.specs.Said.{SaysUnopened}
 
 -- what an audit appended to no text is the certificate
 pub audit_said : (cloud : CloudNo) (certificate : Certificate) (result : Result ℕ AuditErr) (before text : List ℕ) (out : Output) (status : ℕ)
-    → before ≡ [] → Appends certificate result before text → HasWrittenOrCause (audit_text cloud text result) (audit_status result) out status
+    → before ≡ [] → AppendsCertificate certificate result before text → HasWrittenOrCause (audit_text cloud text result) (audit_status result) out status
     → HasWrittenOrCause (audit_text cloud (certificate_text certificate) result) (audit_status result) out status
 audit_said cloud certificate (Ok count) before text out status empty appends writes =
     subst (λ (t : List ℕ). HasWrittenOrCause t 0 out status)
@@ -99,7 +99,7 @@ module _ (shape : Shape) (cloud : CloudNo) (rooms : UserRooms) (server : Server)
     judged = subst (λ (h : Header). JudgedIs (own h.shape h.cloud (tables_of server.store.memory)) text result) first.header_is by.judged;
     whole = λ is. subst (λ (h : Header). OnOk result (WholeNow h.shape (reads new.now) (tables_of server.store.memory))) first.header_is
         (by.whole (told ∙ is));
-    rotten = λ is. subst (λ (h : Header). IfRotten result (IsRottenNow h.shape (reads new.now) (tables_of server.store.memory)))
+    rotten = λ is. subst (λ (h : Header). IfCheckRotten result (IsRottenNow h.shape (reads new.now) (tables_of server.store.memory)))
         first.header_is (by.rotten (told ∙ is));
     passes = λ own_rooms list s text_is.
         let some = (first.served own_rooms list (stands_still shape cloud old mid new before middle now own_rooms list s)).ready first.at_end in

@@ -1,6 +1,6 @@
 -- What the check of a cloud in a place promises.
 use Rattle.std.specs.Prelude.{◌≡◌, ℕ, IsTrue, List, Some, Result, OnOk}
-use Rattle.audit.specs.Audits.{CheckPasses, IfRotten, OnCheckFault}
+use Rattle.audit.specs.Audits.{CheckPasses, IfCheckRotten, OnCheckFault}
 use Rattle.audit.specs.AuditBase.Judged.{JudgedIs}
 use Rattle.audit.specs.AuditBase.Whole.{IsRottenNow, WholeNow}
 use Rattle.audit.specs.AuditBase.errors.CheckErr.{CheckErr}
@@ -27,7 +27,8 @@ use Rattle.command_cloud.specs.Said.{opening_status, opening_text}
 pub record IsCheckOf (memory : Memory) (call : CloudCall) (text : List ℕ) (result : Result ℕ CheckErr) : Type 0 where
   pub judged : JudgedIs (certificate_in call memory) text result
   pub whole : IsTrue call.old.told → OnOk result (WholeNow call.shape (reads call.new.now) (tables_in memory))
-  pub rotten : IsTrue call.old.told → IfRotten result (IsRottenNow call.shape (reads call.new.now) (tables_in memory))
+  pub rotten : IsTrue call.old.told
+      → IfCheckRotten result (IsRottenNow call.shape (reads call.new.now) (tables_in memory))
   pub passes : (own : UserRooms) (list : List Command) → StandsWithin call own list
       → text ≡ certificate_text (certificate_in call memory) → CheckPasses result
   pub counts : OnCheckFault result (CloudFails call) (IsUnfailing call)

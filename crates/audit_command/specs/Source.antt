@@ -45,8 +45,8 @@ pub record IsCertificateTooLong (input : Input) (line at byte : ℕ) : Type 0 wh
   pub still : input.faults_after ≡ input.faults_before
 
 -- What reading the source to its end came to.
-abbrev pub Reads : Input → Result (List ℕ) CertificateReadErr → Type 0
-Reads input (Ok text) = IsCertificateRead input text
-Reads input (Err (errors.TooLong line at byte)) = IsCertificateTooLong input line at byte
-Reads input (Err errors.Failed) = Rose input.faults_before input.faults_after
-Reads input (Err errors.NoMemory) = input.faults_after ≡ input.faults_before
+abbrev pub ReadsCertificate : Input → Result (List ℕ) CertificateReadErr → Type 0
+ReadsCertificate input (Ok text) = IsCertificateRead input text
+ReadsCertificate input (Err (errors.TooLong line at byte)) = IsCertificateTooLong input line at byte
+ReadsCertificate input (Err errors.Failed) = Rose input.faults_before input.faults_after
+ReadsCertificate input (Err errors.NoMemory) = input.faults_after ≡ input.faults_before

@@ -1,6 +1,6 @@
 -- What the steps of a command come to, by the server that was opened. No public clause cites this module.
 use Rattle.std.specs.Prelude.{◌≡◌, ℕ, IsTrue, List, Some, Result, Err, OnOk}
-use Rattle.audit.specs.Audits.{AuditIs, AuditPasses, CheckPasses, IfRotten, OnAuditFault, OnCheckFault, own_of, remembered}
+use Rattle.audit.specs.Audits.{AuditIs, AuditPasses, CheckPasses, IfCheckRotten, OnAuditFault, OnCheckFault, own_of, remembered}
 use Rattle.audit.specs.declared.errors.AuditErr.{AuditErr}
 use Rattle.audit.specs.AuditBase.Judged.{JudgedIs}
 use Rattle.audit.specs.AuditBase.Whole.{IsRottenNow, WholeNow}
@@ -20,7 +20,7 @@ use Rattle.audit_command.specs.declared.reading.CertificateReadErr.{CertificateR
 use Rattle.audit_command.specs.declared.reading.CertificateReadErr.TheVariants as readings
 use Rattle.command_cloud.specs.Opened.{CloudCall, CloudFails, IsUnfailing, IsUnchanged}
 use Rattle.audit_command.specs.Said.{audit_status, audit_text, check_status, check_text}
-use Rattle.audit_command.specs.Source.{IsCertificateRead, Reads}
+use Rattle.audit_command.specs.Source.{IsCertificateRead, ReadsCertificate}
 
 -- what is said of a source that isn't read to its end
 abbrev pub SaysUnread : CertificateReadErr → Output → ℕ → Type 0
@@ -45,7 +45,7 @@ pub record AnswersFor (server : Server) (call : CloudCall) (text : List ℕ) (re
   pub whole : IsTrue call.old.told
       → OnOk result (WholeNow server.store.header.shape (reads call.new.now) (remembered server))
   pub rotten : IsTrue call.old.told
-      → IfRotten result (IsRottenNow server.store.header.shape (reads call.new.now) (remembered server))
+      → IfCheckRotten result (IsRottenNow server.store.header.shape (reads call.new.now) (remembered server))
   pub passes : (list : List Command) (c : Chain) → Serves list c server.store call.old
       → text ≡ certificate_text (own_of server) → CheckPasses result
   pub counts : OnCheckFault result (CloudFails call) (IsUnfailing call)
@@ -59,7 +59,7 @@ pub record AnswersBy (server : Server) (call : CloudCall) (text : List ℕ) (out
 
 -- An open server checked what a source has.
 pub data CheckedBy (server : Server) (call : CloudCall) (input : Input) (out : Output) (status : ℕ) : Type 0 where
-  Unread : (why : CertificateReadErr) → Reads input (Err why) → SaysUnread why out status → IsUnchanged call
+  Unread : (why : CertificateReadErr) → ReadsCertificate input (Err why) → SaysUnread why out status → IsUnchanged call
       → CheckedBy server call input out status
   Answered : (text : List ℕ) → IsCertificateRead input text → AnswersBy server call text out status
       → CheckedBy server call input out status

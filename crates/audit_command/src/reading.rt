@@ -2,7 +2,7 @@
 
 ghost use Rattle.std.specs.Prelude.{◌≡◌, ◌≤◌, ◌+◌, ◌++◌, length};
 ghost use Rattle.command_cloud.specs.BackupCommand.Reading.{input_of};
-ghost use Rattle.audit_command.specs.Source.{Reads, certificate_limit, mark_behind};
+ghost use Rattle.audit_command.specs.Source.{ReadsCertificate, certificate_limit, mark_behind};
 
 use crate::marks::mark_after;
 use command_cloud::{Failed, Source};
@@ -37,7 +37,7 @@ fn mark_of(text: &[u8], more: &[u8]) -> (u64, u64)
 
 /// Reads a source to its end. `TooLong` comes exactly where it has more bytes than a certificate may have; it isn't read on then.
 pub fn read_text<S: Source>(alloc: Global, source: &mut S) -> Result<Bytes, CertificateReadErr>
-    ensures reads { Reads (input_of (S.left source.old) (S.faults source.old) (S.faults source.new)) result }
+    ensures reads { ReadsCertificate (input_of (S.left source.old) (S.faults source.old) (S.faults source.new)) result }
 {
     let mut text = Bytes::new(alloc);
     let mut piece = [0; PIECE];

@@ -8,11 +8,11 @@ use Rattle.ports_link.specs.declared.refused.Refused.{Refused}
 use Rattle.ports_link.specs.Refusals.{refused_text}
 use Rattle.backup_command.specs.declared.carrying.BackupErr.TheVariants as errors
 use Rattle.backup_command.specs.BackedUp.{BackupCall, IsBackedUp, SourceTooLong, HelloRefused, WentThrough, LaneFailed}
-use Rattle.backup_command.specs.Reading.{Input, IsFileRead, IsTooLong}
+use Rattle.backup_command.specs.Reading.{Input, IsFileRead, IsFileTooLong}
 use Rattle.backup_command.specs.Steps.{Carries}
 use Rattle.backup_command.specs.Writing.{Output, HasWrittenOrCause}
 
-pub too_long : (status : ℕ) (call : BackupCall) (input : Input) (out : Output) (byte : ℕ) → IsTooLong input byte
+pub too_long : (status : ℕ) (call : BackupCall) (input : Input) (out : Output) (byte : ℕ) → IsFileTooLong input byte
     → HasWrittenOrCause (ending_text (endings.Script 1 file_limit (Some byte))) 2 out status → call.after ≡ call.before
     → call.faults_after ≡ call.faults_before → IsBackedUp status call input out
 too_long status call input out byte long writes tells faults = SourceTooLong (record {

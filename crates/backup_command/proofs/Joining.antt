@@ -17,7 +17,7 @@ use Rattle.transcript.specs.declared.line.Line.{Line}
 use Rattle.transcript.specs.Transcript.{line_text}
 use Rattle.ports_link.specs.declared.link.PortsLink.{PortsLink}
 use Rattle.ports_link.specs.Tells.{HasAsked, HasComing}
-use Rattle.ports_link.specs.Dialled.{AreApart}
+use Rattle.ports_link.specs.Dialled.{ArePortsApart}
 use Rattle.ports_link.specs.Hellos.{clouds_of}
 use Rattle.lane_steps.specs.UploadJob.news.LaneNews.{LaneNews}
 use Rattle.lane_steps.specs.UploadJob.Lane.{LaneState}
@@ -25,8 +25,8 @@ use Rattle.backup_command.specs.declared.halt.Halt.{Halt}
 use Rattle.backup_command.specs.declared.halt.Halt.TheVariants as halts
 use Rattle.backup_command.specs.Texts.{text_of, step_line, lane_lines}
 use Rattle.backup_command.specs.Said.{SaidOn, SaysNothing, greeted}
-use Rattle.backup_command.specs.Lanes.{LaneCame, LanesGo, AllEnded, OneEnded, OneLost, NoMemory, Tells}
-use Rattle.backup_command.specs.Steps.{KeepsOtherPorts, Talked, IsCloudReady, AreReady, LaneGoes, LanesWent, Wrote, ports_of}
+use Rattle.backup_command.specs.Lanes.{LaneCame, LanesGoOnPorts, AllEnded, OneEnded, OneLost, NoMemory, Tells}
+use Rattle.backup_command.specs.Steps.{KeepsOtherPorts, Talked, IsCloudReady, AreReady, LaneGoesOnPort, LanesWent, Wrote, ports_of}
 use Rattle.backup_command.proofs.Walking.{said_from}
 
 -- ---- a port that stays
@@ -159,14 +159,14 @@ went_none behind now views text = record { answers = []; go = AllEnded views; wr
 pub went_more : (behind mid new : Telling) (line : CloudNo × ℕ) (rest : List (CloudNo × ℕ))
     (views between after : List LaneView) (result : Result (Unit {0}) Halt) (before text now : List ℕ)
     → (IsTrue behind.told → new.port line.1 ≡ mid.port line.1)
-    → LaneGoes behind mid line views (Ok tt) between before text
+    → LaneGoesOnPort behind mid line views (Ok tt) between before text
     → LanesWent behind new rest between result after text now
     → LanesWent behind new (line ∷ rest) views result after before now
 went_more behind mid new line rest views between after result before text now same one rests = record {
   answers = lane_lines line.0.0 one.0 one.1 ++ rests.answers;
   go = OneEnded line rest views after one.0 one.1 one.2 result rests.answers
       (came_on behind mid new line.1 (lane_at views line.0.0) one.0 one.1 one.2 same one.3)
-      (subst (λ (l : List LaneView). LanesGo behind new rest l result rests.answers after) one.4 rests.go);
+      (subst (λ (l : List LaneView). LanesGoOnPorts behind new rest l result rests.answers after) one.4 rests.go);
   wrote = wrote_more result before text now (lane_lines line.0.0 one.0 one.1) rests.answers one.5 rests.wrote;
 }
 
@@ -174,11 +174,11 @@ went_more behind mid new line rest views between after result before text now sa
 pub went_stopped : {P : Type 0} (tells : P → Telling) (behind : Telling) (old new : PortsLink P) (line : CloudNo × ℕ)
     (rest : List (CloudNo × ℕ)) (views after : List LaneView) (halt : Halt) (before text : List ℕ)
     → AreReady behind tells old (line ∷ rest) → KeepsOtherPorts tells line.0.0 old new
-    → LaneGoes behind (tells new.ports.now) line views (Err halt) after before text
+    → LaneGoesOnPort behind (tells new.ports.now) line views (Err halt) after before text
     → LanesWent behind (tells new.ports.now) (line ∷ rest) views (Err halt) after before text
 went_stopped tells behind old new line rest views after halts.Lost before text ready leaves one = record {
   answers = map (step_line line.0.0) one.0;
-  go = subst (λ (l : List LaneView). LanesGo behind (tells new.ports.now) (line ∷ rest) views (Err halts.Lost)
+  go = subst (λ (l : List LaneView). LanesGoOnPorts behind (tells new.ports.now) (line ∷ rest) views (Err halts.Lost)
       (map (step_line line.0.0) one.0) l) (sym one.2)
       (OneLost line rest views one.0 one.1 (rest_silent tells behind old new line rest ready leaves));
   wrote = one.3;
@@ -189,6 +189,6 @@ went_stopped tells behind old new line rest views after halts.NoMemory before te
   wrote = tt;
 }
 
-pub not_here : (line : CloudNo × ℕ) (rest : List (CloudNo × ℕ)) → AreApart (ports_of (line ∷ rest))
+pub not_here : (line : CloudNo × ℕ) (rest : List (CloudNo × ℕ)) → ArePortsApart (ports_of (line ∷ rest))
     → ¬ Contains (ports_of rest) line.1
 not_here line rest apart c = apart.0 c.0 line.1 c.1 c.2

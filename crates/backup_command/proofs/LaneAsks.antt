@@ -13,7 +13,7 @@ use Rattle.lane_steps.specs.UploadJob.news.LaneNews.{LaneNews}
 use Rattle.lane_steps.specs.UploadJob.news.LaneErr.{LaneErr}
 use Rattle.lane_steps.specs.UploadJob.news.LaneErr.TheVariants as errors
 use Rattle.lane_steps.specs.UploadJob.Lane.{LaneState, Asking, Sending, Committing, Done, Refused, onward, unflagged, lane_request, lane_after}
-use Rattle.lane_steps.specs.UploadJob.Lanes.{LaneView, Answers, AnswersAt, begun}
+use Rattle.lane_steps.specs.UploadJob.Lanes.{LaneView, AnswersLane, AnswersAt, begun}
 use Rattle.lane_steps.specs.UploadJob.Upload.{Work, FileVersion, work_of}
 use Rattle.lane_steps.specs.Reached.{IsReached, Begun, Answered}
 use Rattle.lane_steps.specs.Runs.{lane_at, no_lane}
@@ -111,7 +111,7 @@ each_begun shape v (cloud ∷ clouds) zero = begun_own (work_of shape v cloud)
 each_begun shape v (cloud ∷ clouds) (suc i) = each_begun shape v clouds i
 
 answered_own : (lane : LaneView) (content : List ℕ) (result : Result LaneNews LaneErr) (state : LaneState) → IsAtOwn lane.work lane.state
-    → Answers lane content result state → IsAtOwn lane.work state
+    → AnswersLane lane content result state → IsAtOwn lane.work state
 answered_own lane content (Ok news) state own answers = subst (IsAtOwn lane.work) (sym answers.1.moves) (after_own lane.work lane.state answers.0 own)
 answered_own lane content (Err (errors.Strange kind)) state own answers = subst (IsAtOwn lane.work) (sym answers.refused) tt
 answered_own lane content (Err errors.NoMemory) state own answers = let same : state ≡ lane.state = answers in subst (IsAtOwn lane.work) (sym same) own

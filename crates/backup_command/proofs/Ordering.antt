@@ -17,7 +17,7 @@ use Rattle.ports_link.specs.Lines.{no_line, line_of, with_ports, lines_for, has_
 use Rattle.ports_link.specs.Tells.{BringsReplies, HasComing, HasTalk}
 use Rattle.ports_link.specs.declared.judging.AskedClouds.TheVariants.{Backup}
 use Rattle.ports_link.specs.declared.judging.Greeting.{Greeting}
-use Rattle.ports_link.specs.Dialled.{AreApart}
+use Rattle.ports_link.specs.Dialled.{ArePortsApart}
 use Rattle.ports_link.specs.Greetings.{AreAsAsked}
 use Rattle.ports_link.specs.Hellos.{HaveTalks, clouds_of, lines_by}
 use Rattle.backup_command.specs.Said.{greeted}
@@ -52,7 +52,7 @@ other_clouds first cloud (port ∷ ports) less =
     All-cons (λ other. other ≢ first) cloud (clouds_of (numbered (cloud + 1) ports)) (λ e. omega (arith, less, e))
     (other_clouds first (cloud + 1) ports (omega (arith, less)))
 
-pub numbered_apart : (cloud : ℕ) (ports : List ℕ) → AreApart (clouds_of (numbered cloud ports))
+pub numbered_apart : (cloud : ℕ) (ports : List ℕ) → ArePortsApart (clouds_of (numbered cloud ports))
 numbered_apart cloud [] = tt
 numbered_apart cloud (port ∷ ports) =
     (other_clouds cloud (cloud + 1) ports (omega arith), numbered_apart (cloud + 1) ports)
@@ -83,7 +83,7 @@ kept_line base (line ∷ lines) cloud apart =
     (λ e. All-head (λ other. other ≢ cloud) line.0.0 (clouds_of lines) apart (sym e))
 
 reached_by : (base : List CloudLine) (lines : List (CloudNo × ℕ)) → length base ≡ 256
-    → All (λ (line : CloudNo × ℕ). line.0.0 < 256) lines → AreApart (clouds_of lines)
+    → All (λ (line : CloudNo × ℕ). line.0.0 < 256) lines → ArePortsApart (clouds_of lines)
     → All (λ (line : CloudNo × ℕ). line_of (with_ports base lines) line.0.0 ≡ line_on line.1) lines
 reached_by base [] long few apart = All-nil _
 reached_by base (line ∷ lines) long few apart =
@@ -164,6 +164,6 @@ module _ {P : Type 0} (tells : P → Telling) (link : PortsLink P) (behind : Tel
   are_ready here lines few on = record {
     told = ap (λ (t : Telling). t.told) here;
     clouds = numbered_apart 0 dialled;
-    ports = λ told. subst AreApart (sym (ports_numbered 0 dialled)) (on.apart told);
+    ports = λ told. subst ArePortsApart (sym (ports_numbered 0 dialled)) (on.apart told);
     each = each_ready all here lines (lines_reach dialled few) on.talks (λ cloud c. c);
   }

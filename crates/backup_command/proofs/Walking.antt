@@ -28,14 +28,14 @@ use Rattle.ports_link.proofs.Talks.{some_same}
 use Rattle.backup_command.specs.declared.halt.Halt.{Halt}
 use Rattle.backup_command.specs.declared.halt.Halt.TheVariants as halts
 use Rattle.backup_command.specs.Said.{SaidOn, SaysBehind, greeted}
-use Rattle.backup_command.specs.Lanes.{Any, Asked, HasLaneEnded, LaneStrange, LaneLost, Tells, TellsUpTo}
-use Rattle.backup_command.specs.Steps.{KeepsOtherPorts, Talked, IsCloudReady, Puts, LaneGoes, IfLost}
+use Rattle.backup_command.specs.Lanes.{Any, BareTurn, HasLaneEnded, LaneStrange, LaneLost, Tells, TellsUpTo}
+use Rattle.backup_command.specs.Steps.{KeepsOtherPorts, Talked, IsCloudReady, PutsLaneLines, LaneGoesOnPort, IfLost}
 use Rattle.backup_command.proofs.Leaving.{Goes, on_run, on_along, on_passed, on_more, leaves_on, leaves_ask}
 use Rattle.backup_command.proofs.Leaving.{leaves_none}
 
 -- ---- turns without the states between them
 
-abbrev pub forget : {S : Type 0} → List (LaneTurn S) → List Asked
+abbrev pub forget : {S : Type 0} → List (LaneTurn S) → List BareTurn
 forget [] = []
 forget (t ∷ turns) = record { before = tt; request = t.request; reply = t.reply } ∷ forget turns
 
@@ -207,9 +207,9 @@ module _ {P : Type 0} (tells : P → Telling) (faults : P → ℕ) (behind : Tel
   pub goes : (views after : List LaneView) (old new : PortsLink P) (came : Result (Unit {0}) StepErr)
       (news : List LaneNews) (result : Result (Unit {0}) Halt) (before text : List ℕ) → line.0.0 < length views
       → Finishes (telling tells faults) (Talked tells) line.0.0 old views [] came new after news
-      → Puts line.0.0 came news result before text → (tells old.ports.now).told ≡ behind.told
+      → PutsLaneLines line.0.0 came news result before text → (tells old.ports.now).told ≡ behind.told
       → IsCloudReady behind tells old line
-      → LaneGoes behind (tells new.ports.now) line views result after before text
+      → LaneGoesOnPort behind (tells new.ports.now) line views result after before text
   goes views after old new (Ok u) news (Ok v) before text lt f puts same ready = (
     Ok u,
     news,
@@ -275,7 +275,7 @@ module _ {P : Type 0} (tells : P → Telling) (faults : P → ℕ) (cloud : ℕ)
   pub talks_all : (views after : List LaneView) (old new : PortsLink P) (came : Result (Unit {0}) StepErr)
       (before news : List LaneNews) (result : Result (Unit {0}) Halt) (text now : List ℕ)
       → Finishes (telling tells faults) (Talked tells) cloud old views before came new after news
-      → Puts cloud came news result text now → OnOk result (SaysNothingElse (Talked tells) cloud old new)
+      → PutsLaneLines cloud came news result text now → OnOk result (SaysNothingElse (Talked tells) cloud old new)
   talks_all views after old new (Ok u) before news (Ok v) text now f puts =
       (on_run tells faults cloud (starting (lane_at views cloud)) f.1 old new f.0 f.3).talks
   talks_all views after old new (Err errors.Lost) before news (Ok v) text now f puts = absurd puts
@@ -296,7 +296,7 @@ module _ {P : Type 0} (tells : P → Telling) (faults : P → ℕ) (cloud : ℕ)
   pub lost_all : (views after : List LaneView) (old new : PortsLink P) (came : Result (Unit {0}) StepErr)
       (before news : List LaneNews) (result : Result (Unit {0}) Halt) (text now : List ℕ)
       → Finishes (telling tells faults) (Talked tells) cloud old views before came new after news
-      → Puts cloud came news result text now → IfLost result (Rose (faults old.ports.now) (faults new.ports.now))
+      → PutsLaneLines cloud came news result text now → IfLost result (Rose (faults old.ports.now) (faults new.ports.now))
   lost_all views after old new came before news (Ok v) text now f puts = tt
   lost_all views after old new came before news (Err halts.NoMemory) text now f puts = tt
   lost_all views after old new (Ok u) before news (Err halts.Lost) text now f puts = absurd puts

@@ -24,8 +24,8 @@ use Rattle.ports_link.specs.Meeting.{Meets, MeetsAll}
 use Rattle.ports_link.specs.Refusals.{refused_text}
 use Rattle.backup_command.specs.declared.halt.Halt.{Halt}
 use Rattle.backup_command.specs.declared.halt.Halt.TheVariants as halts
-use Rattle.backup_command.specs.Lanes.{LanesGo, numbered}
-use Rattle.backup_command.specs.Reading.{Input, IsFileRead, IsTooLong}
+use Rattle.backup_command.specs.Lanes.{LanesGoOnPorts, numbered}
+use Rattle.backup_command.specs.Reading.{Input, IsFileRead, IsFileTooLong}
 use Rattle.backup_command.specs.Texts.{text_of, due_lines}
 use Rattle.backup_command.specs.Writing.{Output, IsSilent, HasWrittenOrCause}
 
@@ -57,7 +57,7 @@ pub record IsUntouched (call : BackupCall) : Type 0 where
   pub faults : call.faults_after ≡ call.faults_before
 
 -- The source failed. Nothing is written, and no port was touched.
-pub record IsUnread (status : ℕ) (call : BackupCall) (input : Input) (out : Output) : Type 0 where
+pub record IsFileUnread (status : ℕ) (call : BackupCall) (input : Input) (out : Output) : Type 0 where
   pub status_is : status ≡ 3
   pub rose : Rose input.faults_before input.faults_after
   pub silent : IsSilent out
@@ -66,7 +66,7 @@ pub record IsUnread (status : ℕ) (call : BackupCall) (input : Input) (out : Ou
 -- The source has too many bytes: the line names the place of the first of them, and it. No port was touched.
 pub record IsOverlong (status : ℕ) (call : BackupCall) (input : Input) (out : Output) : Type 0 where
   pub byte : ℕ
-  pub too_long : IsTooLong input byte
+  pub too_long : IsFileTooLong input byte
   pub writes : HasWrittenOrCause (ending_text (endings.Script 1 file_limit (Some byte))) 2 out status
   pub untouched : IsUntouched call
 
@@ -116,7 +116,8 @@ pub record HasBroughtLanes (call : BackupCall) (input : Input) (result : Result 
   pub shape : Shape
   pub behind : Telling
   pub met : Met call dialled shape behind
-  pub lanes : LanesGo behind call.after (numbered 0 dialled) (lanes_begun shape (version_of call file)) result steps
+  pub lanes : LanesGoOnPorts behind call.after (numbered 0 dialled)
+      (lanes_begun shape (version_of call file)) result steps
       after
   pub others : IsTrue behind.told → (port : ℕ) → ¬ (Contains dialled port) → call.after.port port ≡ behind.port port
 
@@ -135,7 +136,7 @@ pub record IsThrough (status : ℕ) (call : BackupCall) (input : Input) (out : O
   pub writes : HasWrittenOrCause (text_of (due_lines steps stored)) (if stored then 0 else 8) out status
 
 -- The ports failed in a lane. The lines are the job's and those of the replies before.
-pub record IsLost (status : ℕ) (call : BackupCall) (input : Input) (out : Output) : Type 0 where
+pub record IsBackupLost (status : ℕ) (call : BackupCall) (input : Input) (out : Output) : Type 0 where
   pub rose : Rose call.faults_before call.faults_after
   pub steps : List Line
   pub after : List LaneView
@@ -145,16 +146,16 @@ pub record IsLost (status : ℕ) (call : BackupCall) (input : Input) (out : Outp
 -- The whole promise, by the way it ended.
 pub data IsBackedUp (status : ℕ) (call : BackupCall) (input : Input) (out : Output) : Type 0 where
   OutOfMemory : IsLacking status out → IsBackedUp status call input out
-  SourceFailed : IsUnread status call input out → IsBackedUp status call input out
+  SourceFailed : IsFileUnread status call input out → IsBackedUp status call input out
   SourceTooLong : IsOverlong status call input out → IsBackedUp status call input out
   DialFailed : IsUndialled status call out → IsBackedUp status call input out
   HelloFailed : IsHelloUnheard status call out → IsBackedUp status call input out
   HelloRefused : IsBackupRefused status call out → IsBackedUp status call input out
   WentThrough : IsThrough status call input out → IsBackedUp status call input out
-  LaneFailed : IsLost status call input out → IsBackedUp status call input out
+  LaneFailed : IsBackupLost status call input out → IsBackedUp status call input out
 
 -- ---- beside it
 
 -- Some ports were dialled, and every other port is as it was.
-abbrev pub OnlyDialled : Telling → Telling → Type 0
-OnlyDialled before after = (dialled : List ℕ) × AreDialled before after dialled
+abbrev pub BackupDialsOnly : Telling → Telling → Type 0
+BackupDialsOnly before after = (dialled : List ℕ) × AreDialled before after dialled

@@ -25,14 +25,14 @@ abbrev pub Any : Unit {0} → Request → Reply → Unit {0} → Type 0
 Any before request reply after = Unit {0}
 
 -- a turn without a word on what was before it
-abbrev pub Asked : Type 0
-Asked = LaneTurn (Unit {0})
+abbrev pub BareTurn : Type 0
+BareTurn = LaneTurn (Unit {0})
 
 -- The lane went on by these turns to its end: until it has no request, or a reply stopped it. These are the news, and
 -- it stands so. Just these requests were sent, in order, and the replies taken that were to come.
 pub record HasLaneEnded (Spoken : (Talk → Talk → Type 0) → Type 0) (lane : LaneView) (news : List LaneNews)
     (state : LaneState) : Type 0 where
-  pub turns : List Asked
+  pub turns : List BareTurn
   pub last : Progress
   pub run : LaneRun Any (starting lane) tt turns last tt
   pub tell : Tell lane turns news
@@ -43,7 +43,7 @@ pub record HasLaneEnded (Spoken : (Talk → Talk → Type 0) → Type 0) (lane :
 -- gives to that request: it is refused.
 pub record LaneStrange (Spoken : (Talk → Talk → Type 0) → Type 0) (lane : LaneView) (news : List LaneNews) (kind : ℕ)
     (state : LaneState) : Type 0 where
-  pub turns : List Asked
+  pub turns : List BareTurn
   pub at : Progress
   pub along : LaneAlong Any (starting lane) tt turns at tt
   pub tell : Tell lane turns news
@@ -59,7 +59,7 @@ pub record LaneStrange (Spoken : (Talk → Talk → Type 0) → Type 0) (lane : 
 -- The lane went on by these turns, and the ports failed in its next request or the reply to it.
 pub record LaneLost (Unheard : (Talk → Talk → Type 0) → Type 0) (lane : LaneView) (news : List LaneNews) : Type 0
   where
-    pub turns : List Asked
+    pub turns : List BareTurn
     pub at : Progress
     pub along : LaneAlong Any (starting lane) tt turns at tt
     pub tell : Tell lane turns news
@@ -95,19 +95,19 @@ numbered cloud (port ∷ ports) = (record { 0 = cloud }, port) ∷ numbered (clo
 -- The lanes of these clouds, each on its port, one after another: each came to its end, and their lines are these. Or
 -- the ports failed in one: the lines are those of the lanes before it and of its own replies, and nothing was asked of
 -- the clouds behind it. Or memory ran out.
-pub data LanesGo (behind now : Telling) : List (CloudNo × ℕ) → List LaneView → Result (Unit {0}) Halt → List Line
+pub data LanesGoOnPorts (behind now : Telling) : List (CloudNo × ℕ) → List LaneView → Result (Unit {0}) Halt → List Line
     → List LaneView → Type 0 where
-  AllEnded : (views : List LaneView) → LanesGo behind now [] views (Ok tt) [] views
+  AllEnded : (views : List LaneView) → LanesGoOnPorts behind now [] views (Ok tt) [] views
   OneEnded : (line : CloudNo × ℕ) (rest : List (CloudNo × ℕ)) (views after : List LaneView)
       (came : Result (Unit {0}) StepErr) (news : List LaneNews) (state : LaneState) (result : Result (Unit {0}) Halt)
       (more : List Line)
       → LaneCame (Tells behind now line.1) (lane_at views line.0.0) came news state
-      → LanesGo behind now rest (with_state views line.0.0 state) result more after
-      → LanesGo behind now (line ∷ rest) views result (lane_lines line.0.0 came news ++ more) after
+      → LanesGoOnPorts behind now rest (with_state views line.0.0 state) result more after
+      → LanesGoOnPorts behind now (line ∷ rest) views result (lane_lines line.0.0 came news ++ more) after
   OneLost : (line : CloudNo × ℕ) (rest : List (CloudNo × ℕ)) (views : List LaneView) (news : List LaneNews)
       (lost : LaneLost (TellsUpTo behind now line.1) (lane_at views line.0.0) news)
       → All (λ (other : CloudNo × ℕ). Tells behind now other.1 SaysNothing) rest
-      → LanesGo behind now (line ∷ rest) views (Err halts.Lost) (map (step_line line.0.0) news)
+      → LanesGoOnPorts behind now (line ∷ rest) views (Err halts.Lost) (map (step_line line.0.0) news)
       (with_state views line.0.0 lost.at.lane.state)
   NoMemory : (lines : List (CloudNo × ℕ)) (views after : List LaneView) (answers : List Line)
-      → LanesGo behind now lines views (Err halts.NoMemory) answers after
+      → LanesGoOnPorts behind now lines views (Err halts.NoMemory) answers after

@@ -21,13 +21,13 @@ pub record IsFileRead (input : Input) (file : List ℕ) : Type 0 where
   pub still : input.faults_after ≡ input.faults_before
 
 -- The source has more than a file may have, and this is the first byte too many.
-pub record IsTooLong (input : Input) (byte : ℕ) : Type 0 where
+pub record IsFileTooLong (input : Input) (byte : ℕ) : Type 0 where
   pub byte_is : (left : List ℕ) → input.left ≡ Some left → slice_get left file_limit ≡ Some byte
   pub still : input.faults_after ≡ input.faults_before
 
 -- What reading the source to its end came to.
-abbrev pub Reads : Input → Result (List ℕ) FileReadErr → Type 0
-Reads input (Ok file) = IsFileRead input file
-Reads input (Err (errors.TooLong byte)) = IsTooLong input byte
-Reads input (Err errors.Failed) = Rose input.faults_before input.faults_after
-Reads input (Err errors.NoMemory) = input.faults_after ≡ input.faults_before
+abbrev pub ReadsBackupFile : Input → Result (List ℕ) FileReadErr → Type 0
+ReadsBackupFile input (Ok file) = IsFileRead input file
+ReadsBackupFile input (Err (errors.TooLong byte)) = IsFileTooLong input byte
+ReadsBackupFile input (Err errors.Failed) = Rose input.faults_before input.faults_after
+ReadsBackupFile input (Err errors.NoMemory) = input.faults_after ≡ input.faults_before

@@ -21,7 +21,7 @@ use Rattle.ports_link.specs.declared.judging.AskedClouds.TheVariants as asked
 use Rattle.ports_link.specs.declared.greeting.Greeted.{Greeted}
 use Rattle.ports_link.specs.declared.meeting.MeetErr.TheVariants as unmet
 use Rattle.ports_link.specs.declared.refused.Refused.{Refused}
-use Rattle.ports_link.specs.Dialled.{AreApart}
+use Rattle.ports_link.specs.Dialled.{ArePortsApart}
 use Rattle.ports_link.specs.Hellos.{HaveTalks, clouds_of}
 pub use Rattle.ports_link.specs.Hellos.{ports_of}
 use Rattle.ports_link.specs.Meeting.{MeetsAll}
@@ -31,19 +31,21 @@ use Rattle.backup_command.specs.declared.carrying.BackupErr.{BackupErr}
 use Rattle.backup_command.specs.declared.carrying.BackupErr.TheVariants as carry_errors
 use Rattle.backup_command.specs.Texts.{text_of, step_line, lane_lines, due_lines}
 use Rattle.backup_command.specs.Said.{greeted}
-use Rattle.backup_command.specs.Lanes.{LaneCame, LaneLost, LanesGo, Tells, TellsUpTo, numbered}
+use Rattle.backup_command.specs.Lanes.{LaneCame, LaneLost, LanesGoOnPorts, Tells, TellsUpTo, numbered}
 use Rattle.backup_command.specs.BackedUp.{BackupCall, version_of, Met, AreDone}
 
 -- ---- a lane's lines
 
 -- The lines of a lane that came to its end, or up to a failure of the ports, stand behind what was there.
-abbrev pub Puts : ℕ → Result (Unit {0}) StepErr → List LaneNews → Result (Unit {0}) Halt → List ℕ → List ℕ → Type 0
-Puts cloud (Ok u) news (Ok v) before now = now ≡ before ++ text_of (lane_lines cloud (Ok tt) news)
-Puts cloud (Err (errors.Strange kind)) news (Ok v) before now =
+abbrev pub PutsLaneLines : ℕ → Result (Unit {0}) StepErr → List LaneNews → Result (Unit {0}) Halt → List ℕ → List ℕ
+    → Type 0
+PutsLaneLines cloud (Ok u) news (Ok v) before now = now ≡ before ++ text_of (lane_lines cloud (Ok tt) news)
+PutsLaneLines cloud (Err (errors.Strange kind)) news (Ok v) before now =
     now ≡ before ++ text_of (lane_lines cloud (Err (errors.Strange kind)) news)
-Puts cloud (Err errors.Lost) news (Err halts.Lost) before now = now ≡ before ++ text_of (map (step_line cloud) news)
-Puts cloud came news (Err halts.NoMemory) before now = Unit {0}
-Puts cloud came news result before now = ⊥
+PutsLaneLines cloud (Err errors.Lost) news (Err halts.Lost) before now = now
+    ≡ before ++ text_of (map (step_line cloud) news)
+PutsLaneLines cloud came news (Err halts.NoMemory) before now = Unit {0}
+PutsLaneLines cloud came news result before now = ⊥
 
 -- ---- a link over ports
 
@@ -70,24 +72,24 @@ pub record IsCloudReady {P : Type 0} (behind : Telling) (tells : P → Telling) 
 pub record AreReady {P : Type 0} (behind : Telling) (tells : P → Telling) (link : PortsLink P)
     (lines : List (CloudNo × ℕ)) : Type 0 where
   pub told : (tells link.ports.now).told ≡ behind.told
-  pub clouds : AreApart (clouds_of lines)
-  pub ports : IsTrue behind.told → AreApart (ports_of lines)
+  pub clouds : ArePortsApart (clouds_of lines)
+  pub ports : IsTrue behind.told → ArePortsApart (ports_of lines)
   pub each : All (IsCloudReady behind tells link) lines
 
 -- ---- lanes over the link
 
 -- What the lane of a cloud came to, with its lines behind what was there.
-abbrev pub LaneGoes : Telling → Telling → CloudNo × ℕ → List LaneView → Result (Unit {0}) Halt → List LaneView
+abbrev pub LaneGoesOnPort : Telling → Telling → CloudNo × ℕ → List LaneView → Result (Unit {0}) Halt → List LaneView
     → List ℕ → List ℕ → Type 0
-LaneGoes behind now line views (Ok u) after before text =
+LaneGoesOnPort behind now line views (Ok u) after before text =
     (came : Result (Unit {0}) StepErr) × (news : List LaneNews) × (state : LaneState)
     × LaneCame (Tells behind now line.1) (lane_at views line.0.0) came news state
     × (after ≡ with_state views line.0.0 state) × (text ≡ before ++ text_of (lane_lines line.0.0 came news))
-LaneGoes behind now line views (Err halts.Lost) after before text =
+LaneGoesOnPort behind now line views (Err halts.Lost) after before text =
     (news : List LaneNews) × (lost : LaneLost (TellsUpTo behind now line.1) (lane_at views line.0.0) news)
     × (after ≡ with_state views line.0.0 lost.at.lane.state)
     × (text ≡ before ++ text_of (map (step_line line.0.0) news))
-LaneGoes behind now line views (Err halts.NoMemory) after before text = Unit {0}
+LaneGoesOnPort behind now line views (Err halts.NoMemory) after before text = Unit {0}
 
 -- the lines stand behind what was there, but where memory ran out
 abbrev pub Wrote : Result (Unit {0}) Halt → List ℕ → List ℕ → List Line → Type 0
@@ -99,7 +101,7 @@ Wrote (Err halts.NoMemory) before text answers = Unit {0}
 pub record LanesWent (behind now : Telling) (lines : List (CloudNo × ℕ)) (views : List LaneView)
     (result : Result (Unit {0}) Halt) (after : List LaneView) (before text : List ℕ) : Type 0 where
   pub answers : List Line
-  pub go : LanesGo behind now lines views result answers after
+  pub go : LanesGoOnPorts behind now lines views result answers after
   pub wrote : Wrote result before text answers
 
 -- the ports failed
@@ -110,7 +112,7 @@ IfLost result P = Unit {0}
 -- These ports were dialled for clouds 0, 1 and so on, and each of them was asked Hello, and nothing else.
 pub record AreGreetedOn (behind : Telling) (dialled : List ℕ) (lines : List (CloudNo × ℕ)) : Type 0 where
   pub lines_are : lines ≡ numbered 0 dialled
-  pub apart : IsTrue behind.told → AreApart dialled
+  pub apart : IsTrue behind.told → ArePortsApart dialled
   pub talks : IsTrue behind.told → HaveTalks behind lines
 
 -- The clouds are 0, 1 and so on, all of the shape.
@@ -126,7 +128,8 @@ pub record CameThrough (call : BackupCall) (file : List ℕ) (result : Result (U
   pub shape : Shape
   pub behind : Telling
   pub met : Met call dialled shape behind
-  pub lanes : LanesGo behind call.after (numbered 0 dialled) (lanes_begun shape (version_of call file)) result steps
+  pub lanes : LanesGoOnPorts behind call.after (numbered 0 dialled)
+      (lanes_begun shape (version_of call file)) result steps
       after
   pub others : IsTrue behind.told → (port : ℕ) → ¬ (Contains dialled port) → call.after.port port ≡ behind.port port
 
@@ -141,11 +144,13 @@ pub record StoppedShort (call : BackupCall) (file text : List ℕ) : Type 0 wher
 abbrev pub BringsFile : BackupCall → List ℕ → Shape → Telling → List ℕ → Result Bool BackupErr → List ℕ → Type 0
 BringsFile call file shape behind dialled (Ok stored) text =
     (steps : List Line) × (after : List LaneView)
-    × LanesGo behind call.after (numbered 0 dialled) (lanes_begun shape (version_of call file)) (Ok tt) steps after
+    × LanesGoOnPorts behind call.after (numbered 0 dialled) (lanes_begun shape (version_of call file))
+    (Ok tt) steps after
     × (IsTrue stored ↔ AreDone after) × (text ≡ text_of (due_lines steps stored))
 BringsFile call file shape behind dialled (Err carry_errors.Lost) text =
     (steps : List Line) × (after : List LaneView)
-    × LanesGo behind call.after (numbered 0 dialled) (lanes_begun shape (version_of call file)) (Err halts.Lost) steps
+    × LanesGoOnPorts behind call.after (numbered 0 dialled) (lanes_begun shape (version_of call file))
+    (Err halts.Lost) steps
     after
     × (text ≡ text_of (lines.Job 1 ∷ steps))
 BringsFile call file shape behind dialled (Err carry_errors.NoMemory) text = Unit {0}
@@ -167,15 +172,15 @@ abbrev pub HelloStopped : BackupCall → Type 0
 HelloStopped call = MeetsAll asked.Backup call.addresses call.before call.after (Err unmet.Lost)
 
 -- a reply to Hello was refused
-abbrev pub HelloRefused : BackupCall → Refused → Type 0
-HelloRefused call why = MeetsAll asked.Backup call.addresses call.before call.after (Err (unmet.Refused why))
+abbrev pub BackupHelloRefused : BackupCall → Refused → Type 0
+BackupHelloRefused call why = MeetsAll asked.Backup call.addresses call.before call.after (Err (unmet.Refused why))
 
 -- What became of a file that was read, with the text that is due.
 abbrev pub Carries : BackupCall → List ℕ → Result Bool BackupErr → List ℕ → Type 0
 Carries call file (Ok stored) text =
     (steps : List Line) × (after : List LaneView) × CameThrough call file (Ok tt) steps after
     × (IsTrue stored ↔ AreDone after) × (text ≡ text_of (due_lines steps stored))
-Carries call file (Err (carry_errors.Refused why)) text = HelloRefused call why
+Carries call file (Err (carry_errors.Refused why)) text = BackupHelloRefused call why
 Carries call file (Err carry_errors.Undialled) text = DialStopped call × Rose call.faults_before call.faults_after
 Carries call file (Err carry_errors.Unheard) text = HelloStopped call × Rose call.faults_before call.faults_after
 Carries call file (Err carry_errors.Lost) text = StoppedShort call file text × Rose call.faults_before call.faults_after

@@ -2,7 +2,7 @@
 
 ghost use Rattle.std.specs.Prelude.{◌≡◌, ◌≤◌, ◌⊎◌, length, IsTrue, if◌then◌else◌};
 ghost use Rattle.transcript.specs.CdBase.Limits.{IsPath};
-ghost use Rattle.backup_command.specs.BackedUp.{IsBackedUp, OnlyDialled};
+ghost use Rattle.backup_command.specs.BackedUp.{IsBackedUp, BackupDialsOnly};
 ghost use Rattle.backup_command.specs.Reading.{input_of};
 ghost use Rattle.backup_command.specs.Sends.{HasSentOwn};
 ghost use Rattle.backup_command.specs.Writing.{output_of};
@@ -71,7 +71,7 @@ pub fn backup<S: Source, K: Sink, P: Ports>(
         (output_of (K.written sink.old) (K.written sink.new) (K.faults sink.old) (K.faults sink.new)) }
 
     // Ports that were open before are as they were.
-    ensures others { IsTrue (P.tells ports.old).told → OnlyDialled (P.tells ports.old) (P.tells ports.new) }
+    ensures others { IsTrue (P.tells ports.old).told → BackupDialsOnly (P.tells ports.old) (P.tells ports.new) }
 
     // Whatever came of it, want of memory too: nothing was sent but Hellos and the requests of the job of the source's bytes, those of
     // each lane on its cloud's port, or pieces of them.

@@ -7,7 +7,7 @@ ghost use Rattle.transcript.specs.CdEdges.Causes.{Rose};
 ghost use Rattle.lane_steps.specs.Recipe.Spelling.{file_limit};
 ghost use Rattle.lane_steps.specs.UploadJob.Lanes.{lanes_begun};
 ghost use Rattle.lane_steps.specs.Reached.{IsReached};
-ghost use Rattle.backup_command.specs.BackedUp.{BackupCall, OnlyDialled, version_of};
+ghost use Rattle.backup_command.specs.BackedUp.{BackupCall, BackupDialsOnly, version_of};
 ghost use Rattle.backup_command.specs.Lanes.{numbered};
 ghost use Rattle.backup_command.specs.Sends.{IsAskOn, SendsOn, SendsOwn};
 ghost use Rattle.backup_command.specs.Steps.{AreGreetedOn, BringsFile, Carries, IfLost, IsCarryLost, IsNumbered};
@@ -197,7 +197,7 @@ pub fn carry<P: Ports>(
       faults_before = P.faults ports.old;
       faults_after = P.faults ports.new;
     }) file result text.new }
-    ensures others { IsTrue (P.tells ports.old).told → OnlyDialled (P.tells ports.old) (P.tells ports.new) }
+    ensures others { IsTrue (P.tells ports.old).told → BackupDialsOnly (P.tells ports.old) (P.tells ports.new) }
     ensures sends { IsTrue (P.tells ports.old).told → SendsOwn (record {
       user = user;
       path = path.now;

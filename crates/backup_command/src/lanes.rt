@@ -8,7 +8,8 @@ ghost use Rattle.ports_link.specs.Tells.{telling};
 ghost use Rattle.ports_link.specs.UserDedup.Link.{SaysNothingElse};
 ghost use Rattle.lane_steps.specs.Reached.{IsReached};
 ghost use Rattle.lane_steps.specs.Runs.{lane_at};
-ghost use Rattle.backup_command.specs.Steps.{AreReady, IfLost, IsCloudReady, LaneGoes, LanesWent, KeepsOtherPorts};
+ghost use Rattle.backup_command.specs.Steps.{AreReady, IfLost, IsCloudReady, LaneGoesOnPort, LanesWent};
+ghost use Rattle.backup_command.specs.Steps.{KeepsOtherPorts};
 ghost use Rattle.backup_command.specs.Steps.{Talked, ports_of};
 ghost use Rattle.backup_command.specs.Sends.{IsAskOf, IsAskOn, SendsFor, SendsOn};
 
@@ -45,7 +46,7 @@ pub fn bring_one<P: Ports>(
     requires reached { IsReached link.old.shape job.old }
     ensures goes { (behind : Telling) (port : ℕ) → (P.tells link.old.ports.now).told ≡ behind.told
         → IsCloudReady behind P.tells link.old (lane, port)
-        → LaneGoes behind (P.tells link.new.ports.now) (lane, port) job.old result job.new text.old text.new }
+        → LaneGoesOnPort behind (P.tells link.new.ports.now) (lane, port) job.old result job.new text.old text.new }
     ensures leaves { KeepsOtherPorts P.tells lane.0 link.old link.new }
     ensures talks { OnOk result (SaysNothingElse (Talked P.tells) lane.0 link.old link.new) }
     ensures sends { SendsFor P.tells lane.0 (IsAskOf (lane_at job.old lane.0).work) link.old link.new }

@@ -4,7 +4,7 @@ ghost use Rattle.std.specs.Prelude.{◌≡◌, ◌++◌, ◌∷◌, [], map, OnO
 ghost use Rattle.transcript.specs.declared.line.Line.TheVariants as lines;
 ghost use Rattle.transcript.specs.declared.news.News.TheVariants as news;
 ghost use Rattle.backup_command.specs.declared.halt.Halt.TheVariants as halts;
-ghost use Rattle.backup_command.specs.Steps.{Puts};
+ghost use Rattle.backup_command.specs.Steps.{PutsLaneLines};
 ghost use Rattle.backup_command.specs.Texts.{as_told, step_line, text_of, end_lines};
 
 use crate::halt::Halt;
@@ -80,7 +80,7 @@ pub fn put_lane(
     told: &[LaneNews],
     text: &mut Bytes,
 ) -> Result<(), Halt>
-    ensures { Puts lane.0 came told.now result text.old text.new }
+    ensures { PutsLaneLines lane.0 came told.now result text.old text.new }
 {
     match put_told(lane, told, text) {
         Ok(()) => {}

@@ -2,7 +2,7 @@
 
 ghost use Rattle.std.specs.Prelude.{◌≤◌, length, IfOk};
 ghost use Rattle.lane_steps.specs.Recipe.Spelling.{file_limit};
-ghost use Rattle.backup_command.specs.Reading.{Reads, input_of};
+ghost use Rattle.backup_command.specs.Reading.{ReadsBackupFile, input_of};
 
 use lane_steps::FileBytes;
 use std::alloc::Global;
@@ -24,7 +24,7 @@ const PIECE: usize = 65_536;
 
 /// Reads a source to its end. `TooLong` comes exactly where it has more bytes than a file may have.
 pub fn read_file<S: Source>(alloc: Global, source: &mut S) -> Result<FileBytes, FileReadErr>
-    ensures reads { Reads (input_of (S.left source.old) (S.faults source.old) (S.faults source.new)) result }
+    ensures reads { ReadsBackupFile (input_of (S.left source.old) (S.faults source.old) (S.faults source.new)) result }
 {
     let mut file = FileBytes::new(alloc);
     let mut piece = [0; PIECE];

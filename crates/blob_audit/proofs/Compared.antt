@@ -19,29 +19,29 @@ use Rattle.audit_base.specs.UserDedup.Owning.{fps_in}
 use Rattle.audit_base.specs.Whole.{Tables, Owns}
 use Rattle.blob_audit.specs.declared.errors.ReadErr.{ReadErr}
 use Rattle.blob_audit.specs.declared.errors.ReadErr.TheVariants.{Fault, Rotten, NoMemory}
-use Rattle.blob_audit.specs.Steps.{has_fault, IsWhole, IsOwnRecipe, IsFine, IsBlobRefused, JudgedAs, BlobAs}
+use Rattle.blob_audit.specs.Steps.{has_fault, IsWholeBlob, IsOwnRecipe, IsFine, IsBlobRefused, BlobJudgedAs, BlobAs}
 
 -- no answer about bytes is a device's fault
-pub judged_calm : (fine : Type 0) (fp real : Fp) (r : Result (Unit {0}) ReadErr) → JudgedAs fine fp real r → has_fault r ≡ false
+pub judged_calm : (fine : Type 0) (fp real : Fp) (r : Result (Unit {0}) ReadErr) → BlobJudgedAs fine fp real r → has_fault r ≡ false
 judged_calm fine fp real (Ok u) j = refl
 judged_calm fine fp real (Err Fault) j = absurd j
 judged_calm fine fp real (Err (Rotten named found)) j = refl
 judged_calm fine fp real (Err NoMemory) j = absurd j
 
-pub blob_judged : (fine : Type 0) (fp real : Fp) (r : Result (Unit {0}) ReadErr) → JudgedAs fine fp real r → BlobAs fine fp real r
+pub blob_judged : (fine : Type 0) (fp real : Fp) (r : Result (Unit {0}) ReadErr) → BlobJudgedAs fine fp real r → BlobAs fine fp real r
 blob_judged fine fp real (Ok u) j = j
 blob_judged fine fp real (Err Fault) j = absurd j
 blob_judged fine fp real (Err (Rotten named found)) j = j
 blob_judged fine fp real (Err NoMemory) j = absurd j
 
 -- a refused blob is refused where more is asked
-pub refused_more : (fine more : Type 0) (fp real : Fp) (e : ReadErr) → (more → fine) → JudgedAs fine fp real (Err e) → JudgedAs more fp real (Err e)
+pub refused_more : (fine more : Type 0) (fp real : Fp) (e : ReadErr) → (more → fine) → BlobJudgedAs fine fp real (Err e) → BlobJudgedAs more fp real (Err e)
 refused_more fine more fp real Fault only j = absurd j
 refused_more fine more fp real (Rotten named found) only j = record { is_named = j.is_named; is_found = j.is_found; lacks = λ m. j.lacks (only m) }
 refused_more fine more fp real NoMemory only j = absurd j
 
 -- a blob that is stored, and isn't fine beside
-pub refused_whole : (bytes : List ℕ) (len : ℕ) (fp : Fp) (fine : Type 0) → IsWhole bytes len fp → (fine → ⊥) → IsBlobRefused fine fp (fingerprint bytes) fp fp
+pub refused_whole : (bytes : List ℕ) (len : ℕ) (fp : Fp) (fine : Type 0) → IsWholeBlob bytes len fp → (fine → ⊥) → IsBlobRefused fine fp (fingerprint bytes) fp fp
 refused_whole bytes len fp fine whole lacks = record { is_named = refl; is_found = sym whole.hash; lacks = lacks }
 
 -- ---- recipes
@@ -55,7 +55,7 @@ pub too_long : (shape : Shape) (t : Tables) (user : UserId) (bytes : List ℕ) (
 too_long shape t user bytes len is more own = let short = recipe_short shape bytes own.recipe own.is_recipe in omega (arith, is, more, short)
 
 -- so an entry that is too long is refused
-pub long_refused : (shape : Option Shape) (s : Shape) → shape ≡ Some s → (t : Tables) (user : UserId) (e : Entry) (bytes : List ℕ) → 4194304 < e.len → IsWhole bytes e.len e.fp → IsBlobRefused (IsFine shape t user e bytes) e.fp (fingerprint bytes) e.fp e.fp
+pub long_refused : (shape : Option Shape) (s : Shape) → shape ≡ Some s → (t : Tables) (user : UserId) (e : Entry) (bytes : List ℕ) → 4194304 < e.len → IsWholeBlob bytes e.len e.fp → IsBlobRefused (IsFine shape t user e bytes) e.fp (fingerprint bytes) e.fp e.fp
 long_refused shape s is t user e bytes more whole =
     refused_whole bytes e.len e.fp (IsFine shape t user e bytes) whole
     (λ fine. too_long s t user bytes e.len whole.full more (subst (λ (o : Option Shape). IfSome o (λ q. IsOwnRecipe q t user bytes)) is fine.good))

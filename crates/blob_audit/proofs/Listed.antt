@@ -23,7 +23,7 @@ use Rattle.blob_audit.specs.declared.errors.ReadErr.{ReadErr}
 use Rattle.blob_audit.specs.declared.errors.ReadErr.TheVariants.{Fault, Rotten, NoMemory}
 use Rattle.blob_audit.specs.Reading.{StoredIs, GoodIs, OnReadFault, IsUnlike}
 use Rattle.blob_audit.specs.Reading as unlike
-use Rattle.blob_audit.specs.Steps.{has_fault, Counted, IsWhole, IsFine, ShareRead, FileRead, AllAs, SharesRead, FilesRead, BothRead}
+use Rattle.blob_audit.specs.Steps.{has_fault, Counted, IsWholeBlob, IsFine, ShareRead, FileRead, AllAs, SharesRead, FilesRead, BothRead}
 use Rattle.blob_audit.proofs.Owners.{owned_by_some}
 
 -- ---- slots one after another
@@ -49,7 +49,7 @@ pub good_share : (memory : CloudMemory) (image : Image) → IsEachLive memory.sh
     → (fp : Fp) (place : Place) → IsOwned (tables_of memory) fp → get memory.shares.places fp.0 ≡ Some place → IsStored (image Shares) place.at place.len fp
 good_share memory image each all fp place owned has =
     let live = each.stands fp.0 place has (owner_counted memory.shares.owners (owner_of owned.user.0 fp.0) owned.owns.uses owned.owns.has) in
-    let whole : IsWhole (stored_at (image Shares) place.at place.len) place.len fp = subst (λ (o : Option (List ℕ × Place)). ShareRead o image (Ok tt)) live.2 (all live.0 live.1) in
+    let whole : IsWholeBlob (stored_at (image Shares) place.at place.len) place.len fp = subst (λ (o : Option (List ℕ × Place)). ShareRead o image (Ok tt)) live.2 (all live.0 live.1) in
     record { full = whole.full; hash = whole.hash }
 
 pub bad_share : (memory : CloudMemory) (image : Image) (named found : Fp) → IsEachLive memory.shares → SharesRead memory image (Err (Rotten named found)) → BadShare (tables_of memory) (image Shares) named found

@@ -7,7 +7,7 @@ use Rattle.audit_base.specs.CdEdges.area.Area.{Area}
 use Rattle.audit_base.specs.CdEdges.Disk.{Image}
 use Rattle.blob_audit.specs.declared.errors.ReadErr.{ReadErr}
 use Rattle.blob_audit.specs.declared.held.Held.{Held}
-use Rattle.blob_audit.specs.Holding.{IsHeldInWindow, Along, IsIn, HasAll, slot_at}
+use Rattle.blob_audit.specs.Holding.{IsHeldInWindow, Along, IsSlotIn, HasAll, slot_at}
 use Rattle.blob_audit.specs.Steps.{AllAs}
 use Rattle.blob_audit.proofs.Listed.{one_more}
 
@@ -16,7 +16,7 @@ has_none slot less = absurd (omega arith)
 
 pub one_has : (slots at : ℕ) (order : List (ℕ × ℕ)) → HasAll slots order → HasAll (slots + 1) (order ++ (at, slots) ∷ [])
 one_has slots at order all =
-    below_more (IsIn (order ++ (at, slots) ∷ [])) slots
+    below_more (IsSlotIn (order ++ (at, slots) ∷ [])) slots
     (λ slot less. let old = all slot less in record { at = old.at; has = Contains-append_left order ((at, slots) ∷ []) (old.at, slot) old.has })
     (record { at = at; has = Contains-push order (at, slots) })
 

@@ -46,10 +46,10 @@ abbrev pub slot_at : List (ℕ × ℕ) → ℕ → ℕ
 slot_at order index = (slice_index_or order index (0, 0)).1
 
 -- A slot is in the list, beside a place.
-pub record IsIn (order : List (ℕ × ℕ)) (slot : ℕ) : Type 0 where
+pub record IsSlotIn (order : List (ℕ × ℕ)) (slot : ℕ) : Type 0 where
   pub at : ℕ
   pub has : Contains order (at, slot)
 
 -- Each slot is in the list.
 abbrev pub HasAll : ℕ → List (ℕ × ℕ) → Type 0
-HasAll slots order = (slot : ℕ) → slot < slots → IsIn order slot
+HasAll slots order = (slot : ℕ) → slot < slots → IsSlotIn order slot

@@ -84,7 +84,7 @@ pub record IsWholeLength (area : List ℕ) (place : Place) (len : ℕ) : Type 0 
 -- ---- blobs
 
 -- so many bytes, which hash to this
-pub record IsWhole (bytes : List ℕ) (len : ℕ) (fp : Fp) : Type 0 where
+pub record IsWholeBlob (bytes : List ℕ) (len : ℕ) (fp : Fp) : Type 0 where
   pub full : length bytes ≡ len
   pub hash : fingerprint bytes ≡ fp
 
@@ -96,7 +96,7 @@ pub record IsOwnRecipe (shape : Shape) (t : Tables) (user : UserId) (bytes : Lis
 
 -- the bytes of an entry, which are such a recipe where a shape is given
 pub record IsFine (shape : Option Shape) (t : Tables) (user : UserId) (e : Entry) (bytes : List ℕ) : Type 0 where
-  pub whole : IsWhole bytes e.len e.fp
+  pub whole : IsWholeBlob bytes e.len e.fp
   pub good : IfSome shape (λ s. IsOwnRecipe s t user bytes)
 
 -- A blob that isn't fine is named, with the hash of the bytes that are there.
@@ -106,11 +106,11 @@ pub record IsBlobRefused (fine : Type 0) (fp real named found : Fp) : Type 0 whe
   pub lacks : ¬ fine
 
 -- what is answered of a blob's bytes
-abbrev pub JudgedAs : Type 0 → Fp → Fp → Result (Unit {0}) ReadErr → Type 0
-JudgedAs fine fp real (Ok u) = fine
-JudgedAs fine fp real (Err Fault) = ⊥
-JudgedAs fine fp real (Err (Rotten named found)) = IsBlobRefused fine fp real named found
-JudgedAs fine fp real (Err NoMemory) = ⊥
+abbrev pub BlobJudgedAs : Type 0 → Fp → Fp → Result (Unit {0}) ReadErr → Type 0
+BlobJudgedAs fine fp real (Ok u) = fine
+BlobJudgedAs fine fp real (Err Fault) = ⊥
+BlobJudgedAs fine fp real (Err (Rotten named found)) = IsBlobRefused fine fp real named found
+BlobJudgedAs fine fp real (Err NoMemory) = ⊥
 
 -- the same, where a device may fail
 abbrev pub BlobAs : Type 0 → Fp → Fp → Result (Unit {0}) ReadErr → Type 0
@@ -128,7 +128,7 @@ FoundRead area place image r = IfOk r (λ found. AreFoundBytes (stored_at (image
 -- what is told of a share that was read
 abbrev pub PlacedRead : List ℕ → Place → Image → Result (Unit {0}) ReadErr → Type 0
 PlacedRead fp place image r =
-    BlobAs (IsWhole (stored_at (image Shares) place.at place.len) place.len (record { 0 = fp })) (record { 0 = fp }) (fingerprint (stored_at (image Shares) place.at place.len)) r
+    BlobAs (IsWholeBlob (stored_at (image Shares) place.at place.len) place.len (record { 0 = fp })) (record { 0 = fp }) (fingerprint (stored_at (image Shares) place.at place.len)) r
 
 -- what is told of an entry's recipe that was read
 abbrev pub EntryRead : Option Shape → Tables → UserId → Entry → Image → Result (Unit {0}) ReadErr → Type 0

@@ -5,8 +5,8 @@ ghost use Rattle.audit_base.specs.CdBase.ids.UserId.{UserId as User};
 ghost use Rattle.audit_base.specs.UserDedup.Cloud.{fingerprint};
 ghost use Rattle.audit_base.specs.Whole.{Tables, tables_of};
 ghost use Rattle.blob_audit.specs.Holding.{window_len};
-ghost use Rattle.blob_audit.specs.Steps.{has_fault, lacks_memory, AreFoundBytes, IsWhole, IsFine, IsOwnRecipe};
-ghost use Rattle.blob_audit.specs.Steps.{JudgedAs};
+ghost use Rattle.blob_audit.specs.Steps.{has_fault, lacks_memory, AreFoundBytes, IsWholeBlob, IsFine, IsOwnRecipe};
+ghost use Rattle.blob_audit.specs.Steps.{BlobJudgedAs};
 
 use crate::ReadErr;
 use crate::pieces::Found;
@@ -22,7 +22,7 @@ fn is_whole(named: &Fp, len: u32, found: &Found) -> bool
 /// Compares what lies at a blob's place with its fingerprint and length.
 pub(crate) fn judge(named: Fp, len: u32, found: &Found) -> Result<(), ReadErr>
     ensures judged { (bytes : List ℕ) → AreFoundBytes bytes found.now
-        → JudgedAs (IsWhole bytes len named) named (fingerprint bytes) result }
+        → BlobJudgedAs (IsWholeBlob bytes len named) named (fingerprint bytes) result }
     ensures calm { has_fault result ≡ false }
     ensures memory { lacks_memory result ≡ false }
 {
@@ -38,7 +38,7 @@ pub(crate) fn judge(named: Fp, len: u32, found: &Found) -> Result<(), ReadErr>
 
 /// Compares the bytes at a blob's place with its fingerprint and length.
 pub(crate) fn judge_bytes(named: Fp, len: u32, bytes: &[u8]) -> Result<(), ReadErr>
-    ensures judged { JudgedAs (IsWhole bytes.now len named) named (fingerprint bytes.now) result }
+    ensures judged { BlobJudgedAs (IsWholeBlob bytes.now len named) named (fingerprint bytes.now) result }
     ensures memory { lacks_memory result ≡ false }
 {
     let found = Found {
@@ -68,7 +68,7 @@ pub(crate) fn judge_entry(
     bytes: &[u8],
 ) -> Result<(), ReadErr>
     requires { length bytes.now < 2 ^ 32 }
-    ensures judged { JudgedAs (IsFine shape (tables_of memory.now) user entry bytes.now) entry.fp
+    ensures judged { BlobJudgedAs (IsFine shape (tables_of memory.now) user entry bytes.now) entry.fp
         (fingerprint bytes.now) result }
     ensures memory { lacks_memory result ≡ false }
 {
@@ -94,7 +94,7 @@ pub(crate) fn judge_entry(
 pub(crate) fn judge_long(shape: Option<Shape>, entry: Entry, found: &Found) -> Result<(), ReadErr>
     requires { window_len < entry.len }
     ensures judged { (t : Tables) (user : User) (bytes : List ℕ) → AreFoundBytes bytes found.now
-        → JudgedAs (IsFine shape t user entry bytes) entry.fp (fingerprint bytes) result }
+        → BlobJudgedAs (IsFine shape t user entry bytes) entry.fp (fingerprint bytes) result }
     ensures calm { has_fault result ≡ false }
     ensures memory { lacks_memory result ≡ false }
 {

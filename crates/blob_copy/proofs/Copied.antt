@@ -23,11 +23,11 @@ use Rattle.fresh_checkpoints.specs.Checkpoints.Picking.{picked}
 use Rattle.fresh_checkpoints.proofs.CompactMemories.Relaying.{laid_grows}
 use Rattle.blob_copy.specs.Apart.{IsApart}
 use Rattle.blob_copy.specs.Copies.{Blob, IsRight, copies_at}
-use Rattle.blob_copy.specs.Runs.{AreRead, CopiesTo, blob_lens, all_end}
+use Rattle.blob_copy.specs.Runs.{AreBlobsRead, CopiesTo, blob_lens, all_end}
 use Rattle.blob_copy.proofs.Gathered.{laid_append, lens_blobs}
 use Rattle.blob_copy.proofs.Rightly.{are_right, are_copies}
 
-read_lens : (told : Bool) (area : List ℕ) (bs : List Blob) (ss : List (List ℕ)) → AreRead told area bs ss → lengths ss ≡ blob_lens bs
+read_lens : (told : Bool) (area : List ℕ) (bs : List Blob) (ss : List (List ℕ)) → AreBlobsRead told area bs ss → lengths ss ≡ blob_lens bs
 read_lens told area [] [] read = refl
 read_lens told area [] (s ∷ ss) read = absurd read
 read_lens told area (b ∷ bs) [] read = absurd read

@@ -11,7 +11,7 @@ use Rattle.fresh_checkpoints.specs.Checkpoints.Picking.{onto, picked}
 use Rattle.fresh_checkpoints.proofs.Checkpoints.Picks.{picked-append}
 use Rattle.fresh_checkpoints.proofs.CompactMemories.Relaying.{laid_grows}
 use Rattle.blob_copy.specs.Copies.{Blob}
-use Rattle.blob_copy.specs.Runs.{IsReadAs, AreRead, blob_lens, StagesMore, StagesTo, StagesSome, all_end}
+use Rattle.blob_copy.specs.Runs.{IsReadAs, AreBlobsRead, blob_lens, StagesMore, StagesTo, StagesSome, all_end}
 
 -- ---- ends
 
@@ -29,7 +29,7 @@ with_blob_end log out =
 
 -- ---- what is read
 
-read_append : (told : Bool) (area : List ℕ) (bs ds : List Blob) (ss ts : List (List ℕ)) → AreRead told area bs ss → AreRead told area ds ts → AreRead told area (bs ++ ds) (ss ++ ts)
+read_append : (told : Bool) (area : List ℕ) (bs ds : List Blob) (ss ts : List (List ℕ)) → AreBlobsRead told area bs ss → AreBlobsRead told area ds ts → AreBlobsRead told area (bs ++ ds) (ss ++ ts)
 read_append told area [] ds [] ts one two = two
 read_append told area [] ds (s ∷ ss) ts one two = absurd one
 read_append told area (b ∷ bs) ds [] ts one two = absurd one

@@ -11,7 +11,7 @@ use Rattle.fresh_checkpoints.specs.Checkpoints.Picking.{onto, picked}
 use Rattle.fresh_checkpoints.proofs.Checkpoints.Sought.{in_picked}
 use Rattle.blob_copy.specs.Answers.{MatchCopy, EitherWay, IsRotten}
 use Rattle.blob_copy.specs.Copies.{Blob, found_in}
-use Rattle.blob_copy.specs.Runs.{StagesMore, StagesTo, OnlyReads, all_end}
+use Rattle.blob_copy.specs.Runs.{StagesMore, StagesTo, IsReadAlone, all_end}
 use Rattle.blob_copy.specs.declared.copying.CopyErr.{CopyErr}
 use Rattle.blob_copy.specs.declared.copying.CopyErr.TheVariants as why
 use Rattle.blob_copy.proofs.Gathered.{slots_begin, slots_on, end_on}
@@ -41,7 +41,7 @@ module _ (told : Bool) (area : List ℕ) (b : Blob) (bs : List Blob) (log after 
 
 -- ---- slot after slot
 
-pub read_twice : (a b c : ℕ → Cloud) (number before mid now : ℕ) → OnlyReads a b number before mid → OnlyReads b c number mid now → OnlyReads a c number before now
+pub read_twice : (a b c : ℕ → Cloud) (number before mid now : ℕ) → IsReadAlone a b number before mid → IsReadAlone b c number mid now → IsReadAlone a c number before now
 read_twice a b c number before mid now one two = record {
   stays = record { armed = two.stays.armed ∙ one.stays.armed; past = two.stays.past ∙ one.stays.past; now = two.stays.now ∙ one.stays.now };
   call = called_twice a b c number before mid now one.call two.call;
@@ -53,7 +53,7 @@ counted_twice a b c before mid now one two = record { cloud = two.cloud ∙ one.
 -- The slots from the one on were gone over, up to the other; the cloud was read alone, and no call failed.
 pub record Going {E X : Type 0} (f : Option E → Option X) (blob : X → Blob) (slots : List (Option E)) (from slot : ℕ) (old new : ℕ → Cloud) (number before now : ℕ) (a b : State) : Type 0 where
   pub goes : StagesTo f blob slots from slot (old number) a b
-  pub reads : OnlyReads old new number before now
+  pub reads : IsReadAlone old new number before now
   pub counts : KeepsCounts (old number) (new number) before now
 
 module _ {E X : Type 0} (f : Option E → Option X) (blob : X → Blob) (slots : List (Option E)) (from : ℕ) (old : ℕ → Cloud) (number before : ℕ) (a : State) where
@@ -70,7 +70,7 @@ module _ {E X : Type 0} (f : Option E → Option X) (blob : X → Blob) (slots :
   module _ (slot : ℕ) (mid new : ℕ → Cloud) (between now : ℕ) (b c : State) (g : Going f blob slots from slot old mid number before between a b) where
     pub going_on : slot < length slots → (staged : Bool) → staged ≡ true
         → OneStaged (mid number).told (in_area b (mid number)) (map blob (onto (f (slice_index_or slots slot None)) [])) b c staged
-        → OnlyReads mid new number between now → KeepsCounts (mid number) (new number) between now
+        → IsReadAlone mid new number between now → KeepsCounts (mid number) (new number) between now
         → Going f blob slots from (slot + 1) old new number before now a c
     going_on below staged is one reads counts = record {
       goes = slots_on f blob slots (old number) from a slot (mid number) b c below g.goes g.reads.call.told g.reads.stays.now

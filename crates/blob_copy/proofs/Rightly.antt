@@ -29,12 +29,12 @@ use Rattle.cloud_store.specs.declared.store.CloudStore.{CloudStore}
 use Rattle.blob_copy.specs.Answers.{IsRotten}
 use Rattle.blob_copy.specs.Copies.{Blob, share_blob, entry_blob, found_in, IsRight, copies_at}
 use Rattle.blob_copy.specs.Copying.{IsCopying}
-use Rattle.blob_copy.specs.Runs.{AreRead}
+use Rattle.blob_copy.specs.Runs.{AreBlobsRead}
 use Rattle.blob_copy.specs.declared.copying.Copying.{Copying}
 
 -- ---- what was read
 
-pub are_right : (told : Bool) (area : List ℕ) (bs : List Blob) (ss : List (List ℕ)) → AreRead told area bs ss → IsTrue told → All (IsRight area) bs
+pub are_right : (told : Bool) (area : List ℕ) (bs : List Blob) (ss : List (List ℕ)) → AreBlobsRead told area bs ss → IsTrue told → All (IsRight area) bs
 are_right told area [] [] read t = All-nil (IsRight area)
 are_right told area [] (s ∷ ss) read t = absurd read
 are_right told area (b ∷ bs) [] read t = absurd read
@@ -42,7 +42,7 @@ are_right told area (b ∷ bs) (s ∷ ss) read t =
     let found = read.0.found t in
     All-cons (IsRight area) b bs (record { long = ap length (sym found) ∙ read.0.long; hashed = ap fingerprint (sym found) ∙ read.0.hashed }) (are_right told area bs ss read.1 t)
 
-pub are_copies : (told : Bool) (area : List ℕ) (end : ℕ) (bs : List Blob) (ss : List (List ℕ)) → AreRead told area bs ss → IsTrue told → placed end ss ≡ copies_at area end bs
+pub are_copies : (told : Bool) (area : List ℕ) (end : ℕ) (bs : List Blob) (ss : List (List ℕ)) → AreBlobsRead told area bs ss → IsTrue told → placed end ss ≡ copies_at area end bs
 are_copies told area end [] [] read t = refl
 are_copies told area end [] (s ∷ ss) read t = absurd read
 are_copies told area end (b ∷ bs) [] read t = absurd read

@@ -18,7 +18,7 @@ use Rattle.compact_lists.specs.UserDedup.Spending.{SpentByUser, UsesWithin, limi
 use Rattle.fresh_checkpoints.specs.CloudAreas.Chains.{laid_shares}
 use Rattle.fresh_checkpoints.specs.CloudAreas.Placing.{region_start, greatest_end, places_of, shares_in, recipes_in}
 use Rattle.fresh_checkpoints.specs.CloudAreas.Standing.{Chain, IsChain, StandsFor}
-use Rattle.fresh_checkpoints.specs.CloudDisk.Disk.{Disk, IsRead, IsBehind}
+use Rattle.fresh_checkpoints.specs.CloudDisk.Disk.{Disk, IsRead, IsLogBehind}
 use Rattle.fresh_checkpoints.specs.CloudDisk.Held.{LieIn}
 use Rattle.fresh_checkpoints.proofs.CloudDiskLaws.Both.{as_read}
 use Rattle.fresh_checkpoints.proofs.CloudDiskLaws.Holding.{agrees_as}
@@ -107,7 +107,7 @@ module _ (list : List Command) (c : Chain) (store : CloudStore) (copying : Copyi
     next = checkpoint_in store.header kept c commands other new
 
     behind : (area : Area) (places : List Place) (old log : logs.State) → log ≡ old → old.area ≡ area → greatest_end (region_start other) places ≤ old.end
-        → logs.Agrees old (cloud.now area).read → c1.now area ≡ cloud.now area → IsBehind area other places log c1.now
+        → logs.Agrees old (cloud.now area).read → c1.now area ≡ cloud.now area → IsLogBehind area other places log c1.now
     behind area places old log same is far agrees still = record {
       area_is = ap (λ (s : logs.State). s.area) same ∙ is;
       behind = subst (λ (s : logs.State). greatest_end (region_start other) places ≤ s.end) (sym same) far;

@@ -19,7 +19,7 @@ use Rattle.cloud_store.specs.declared.store.CloudStore.{CloudStore}
 use Rattle.cloud_store.specs.Store.{IsSettled}
 use Rattle.blob_copy.specs.declared.copying.CopyErr.{CopyErr}
 use Rattle.blob_copy.specs.declared.copying.CopyErr.TheVariants as why
-use Rattle.blob_copy.specs.Answers.{IfRotten, NeverWrong}
+use Rattle.blob_copy.specs.Answers.{IfCopyRotten, NeverWrong}
 use Rattle.blob_copy.specs.Switched.{OnLong, IsMovedTo}
 
 -- ---- answers
@@ -38,7 +38,7 @@ long_map (Err why.Fault) P Q f p = tt
 long_map (Err (why.Rotten named found)) P Q f p = tt
 long_map (Err why.Long) P Q f p = f p
 
-pub never : {T : Type 0} (r : Result T CopyErr) → OnLong r ⊥ → IfRotten r (λ named found. ⊥) → NeverWrong r
+pub never : {T : Type 0} (r : Result T CopyErr) → OnLong r ⊥ → IfCopyRotten r (λ named found. ⊥) → NeverWrong r
 never (Ok v) long rotten = tt
 never (Err why.Fault) long rotten = tt
 never (Err (why.Rotten named found)) long rotten = rotten

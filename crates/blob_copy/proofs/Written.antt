@@ -5,7 +5,7 @@ use Rattle.fresh_checkpoints.specs.CdEdges.area.Area.{Area}
 use Rattle.fresh_checkpoints.specs.CdEdges.Disk.{Areas, Store, Image, Cloud, LeavesOnly, MayLeave, IsAtArea}
 use Rattle.fresh_checkpoints.specs.CdEdges.Shelf.{Stays, stable, wrote}
 use Rattle.fresh_checkpoints.proofs.CdEdges.Moments.{stayed}
-use Rattle.record_laws.specs.ContainerLog.Caches.{Kept, AreOf}
+use Rattle.record_laws.specs.ContainerLog.Caches.{Kept, AreContainersOf}
 use Rattle.record_laws.specs.ContainerLog.Laying.{Placed, IsAt, laid, placed}
 use Rattle.record_laws.specs.ContainerLog.Places.{end_of_laid}
 use Rattle.record_laws.specs.ContainerLog.States.{State, HasStaged, Agrees, OnAgreeing, IsTorn, staged_end, in_area, area_flushed}
@@ -143,7 +143,7 @@ module _ {E X : Type 0} (f : Option E → Option X) (blob : X → Blob) (slots :
         end_is = ap (λ (l : State). l.end) flushed ∙ s.goes.stages.ends ∙ ap (λ (n : ℕ). end_of_laid n (blob_lens (map blob s.goes.more))) start_is;
         none = nothing_staged;
         agrees = λ told had. agrees (told_mid told)
-            (subst (λ (bytes : List ℕ). AreOf bytes after.kept) (sym bytes_are) (subst (λ (k : List Kept). AreOf (in_area log old) k) (sym (ap (λ (l : State). l.kept) s.goes.stages.same)) had));
+            (subst (λ (bytes : List ℕ). AreContainersOf bytes after.kept) (sym bytes_are) (subst (λ (k : List Kept). AreContainersOf (in_area log old) k) (sym (ap (λ (l : State). l.kept) s.goes.stages.same)) had));
         lie = λ told. subst (λ (bytes : List ℕ). All (IsAt bytes) (placed log.end s.goes.stages.strings)) now_are
             (subst (λ (n : ℕ). All (IsAt (in_area after new)) (placed n s.goes.stages.strings)) end_is (placed_all (told_mid told) s.goes.stages.strings has));
         apart = stays_apart;

@@ -24,11 +24,11 @@ MatchStep (Err why.Fault) more done rotten long = Unit {0}
 MatchStep (Err (why.Rotten named found)) more done rotten long = rotten
 MatchStep (Err why.Long) more done rotten long = long
 
-abbrev pub IfRotten : {T : Type 0} → Result T CopyErr → (Fp → Fp → Type 0) → Type 0
-IfRotten (Ok v) P = Unit {0}
-IfRotten (Err why.Fault) P = Unit {0}
-IfRotten (Err (why.Rotten named found)) P = P named found
-IfRotten (Err why.Long) P = Unit {0}
+abbrev pub IfCopyRotten : {T : Type 0} → Result T CopyErr → (Fp → Fp → Type 0) → Type 0
+IfCopyRotten (Ok v) P = Unit {0}
+IfCopyRotten (Err why.Fault) P = Unit {0}
+IfCopyRotten (Err (why.Rotten named found)) P = P named found
+IfCopyRotten (Err why.Long) P = Unit {0}
 
 -- a device failed, and else another fact
 abbrev pub MatchFault : {T : Type 0} → Result T CopyErr → (failed other : Type 0) → Type 0

@@ -26,11 +26,11 @@ pub record IsReadAs (told : Bool) (area : List ℕ) (b : Blob) (bytes : List ℕ
   pub hashed : fingerprint bytes ≡ b.named
   pub found : IsTrue told → bytes ≡ found_in area b
 
-abbrev pub AreRead : Bool → List ℕ → List Blob → List (List ℕ) → Type 0
-AreRead told area [] [] = Unit {0}
-AreRead told area [] (s ∷ ss) = ⊥
-AreRead told area (b ∷ bs) [] = ⊥
-AreRead told area (b ∷ bs) (s ∷ ss) = IsReadAs told area b s × AreRead told area bs ss
+abbrev pub AreBlobsRead : Bool → List ℕ → List Blob → List (List ℕ) → Type 0
+AreBlobsRead told area [] [] = Unit {0}
+AreBlobsRead told area [] (s ∷ ss) = ⊥
+AreBlobsRead told area (b ∷ bs) [] = ⊥
+AreBlobsRead told area (b ∷ bs) (s ∷ ss) = IsReadAs told area b s × AreBlobsRead told area bs ss
 
 abbrev pub blob_lens : List Blob → List ℕ
 blob_lens bs = map (λ (b : Blob). b.len) bs
@@ -45,7 +45,7 @@ HasRotten {X = X} blob xs area named found =
 -- These blobs were read and staged behind what was.
 pub record StagesMore (told : Bool) (area : List ℕ) (bs : List Blob) (before after : State) : Type 0 where
   pub strings : List (List ℕ)
-  pub read : AreRead told area bs strings
+  pub read : AreBlobsRead told area bs strings
   pub same : after ≡ record before { staged = after.staged }
   pub staged : (first : List (List ℕ)) → HasStaged before first → HasStaged after (first ++ strings)
   pub ends : staged_end after ≡ end_of_laid (staged_end before) (blob_lens bs)
@@ -64,7 +64,7 @@ pub record StagesSome {E X : Type 0} (f : Option E → Option X) (blob : X → B
   pub some : 1 ≤ length goes.more
 
 -- One cloud was read alone.
-pub record OnlyReads (old new : ℕ → Cloud) (number before now : ℕ) : Type 0 where
+pub record IsReadAlone (old new : ℕ → Cloud) (number before now : ℕ) : Type 0 where
   pub stays : Stays (old number) (new number)
   pub call : IsCall old new number before now
 
@@ -82,7 +82,7 @@ pub record CopiesTo {E X : Type 0} (f : Option E → Option X) (blob : X → Blo
   pub further : from ≤ to
   pub some : 1 ≤ length more
   pub strings : List (List ℕ)
-  pub read : AreRead old.told (in_area before old) (map blob more) strings
+  pub read : AreBlobsRead old.told (in_area before old) (map blob more) strings
   pub same : after ≡ record before { end = after.end; kept = after.kept }
   pub end_is : after.end ≡ end_of_laid before.end (blob_lens (map blob more))
   pub none : HasStaged after []

@@ -8,12 +8,12 @@ ghost use Rattle.record_laws.specs.ContainerLog.States.{HasStaged, need_of, stag
 ghost use Rattle.record_laws.specs.FileIndex.key.Entry.{Entry};
 ghost use Rattle.record_laws.specs.FileIndex.key.FileKey.{FileKey};
 ghost use Rattle.compact_lists.specs.UserDedup.Strings.{fingerprint};
-ghost use Rattle.fresh_checkpoints.specs.CloudMemory.Fitting.{AreShares, AreShort};
+ghost use Rattle.fresh_checkpoints.specs.CloudMemory.Fitting.{AreSharePlaces, AreShort};
 ghost use Rattle.fresh_checkpoints.specs.Checkpoints.Picking.{onto};
 ghost use Rattle.fresh_checkpoints.specs.CompactMemories.Kept.{live_at, live_in, live_places, entries_in, live_entries};
 ghost use Rattle.blob_copy.specs.Answers.{MatchFault, MatchCopy, EitherWay, IsRotten, bytes_at};
 ghost use Rattle.blob_copy.specs.Copies.{share_blob, entry_blob};
-ghost use Rattle.blob_copy.specs.Runs.{IsReadAs, StagesMore, StagesSome, HasRotten, OnlyReads, all_end};
+ghost use Rattle.blob_copy.specs.Runs.{IsReadAs, StagesMore, StagesSome, HasRotten, IsReadAlone, all_end};
 ghost use Rattle.blob_copy.specs.Runs.{CopiesTo, MayTear};
 
 use crate::CopyErr;
@@ -52,7 +52,7 @@ fn read_blob<V: Shelf>(
         (length out.old) name found)) }
     ensures long { length out.new ≡ length out.old }
     ensures log { log.new ≡ log.old }
-    ensures reads { OnlyReads (V.cloud_at shelf.old) (V.cloud_at shelf.new) cloud.0
+    ensures reads { IsReadAlone (V.cloud_at shelf.old) (V.cloud_at shelf.new) cloud.0
         (V.faults shelf.old) (V.faults shelf.new) }
     ensures counts { MatchFault result
         (HasFailed (V.cloud_at shelf.old cloud.0) (V.cloud_at shelf.new cloud.0)
@@ -95,7 +95,7 @@ fn copy_blob<V: Shelf>(
         → IsRotten (bytes_at (in_area log.old (V.cloud_at shelf.old cloud.0)) at (length out.old))
         (length out.old) name found)) }
     ensures long { length out.new ≡ length out.old }
-    ensures reads { OnlyReads (V.cloud_at shelf.old) (V.cloud_at shelf.new) cloud.0
+    ensures reads { IsReadAlone (V.cloud_at shelf.old) (V.cloud_at shelf.new) cloud.0
         (V.faults shelf.old) (V.faults shelf.new) }
     ensures counts { MatchFault result
         (HasFailed (V.cloud_at shelf.old cloud.0) (V.cloud_at shelf.new cloud.0)
@@ -134,7 +134,7 @@ fn stage_blob<V: Shelf>(
         (λ name found. (log.new ≡ log.old) × (name ≡ named.now) × (IsTrue (V.cloud_at shelf.old cloud.0).told
         → IsRotten (bytes_at (in_area log.old (V.cloud_at shelf.old cloud.0)) at len) len name found)) }
     ensures buffer { length buffer.new ≡ length buffer.old }
-    ensures reads { OnlyReads (V.cloud_at shelf.old) (V.cloud_at shelf.new) cloud.0
+    ensures reads { IsReadAlone (V.cloud_at shelf.old) (V.cloud_at shelf.new) cloud.0
         (V.faults shelf.old) (V.faults shelf.new) }
     ensures counts { MatchFault result
         (HasFailed (V.cloud_at shelf.old cloud.0) (V.cloud_at shelf.new cloud.0)
@@ -162,7 +162,7 @@ fn stage_share<V: Shelf>(
     buffer: &mut [u8],
 ) -> Result<bool, CopyErr>
     requires inside { slot < length memory.now.shares.place_slots }
-    requires fits { AreShares memory.now.shares.places }
+    requires fits { AreSharePlaces memory.now.shares.places }
     requires buffer { recipe_limit ≤ length buffer.old }
     requires within { all_end (live_at memory.now.shares.owners) share_blob memory.now.shares.place_slots
         slot (staged_end log.old) ≤ log.old.limit }
@@ -177,7 +177,7 @@ fn stage_share<V: Shelf>(
         → HasRotten share_blob (live_places memory.now)
         (in_area log.old (V.cloud_at shelf.old cloud.0)) name found)) }
     ensures buffer { length buffer.new ≡ length buffer.old }
-    ensures reads { OnlyReads (V.cloud_at shelf.old) (V.cloud_at shelf.new) cloud.0
+    ensures reads { IsReadAlone (V.cloud_at shelf.old) (V.cloud_at shelf.new) cloud.0
         (V.faults shelf.old) (V.faults shelf.new) }
     ensures counts { MatchFault result
         (HasFailed (V.cloud_at shelf.old cloud.0) (V.cloud_at shelf.new cloud.0)
@@ -215,7 +215,7 @@ fn stage_recipe<V: Shelf>(
         → HasRotten entry_blob (live_entries memory.now)
         (in_area log.old (V.cloud_at shelf.old cloud.0)) name found)) }
     ensures buffer { length buffer.new ≡ length buffer.old }
-    ensures reads { OnlyReads (V.cloud_at shelf.old) (V.cloud_at shelf.new) cloud.0
+    ensures reads { IsReadAlone (V.cloud_at shelf.old) (V.cloud_at shelf.new) cloud.0
         (V.faults shelf.old) (V.faults shelf.new) }
     ensures counts { MatchFault result
         (HasFailed (V.cloud_at shelf.old cloud.0) (V.cloud_at shelf.new cloud.0)
@@ -243,7 +243,7 @@ fn stage_shares<V: Shelf>(
 ) -> Result<u32, CopyErr>
     requires some { length (live_in memory.now.shares.owners (take from memory.now.shares.place_slots))
         < length (live_places memory.now) }
-    requires fits { AreShares memory.now.shares.places }
+    requires fits { AreSharePlaces memory.now.shares.places }
     requires buffer { recipe_limit ≤ length buffer.old }
     requires none { HasStaged log.old [] }
     requires within { all_end (live_at memory.now.shares.owners) share_blob memory.now.shares.place_slots
@@ -256,7 +256,7 @@ fn stage_shares<V: Shelf>(
         × (IsTrue (V.cloud_at shelf.old cloud.0).told → HasRotten share_blob (live_places memory.now)
         (in_area log.old (V.cloud_at shelf.old cloud.0)) name found)) }
     ensures buffer { length buffer.new ≡ length buffer.old }
-    ensures reads { OnlyReads (V.cloud_at shelf.old) (V.cloud_at shelf.new) cloud.0
+    ensures reads { IsReadAlone (V.cloud_at shelf.old) (V.cloud_at shelf.new) cloud.0
         (V.faults shelf.old) (V.faults shelf.new) }
     ensures counts { MatchFault result
         (HasFailed (V.cloud_at shelf.old cloud.0) (V.cloud_at shelf.new cloud.0)
@@ -302,7 +302,7 @@ fn stage_recipes<V: Shelf>(
         × (IsTrue (V.cloud_at shelf.old cloud.0).told → HasRotten entry_blob (live_entries memory.now)
         (in_area log.old (V.cloud_at shelf.old cloud.0)) name found)) }
     ensures buffer { length buffer.new ≡ length buffer.old }
-    ensures reads { OnlyReads (V.cloud_at shelf.old) (V.cloud_at shelf.new) cloud.0
+    ensures reads { IsReadAlone (V.cloud_at shelf.old) (V.cloud_at shelf.new) cloud.0
         (V.faults shelf.old) (V.faults shelf.new) }
     ensures counts { MatchFault result
         (HasFailed (V.cloud_at shelf.old cloud.0) (V.cloud_at shelf.new cloud.0)
@@ -345,7 +345,7 @@ pub(crate) fn copy_shares<V: Shelf>(
 ) -> Result<u32, CopyErr>
     requires some { length (live_in memory.now.shares.owners (take from memory.now.shares.place_slots))
         < length (live_places memory.now) }
-    requires fits { AreShares memory.now.shares.places }
+    requires fits { AreSharePlaces memory.now.shares.places }
     requires buffer { recipe_limit ≤ length buffer.old }
     requires none { HasStaged log.old [] }
     requires within { all_end (live_at memory.now.shares.owners) share_blob memory.now.shares.place_slots

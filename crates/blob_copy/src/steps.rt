@@ -10,13 +10,13 @@ ghost use Rattle.record_laws.specs.FileIndex.key.FileKey.{FileKey};
 ghost use Rattle.compact_lists.specs.UserDedup.command.Command.{Command};
 ghost use Rattle.fresh_checkpoints.specs.CloudAreas.Standing.{Chain};
 ghost use Rattle.fresh_checkpoints.specs.Checkpoints.Settling.{KeepsList};
-ghost use Rattle.fresh_checkpoints.specs.CloudMemory.Fitting.{AreShares, AreShort};
+ghost use Rattle.fresh_checkpoints.specs.CloudMemory.Fitting.{AreSharePlaces, AreShort};
 ghost use Rattle.fresh_checkpoints.specs.CloudMemory.Live.{IsEachLive};
 ghost use Rattle.record_laws.specs.PoolMap.Slots.{IsListed};
 ghost use Rattle.fresh_checkpoints.specs.CompactMemories.Kept.{live_sum, live_at, live_in, live_places, entries_in, live_entries};
 ghost use Rattle.cloud_store.specs.Adding.{NoneStaged};
 ghost use Rattle.cloud_store.specs.Store.{IsOpen, IsSettled, EndsMeet, Serves};
-ghost use Rattle.blob_copy.specs.Answers.{MatchStep, MatchCopy, IfRotten, MatchFault, NeverLong, NeverWrong};
+ghost use Rattle.blob_copy.specs.Answers.{MatchStep, MatchCopy, IfCopyRotten, MatchFault, NeverLong, NeverWrong};
 ghost use Rattle.blob_copy.specs.Answers.{EitherWay, SomeRotten, stage_after};
 ghost use Rattle.blob_copy.specs.Copies.{HasCopied, KeepsBeside, IsBeside, share_blob, entry_blob};
 ghost use Rattle.blob_copy.specs.Runs.{HasRotten, CopiesTo, MayTear, all_end, behind_error};
@@ -113,7 +113,7 @@ fn copy_shares_on_disk<V: Shelf>(
 ) -> Result<u32, CopyErr>
     requires some { length (live_in memory.now.shares.owners (take from memory.now.shares.place_slots))
         < length (live_places memory.now) }
-    requires fits { AreShares memory.now.shares.places }
+    requires fits { AreSharePlaces memory.now.shares.places }
     requires buffer { recipe_limit ≤ length buffer.old }
     requires none { HasStaged disk.old.shares [] }
     requires within { all_end (live_at memory.now.shares.owners) share_blob memory.now.shares.place_slots
@@ -317,8 +317,8 @@ pub fn step<V: Shelf>(
         → LeavesOnly (V.cloud_at shelf.old store.old.header.cloud.0) (V.cloud_at shelf.new store.old.header.cloud.0)
         (IsBeside store.old (V.cloud_at shelf.old store.old.header.cloud.0)) }
     ensures fits { NeverLong result }
-    ensures kept { IfRotten result (λ named found. store.new ≡ store.old) }
-    ensures stays { IfRotten result (λ named found. Stays (V.cloud_at shelf.old store.old.header.cloud.0)
+    ensures kept { IfCopyRotten result (λ named found. store.new ≡ store.old) }
+    ensures stays { IfCopyRotten result (λ named found. Stays (V.cloud_at shelf.old store.old.header.cloud.0)
         (V.cloud_at shelf.new store.old.header.cloud.0)) }
     ensures step { MatchStep result
         (length (shares_so_far store.old copying.old) + length (entries_so_far store.old copying.old)
@@ -330,7 +330,8 @@ pub fn step<V: Shelf>(
         × (copying.old.file_slot ≤ copying.new.file_slot) }
     ensures laid { MatchFault result (Unit {0}) (IsCopyLaid store.new copying.new) }
     ensures rotten { IsTrue (V.cloud_at shelf.old store.old.header.cloud.0).told
-        → IfRotten result (SomeRotten store.old.memory (reads (V.cloud_at shelf.old store.old.header.cloud.0).now)) }
+        → IfCopyRotten result (SomeRotten store.old.memory
+        (reads (V.cloud_at shelf.old store.old.header.cloud.0).now)) }
     ensures same { store.new ≡ record store.old { disk = store.new.disk } }
     ensures settled { IsSettled store.new }
     ensures stage { store.new.disk.journal.stage ≡ stage_after result }

@@ -3,7 +3,7 @@
 ghost use Rattle.std.specs.Prelude.{◌≡◌, List, length, OnOk, OnErr};
 ghost use Rattle.fresh_checkpoints.specs.CdEdges.Disk.{LeavesOnly};
 ghost use Rattle.fresh_checkpoints.specs.CdEdges.Shelf.{IsCall, HasFailed, KeepsCounts};
-ghost use Rattle.cloud_store.specs.CommitJournal.Leaving.{OthersStay};
+ghost use Rattle.cloud_store.specs.CommitJournal.Leaving.{OtherAreasStay};
 ghost use Rattle.cloud_store.specs.CommitJournal.journal.Stage.TheVariants.{Shut};
 ghost use Rattle.compact_lists.specs.UserDedup.command.Command.{Command};
 ghost use Rattle.compact_lists.specs.UserDedup.Compact.{compact};
@@ -19,7 +19,7 @@ ghost use Rattle.fresh_checkpoints.specs.Fresh.{IsNextMemory};
 ghost use Rattle.fresh_checkpoints.specs.Switching.{StandsForOneOf};
 ghost use Rattle.cloud_store.specs.CloudOpening.Roomy.{IsRoomy};
 ghost use Rattle.cloud_store.specs.Store.{IsOpen, IsSettled, EndsMeet, ServesSome};
-ghost use Rattle.blob_copy.specs.Answers.{IfRotten, MatchFault, NeverWrong};
+ghost use Rattle.blob_copy.specs.Answers.{IfCopyRotten, MatchFault, NeverWrong};
 ghost use Rattle.blob_copy.specs.Copying.{IsCopyLaid, IsCopying, AreAllCopied, StandsForKept};
 ghost use Rattle.blob_copy.specs.Switched.{OnLong, IsMovedTo};
 
@@ -59,7 +59,7 @@ fn settle<V: Shelf>(store: &mut CloudStore, shelf: &mut V, next: NextList) -> Re
         store.new.disk.journal (V.cloud_at shelf.new store.old.header.cloud.0)) }
     ensures long { OnLong result (¬ IsRoomy store.old.header.rooms next.region (memory_of store.old.memory)) }
     ensures still { OnLong result (shelf.new ≡ shelf.old) }
-    ensures never_rotten { IfRotten result (λ named found. ⊥) }
+    ensures never_rotten { IfCopyRotten result (λ named found. ⊥) }
     ensures next { OnOk result ((store.new.commands ≡ next.commands) × (store.new.region ≡ next.region)) }
     ensures memory { store.new.memory ≡ store.old.memory }
     ensures logs { (store.new.disk.shares ≡ store.old.disk.shares)
@@ -70,7 +70,7 @@ fn settle<V: Shelf>(store: &mut CloudStore, shelf: &mut V, next: NextList) -> Re
     ensures taken { HasSettled store.old.disk.journal store.new.disk.journal store.old.header next.commands
         (length (records_of store.old.memory)) next.region (records_of store.old.memory)
         (V.cloud_at shelf.old store.old.header.cloud.0) (V.cloud_at shelf.new store.old.header.cloud.0) result }
-    ensures others { OthersStay (V.cloud_at shelf.old store.old.header.cloud.0)
+    ensures others { OtherAreasStay (V.cloud_at shelf.old store.old.header.cloud.0)
         (V.cloud_at shelf.new store.old.header.cloud.0) result }
     ensures header { store.new.header ≡ store.old.header }
     ensures settled { IsSettled store.new }
@@ -148,7 +148,7 @@ pub fn switch<V: Shelf>(
     ensures meet { OnOk result (EndsMeet store.new) }
     ensures region { OnOk result (store.new.region ≡ other_region store.old.region) }
     ensures number { OnOk result (store.new.commands ≡ commands_in (memory_of store.old.memory)) }
-    ensures never_rotten { IfRotten result (λ named found. ⊥) }
+    ensures never_rotten { IfCopyRotten result (λ named found. ⊥) }
     ensures long { OnLong result (¬ IsRoomy store.old.header.rooms (other_region store.old.region)
         (memory_of store.new.memory)) }
     ensures still { OnLong result (shelf.new ≡ shelf.old) }
@@ -162,7 +162,7 @@ pub fn switch<V: Shelf>(
         (V.cloud_at shelf.old store.old.header.cloud.0) (V.cloud_at shelf.new store.old.header.cloud.0) result }
     ensures logs { (store.new.disk.shares ≡ store.old.disk.shares)
         × (store.new.disk.recipes ≡ store.old.disk.recipes) }
-    ensures others { OthersStay (V.cloud_at shelf.old store.old.header.cloud.0)
+    ensures others { OtherAreasStay (V.cloud_at shelf.old store.old.header.cloud.0)
         (V.cloud_at shelf.new store.old.header.cloud.0) result }
     ensures header { store.new.header ≡ store.old.header }
     ensures settled { IsSettled store.new }

@@ -58,21 +58,21 @@ abbrev pub counted_down : Option Arming → Option Arming
 counted_down None = None
 counted_down (Some arming) = if arming.calls == 1 then None else Some (record arming { calls = arming.calls - 1 })
 
-abbrev pub IsCut : Option Arming → Type 0
-IsCut None = ⊥
-IsCut (Some arming) = arming.calls ≡ 1
+abbrev pub IsCallCut : Option Arming → Type 0
+IsCallCut None = ⊥
+IsCallCut (Some arming) = arming.calls ≡ 1
 
 pub record Writes {T E : Type 0} (old new : Cloud) (changed : Area) (place : ℕ) (bytes : List ℕ) (result : Result T E) : Type 0 where
   pub ok : OnOk result (Changes old new changed (wrote (old.now changed) place bytes))
   pub err : OnErr result (IsCutShort old new changed (wrote (old.now changed) place bytes))
   pub armed : new.armed ≡ counted_down old.armed
-  pub cut : IsCut old.armed → IsErr result
+  pub cut : IsCallCut old.armed → IsErr result
 
 pub record Syncs {T E : Type 0} (old new : Cloud) (changed : Area) (result : Result T E) : Type 0 where
   pub ok : OnOk result (Changes old new changed (stable (old.now changed).read))
   pub err : OnErr result (IsCutShort old new changed (old.now changed))
   pub armed : new.armed ≡ counted_down old.armed
-  pub cut : IsCut old.armed → IsErr result
+  pub cut : IsCallCut old.armed → IsErr result
 
 -- All three areas are empty, and a crash leaves them so.
 pub record IsFresh (old new : Cloud) : Type 0 where

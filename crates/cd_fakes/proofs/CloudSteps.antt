@@ -4,7 +4,7 @@ use Rattle.std.proofs.lemmas.Bool.Decides.{nat_tests}
 use Rattle.std.proofs.lemmas.Bool.{false≢true}
 use Rattle.mem_disk.specs.CdEdges.area.Area.{Area}
 use Rattle.mem_disk.specs.CdEdges.Disk.{Store, Areas, IsImage, MayLeave}
-use Rattle.mem_disk.specs.CdEdges.Shelf.{wrote, stable, Changes, IsCutShort, counted_down, arming_of, IsCut, Writes, Syncs, Refreshes}
+use Rattle.mem_disk.specs.CdEdges.Shelf.{wrote, stable, Changes, IsCutShort, counted_down, arming_of, IsCallCut, Writes, Syncs, Refreshes}
 use Rattle.mem_disk.proofs.CdEdges.Shrinks.{area_cases}
 use Rattle.mem_disk.proofs.CdEdges.Since.{image_of_wrote}
 use Rattle.cd_fakes.specs.declared.cloud.MemCloud.{MemCloud}
@@ -104,7 +104,7 @@ module _ (m m' : MemCloud) where
 counted : (calls keep : ℕ) → arming_of (calls - 1) keep ≡ counted_down (arming_of calls keep)
 counted calls keep = grind (arith, nat_tests)
 
-cut_at_one : (calls keep : ℕ) → IsCut (arming_of calls keep) → calls ≡ 1
+cut_at_one : (calls keep : ℕ) → IsCallCut (arming_of calls keep) → calls ≡ 1
 cut_at_one calls keep cut = grind (arith, nat_tests)
 
 module _ (m m' : MemCloud) (armed : arming_of m'.cut m'.keep ≡ arming_of (m.cut - 1) m.keep) where

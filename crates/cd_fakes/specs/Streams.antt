@@ -33,7 +33,7 @@ closed_in None = true
 closed_in (Some stream) = stream.closed
 
 -- The port was opened, and is not closed.
-pub record IsOpen (streams : List MemStream) (opened number : ℕ) : Type 0 where
+pub record IsPortOpen (streams : List MemStream) (opened number : ℕ) : Type 0 where
   pub below : number < opened
   pub live : closed_in (slice_get streams number) ≡ false
 

@@ -3,21 +3,21 @@ use Rattle.std.specs.Prelude.{◌≡◌, ℕ, length, Contains}
 use Rattle.mem_disk.specs.CdEdges.Ports.{Telling}
 use Rattle.cd_fakes.specs.Counts.{counted_up}
 use Rattle.cd_fakes.specs.declared.ports.MemPorts.{MemPorts}
-use Rattle.cd_fakes.specs.Streams.{IsOpen, telling_of}
+use Rattle.cd_fakes.specs.Streams.{IsPortOpen, telling_of}
 
 abbrev pub telling : MemPorts → Telling
 telling ports = telling_of ports.streams.items ports.opened
 
 -- the next call fails by its number
-abbrev pub IsNamed : MemPorts → Type 0
-IsNamed ports = Contains ports.count.fails.items (counted_up ports.count.calls)
+abbrev pub IsFailingNext : MemPorts → Type 0
+IsFailingNext ports = Contains ports.count.fails.items (counted_up ports.count.calls)
 
 -- no stream is left for a further port
 abbrev pub HasNoMore : MemPorts → Type 0
 HasNoMore ports = ports.opened ≡ length ports.streams.items
 
 abbrev pub HasOpen : MemPorts → ℕ → Type 0
-HasOpen ports number = IsOpen ports.streams.items ports.opened number
+HasOpen ports number = IsPortOpen ports.streams.items ports.opened number
 
 -- how much a call passes stays
 pub record KeepsSizes (old new : MemPorts) : Type 0 where

@@ -5,7 +5,7 @@ ghost use Rattle.mem_disk.specs.CdEdges.area.Area.{Area};
 ghost use Rattle.mem_disk.specs.CdEdges.Causes.{HasCause};
 ghost use Rattle.mem_disk.specs.CdEdges.Shelf.{Writes, Syncs, Refreshes, Arms, ReadsFrom};
 ghost use Rattle.cd_fakes.specs.Counts.{counted_up, is_named};
-ghost use Rattle.mem_disk.specs.Areas.{Fits, damaged, area_of, held_of, log_of};
+ghost use Rattle.mem_disk.specs.Areas.{FitsArea, damaged, area_of, held_of, log_of};
 ghost use Rattle.mem_disk.specs.History.{Write, Sync, Empty, Crash};
 ghost use Rattle.mem_disk.specs.Disks.{history_of};
 ghost use Rattle.mem_disk.specs.Numbers.{number_of};

@@ -33,7 +33,7 @@ impl MemPorts {
     ghost use Rattle.mem_disk.specs.CdEdges.Ports.{HasOpenedPort, Receives, Sent};
     ghost use Rattle.cd_fakes.specs.declared.stream.MemStream.{MemStream};
     ghost use Rattle.cd_fakes.specs.Streams.{Counts, KeepOpen, KeepOpenBut, KeepRooms, port_at, room_left};
-    ghost use Rattle.cd_fakes.specs.Told.{HasNoMore, HasOpen, IsNamed, KeepsSizes, telling};
+    ghost use Rattle.cd_fakes.specs.Told.{HasNoMore, HasOpen, IsFailingNext, KeepsSizes, telling};
 
     /// No stream yet; on each port `room` bytes can be sent, and a call passes at most `most` bytes. The calls but `close` whose
     /// numbers, from 1, stand in `fails` fail.
@@ -99,7 +99,7 @@ impl MemPorts {
         ensures opens { IfOk result (HasOpenedPort (telling self.old) (telling self.new)) }
         ensures failed { OnErr result (telling self.new ≡ telling self.old) }
         ensures cause { HasCause self.old.count.faults self.new.count.faults result }
-        ensures fails { IsErr result ↔ (IsNamed self.old ⊎ HasNoMore self.old) }
+        ensures fails { IsErr result ↔ (IsFailingNext self.old ⊎ HasNoMore self.old) }
         ensures streams_stay { self.new.streams ≡ self.old.streams }
         ensures counts { Counts self.old.count self.new.count (is_ok result) }
         ensures rest { KeepsSizes self.old self.new }
@@ -121,7 +121,7 @@ impl Ports for MemPorts {
     ghost use Rattle.mem_disk.specs.CdEdges.Ports.{HasOpenedPort, Receives, Sent};
     ghost use Rattle.cd_fakes.specs.declared.stream.MemStream.{MemStream};
     ghost use Rattle.cd_fakes.specs.Streams.{Counts, KeepOpen, KeepOpenBut, KeepRooms, port_at, room_left};
-    ghost use Rattle.cd_fakes.specs.Told.{HasNoMore, HasOpen, IsNamed, KeepsSizes, telling};
+    ghost use Rattle.cd_fakes.specs.Told.{HasNoMore, HasOpen, IsFailingNext, KeepsSizes, telling};
 
     ghost tells = { telling };
 
@@ -130,7 +130,7 @@ impl Ports for MemPorts {
     fn listen(&mut self, _addr: &str) -> Result<(), Failed>
         ensures stays { telling self.new ≡ telling self.old }
         ensures cause { HasCause self.old.count.faults self.new.count.faults result }
-        ensures fails { IsErr result ↔ IsNamed self.old }
+        ensures fails { IsErr result ↔ IsFailingNext self.old }
         ensures counts { Counts self.old.count self.new.count (is_ok result) }
         ensures rest { (self.new.streams ≡ self.old.streams) × (self.new.opened ≡ self.old.opened)
             × KeepsSizes self.old self.new }
@@ -147,7 +147,7 @@ impl Ports for MemPorts {
         ensures told { (telling self.new).told ≡ (telling self.old).told }
         ensures failed { OnErr result (telling self.new ≡ telling self.old) }
         ensures cause { HasCause self.old.count.faults self.new.count.faults result }
-        ensures fails { IsErr result ↔ (IsNamed self.old ⊎ HasNoMore self.old) }
+        ensures fails { IsErr result ↔ (IsFailingNext self.old ⊎ HasNoMore self.old) }
         ensures counts { Counts self.old.count self.new.count (is_ok result) }
         ensures rest { (self.new.streams ≡ self.old.streams) × KeepsSizes self.old self.new }
     {
@@ -160,7 +160,7 @@ impl Ports for MemPorts {
         ensures told { (telling self.new).told ≡ (telling self.old).told }
         ensures failed { OnErr result (telling self.new ≡ telling self.old) }
         ensures cause { HasCause self.old.count.faults self.new.count.faults result }
-        ensures fails { IsErr result ↔ (IsNamed self.old ⊎ HasNoMore self.old) }
+        ensures fails { IsErr result ↔ (IsFailingNext self.old ⊎ HasNoMore self.old) }
         ensures counts { Counts self.old.count self.new.count (is_ok result) }
         ensures rest { (self.new.streams ≡ self.old.streams) × KeepsSizes self.old self.new }
     {
@@ -175,7 +175,7 @@ impl Ports for MemPorts {
         ensures failed { OnErr result (telling self.new ≡ telling self.old) }
         ensures cause { HasCause self.old.count.faults self.new.count.faults result }
         // It fails exactly by its number or where the port isn't open, and gives as much as it may.
-        ensures fails { IsErr result ↔ (IsNamed self.old ⊎ (¬ HasOpen self.old port)) }
+        ensures fails { IsErr result ↔ (IsFailingNext self.old ⊎ (¬ HasOpen self.old port)) }
         ensures much { IfOk result
             (λ count. count ≡ min (min (length out.old) self.old.most)
             (length ((telling self.old).port port).to_come)) }
@@ -202,7 +202,7 @@ impl Ports for MemPorts {
         ensures cause { HasCause self.old.count.faults self.new.count.faults result }
         // It fails exactly by its number, where the port isn't open, or where no room is left there, and takes as much as it may.
         ensures fails { IsErr result
-            ↔ (IsNamed self.old ⊎ ((¬ HasOpen self.old port) ⊎ (room_left self.old.streams.items port ≡ 0))) }
+            ↔ (IsFailingNext self.old ⊎ ((¬ HasOpen self.old port) ⊎ (room_left self.old.streams.items port ≡ 0))) }
         ensures much { IfOk result
             (λ count. count ≡ min (min (length bytes.now) self.old.most) (room_left self.old.streams.items port)) }
         ensures counts { Counts self.old.count self.new.count (is_ok result) }

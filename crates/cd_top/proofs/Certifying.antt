@@ -8,7 +8,7 @@ use Rattle.audit_command.specs.Checked.{IsCertificateChecked}
 use Rattle.audit_command.specs.CommandCloud.Unhindered.{IsOpeningUnhindered}
 use Rattle.spool_command.specs.BackupCommand.Reading.{Input}
 use Rattle.spool_command.specs.BackupCommand.Writing.{Output}
-use Rattle.cd_top.specs.Audit.{Audits, InDirectory, Checks, ByCloud, CloudsAround, IsAloneAt, IsUnrooted, call_for, clouds_of}
+use Rattle.cd_top.specs.Audit.{Audits, InDirectory, HasCheckedOrCause, ByCloud, CloudsAround, IsAloneAt, IsUnrooted, call_for, clouds_of}
 
 -- the place couldn't be made or found
 pub unrooted : (s : CloudsAround) (out : Output) → out.written_after ≡ out.written_before → out.faults_after ≡ out.faults_before
@@ -34,7 +34,7 @@ module _ (status : ℕ) (c : AskedCloud) (old middle new : ℕ → Cloud) (total
   pub checked_in : (unread : Type 0) (input : Input)
       → IsCertificateChecked status (call_for c (clouds_of middle new count total_after)) unread input out
       → IsAloneAt c (clouds_of middle new count total_after)
-      → Checks status c (clouds_of old new total total_after) unread input out
+      → HasCheckedOrCause status c (clouds_of old new total total_after) unread input out
   checked_in unread input checked alone =
-      subst₂ (λ (o : ℕ → Cloud) (n : ℕ). Checks status c (clouds_of o new n total_after) unread input out)
+      subst₂ (λ (o : ℕ → Cloud) (n : ℕ). HasCheckedOrCause status c (clouds_of o new n total_after) unread input out)
       (λ i cloud. same cloud i) kept (ByCloud checked alone)

@@ -12,7 +12,7 @@ use Rattle.generated_session.specs.ReplayCore.Endings.{ReplayCall, EndingLine, H
 use Rattle.generated_session.specs.ReplayCore.Endings as due_lines
 use Rattle.generated_session.specs.ReplayCore.Replayed.{Replayed, HasReplayed, IsPrinted, IsTextCut, IsLast, status_of, ending_of}
 use Rattle.cd_top.specs.Ends.{WantsLast, WantsNone, HasLastLine, Silent, Said, CutShort, Unsaid}
-use Rattle.cd_top.specs.Replay.{ending_text, due_text, IsWritten, IsReplayed, until, WritesFront}
+use Rattle.cd_top.specs.Replay.{ending_text, due_text, IsReplayWritten, IsReplayed, until, WritesFront}
 use Rattle.cd_top.proofs.Texts.{appends_both}
 
 -- ---- what another count of the sink leaves
@@ -154,7 +154,7 @@ memory_cut call faults before after run line r cause cut =
     }
 
 -- a text that is whole
-written_whole : (status : ℕ) (before after : Option (List ℕ)) (run : Session) (line : EndingLine) → Appends before after (due_text run line) → IsWritten status before after run line
+written_whole : (status : ℕ) (before after : Option (List ℕ)) (run : Session) (line : EndingLine) → Appends before after (due_text run line) → IsReplayWritten status before after run line
 written_whole status before after run line written = record {
   text = due_text run line;
   more = [];

@@ -11,13 +11,13 @@ use Rattle.two_worlds.specs.Session.Fault.{Fault}
 use Rattle.two_worlds.specs.Session.Lines.{after_line}
 use Rattle.two_worlds.specs.Session.Reading.{event_at}
 use Rattle.two_worlds.specs.Session.event.Event.{Event}
-use Rattle.two_worlds.specs.Session.Scripts.{ScriptPlace, Begins, Leads, Reaches, Says, IsEnd, IsWrong, IsWrongFirst, FailsIn, FailsFirst, behind}
+use Rattle.two_worlds.specs.Session.Scripts.{ScriptPlace, Begins, LeadsThrough, Reaches, Says, IsEnd, IsWrong, IsWrongFirst, FailsIn, FailsFirst, behind}
 use Rattle.generated_session.specs.SessionModel.Steps.{cloud_no}
 use Rattle.generated_session.specs.SessionModel.Vault.{Vault, opening}
 use Rattle.generated_session.specs.SessionModel.Run.{Answered, Turns}
 use Rattle.generated_session.specs.SessionModel.Headline.{Session, Begun, IsRun, IsPartOf, script_in}
 use Rattle.generated_session.proofs.SessionModel.Counts.{counts_last}
-use Rattle.generated_session.specs.ReplayCore.Endings.{ReplayCall, EndingLine, HasStatusCause, HasRead, HasReadSome, IsDue, IsOfScript, IsOfShelf, IsOfStore, IsFirstFilled, IsWrongAt, MayFailIn}
+use Rattle.generated_session.specs.ReplayCore.Endings.{ReplayCall, EndingLine, HasStatusCause, HasReadLines, HasReadSome, IsDue, IsOfScript, IsOfShelf, IsOfStore, IsFirstFilled, IsLineWrongAt, MayFailIn}
 use Rattle.generated_session.specs.ReplayCore.Endings as due_lines
 use Rattle.migrate_command.proofs.ServeCommand.Completing.{not_risen}
 use Rattle.cd_top.specs.Complete.{IsStill, IsReplayUnhindered}
@@ -43,7 +43,7 @@ same_next shape place one other after behind_it first second =
     let event = same_event _ one other first.says (ap (λ (l : List ℕ). event_at shape place.jobs l) line ∙ second.says) in
     first.next_is ∙ ap (λ (l : List ℕ). behind place l one) line ∙ ap (λ (e : Event). behind place second.line e) event ∙ sym second.next_is
 
-never_wrong : (shape : Shape) (place other last : ScriptPlace) (some all : List Event) (fault : Fault) → Leads shape place some other → Leads shape place all last → IsEnd last → IsWrong shape other fault → ⊥
+never_wrong : (shape : Shape) (place other last : ScriptPlace) (some all : List Event) (fault : Fault) → LeadsThrough shape place some other → LeadsThrough shape place all last → IsEnd last → IsWrong shape other fault → ⊥
 never_wrong shape place other last [] [] fault here there ends wrong =
     subst (λ (r : Result (Option (List ℕ)) Fault). FailsIn shape place.jobs r fault) (subst (λ (p : ScriptPlace). IsEnd p) there ends) (subst (λ (p : ScriptPlace). IsWrong shape p fault) here wrong)
 never_wrong shape place other last [] (y ∷ all) fault here there ends wrong =
@@ -52,7 +52,7 @@ never_wrong shape place other last [] (y ∷ all) fault here there ends wrong =
 never_wrong shape place other last (x ∷ some) [] fault here there ends wrong =
     let says = here.1 in not_ended _ says.line (subst (λ (p : ScriptPlace). IsEnd p) there ends) says.here
 never_wrong shape place other last (x ∷ some) (y ∷ all) fault here there ends wrong =
-    never_wrong shape there.0 other last some all fault (subst (λ (p : ScriptPlace). Leads shape p some other) (same_next shape place x y here.0 there.0 here.1 there.1) here.2) there.2 ends wrong
+    never_wrong shape there.0 other last some all fault (subst (λ (p : ScriptPlace). LeadsThrough shape p some other) (same_next shape place x y here.0 there.0 here.1 there.1) here.2) there.2 ends wrong
 
 -- the place behind a first line
 abbrev place_behind : List ℕ → List ℕ → ScriptPlace
@@ -80,11 +80,11 @@ module _ (call : ReplayCall) (run : Session) (well : IsReplayUnhindered call) wh
       → (run.setting.shape ≡ shape) × (run.setting.rooms ≡ rooms))) well.has cause.header in
       (header well.shape well.is_script.rooms well.is_script.reaches.0 begins).0
 
-  not_wrong : run.setting.shape ≡ well.shape → (fault : Fault) → IsWrongAt call run fault → ⊥
+  not_wrong : run.setting.shape ≡ well.shape → (fault : Fault) → IsLineWrongAt call run fault → ⊥
   not_wrong same fault wrong =
       let reaches = well.is_script.reaches in
       let at = subst (λ (o : Option (List ℕ)). IfSome o (λ s. ((run.opened ≡ false) × IsWrongFirst s fault)
-      ⊎ (IsTrue run.opened × ((place : ScriptPlace) × HasRead call run place × IsWrong run.setting.shape place fault)))) well.has wrong in
+      ⊎ (IsTrue run.opened × ((place : ScriptPlace) × HasReadLines call run place × IsWrong run.setting.shape place fault)))) well.has wrong in
       elim at [
         | inl first ↦ not_failed _ (well.shape, well.is_script.rooms) fault reaches.1.says
             (subst (λ (r : Result (Option (List ℕ)) Fault). FailsFirst r fault) reaches.1.here first.1)
@@ -92,8 +92,8 @@ module _ (call : ReplayCall) (run : Session) (well : IsReplayUnhindered call) wh
             let read = subst (λ (o : Option (List ℕ)). IfSome o (λ s. Reaches s run.setting.shape run.setting.rooms (script_in run) later.1.0)) well.has later.1.1 in
             let firsts : read.0 ≡ reaches.0 = read.1.next_is
             ∙ ap (λ (l : List ℕ). place_behind well.script l) (same_line _ read.1.line reaches.1.line read.1.here reaches.1.here) ∙ sym reaches.1.next_is in
-            let leads = subst (λ (s : Shape). Leads s reaches.0 (script_in run) later.1.0) same
-            (subst (λ (p : ScriptPlace). Leads run.setting.shape p (script_in run) later.1.0) firsts read.2) in
+            let leads = subst (λ (s : Shape). LeadsThrough s reaches.0 (script_in run) later.1.0) same
+            (subst (λ (p : ScriptPlace). LeadsThrough run.setting.shape p (script_in run) later.1.0) firsts read.2) in
             never_wrong well.shape reaches.0 later.1.0 well.is_script.place (script_in run) well.is_script.events fault leads reaches.2 well.is_script.ends
             (subst (λ (s : Shape). IsWrong s later.1.0 fault) same later.1.2)
       ]

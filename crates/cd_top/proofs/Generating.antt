@@ -10,12 +10,12 @@ use Rattle.generated_session.specs.ReplayCore.end.ReplayEnd.TheVariants as ends
 use Rattle.generated_session.specs.ReplayCore.Replayed.{Replayed, status_of, ending_of}
 use Rattle.generated_session.specs.Numbers.{summary_text}
 use Rattle.generated_session.specs.Generates as generator
-use Rattle.generated_session.specs.Generates.{Order, Passing, Generates, WritesSummary, IsSummed}
+use Rattle.generated_session.specs.Generates.{Order, Passing, Generates, WritesSummary, IsSummaryWritten}
 use Rattle.command_words.specs.Asked.{AskedSession}
 use Rattle.migrate_command.proofs.ServeCommand.Texts.{appends_nothing}
 use Rattle.migrate_command.proofs.ServeCommand.Completing.{not_risen}
 use Rattle.cd_top.specs.Ends.{WantsLast, WantsNone, HasLastLine, Silent, Said, CutShort, Unsaid}
-use Rattle.cd_top.specs.Generate.{IsCaused, IsDue, IsSessionClosed, Whole, Short, Makes, NoPlace, MadeTo, NothingFails, IsGenerated, order_of}
+use Rattle.cd_top.specs.Generate.{IsSessionCaused, IsTextDue, IsSessionClosed, Whole, Short, HasMadeOrCause, NoPlace, MadeTo, NothingFails, IsGenerated, order_of}
 use Rattle.cd_top.specs.Read.{Around}
 use Rattle.cd_top.specs.Replay.{ending_text}
 use Rattle.cd_top.proofs.Closing.{other_status, rose_since}
@@ -41,8 +41,8 @@ module _ (order : Order) (call : Passing) (total total_after now : ℕ) (after :
 
   -- the same session, which is said to have come to this end
   made_as : (end said : ReplayEnd) (status : ℕ) (g : Generates end order call) → Replayed status call.old call.new g.run
-      → IsCaused said order around g.run → (text : List ℕ) → IsDue said order g.run text
-      → IsSessionClosed status said text around call.before after → Makes status around order call.before after
+      → IsSessionCaused said order around g.run → (text : List ℕ) → IsTextDue said order g.run text
+      → IsSessionClosed status said text around call.before after → HasMadeOrCause status around order call.before after
   made_as end said status g replayed cause text due closed = MadeTo said (record {
     run = g.run;
     replayed = replayed;
@@ -64,24 +64,24 @@ module _ (order : Order) (call : Passing) (total total_after now : ℕ) (after :
   still_appended text same wrote = subst (λ (o : Option (List ℕ)). Appends call.before o text) (sym same) wrote
 
   whole_summary : (events status : ℕ) (g : Generates (ends.Done events) order call) → WritesSummary order call g.run [] → status ≡ 0 → after ≡ call.after → now ≡ call.sink_after
-      → Makes status around order call.before after
+      → HasMadeOrCause status around order call.before after
   whole_summary events status g w is same still =
       made_as (ends.Done events) (ends.Done events) status g (at_status (ends.Done events) status g is) (g.cause.0, g.cause.1)
       w.text (w.numbers, w.are, sym (append-nil w.text) ∙ w.front) (Whole is (still_appended w.text same w.written) (still ∙ g.cause.2))
 
   short_summary : (status : ℕ) (g : Generates ends.SinkFault order call) (rest : List ℕ) → WritesSummary order call g.run rest → status ≡ 4 → after ≡ call.after → now ≡ call.sink_after
-      → Makes status around order call.before after
+      → HasMadeOrCause status around order call.before after
   short_summary status g rest w is same still =
       made_as ends.SinkFault (ends.Done (length g.run.history)) status g (at_status ends.SinkFault status g is) (g.cause.0, refl)
       (summary_text order.files w.numbers) (w.numbers, w.are, refl)
       (Short is (record { text = w.text; more = rest; front = w.front; written = still_appended w.text same w.written })
       (subst (λ (n : ℕ). Rose call.sink_before n) (sym still) g.cause.1))
 
-  no_summary : (status : ℕ) (g : Generates ends.NoMemory order call) → status ≡ 6 → after ≡ call.after → now ≡ call.sink_after → Makes status around order call.before after
+  no_summary : (status : ℕ) (g : Generates ends.NoMemory order call) → status ≡ 6 → after ≡ call.after → now ≡ call.sink_after → HasMadeOrCause status around order call.before after
   no_summary status g is same still =
       made_as ends.NoMemory ends.NoMemory status g (at_status ends.NoMemory status g is) tt [] refl (Whole is (still_appended [] same g.summed) (still ∙ g.cause))
 
-  silent : (end : ReplayEnd) (status : ℕ) → Generates end order call → WantsNone end → status ≡ status_of end → after ≡ call.after → now ≡ call.sink_after → Makes status around order call.before after
+  silent : (end : ReplayEnd) (status : ℕ) → Generates end order call → WantsNone end → status ≡ status_of end → after ≡ call.after → now ≡ call.sink_after → HasMadeOrCause status around order call.before after
   silent (ends.Done events) status g none is same still = whole_summary events status g g.summed is same still
   silent ends.SinkFault status g none is same still = short_summary status g g.summed.0 g.summed.1 is same still
   silent ends.NoMemory status g none is same still = no_summary status g is same still
@@ -92,7 +92,7 @@ module _ (order : Order) (call : Passing) (total total_after now : ℕ) (after :
   silent (ends.Damaged cloud at byte) status g none is same still = absurd none
 
   -- an end before the clouds are opened: its cause, the sink, and what was written
-  cause_unopened : (end : ReplayEnd) (run : Session) → WantsLast end → generator.IsCaused end order call run → IsCaused end order around run
+  cause_unopened : (end : ReplayEnd) (run : Session) → WantsLast end → generator.IsCaused end order call run → IsSessionCaused end order around run
   cause_unopened (ends.ShelfFault cloud) run wants x = (x.0.opened, x.0.below, x.1, x.2)
   cause_unopened (ends.NotEmpty cloud area len) run wants x = (x.0.opened, x.0.below, x.1, x.2)
   cause_unopened (ends.Damaged cloud at byte) run wants x = (x.0.opened, x.0.below, x.1, x.2)
@@ -112,7 +112,7 @@ module _ (order : Order) (call : Passing) (total total_after now : ℕ) (after :
   sink_unopened ends.SinkFault run wants x = absurd wants
   sink_unopened ends.NoMemory run wants x = absurd wants
 
-  nothing_summed : (end : ReplayEnd) (run : Session) → WantsLast end → IsSummed end order call run → Appends call.before call.after []
+  nothing_summed : (end : ReplayEnd) (run : Session) → WantsLast end → IsSummaryWritten end order call run → Appends call.before call.after []
   nothing_summed (ends.ShelfFault cloud) run wants summed = summed
   nothing_summed (ends.NotEmpty cloud area len) run wants summed = summed
   nothing_summed (ends.Damaged cloud at byte) run wants summed = summed
@@ -122,7 +122,7 @@ module _ (order : Order) (call : Passing) (total total_after now : ℕ) (after :
   nothing_summed ends.SinkFault run wants summed = absurd wants
   nothing_summed ends.NoMemory run wants summed = absurd wants
 
-  line_due : (end : ReplayEnd) (run : Session) → WantsLast end → IsDue end order run (ending_text (ending_of end))
+  line_due : (end : ReplayEnd) (run : Session) → WantsLast end → IsTextDue end order run (ending_text (ending_of end))
   line_due (ends.ShelfFault cloud) run wants = refl
   line_due (ends.NotEmpty cloud area len) run wants = refl
   line_due (ends.Damaged cloud at byte) run wants = refl
@@ -132,7 +132,7 @@ module _ (order : Order) (call : Passing) (total total_after now : ℕ) (after :
   line_due ends.SinkFault run wants = absurd wants
   line_due ends.NoMemory run wants = absurd wants
 
-  pub makes : (end : ReplayEnd) (status : ℕ) → Generates end order call → HasLastLine end status call.after after call.sink_after now → Makes status around order call.before after
+  pub makes : (end : ReplayEnd) (status : ℕ) → Generates end order call → HasLastLine end status call.after after call.sink_after now → HasMadeOrCause status around order call.before after
   makes end status g (Silent none is same still) = silent end status g none is same still
   makes end status g (Said wants is wrote still) =
       made_as end end status g (at_status end status g is) (cause_unopened end g.run wants g.cause) (ending_text (ending_of end)) (line_due end g.run wants)
@@ -159,7 +159,7 @@ module _ (c : Around) (order : Order) (well : NothingFails c) where
   written_whole status end text before after (Whole is wrote still) = is
   written_whole status end text before after (Short is front rose) = absurd (not_risen c.sink_before c.sink_after well.sink rose)
 
-  no_other_end : (end : ReplayEnd) (run : Session) → IsRun c.old run → IsCaused end order c run → (status_of end ≡ 0) ⊎ (status_of end ≡ 6)
+  no_other_end : (end : ReplayEnd) (run : Session) → IsRun c.old run → IsSessionCaused end order c run → (status_of end ≡ 0) ⊎ (status_of end ≡ 6)
   no_other_end (ends.Done events) run carried cause = inl refl
   no_other_end ends.NoMemory run carried cause = inr refl
   no_other_end (ends.ShelfFault cloud) run carried cause =
@@ -173,7 +173,7 @@ module _ (c : Around) (order : Order) (well : NothingFails c) where
   no_other_end ends.SourceFault run carried cause = absurd cause
   no_other_end ends.SinkFault run carried cause = absurd cause
 
-  completes_session : (status : ℕ) (before after : Option (List ℕ)) → Makes status c order before after → (status ≡ 0) ⊎ (status ≡ 6)
+  completes_session : (status : ℕ) (before after : Option (List ℕ)) → HasMadeOrCause status c order before after → (status ≡ 0) ⊎ (status ≡ 6)
   completes_session status before after (NoPlace five untouched rose) = absurd (not_risen c.total_before c.total_after well.total rose)
   completes_session status before after (MadeTo end m) =
       let is = written_whole status end m.text before after m.closed in elim (no_other_end end m.run m.replayed.carried m.cause) [

@@ -7,13 +7,13 @@ use Rattle.delete_command.specs.CdEdges.Shelf.{IsCall}
 use Rattle.command_words.specs.Asked.{AskedFile, AskedServe}
 use Rattle.migrate_command.specs.ServeCommand.Complete.{IsServeUnhindered}
 use Rattle.migrate_command.specs.ServeCommand.Served.{IsServed, ServeOutput}
-use Rattle.restore_command.specs.Calls.{OnlyDialled, OnlyReads}
+use Rattle.restore_command.specs.Calls.{RestoreDialsOnly, OnlyReads}
 use Rattle.restore_command.specs.Ends.{IsFetched}
 use Rattle.cd_top.specs.Serve.{HasServedCloud, HasServedOrCause, NoPlace, InPlace, serving}
 use Rattle.delete_command.specs.Deleted.{IsDeleted, OnlyDeletes}
 use Rattle.delete_command.specs.Writing as deletions
 use Rattle.delete_command.specs.PortsLink.Dialled.{OnlyDialled as OnlyThose}
-use Rattle.cd_top.specs.Clients.{PortsAround, Deletes, HasRestoredOrCause}
+use Rattle.cd_top.specs.Clients.{PortsAround, HasDeletedOrCause, HasRestoredOrCause}
 
 -- the place couldn't be made or found
 pub unplaced : (s : AskedServe) (out : ServeOutput) (old new : ℕ → Cloud) (total total_after : ℕ) (tells : Telling) (ports : ℕ)
@@ -56,7 +56,7 @@ pub restored_by : (status : ℕ) (f : AskedFile) (l : PortsAround) (many : ℕ) 
       faults_before = l.faults_before;
       faults_after = l.faults_after;
     }) before after faults now
-    → (IsTrue l.before.told → OnlyDialled l.before l.after) → (IsTrue l.before.told → OnlyReads l.before l.after) → l.after.told ≡ l.before.told
+    → (IsTrue l.before.told → RestoreDialsOnly l.before l.after) → (IsTrue l.before.told → OnlyReads l.before l.after) → l.after.told ≡ l.before.told
     → HasRestoredOrCause status f l before after faults now
 restored_by status f l many before after faults now same fetched others sends told = record {
   fetched = subst (λ (n : ℕ). IsFetched status (record {
@@ -87,7 +87,7 @@ pub deleted_by : (status : ℕ) (f : AskedFile) (l : PortsAround) (many : ℕ) (
     }) out
     → (IsTrue l.before.told → OnlyThose l.before l.after) → (IsTrue l.before.told → OnlyDeletes f.user f.path f.version l.before l.after)
     → l.after.told ≡ l.before.told
-    → Deletes status f l out
+    → HasDeletedOrCause status f l out
 deleted_by status f l many out same deleted others sends told = record {
   deleted = subst (λ (n : ℕ). IsDeleted status (record {
     user = f.user;

@@ -10,11 +10,11 @@ use Rattle.delete_command.specs.UserDedup.command.Command.{Command}
 use Rattle.read_command.specs.declared.end.ReadEnd.{ReadEnd}
 use Rattle.read_command.specs.declared.end.ReadEnd.TheVariants as ends
 use Rattle.read_command.specs.Disks.{AreReadable, IsSpared, KeepsDisks}
-use Rattle.read_command.specs.Ends.{Outside, CountsSink, Gives, GivesAnyway, IsOfOpening, Says}
+use Rattle.read_command.specs.Ends.{Outside, CountsSink, WritesWhatIsDue, GivesAnyway, IsOfOpening, IsWrittenByEnd}
 use Rattle.read_command.specs.KeptFiles.Kept.{key_of}
 use Rattle.command_words.specs.Asked.{AskedRead}
 use Rattle.migrate_command.proofs.ServeCommand.Texts.{appends_nothing}
-use Rattle.cd_top.specs.Read.{Around, IsClosed, IsVersionRead, ReadTo, NoPlace, given_of}
+use Rattle.cd_top.specs.Read.{Around, IsReadClosed, IsVersionRead, ReadTo, NoPlace, given_of}
 use Rattle.cd_top.specs.Read.{last_line, status_of}
 use Rattle.cd_top.specs.Replay.{WritesFront}
 use Rattle.cd_top.proofs.Texts.{appends_both}
@@ -33,7 +33,7 @@ still ends.NoMemory before now is counts = absurd is
 module _ (end : ReadEnd) (before middle : Option (List ℕ)) (faults count : ℕ) (text : List ℕ)
     (counts : CountsSink faults count end) (appends : Appends before middle text) where
   pub closes_read : (status : ℕ) → status ≡ status_of end → last_line end ≡ []
-      → IsClosed status faults count end text before middle
+      → IsReadClosed status faults count end text before middle
   closes_read status is none = inl (
     is,
     subst (λ l. Appends before middle l) (sym (ap (λ l. text ++ l) none ∙ append-nil text)) appends,
@@ -42,7 +42,7 @@ module _ (end : ReadEnd) (before middle : Option (List ℕ)) (faults count : ℕ
 
   module _ (after : Option (List ℕ)) (now : ℕ) (last : List ℕ) (named : last_line end ≡ last) where
     pub says_why : (status : ℕ) → status ≡ status_of end → Appends middle after last → now ≡ count
-        → IsClosed status faults now end text before after
+        → IsReadClosed status faults now end text before after
     says_why status is written kept = inl (
       is,
       subst (λ l. Appends before after (text ++ l)) (sym named)
@@ -54,7 +54,7 @@ module _ (end : ReadEnd) (before middle : Option (List ℕ)) (faults count : ℕ
       nothing_yet : Appends before middle []
       nothing_yet = subst (λ l. Appends before middle l) empty appends
 
-      pub fails_why : WritesFront last middle after → Rose count now → IsClosed 4 faults now end text before after
+      pub fails_why : WritesFront last middle after → Rose count now → IsReadClosed 4 faults now end text before after
       fails_why front rose = inr (inl (
         refl,
         opening,
@@ -67,7 +67,7 @@ module _ (end : ReadEnd) (before middle : Option (List ℕ)) (faults count : ℕ
         subst (λ n. Rose n now) (still end faults count opening counts) rose,
       ))
 
-      pub forgets_why : after ≡ middle → now ≡ count → IsClosed 6 faults now end text before after
+      pub forgets_why : after ≡ middle → now ≡ count → IsReadClosed 6 faults now end text before after
       forgets_why same kept = inr (inr (
         refl,
         opening,
@@ -78,7 +78,7 @@ module _ (end : ReadEnd) (before middle : Option (List ℕ)) (faults count : ℕ
 -- ---- the whole read
 
 nothing_said : (end : ReadEnd) (c : Outside) (r : AskedRead) (text : List ℕ) → IsOfOpening end
-    → Says c r.shape r.user (key_of r.shape r.path r.version) r.clouds end text → text ≡ []
+    → IsWrittenByEnd c r.shape r.user (key_of r.shape r.path r.version) r.clouds end text → text ≡ []
 nothing_said ends.Done c r text is says = absurd is
 nothing_said ends.Refused c r text is says = absurd is
 nothing_said (ends.NotBegun cloud len) c r text is says = says.0
@@ -98,14 +98,14 @@ no_place c r before same kept rose =
 pub read_to : (status : ℕ) (r : AskedRead) (end : ReadEnd) (middle old new : ℕ → Cloud) (count total total_after : ℕ)
     (sink_before sink_middle sink_after : ℕ) (before written after : Option (List ℕ))
     → ((cloud : ℕ) → middle cloud ≡ old cloud) → count ≡ total
-    → ((text : List ℕ) × Appends before written text × Says (record {
+    → ((text : List ℕ) × Appends before written text × IsWrittenByEnd (record {
       total_before = count;
       total_after = total_after;
       old = middle;
       new = new;
     }) r.shape r.user (key_of r.shape r.path r.version) r.clouds end text
     × ((rooms : ℕ → UserRooms) (lists : ℕ → List Command) → AreReadable r.shape r.clouds middle rooms lists
-    → Gives (record {
+    → WritesWhatIsDue (record {
       total_before = count;
       total_after = total_after;
       old = middle;
@@ -122,7 +122,7 @@ pub read_to : (status : ℕ) (r : AskedRead) (end : ReadEnd) (middle old new : �
     }) r.shape r.user (key_of r.shape r.path r.version) r.clouds (end ≡ ends.Refused)
     → ((faults : ℕ) (text : List ℕ) (first : Option (List ℕ)) → CountsSink faults sink_middle end
     → Appends first written text → (IsOfOpening end → text ≡ [])
-    → IsClosed status faults sink_after end text first after)
+    → IsReadClosed status faults sink_after end text first after)
     → IsVersionRead status (record {
       sink_before = sink_before;
       sink_after = sink_after;

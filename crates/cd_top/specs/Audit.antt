@@ -44,7 +44,7 @@ pub data Audits (status : ℕ) (c : AskedCloud) (s : CloudsAround) (out : Output
       → (IsOpeningUnhindered (call_for c s) out → (status ≡ 0) ⊎ (status ≡ 6)) → Audits status c s out
 
 -- That of `check`: DIR failed, and the source is unread; or the source's certificate was checked.
-pub data Checks (status : ℕ) (c : AskedCloud) (s : CloudsAround) (unread : Type 0) (input : Input) (out : Output) : Type 0 where
-  Unchecked : unread → IsUnrooted status s out → Checks status c s unread input out
+pub data HasCheckedOrCause (status : ℕ) (c : AskedCloud) (s : CloudsAround) (unread : Type 0) (input : Input) (out : Output) : Type 0 where
+  Unchecked : unread → IsUnrooted status s out → HasCheckedOrCause status c s unread input out
   ByCloud : IsCertificateChecked status (call_for c s) unread input out → IsAloneAt c s
-      → Checks status c s unread input out
+      → HasCheckedOrCause status c s unread input out

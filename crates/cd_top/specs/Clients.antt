@@ -42,7 +42,7 @@ backup_of f l = record {
 -- open before are as they were, and whatever the end is, nothing was sent but Hellos and the requests of the file's job.
 pub record BacksUp (status : ℕ) (f : AskedFile) (l : PortsAround) (input : Input) (out : Output) : Type 0 where
   pub backed_up : IsBackedUp status (backup_of f l) input out
-  pub others : IsTrue l.before.told → backing.OnlyDialled l.before l.after
+  pub others : IsTrue l.before.told → backing.BackupDialsOnly l.before l.after
   pub sends : IsTrue l.before.told → HasSentOwn (backup_of f l) input
   pub told : l.after.told ≡ l.before.told
 
@@ -65,7 +65,7 @@ pub record HasRestoredOrCause (status : ℕ) (f : AskedFile) (l : PortsAround) (
     (faults now : ℕ)
     : Type 0 where
   pub fetched : IsFetched status (restore_of f l) before after faults now
-  pub others : IsTrue l.before.told → restoring.OnlyDialled l.before l.after
+  pub others : IsTrue l.before.told → restoring.RestoreDialsOnly l.before l.after
   pub sends : IsTrue l.before.told → restoring.OnlyReads l.before l.after
   pub told : l.after.told ≡ l.before.told
 
@@ -84,7 +84,8 @@ delete_of f l = record {
 
 -- A version was deleted at each cloud: what was sent, received and written, by the way it ended. Ports that were open
 -- before are as they were, and whatever the end is, nothing was sent but Hellos and Deletes of this version.
-pub record Deletes (status : ℕ) (f : AskedFile) (l : PortsAround) (out : deletions.DeleteOutput) : Type 0 where
+pub record HasDeletedOrCause (status : ℕ) (f : AskedFile) (l : PortsAround)
+    (out : deletions.DeleteOutput) : Type 0 where
   pub deleted : IsDeleted status (delete_of f l) out
   pub others : IsTrue l.before.told → OnlyDialled l.before l.after
   pub sends : IsTrue l.before.told → deleting.OnlyDeletes f.user f.path f.version l.before l.after

@@ -18,8 +18,8 @@ pub record IsScript (script : List ℕ) (shape : Shape) : Type 0 where
   pub reaches : Reaches script shape rooms events place
   pub ends : IsEnd place
 
-abbrev pub IsNew : Cloud → Type 0
-IsNew cloud = IsTrue cloud.told × ((area : Area) → IsEmptyAt cloud area)
+abbrev pub IsNewCloud : Cloud → Type 0
+IsNewCloud cloud = IsTrue cloud.told × ((area : Area) → IsEmptyAt cloud area)
 
 -- Nothing fails in the call: the source has a script, its clouds are new, and no count rises.
 pub record IsReplayUnhindered (call : ReplayCall) : Type 0 where
@@ -27,7 +27,7 @@ pub record IsReplayUnhindered (call : ReplayCall) : Type 0 where
   pub shape : Shape
   pub has : call.script ≡ Some script
   pub is_script : IsScript script shape
-  pub clouds : (cloud : ℕ) → cloud < shape.n → IsNew (call.old cloud)
+  pub clouds : (cloud : ℕ) → cloud < shape.n → IsNewCloud (call.old cloud)
   pub counts : (cloud : ℕ) → cloud < shape.n → IsStill (call.old cloud).faults (call.new cloud).faults
   pub total : IsStill call.total_before call.total_after
   pub source : IsStill call.source_before call.source_after

@@ -16,7 +16,7 @@ use Rattle.generated_session.specs.Lines.{generated_lines}
 use Rattle.generated_session.specs.Numbers.{HasNumbers, summary_text}
 use Rattle.generated_session.specs.Generates.{Order, IsSessionWhole}
 use Rattle.command_words.specs.Asked.{AskedSession}
-use Rattle.cd_top.specs.Complete.{IsNew, IsStill}
+use Rattle.cd_top.specs.Complete.{IsNewCloud, IsStill}
 use Rattle.cd_top.specs.Read.{Around, IsReadUntouched}
 use Rattle.cd_top.specs.Replay.{ending_text, WritesFront}
 
@@ -33,28 +33,28 @@ pub record IsOrdered (order : Order) (run : Session) : Type 0 where
 
 -- Why the session came to this end: all its lines were answered; or no cloud was opened, since the one that is named
 -- failed, wasn't empty, or, where nothing is told of it, was damaged. Want of memory alone has no cause.
-abbrev pub IsCaused : ReplayEnd → Order → Around → Session → Type 0
-IsCaused (ends.Done events) order c run = IsSessionWhole order run × (events ≡ length run.history)
-IsCaused ends.NoMemory order c run = Unit {0}
-IsCaused (ends.ShelfFault cloud) order c run =
+abbrev pub IsSessionCaused : ReplayEnd → Order → Around → Session → Type 0
+IsSessionCaused (ends.Done events) order c run = IsSessionWhole order run × (events ≡ length run.history)
+IsSessionCaused ends.NoMemory order c run = Unit {0}
+IsSessionCaused (ends.ShelfFault cloud) order c run =
     (run.opened ≡ false) × (cloud.0 < 4) × Rose (run.last cloud.0).faults (c.new cloud.0).faults
     × AreEmptyBelow c.old cloud.0
-IsCaused (ends.NotEmpty cloud area len) order c run =
+IsSessionCaused (ends.NotEmpty cloud area len) order c run =
     (run.opened ≡ false) × (cloud.0 < 4) × IsFirstFilled c.old cloud.0 area len
     × ((other : ℕ) → c.new other ≡ c.old other)
-IsCaused (ends.Damaged cloud at byte) order c run =
+IsSessionCaused (ends.Damaged cloud at byte) order c run =
     (run.opened ≡ false) × (cloud.0 < 4) × ((c.old cloud.0).told ≡ false) × AreEmptyBelow c.old 4
-IsCaused (ends.Script line at found) order c run = ⊥
-IsCaused ends.SourceFault order c run = ⊥
-IsCaused ends.SinkFault order c run = ⊥
+IsSessionCaused (ends.Script line at found) order c run = ⊥
+IsSessionCaused ends.SourceFault order c run = ⊥
+IsSessionCaused ends.SinkFault order c run = ⊥
 
 -- The text that is due then: the summary, which has the numbers of the session; or the line that says why there is
 -- none; for want of memory nothing.
-abbrev pub IsDue : ReplayEnd → Order → Session → List ℕ → Type 0
-IsDue (ends.Done events) order run text =
+abbrev pub IsTextDue : ReplayEnd → Order → Session → List ℕ → Type 0
+IsTextDue (ends.Done events) order run text =
     (numbers : Numbers) × HasNumbers (uploads (script_of run.history)) run.history numbers
     × (text ≡ summary_text order.files numbers)
-IsDue end order run text = text ≡ ending_text (ending_of end)
+IsTextDue end order run text = text ≡ ending_text (ending_of end)
 
 -- All of it was written, and the status is that of the end; or the sink failed within it.
 pub data IsSessionClosed (status : ℕ) (end : ReplayEnd) (text : List ℕ) (c : Around) (before after : Option (List ℕ))
@@ -77,25 +77,25 @@ pub record IsMadeTo (status : ℕ) (c : Around) (order : Order) (before after : 
   pub began : IsTrue run.opened → AreEmptyBelow c.old 4
   -- where one of them isn't empty, nothing was written, whatever the status
   pub spared : AreSpared 4 c.old c.new
-  pub cause : IsCaused end order c run
+  pub cause : IsSessionCaused end order c run
   pub text : List ℕ
-  pub due : IsDue end order run text
+  pub due : IsTextDue end order run text
   pub closed : IsSessionClosed status end text c before after
 
 -- DIR failed, and nothing was done; or a session came to an end.
-pub data Makes (status : ℕ) (c : Around) (order : Order) (before after : Option (List ℕ)) : Type 0 where
+pub data HasMadeOrCause (status : ℕ) (c : Around) (order : Order) (before after : Option (List ℕ)) : Type 0 where
   NoPlace : status ≡ 5 → IsReadUntouched c before after → Rose c.total_before c.total_after
-      → Makes status c order before after
-  MadeTo : (end : ReplayEnd) → IsMadeTo status c order before after end → Makes status c order before after
+      → HasMadeOrCause status c order before after
+  MadeTo : (end : ReplayEnd) → IsMadeTo status c order before after end → HasMadeOrCause status c order before after
 
 -- the four clouds are told and empty, and no count of theirs, of the shelf and of the sink rises
 pub record NothingFails (c : Around) : Type 0 where
-  pub clouds : (cloud : ℕ) → cloud < 4 → IsNew (c.old cloud)
+  pub clouds : (cloud : ℕ) → cloud < 4 → IsNewCloud (c.old cloud)
   pub counts : (cloud : ℕ) → cloud < 4 → IsStill (c.old cloud).faults (c.new cloud).faults
   pub total : IsStill c.total_before c.total_after
   pub sink : IsStill c.sink_before c.sink_after
 
 -- The whole promise. Where nothing fails, the summary was written, or memory ran out.
 pub record IsGenerated (status : ℕ) (c : Around) (g : AskedSession) (before after : Option (List ℕ)) : Type 0 where
-  pub made : Makes status c (order_of g) before after
+  pub made : HasMadeOrCause status c (order_of g) before after
   pub complete : NothingFails c → (status ≡ 0) ⊎ (status ≡ 6)

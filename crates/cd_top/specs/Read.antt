@@ -11,7 +11,8 @@ use Rattle.delete_command.specs.UserDedup.command.Command.{Command}
 use Rattle.read_command.specs.declared.end.ReadEnd.{ReadEnd}
 use Rattle.read_command.specs.declared.end.ReadEnd.TheVariants as ends
 use Rattle.read_command.specs.Disks.{AreReadable, IsSpared, KeepsDisks}
-use Rattle.read_command.specs.Ends.{Outside, CountsSink, Due, Gives, GivesAnyway, IsOfOpening, Says, due_of}
+use Rattle.read_command.specs.Ends.{Outside, CountsSink, Due, WritesWhatIsDue, GivesAnyway, IsOfOpening, IsWrittenByEnd}
+use Rattle.read_command.specs.Ends.{due_of}
 use Rattle.command_words.specs.Asked.{AskedRead}
 use Rattle.cd_top.specs.Replay.{WritesFront}
 
@@ -72,14 +73,14 @@ given_of r lists = due_of r.shape r.user (key_of r.shape r.path r.version) r.clo
 -- The text is that of the end: whatever is told, by what the named clouds' disks open to; and over named clouds that are
 -- told, begun and stand for lists, each within rooms of its own, by what these lists give.
 pub record BelongsTo (c : Outside) (r : AskedRead) (end : ReadEnd) (text : List ℕ) : Type 0 where
-  pub says : Says c r.shape r.user (key_of r.shape r.path r.version) r.clouds end text
+  pub says : IsWrittenByEnd c r.shape r.user (key_of r.shape r.path r.version) r.clouds end text
   pub gives : (rooms : ℕ → UserRooms) (lists : ℕ → List Command) → AreReadable r.shape r.clouds c.old rooms lists
-      → Gives c r.clouds (given_of r lists) end text
+      → WritesWhatIsDue c r.clouds (given_of r lists) end text
 
 -- The text and the last line were written, and the status is the end's; or the sink failed within the last line; or
 -- memory ran out before it. The sink's counts are those before and after the read.
-abbrev pub IsClosed : ℕ → ℕ → ℕ → ReadEnd → List ℕ → Option (List ℕ) → Option (List ℕ) → Type 0
-IsClosed status faults now end text before after =
+abbrev pub IsReadClosed : ℕ → ℕ → ℕ → ReadEnd → List ℕ → Option (List ℕ) → Option (List ℕ) → Type 0
+IsReadClosed status faults now end text before after =
     ((status ≡ status_of end) × Appends before after (text ++ last_line end) × CountsSink faults now end)
     ⊎ (((status ≡ 4) × IsOfOpening end × WritesFront (last_line end) before after × Rose faults now)
     ⊎ ((status ≡ 6) × IsOfOpening end × Appends before after [] × (now ≡ faults)))
@@ -91,7 +92,7 @@ pub record IsReadTo (status : ℕ) (c : Around) (r : AskedRead) (before after : 
   pub text : List ℕ
   pub belongs : BelongsTo (outside c) r end text
   pub anyway : GivesAnyway (outside c) r.shape r.user (key_of r.shape r.path r.version) r.clouds (end ≡ ends.Refused)
-  pub closed : IsClosed status c.sink_before c.sink_after end text before after
+  pub closed : IsReadClosed status c.sink_before c.sink_after end text before after
   pub kept : KeepsDisks r.shape r.clouds c.old c.new
   pub areas : (cloud : ℕ) → IsTrue (c.old cloud).told → IsSpared (c.old cloud) (c.new cloud)
   pub armings : (cloud : ℕ) → (c.new cloud).armings ≡ (c.old cloud).armings

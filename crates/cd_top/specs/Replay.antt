@@ -33,7 +33,8 @@ abbrev pub due_text : Session → EndingLine → List ℕ
 due_text run line = text_of (due run) ++ ending_text line
 
 -- It is written whole with 0, 2, 5 and 7, and else a front of it.
-pub record IsWritten (status : ℕ) (before after : Option (List ℕ)) (run : Session) (line : EndingLine) : Type 0 where
+pub record IsReplayWritten (status : ℕ) (before after : Option (List ℕ)) (run : Session)
+    (line : EndingLine) : Type 0 where
   pub text : List ℕ
   pub more : List ℕ
   pub front : text ++ more ≡ due_text run line
@@ -45,7 +46,7 @@ pub record IsReplayed (status : ℕ) (call : ReplayCall) (before after : Option 
   pub run : Session
   pub line : EndingLine
   pub replayed : Replayed status call.old call.new run
-  pub text : IsWritten status before after run line
+  pub text : IsReplayWritten status before after run line
   pub cause : HasStatusCause status call run line
 
 -- ---- the last line

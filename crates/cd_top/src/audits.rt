@@ -5,7 +5,7 @@ ghost use Rattle.command_words.specs.Commands.{FitsCloud};
 ghost use Rattle.command_words.specs.Views.{asked_cloud};
 ghost use Rattle.spool_command.specs.BackupCommand.Reading.{input_of};
 ghost use Rattle.spool_command.specs.BackupCommand.Writing.{output_of};
-ghost use Rattle.cd_top.specs.Audit.{Audits, Checks, clouds_of};
+ghost use Rattle.cd_top.specs.Audit.{Audits, HasCheckedOrCause, clouds_of};
 
 use audit_command::{audit_cloud, check_cloud};
 use command_words::CloudWords;
@@ -41,7 +41,7 @@ pub fn check_in<S: Source, K: Sink, V: Shelf>(
     shelf: &mut V,
 ) -> u8
     requires { FitsCloud (asked_cloud asked.now) }
-    ensures { Checks result (asked_cloud asked.now)
+    ensures { HasCheckedOrCause result (asked_cloud asked.now)
         (clouds_of (V.cloud_at shelf.old) (V.cloud_at shelf.new) (V.faults shelf.old) (V.faults shelf.new))
         (source.new ≡ source.old)
         (input_of (S.left source.old) (S.faults source.old) (S.faults source.new))

@@ -6,7 +6,7 @@ ghost use Rattle.command_words.specs.Views.{asked_backup, asked_delete, asked_re
 ghost use Rattle.spool_command.specs.BackupCommand.Reading.{input_of};
 ghost use Rattle.spool_command.specs.BackupCommand.Writing.{output_of};
 ghost use Rattle.delete_command.specs.Writing.{output_of as deletion_of};
-ghost use Rattle.cd_top.specs.Clients.{BacksUp, Deletes, HasRestoredOrCause, lines_of};
+ghost use Rattle.cd_top.specs.Clients.{BacksUp, HasDeletedOrCause, HasRestoredOrCause, lines_of};
 
 use command_words::{BackupWords, DeleteWords, RestoreWords};
 use delete_command::{Ports, Sink, Source, delete};
@@ -74,7 +74,7 @@ pub fn delete_at<K: Sink, P: Ports>(
     ports: &mut P,
 ) -> u8
     requires { FitsFile 3 (asked_delete asked.now) }
-    ensures { Deletes result (asked_delete asked.now)
+    ensures { HasDeletedOrCause result (asked_delete asked.now)
         (lines_of (P.tells ports.old) (P.tells ports.new) (P.faults ports.old) (P.faults ports.new))
         (deletion_of (K.written sink.old) (K.written sink.new) (K.faults sink.old) (K.faults sink.new)) }
 {

@@ -6,7 +6,7 @@ ghost use Rattle.two_worlds.specs.Transcript.Endings.{ending_text as text_of_end
 ghost use Rattle.read_command.specs.Ends.{CountsSink, IsOfOpening};
 ghost use Rattle.command_words.specs.Commands.{FitsRead};
 ghost use Rattle.command_words.specs.Views.{asked_read};
-ghost use Rattle.cd_top.specs.Read.{IsClosed, IsVersionRead, around_call, last_line as line_due, status_of as status_due};
+ghost use Rattle.cd_top.specs.Read.{IsReadClosed, IsVersionRead, around_call, last_line as line_due, status_of as status_due};
 
 use crate::ending::{LastErr, write_last};
 use command_words::ReadWords;
@@ -66,7 +66,7 @@ fn last_line(end: &ReadEnd) -> Option<Ending>
 fn finish_read<K: Sink>(alloc: Global, end: &ReadEnd, sink: &mut K) -> u8
     ensures { (faults : ℕ) (text : List ℕ) (before : Option (List ℕ)) → CountsSink faults (K.faults sink.old) end.now
         → Appends before (K.written sink.old) text → (IsOfOpening end.now → text ≡ [])
-        → IsClosed result faults (K.faults sink.new) end.now text before (K.written sink.new) }
+        → IsReadClosed result faults (K.faults sink.new) end.now text before (K.written sink.new) }
 {
     match last_line(end) {
         None => status_of(end),

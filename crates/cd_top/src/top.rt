@@ -12,8 +12,8 @@ ghost use Rattle.spool_command.specs.BackupCommand.Reading.{input_of};
 ghost use Rattle.spool_command.specs.BackupCommand.Writing.{output_of as output_by};
 ghost use Rattle.migrate_command.specs.ServeCommand.Served.{output_of};
 ghost use Rattle.delete_command.specs.Writing.{output_of as deletion_of};
-ghost use Rattle.cd_top.specs.Audit.{Audits, Checks, clouds_of};
-ghost use Rattle.cd_top.specs.Clients.{BacksUp, Deletes, HasRestoredOrCause, lines_of};
+ghost use Rattle.cd_top.specs.Audit.{Audits, HasCheckedOrCause, clouds_of};
+ghost use Rattle.cd_top.specs.Clients.{BacksUp, HasDeletedOrCause, HasRestoredOrCause, lines_of};
 ghost use Rattle.cd_top.specs.Dispatch.{IsFit, Promises};
 ghost use Rattle.cd_top.specs.Generate.{IsGenerated};
 ghost use Rattle.cd_top.specs.Migrate.{HasMigratedOrCause};
@@ -87,7 +87,7 @@ fn carry_out<S: Source, K: Sink, V: Shelf, P: Ports>(
       restored = λ asked. (source.new ≡ source.old) × (shelf.new ≡ shelf.old) × HasRestoredOrCause result asked
           (lines_of (P.tells ports.old) (P.tells ports.new) (P.faults ports.old) (P.faults ports.new))
           (K.written sink.old) (K.written sink.new) (K.faults sink.old) (K.faults sink.new);
-      deleted = λ asked. (source.new ≡ source.old) × (shelf.new ≡ shelf.old) × Deletes result asked
+      deleted = λ asked. (source.new ≡ source.old) × (shelf.new ≡ shelf.old) × HasDeletedOrCause result asked
           (lines_of (P.tells ports.old) (P.tells ports.new) (P.faults ports.old) (P.faults ports.new))
           (deletion_of (K.written sink.old) (K.written sink.new) (K.faults sink.old) (K.faults sink.new));
       spooled = λ asked. Spools result asked
@@ -103,7 +103,7 @@ fn carry_out<S: Source, K: Sink, V: Shelf, P: Ports>(
       audited = λ asked. (source.new ≡ source.old) × (ports.new ≡ ports.old) × Audits result asked
           (clouds_of (V.cloud_at shelf.old) (V.cloud_at shelf.new) (V.faults shelf.old) (V.faults shelf.new))
           (output_by (K.written sink.old) (K.written sink.new) (K.faults sink.old) (K.faults sink.new));
-      checked = λ asked. (ports.new ≡ ports.old) × Checks result asked
+      checked = λ asked. (ports.new ≡ ports.old) × HasCheckedOrCause result asked
           (clouds_of (V.cloud_at shelf.old) (V.cloud_at shelf.new) (V.faults shelf.old) (V.faults shelf.new))
           (source.new ≡ source.old)
           (input_of (S.left source.old) (S.faults source.old) (S.faults source.new))
@@ -252,7 +252,7 @@ pub fn run<S: Source, K: Sink, V: Shelf, P: Ports>(
     // Each cloud is asked for the deletion once, and what is written follows from what came on the ports: 0 comes exactly
     // where the version is deleted or missing at each. Source and shelf aren't touched.
     ensures delete { (asked : AskedFile) → IsCommand (map string_bytes words.now) (ForDelete asked)
-        → (source.new ≡ source.old) × (shelf.new ≡ shelf.old) × Deletes result asked
+        → (source.new ≡ source.old) × (shelf.new ≡ shelf.old) × HasDeletedOrCause result asked
         (lines_of (P.tells ports.old) (P.tells ports.new) (P.faults ports.old) (P.faults ports.new))
         (deletion_of (K.written sink.old) (K.written sink.new) (K.faults sink.old) (K.faults sink.new)) }
     // What is read, sent and written is as for a backup, and the job is kept in the folder, cloud 0 of the shelf, from the
@@ -280,7 +280,7 @@ pub fn run<S: Source, K: Sink, V: Shelf, P: Ports>(
     // The source is read to its end once the cloud is opened. 0 comes only where it has the cloud's own certificate, and each blob that
     // this names is where it was put. No other cloud is touched. The ports aren't.
     ensures check { (asked : AskedCloud) → IsCommand (map string_bytes words.now) (ForCheck asked)
-        → (ports.new ≡ ports.old) × Checks result asked
+        → (ports.new ≡ ports.old) × HasCheckedOrCause result asked
         (clouds_of (V.cloud_at shelf.old) (V.cloud_at shelf.new) (V.faults shelf.old) (V.faults shelf.new))
         (source.new ≡ source.old)
         (input_of (S.left source.old) (S.faults source.old) (S.faults source.new))

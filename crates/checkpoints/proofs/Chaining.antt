@@ -6,7 +6,7 @@ use Rattle.std.proofs.lemmas.Bool.{cases_eq, cases_lt, eqb-true}
 use Rattle.cloud_memory.specs.CdBase.ids.Fp.{Fp}
 use Rattle.cloud_memory.specs.PoolMap.Slots.{slot_of}
 use Rattle.cloud_memory.specs.ShareIndex.key.Owner.{Owner}
-use Rattle.checkpoints.specs.Chained.{user_in, IsOwn, AreOthers, IsNextOwn, AreChained}
+use Rattle.checkpoints.specs.Chained.{user_in, IsOwnSlot, AreOthers, IsNextOwn, AreChained}
 use Rattle.checkpoints.specs.Picking.{picked}
 use Rattle.checkpoints.specs.Records.{owned_at}
 use Rattle.checkpoints.proofs.Marking.{slot_inside}
@@ -42,11 +42,11 @@ of_one u user (Some e) is ne = by_test (e.0.user == u) refl
     by_test true t = absurd (ne (sym (eqb-true e.0.user u t) ∙ same))
     by_test false t = refl
 
-owned_not : (slots : List (Option (Owner × ℕ))) (u s : ℕ) → IsOwn slots u s → owned_at u (slot_of slots s) ≡ None → ⊥
+owned_not : (slots : List (Option (Owner × ℕ))) (u s : ℕ) → IsOwnSlot slots u s → owned_at u (slot_of slots s) ≡ None → ⊥
 owned_not slots u s own none = true≢false (sym own ∙ ap is_some none)
 
 -- a user's slot is one of the slots
-pub owned_inside : (slots : List (Option (Owner × ℕ))) (u s : ℕ) → IsOwn slots u s → s < length slots
+pub owned_inside : (slots : List (Option (Owner × ℕ))) (u s : ℕ) → IsOwnSlot slots u s → s < length slots
 owned_inside slots u s own = let e = owned_some (slot_of slots s) own in slot_inside slots s e.0 e.1
   where
     owned_some : (o : Option (Owner × ℕ)) → is_some (owned_at u o) ≡ true → (e : Owner × ℕ) × (o ≡ Some e)
@@ -124,7 +124,7 @@ module _ (slots : List (Option (Owner × ℕ))) (firsts nexts : List ℕ) (count
           ];
     }
       where
-        at_slot : (u s : ℕ) → s ≡ slot → u < length firsts → IsOwn slots u s → IsNextOwn slots count u (s + 1) (get_or Nexts s 0)
+        at_slot : (u s : ℕ) → s ≡ slot → u < length firsts → IsOwnSlot slots u s → IsNextOwn slots count u (s + 1) (get_or Nexts s 0)
         at_slot u s e has own =
             elim (cases_eq u user) [
               | inl same ↦
@@ -155,7 +155,7 @@ none_chained slots firsts nexts n count is long = record {
 
 -- Between one of a user's slots and the next one by the chain none is the user's.
 pub others_between : (slots : List (Option (Owner × ℕ))) (firsts nexts : List ℕ) → AreChained slots firsts nexts (min (length slots) (length nexts)) 0
-    → (u s : ℕ) → u < length firsts → IsOwn slots u s → AreOthers slots u (s + 1) (get_or nexts s 0)
+    → (u s : ℕ) → u < length firsts → IsOwnSlot slots u s → AreOthers slots u (s + 1) (get_or nexts s 0)
 others_between slots firsts nexts c u s has own j le l =
     elim (cases_lt s (length nexts)) [
       | inl inside ↦

@@ -20,7 +20,7 @@ use Rattle.cloud_disk.specs.CloudAreas.Placing.{region_start, greatest_end, shar
 use Rattle.cloud_disk.specs.CloudAreas.Chains.{laid_shares}
 use Rattle.cloud_disk.specs.CloudAreas.Standing.{Chain, where_of, region_in, IsChain, Holds, StandsFor}
 use Rattle.cloud_disk.specs.Held.{LieIn}
-use Rattle.cloud_disk.specs.Disk.{Disk, IsBehind, IsOn}
+use Rattle.cloud_disk.specs.Disk.{Disk, IsLogBehind, IsOn}
 use Rattle.cloud_disk.proofs.Standing.{stands, holds_in}
 use Rattle.cloud_disk.proofs.Adding.{chain_there}
 use Rattle.cloud_disk.proofs.Both.{as_read}
@@ -91,7 +91,7 @@ module _ (header : Header) (list : List Command) (c : Chain) (commands count reg
       disk_is Recipes = subst (λ (s : Store). s ≡ stable s.read) (sym (others Recipes (λ e. cc))) (p.on.read.on_disk Recipes)
 
       behind_still : (area : Area) (places : List Place) (old new : logs.State) → new ≡ old → old.area ≡ area → greatest_end (region_start (region_in next)) places ≤ old.end
-          → logs.Agrees old (c0.now old.area).read → c1.now area ≡ c0.now area → IsBehind area (region_in next) places new c1.now
+          → logs.Agrees old (c0.now old.area).read → c1.now area ≡ c0.now area → IsLogBehind area (region_in next) places new c1.now
       behind_still area places old new same is behind agrees still = record {
         area_is = ap (λ (s : logs.State). s.area) same ∙ is;
         behind = subst (λ (s : logs.State). greatest_end (region_start (region_in next)) places ≤ s.end) (sym same) behind;

@@ -12,7 +12,7 @@ use Rattle.cloud_memory.specs.ShareIndex.Shares.{Shares, owners_of}
 use Rattle.cloud_memory.proofs.UserDedup.Owned.{contains_nothing, among_contains}
 use Rattle.std.specs.FinMap.{get}
 use Rattle.checkpoints.specs.Records.{owned_at, owned_in, listed_below, listed, kept_at}
-use Rattle.checkpoints.specs.Ready.{AreMarked, AreOwned}
+use Rattle.checkpoints.specs.Ready.{AreMarked, AreMarkedOwned}
 use Rattle.checkpoints.proofs.Holders.{owners_some}
 use Rattle.checkpoints.proofs.KeptLaw.{item_in}
 use Rattle.checkpoints.proofs.OwnLaw.{owned_gives}
@@ -48,7 +48,7 @@ module _ (shares : Shares) (each : IsListed shares.owners shares.owner_slots) wh
             (Contains-append_left (owned_in user (take at shares.owner_slots)) (owned_in user (drop at shares.owner_slots)) fp own))
       ]
 
-  pub marked_owned : (marks : List Bool) (user at : ℕ) → AreMarked shares marks (listed shares.owner_slots user at) → AreOwned shares marks
+  pub marked_owned : (marks : List Bool) (user at : ℕ) → AreMarked shares marks (listed shares.owner_slots user at) → AreMarkedOwned shares marks
   marked_owned marks user at m slot is = by_entry (slot_of shares.place_slots slot) refl
     where
       by_entry : (o : Option (List ℕ × Place)) → slot_of shares.place_slots slot ≡ o → kept_at shares.owners o ≡ None

@@ -14,7 +14,7 @@ use Rattle.checkpoints.specs.Laying.{IsNextInBuffer}
 use Rattle.checkpoints.specs.Picking.{IsPicked, batched, batches, with_batch}
 use Rattle.checkpoints.specs.Records.{owned_at, owned_in, listed_below, listed, item_of, items_of, put_of, items_from, puts_from}
 use Rattle.checkpoints.specs.Ready.{AreMarked, IsAtPuts}
-use Rattle.checkpoints.specs.Steps.{AreListedNext, KeepsOthers}
+use Rattle.checkpoints.specs.Steps.{AreListedNext, KeepsAllButPuts}
 use Rattle.checkpoints.specs.declared.position.Position.{Position}
 use Rattle.checkpoints.proofs.Picks.{picked-append}
 use Rattle.checkpoints.proofs.Batching.{one_more, at_end, at_full}
@@ -87,7 +87,7 @@ module _ (shares : Shares) (user : ℕ) where
 pub record PutsAlong (shares : Shares) (marks : List Bool) (first now : Position) (items : List PutItem) : Type 0 where
   pub ready : IsAtPuts shares marks now.left now.user now.owner
   pub same : puts_from shares first.left first.user first.owner ≡ puts_from shares now.left now.user now.owner
-  pub others : KeepsOthers first now
+  pub others : KeepsAllButPuts first now
   pub room : length items ≡ 256
 
 pub puts_begin : (shares : Shares) (marks : List Bool) (p : Position) (items : List PutItem) → IsAtPuts shares marks p.left p.user p.owner → length items ≡ 256 → PutsAlong shares marks p p items

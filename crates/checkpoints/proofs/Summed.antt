@@ -39,7 +39,7 @@ use Rattle.cloud_memory.specs.Rooms.{memory_of}
 use Rattle.checkpoints.specs.Laying.{records_len}
 use Rattle.checkpoints.specs.Settling.{checkpoint_of, IsSummed}
 use Rattle.checkpoints.specs.Records.{commits_from, records_of}
-use Rattle.checkpoints.specs.Known.{AreListed, IsKnown, recipe_of, recipes_of, checkpoint_in}
+use Rattle.checkpoints.specs.Known.{AreListed, IsDiskKnown, recipe_of, recipes_of, checkpoint_in}
 use Rattle.checkpoints.proofs.Apartness.{contained}
 use Rattle.checkpoints.proofs.EntryLaw.{is_entry}
 use Rattle.checkpoints.proofs.Given.{Names, names_of, shares_given, commit_given, commit_there, recipe_given}
@@ -78,7 +78,7 @@ pub chain_first : (start : List ℕ) (rest : List (List ℕ)) → length (chain 
 chain_first start rest = omega (arith, length-append (sized start) (chain rest), length-append (to_be_bytes w32 (length start)) start)
 
 module _ (header : Header) (list : List Command) (c : Chain) (commands region : ℕ) (memory : CloudMemory) (disk : Disk) (cloud : Cloud)
-    (k : IsKnown header list c commands region memory disk cloud) (l : AreListed memory) (format : header.format ≡ 2) where
+    (k : IsDiskKnown header list c commands region memory disk cloud) (l : AreListed memory) (format : header.format ≡ 2) where
   abbrev next : Chain
   next = checkpoint_in header list c commands region memory
 

@@ -26,7 +26,7 @@ use Rattle.cloud_memory.specs.ShareIndex.Shares.{Shares, owners_of, ownerless_in
 use Rattle.cloud_memory.proofs.ShareIndexLaws.Placing.{fp_total}
 use Rattle.cloud_memory.specs.UserDedup.Owning.{is_among}
 use Rattle.cloud_disk.specs.CloudAreas.Checkpoints.{PutRecord, put_body, items_in}
-use Rattle.cloud_memory.specs.Fitting.{AreShares}
+use Rattle.cloud_memory.specs.Fitting.{AreSharePlaces}
 use Rattle.checkpoints.specs.Laying.{records_len}
 use Rattle.checkpoints.specs.Picking.{onto, picked, batched, batches}
 use Rattle.checkpoints.specs.Records.{owned_in, listed, items_of, put_of, items_from, puts_from, kept_at}
@@ -85,7 +85,7 @@ one_seen slots count p here = record {
       ];
 }
 
-pub all_seen : (shares : Shares) (count : ℕ) → AreShares shares.places → IsListed shares.places shares.place_slots → PlacesSeen shares.place_slots count → length shares.place_slots ≤ count
+pub all_seen : (shares : Shares) (count : ℕ) → AreSharePlaces shares.places → IsListed shares.places shares.place_slots → PlacesSeen shares.place_slots count → length shares.place_slots ≤ count
     → ArePlaces shares.places
 all_seen shares count fit each p all fp place is =
     let s = each.stands fp place is in let inside = s.1 in (p.seen s.0 fp place (omega (arith, inside, all)) s.2, fit fp place is)

@@ -9,7 +9,7 @@ use Rattle.checkpoints.specs.Marked.{slots_limit, AreAllUnmarked}
 use Rattle.checkpoints.specs.Chained.{HasChains}
 use Rattle.checkpoints.specs.declared.chains.OwnerChains.{OwnerChains}
 use Rattle.checkpoints.specs.Records.{first_of}
-use Rattle.cloud_memory.specs.Fitting.{AreShares, AreRecipes}
+use Rattle.cloud_memory.specs.Fitting.{AreSharePlaces, AreRecipes}
 use Rattle.checkpoints.specs.Ready.{IsReadyToWrite}
 use Rattle.checkpoints.specs.declared.position.Position.{Position}
 
@@ -29,7 +29,7 @@ unmarked marks n is limit = record {
 }
 
 -- Before the first record nothing is listed.
-pub ready_first : (shares : Shares) (files : Files) (rows : List Row) (chains : OwnerChains) (marks : List Bool) (p : Position) → HasChains shares.owner_slots chains → AreShares shares.places → AreRecipes files.files → length rows ≤ 256
+pub ready_first : (shares : Shares) (files : Files) (rows : List Row) (chains : OwnerChains) (marks : List Bool) (p : Position) → HasChains shares.owner_slots chains → AreSharePlaces shares.places → AreRecipes files.files → length rows ≤ 256
     → length shares.place_slots ≤ 524288 → AreAllUnmarked marks → IsListed shares.places shares.place_slots → IsListed files.files files.slots → p ≡ first_of (length rows) → IsReadyToWrite shares files rows chains marks p
 ready_first shares files rows chains marks p chained fit recipes few slots unmarked stand entries is =
     subst (IsReadyToWrite shares files rows chains marks) (sym is) (record {

@@ -10,8 +10,8 @@ abbrev pub user_in : Owner × ℕ → ℕ
 user_in e = e.0.user
 
 -- The slot is the user's.
-abbrev pub IsOwn : List (Option (Owner × ℕ)) → ℕ → ℕ → Type 0
-IsOwn slots user slot = is_some (owned_at user (slot_of slots slot)) ≡ true
+abbrev pub IsOwnSlot : List (Option (Owner × ℕ)) → ℕ → ℕ → Type 0
+IsOwnSlot slots user slot = is_some (owned_at user (slot_of slots slot)) ≡ true
 
 -- No slot from the one up to the other is the user's.
 abbrev pub AreOthers : List (Option (Owner × ℕ)) → ℕ → ℕ → ℕ → Type 0
@@ -21,14 +21,14 @@ AreOthers slots user from to = (slot : ℕ) → from ≤ slot → slot < to → 
 pub record IsNextOwn (slots : List (Option (Owner × ℕ))) (count user from to : ℕ) : Type 0 where
   pub ahead : from ≤ to
   pub others : AreOthers slots user from to
-  pub own : to < count → IsOwn slots user to
+  pub own : to < count → IsOwnSlot slots user to
   pub within : to ≤ count
 
 -- So many slots are chained, as far as they stand from this one on: a user's first is the first of its slots, and the next of each is the next
 -- one of its user's.
 pub record AreChained (slots : List (Option (Owner × ℕ))) (firsts nexts : List ℕ) (count at : ℕ) : Type 0 where
   pub first : (user : ℕ) → user < length firsts → IsNextOwn slots count user at (slice_index_or firsts user 0)
-  pub next : (user slot : ℕ) → user < length firsts → at ≤ slot → slot < count → IsOwn slots user slot
+  pub next : (user slot : ℕ) → user < length firsts → at ≤ slot → slot < count → IsOwnSlot slots user slot
       → IsNextOwn slots count user (slot + 1) (slice_index_or nexts slot 0)
 
 -- All slots are chained that there are places for.

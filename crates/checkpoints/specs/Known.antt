@@ -50,7 +50,7 @@ pub record AreListed (memory : CloudMemory) : Type 0 where
 
 -- The disk stands for the list by a chain, with so many commands and in this region. The memory is that of the list, and is placed by the
 -- chain; what it places stands in the areas. The list is within the rooms.
-pub record IsKnown (header : Header) (list : List Command) (c : Chain) (commands region : ℕ) (memory : CloudMemory) (disk : Disk) (cloud : Cloud) : Type 0 where
+pub record IsDiskKnown (header : Header) (list : List Command) (c : Chain) (commands region : ℕ) (memory : CloudMemory) (disk : Disk) (cloud : Cloud) : Type 0 where
   pub on : IsOn header list c disk cloud
   pub remembers : Remembers header.shape list (memory_of memory)
   pub placed : IsPlacedBy c.records (memory_of memory)

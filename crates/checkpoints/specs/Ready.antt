@@ -7,7 +7,7 @@ use Rattle.cloud_memory.specs.CdBase.place.Place.{Place}
 use Rattle.cloud_memory.specs.ShareIndex.Shares.{Shares}
 use Rattle.cloud_memory.specs.SpentTable.Spent.{Spent as Row}
 use Rattle.cloud_memory.specs.UserDedup.Owning.{is_among}
-use Rattle.cloud_memory.specs.Fitting.{AreShares, AreRecipes}
+use Rattle.cloud_memory.specs.Fitting.{AreSharePlaces, AreRecipes}
 use Rattle.checkpoints.specs.Chained.{HasChains}
 use Rattle.checkpoints.specs.Records.{listed, kept_at}
 use Rattle.checkpoints.specs.declared.chains.OwnerChains.{OwnerChains}
@@ -19,12 +19,12 @@ pub record AreMarked (shares : Shares) (marks : List Bool) (fps : List Fp) : Typ
   pub marked : (s : ℕ) (fp : List ℕ) (place : Place) → slot_of shares.place_slots s ≡ Some (fp, place) → slice_index_or marks s false ≡ is_among fps (record { 0 = fp })
 
 -- What is marked has an owner.
-abbrev pub AreOwned : Shares → List Bool → Type 0
-AreOwned shares marks = (slot : ℕ) → slice_index_or marks slot false ≡ true → kept_at shares.owners (slot_of shares.place_slots slot) ≡ None
+abbrev pub AreMarkedOwned : Shares → List Bool → Type 0
+AreMarkedOwned shares marks = (slot : ℕ) → slice_index_or marks slot false ≡ true → kept_at shares.owners (slot_of shares.place_slots slot) ≡ None
 
 -- The Puts may go on at these: the slots of what is listed are marked.
 pub record IsAtPuts (shares : Shares) (marks : List Bool) (left user at : ℕ) : Type 0 where
-  pub fit : AreShares shares.places
+  pub fit : AreSharePlaces shares.places
   pub stand : IsListed shares.places shares.place_slots
   pub listing : AreMarked shares marks (listed shares.owner_slots user at)
   pub few : user + left ≤ 256

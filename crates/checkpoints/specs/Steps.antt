@@ -31,7 +31,7 @@ pub record AreKept (shares : Shares) (from : ℕ) (items : List KeptItem) (behin
   pub few : length items ≤ 256
 
 -- All but the Puts stand where they stood.
-pub record KeepsOthers (old new : Position) : Type 0 where
+pub record KeepsAllButPuts (old new : Position) : Type 0 where
   pub place : new.place ≡ old.place
   pub file : new.file ≡ old.file
   pub row : new.row ≡ old.row

@@ -4,7 +4,7 @@ ghost use Rattle.std.specs.Prelude.{◌≡◌, ℕ, ◌+◌, ◌≤◌, List, le
 ghost use Rattle.cloud_disk.specs.CdEdges.Shelf.{IsCall, HasFailed, KeepsCounts};
 ghost use Rattle.cloud_memory.specs.ContainerLog.Laying.{Placed};
 ghost use Rattle.cloud_disk.specs.JournalStart.Ranges.{IsHeader};
-ghost use Rattle.cloud_disk.specs.CommitJournal.Leaving.{OthersStay};
+ghost use Rattle.cloud_disk.specs.CommitJournal.Leaving.{OtherAreasStay};
 ghost use Rattle.cloud_disk.specs.CommitJournal.journal.Stage.TheVariants.{AtEnd};
 ghost use Rattle.cloud_disk.specs.CommitJournal.Outcomes.{stage_after};
 ghost use Rattle.cloud_memory.specs.UserDedup.command.Command.{Command};
@@ -64,7 +64,7 @@ pub fn checkpoint<V: Shelf, R: CheckpointRecords>(
     ensures taken { HasSettled disk.old.journal disk.new.journal header.now head.commands head.count head.region
         (R.to_come records.old)
         (V.cloud_at shelf.old cloud.0) (V.cloud_at shelf.new cloud.0) result }
-    ensures others { OthersStay (V.cloud_at shelf.old cloud.0) (V.cloud_at shelf.new cloud.0) result }
+    ensures others { OtherAreasStay (V.cloud_at shelf.old cloud.0) (V.cloud_at shelf.new cloud.0) result }
     ensures stage { disk.new.journal.stage ≡ stage_after AtEnd result }
     ensures gate { OnOk result (disk.new.journal.current.gate + 1 ≡ 63 + records_len (R.to_come records.old)) }
     ensures limit { disk.new.journal.limit ≡ disk.old.journal.limit }

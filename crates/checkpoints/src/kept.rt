@@ -6,8 +6,8 @@ ghost use Rattle.cloud_memory.specs.RecordBody.Spelling.{Kept, FitsKept, body_by
 ghost use Rattle.checkpoints.specs.Laying.{IsNextInBuffer};
 ghost use Rattle.checkpoints.specs.Picking.{IsNextPicked, batches};
 ghost use Rattle.checkpoints.specs.Records.{kept_at, kept_from};
-ghost use Rattle.cloud_memory.specs.Fitting.{AreShares};
-ghost use Rattle.checkpoints.specs.Ready.{AreOwned};
+ghost use Rattle.cloud_memory.specs.Fitting.{AreSharePlaces};
+ghost use Rattle.checkpoints.specs.Ready.{AreMarkedOwned};
 ghost use Rattle.checkpoints.specs.Steps.{AreKept};
 
 use crate::Marks;
@@ -15,8 +15,8 @@ use cloud_memory::{BodyBuf, Fp, KeptItem, Place, ShareIndex};
 
 // The share in a slot, where there is one that no user owns. What is marked has an owner, and isn't looked up.
 fn kept_at(shares: &ShareIndex, marks: &Marks, slot: u32) -> Option<KeptItem>
-    requires fit { AreShares shares.now.places }
-    requires owned { AreOwned shares.now marks.now }
+    requires fit { AreSharePlaces shares.now.places }
+    requires owned { AreMarkedOwned shares.now marks.now }
     ensures kept { result ≡ kept_at shares.now.owners (slot_of shares.now.place_slots slot) }
     ensures fits { IfSome result FitsKept }
 {
@@ -37,8 +37,8 @@ fn kept_at(shares: &ShareIndex, marks: &Marks, slot: u32) -> Option<KeptItem>
 
 // The next share that no user owns from a slot on, and the slot behind it.
 pub(crate) fn next_kept(shares: &ShareIndex, marks: &Marks, from: u32) -> Option<(KeptItem, u32)>
-    requires fit { AreShares shares.now.places }
-    requires owned { AreOwned shares.now marks.now }
+    requires fit { AreSharePlaces shares.now.places }
+    requires owned { AreMarkedOwned shares.now marks.now }
     ensures next { IsNextPicked (kept_at shares.now.owners) shares.now.place_slots from result }
     ensures fits { IfSome result (λ found. FitsKept found.0) }
 {
@@ -53,8 +53,8 @@ pub(crate) fn next_kept(shares: &ShareIndex, marks: &Marks, from: u32) -> Option
 
 // Takes up to 256 shares that no user owns from a slot on: how many they are, and the slot behind them.
 fn take_batch(shares: &ShareIndex, marks: &Marks, from: u32, items: &mut [KeptItem]) -> (usize, u32)
-    requires fit { AreShares shares.now.places }
-    requires owned { AreOwned shares.now marks.now }
+    requires fit { AreSharePlaces shares.now.places }
+    requires owned { AreMarkedOwned shares.now marks.now }
     requires room { length items.old ≡ 256 }
     ensures batch { AreKept shares.now from (take result.0 items.new) result.1 }
     ensures few { result.0 ≤ 256 }
@@ -99,8 +99,8 @@ pub(crate) fn write_kept(
     from: u32,
     buffer: &mut BodyBuf,
 ) -> Option<u32>
-    requires fit { AreShares shares.now.places }
-    requires owned { AreOwned shares.now marks.now }
+    requires fit { AreSharePlaces shares.now.places }
+    requires owned { AreMarkedOwned shares.now marks.now }
     ensures { MatchOption result (kept_from shares.now from ≡ [])
         (λ behind. IsNextInBuffer (map Kept (batches (kept_from shares.now from)))
         (map Kept (batches (kept_from shares.now behind))) buffer.new) }

@@ -3,7 +3,7 @@
 ghost use Rattle.std.specs.Prelude.{◌≡◌, ◌≢◌, ℕ, ◌+◌, ◌≤◌, List, length, IsTrue, OnOk, OnErr};
 ghost use Rattle.cloud_disk.specs.CdEdges.Shelf.{IsCall, HasFailed, KeepsCounts};
 ghost use Rattle.cloud_disk.specs.JournalStart.Ranges.{IsHeader};
-ghost use Rattle.cloud_disk.specs.CommitJournal.Leaving.{OthersStay};
+ghost use Rattle.cloud_disk.specs.CommitJournal.Leaving.{OtherAreasStay};
 ghost use Rattle.cloud_disk.specs.CommitJournal.journal.Stage.TheVariants.{AtEnd};
 ghost use Rattle.cloud_disk.specs.CommitJournal.States.{state_of};
 ghost use Rattle.cloud_disk.specs.CommitJournal.Outcomes.{stage_after};
@@ -51,7 +51,7 @@ pub fn lay_checkpoint<V: Shelf, R: CheckpointRecords>(
     ensures settled { HasSettled (state_of journal.old) (state_of journal.new) header.now
         head.commands head.count head.region (R.to_come records.old) (V.cloud_at shelf.old cloud.0)
         (V.cloud_at shelf.new cloud.0) result }
-    ensures others { OthersStay (V.cloud_at shelf.old cloud.0) (V.cloud_at shelf.new cloud.0) result }
+    ensures others { OtherAreasStay (V.cloud_at shelf.old cloud.0) (V.cloud_at shelf.new cloud.0) result }
     ensures stage { (state_of journal.new).stage ≡ stage_after AtEnd result }
     ensures gate { OnOk result ((state_of journal.new).current.gate + 1 ≡ 63 + records_len (R.to_come records.old)) }
     ensures limit { (state_of journal.new).limit ≡ (state_of journal.old).limit }

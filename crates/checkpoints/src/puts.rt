@@ -11,9 +11,9 @@ ghost use Rattle.cloud_disk.specs.CloudAreas.Checkpoints.{put_body};
 ghost use Rattle.checkpoints.specs.Chained.{AreOthers, HasChains};
 ghost use Rattle.checkpoints.specs.Picking.{IsNextPicked};
 ghost use Rattle.checkpoints.specs.Records.{owned_at, listed, item_of, puts_from};
-ghost use Rattle.cloud_memory.specs.Fitting.{AreShares};
+ghost use Rattle.cloud_memory.specs.Fitting.{AreSharePlaces};
 ghost use Rattle.checkpoints.specs.Ready.{AreMarked, IsAtPuts};
-ghost use Rattle.checkpoints.specs.Steps.{AreListedNext, KeepsOthers, Steps};
+ghost use Rattle.checkpoints.specs.Steps.{AreListedNext, KeepsAllButPuts, Steps};
 
 use crate::{Marks, OwnerChains, Position};
 use cloud_memory::{BodyBuf, Fp, Place, PutItem, ShareIndex, UserId};
@@ -81,7 +81,7 @@ fn place_in(shares: &ShareIndex, fp: &Fp, slot: u32) -> Option<Place>
 // The share as it is listed next: with its place, where its slot wasn't marked. It is marked then.
 fn list_share(shares: &ShareIndex, marks: &mut Marks, fp: Fp) -> PutItem
     requires stand { IsListed shares.now.places shares.now.place_slots }
-    requires fit { AreShares shares.now.places }
+    requires fit { AreSharePlaces shares.now.places }
     ensures item { (fps : List Fp) → AreMarked shares.now marks.old fps → result ≡ item_of shares.now.places fps fp }
     ensures marks { (fps : List Fp) → AreMarked shares.now marks.old fps
         → AreMarked shares.now marks.new (fps ++ fp ∷ []) }
@@ -112,7 +112,7 @@ fn list_batch(
     items: &mut [PutItem],
 ) -> (usize, u32)
     requires stand { IsListed shares.now.places shares.now.place_slots }
-    requires fit { AreShares shares.now.places }
+    requires fit { AreSharePlaces shares.now.places }
     requires chained { HasChains shares.now.owner_slots chains.now }
     requires marks { AreMarked shares.now marks.old (listed shares.now.owner_slots user from) }
     requires room { length items.old ≡ 256 }
@@ -166,7 +166,7 @@ pub(crate) fn write_put(
     ensures ready { IsAtPuts shares.now marks.new at.new.left at.new.user at.new.owner }
     ensures step { Steps (map put_body (puts_from shares.now at.old.left at.old.user at.old.owner))
         (map put_body (puts_from shares.now at.new.left at.new.user at.new.owner)) buffer.new result }
-    ensures others { KeepsOthers at.old at.new }
+    ensures others { KeepsAllButPuts at.old at.new }
 {
     if at.left == 0 {
         return false;

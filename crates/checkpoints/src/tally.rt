@@ -8,10 +8,10 @@ ghost use Rattle.cloud_memory.specs.PoolMap.Slots.{slot_of};
 ghost use Rattle.cloud_memory.specs.RecordBody.FirstSpelling.{FitsCommit};
 ghost use Rattle.cloud_memory.specs.RecordBody.Spelling.{FitsBody, FitsKept, FitsSpent};
 ghost use Rattle.cloud_disk.specs.CloudAreas.Checkpoints.{put_body, items_in};
-ghost use Rattle.cloud_memory.specs.Fitting.{AreShares, AreRecipes};
+ghost use Rattle.cloud_memory.specs.Fitting.{AreSharePlaces, AreRecipes};
 ghost use Rattle.checkpoints.specs.Chained.{HasChains};
 ghost use Rattle.checkpoints.specs.Laying.{records_len};
-ghost use Rattle.checkpoints.specs.Ready.{AreOwned, IsReadyToWrite};
+ghost use Rattle.checkpoints.specs.Ready.{AreMarkedOwned, IsReadyToWrite};
 ghost use Rattle.checkpoints.specs.Records.{owned_in, puts_from, kept_from, commits_from, spents_from, coming};
 ghost use Rattle.checkpoints.specs.Tallies.{ArePlaces, IsTallied};
 
@@ -36,7 +36,7 @@ fn see_place(shares: &ShareIndex, slot: u32)
 
 // Each place is one that a record can say.
 fn see_places(shares: &ShareIndex)
-    requires { AreShares shares.now.places }
+    requires { AreSharePlaces shares.now.places }
     ensures { ArePlaces shares.now.places }
 {
     let _ = shares.place_at(0);
@@ -90,8 +90,8 @@ fn count_puts(shares: &ShareIndex, chains: &OwnerChains, at: &Position) -> (u64,
 
 // How many shares no user owns, from a slot on.
 fn count_kept(shares: &ShareIndex, marks: &Marks, from: u32) -> u32
-    requires fit { AreShares shares.now.places }
-    requires owned { AreOwned shares.now marks.now }
+    requires fit { AreSharePlaces shares.now.places }
+    requires owned { AreMarkedOwned shares.now marks.now }
     ensures count { result ≡ length (kept_from shares.now from) }
     ensures fit { All FitsKept (kept_from shares.now from) }
 {

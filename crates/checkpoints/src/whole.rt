@@ -5,7 +5,7 @@ ghost use Rattle.cloud_disk.specs.CdEdges.Disk.{Cloud};
 ghost use Rattle.cloud_disk.specs.CdEdges.Shelf.{IsCall, HasFailed, KeepsCounts};
 ghost use Rattle.cloud_disk.specs.JournalHalves.Halves.{half_limit};
 ghost use Rattle.cloud_disk.specs.JournalStart.Ranges.{IsHeader};
-ghost use Rattle.cloud_disk.specs.CommitJournal.Leaving.{OthersStay};
+ghost use Rattle.cloud_disk.specs.CommitJournal.Leaving.{OtherAreasStay};
 ghost use Rattle.cloud_disk.specs.CommitJournal.journal.Stage.TheVariants.{AtEnd};
 ghost use Rattle.cloud_memory.specs.UserDedup.command.Command.{Command};
 ghost use Rattle.cloud_disk.specs.CloudAreas.Standing.{Chain};
@@ -15,7 +15,7 @@ ghost use Rattle.checkpoints.specs.Records.{coming, records_of};
 ghost use Rattle.cloud_memory.specs.Rooms.{memory_of, HasRooms};
 ghost use Rattle.cloud_memory.specs.Fitting.{FitsRecords};
 ghost use Rattle.checkpoints.specs.Ready.{IsReadyToWrite};
-ghost use Rattle.checkpoints.specs.Known.{IsKnown, HasCheckpoint, CountsWithin, stage_behind};
+ghost use Rattle.checkpoints.specs.Known.{IsDiskKnown, HasCheckpoint, CountsWithin, stage_behind};
 ghost use Rattle.checkpoints.specs.Known.{IfFailed, UnlessFailed, IfLong, UnlessLong};
 ghost use Rattle.cloud_memory.specs.RecordBody.Spelling.{Body, FitsBody, body_bytes};
 
@@ -118,20 +118,20 @@ pub fn checkpoint_of_memory<V: Shelf>(
     requires slots { length memory.now.shares.place_slots ≤ 524288 }
 
     ensures any_moment { (list : List Command) (c : Chain)
-        → IsKnown header.now list c commands region memory.now disk.old (V.cloud_at shelf.old cloud.0)
+        → IsDiskKnown header.now list c commands region memory.now disk.old (V.cloud_at shelf.old cloud.0)
         → KeepsList header.now list (V.cloud_at shelf.old cloud.0) (V.cloud_at shelf.new cloud.0) }
     ensures only_journal { (list : List Command) (c : Chain)
-        → IsKnown header.now list c commands region memory.now disk.old (V.cloud_at shelf.old cloud.0)
+        → IsDiskKnown header.now list c commands region memory.now disk.old (V.cloud_at shelf.old cloud.0)
         → KeepsOthers (V.cloud_at shelf.old cloud.0) (V.cloud_at shelf.new cloud.0) }
     ensures settled { (list : List Command) (c : Chain)
-        → IsKnown header.now list c commands region memory.now disk.old (V.cloud_at shelf.old cloud.0)
+        → IsDiskKnown header.now list c commands region memory.now disk.old (V.cloud_at shelf.old cloud.0)
         → OnOk result (HasCheckpoint header.now list c commands region memory.now
         disk.new (V.cloud_at shelf.new cloud.0)) }
     ensures short { (list : List Command) (c : Chain)
-        → IsKnown header.now list c commands region memory.now disk.old (V.cloud_at shelf.old cloud.0)
+        → IsDiskKnown header.now list c commands region memory.now disk.old (V.cloud_at shelf.old cloud.0)
         → 63 + records_len (records_of memory.now) ≤ disk.old.journal.limit }
     ensures roomy { (list : List Command) (c : Chain) (body : Body)
-        → IsKnown header.now list c commands region memory.now disk.old (V.cloud_at shelf.old cloud.0)
+        → IsDiskKnown header.now list c commands region memory.now disk.old (V.cloud_at shelf.old cloud.0)
         → FitsBody body
         → 63 + records_len (records_of memory.now) + (length (body_bytes body) + 5) ≤ disk.old.journal.limit }
     ensures never_long { HasRooms header.now.rooms memory.now → IfLong result ⊥ }
@@ -146,7 +146,7 @@ pub fn checkpoint_of_memory<V: Shelf>(
     ensures taken { HasSettled disk.old.journal disk.new.journal header.now commands (length
         (records_of memory.now)) region
         (records_of memory.now) (V.cloud_at shelf.old cloud.0) (V.cloud_at shelf.new cloud.0) result }
-    ensures others { OthersStay (V.cloud_at shelf.old cloud.0) (V.cloud_at shelf.new cloud.0) result }
+    ensures others { OtherAreasStay (V.cloud_at shelf.old cloud.0) (V.cloud_at shelf.new cloud.0) result }
     ensures stage { disk.new.journal.stage ≡ stage_behind result }
     ensures gate { OnOk result (disk.new.journal.current.gate + 1 ≡ 63 + records_len (records_of memory.now)) }
     ensures limit { disk.new.journal.limit ≡ disk.old.journal.limit }

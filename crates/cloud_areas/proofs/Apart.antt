@@ -4,7 +4,7 @@ use Rattle.std.specs.Prelude.{slice_get}
 use Rattle.std.specs.List.{Contains}
 use Rattle.std.proofs.lemmas.List.Elements.{Contains-append_cases}
 use Rattle.user_dedup.proofs.Owned.{contains_here, contains_later, contains_nothing, contains_cases}
-use Rattle.cloud_areas.specs.Checkpoints.{AreApart}
+use Rattle.cloud_areas.specs.Checkpoints.{AreDistinct}
 use Rattle.cloud_areas.proofs.Lists.{in_map}
 
 -- the same by recursion
@@ -26,15 +26,15 @@ get_contains (y ∷ xs) (suc k) x e = contains_later y xs x (get_contains xs k x
 pub contains_get : {X : Type 0} (xs : List X) (x : X) → Contains xs x → (k : ℕ) × (slice_get xs k ≡ Some x)
 contains_get xs x c = (c.0, get_some xs c.0 x c.1 ∙ ap (λ y. Some y) c.2)
 
-tail_apart : {X : Type 0} (x : X) (xs : List X) → AreApart (x ∷ xs) → AreApart xs
+tail_apart : {X : Type 0} (x : X) (xs : List X) → AreDistinct (x ∷ xs) → AreDistinct xs
 tail_apart x xs apart i j y at_i at_j = let e = apart (suc i) (suc j) y at_i at_j in omega (arith, e)
 
-pub apart_from : {X : Type 0} (xs : List X) → AreApart xs → Apart xs
+pub apart_from : {X : Type 0} (xs : List X) → AreDistinct xs → Apart xs
 apart_from [] apart = tt
 apart_from (x ∷ xs) apart =
     (λ c. let k = contains_get xs x c in let e = apart zero (suc k.0) x refl k.1 in omega (arith, e), apart_from xs (tail_apart x xs apart))
 
-pub are_apart : {X : Type 0} (xs : List X) → Apart xs → AreApart xs
+pub are_apart : {X : Type 0} (xs : List X) → Apart xs → AreDistinct xs
 are_apart [] apart i j x at_i at_j = absurd (let no : None ≡ Some x = at_i in cc)
 are_apart (y ∷ xs) apart zero zero x at_i at_j = refl
 are_apart (y ∷ xs) apart zero (suc j) x at_i at_j =

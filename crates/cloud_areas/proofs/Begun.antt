@@ -21,13 +21,13 @@ use Rattle.user_dedup.specs.Cloud.{user_view}
 use Rattle.user_dedup.specs.Dedup.{IsSound, Begun}
 use Rattle.user_dedup.specs.Spending.{spent_of, nothing}
 use Rattle.user_dedup.proofs.Owned.{contains_nothing}
-use Rattle.cloud_areas.specs.Checkpoints.{AreApart, Lists, IsOwnerless, IsCheckpointOfList, SpentIs, HasEntry}
+use Rattle.cloud_areas.specs.Checkpoints.{AreDistinct, Lists, IsOwnerless, IsCheckpointOfList, SpentIs, HasEntry}
 use Rattle.cloud_areas.specs.Chains.{Summed, LiesIn, DontOverlap, HaveRoom, least_shares, least_recipes}
 use Rattle.cloud_areas.specs.Standing.{Chain, IsChain, Holds, StandsFor, new_chain}
 
 -- ---- a checkpoint of no commands
 
-pub apart_none : {X : Type 0} → AreApart {X = X} []
+pub apart_none : {X : Type 0} → AreDistinct {X = X} []
 apart_none {X} i j x one two = absurd (let no : None ≡ Some x = one in cc)
 
 lists_none : {X : Type 0} (P : X → Type 0) → ((x : X) → P x → ⊥) → Lists [] P

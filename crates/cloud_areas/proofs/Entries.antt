@@ -34,7 +34,7 @@ use Rattle.user_dedup.proofs.Views.{own_adds, others_stay}
 use Rattle.cloud_areas.specs.Placing.{shares_in}
 use Rattle.cloud_areas.specs.Checkpoints.{put_body, key_of, HasEntry, IsEntry, AreEntries, IsCheckpointOfList}
 use Rattle.cloud_areas.specs.Chains.{commit_of, IsRecord, AreRecordsOfList, Summed, Then, laid_shares}
-use Rattle.cloud_areas.specs.Standing.{Chain, region_in, Holds, ShareLies, EntryLies}
+use Rattle.cloud_areas.specs.Standing.{Chain, region_in, Holds, HeldShareLies, EntryLies}
 use Rattle.cloud_areas.proofs.Lists.{in_map, from_map}
 use Rattle.cloud_areas.proofs.Ends.{some_is}
 
@@ -177,7 +177,7 @@ module _ (header : Header) (image : Image) (list : List Command) (c : Chain) (h 
       let p = entry_placed header.format header.shape (region_in c) (records_of c.start.checkpoint) (commands_of c.start.checkpoint) c.records list c.recipes h.says user key e found in
       record { at = p.at; named = p.named; lies = All-contains (IsAt (image Recipes)) c.recipes (record { place = p.at; blob = e.recipe }) h.recipes p.placed }
 
-  pub share_lies : (fp : Fp) (place : Place) → Contains (shares_in c.records) (fp, place) → ShareLies image list fp place
+  pub share_lies : (fp : Fp) (place : Place) → Contains (shares_in c.records) (fp, place) → HeldShareLies image list fp place
   share_lies fp place here = record {
     len = All-contains (λ (y : Fp × Place). y.1.len ≡ length (held_bytes list y.0)) (shares_in c.records) (fp, place) h.long here;
     lies = All-contains (IsAt (image Shares)) (laid_shares list (shares_in c.records)) (record { place = place.at; blob = held_bytes list fp }) h.shares

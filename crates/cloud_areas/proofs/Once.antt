@@ -28,7 +28,7 @@ use Rattle.user_dedup.specs.declared.command.Command.TheVariants as commands
 use Rattle.user_dedup.specs.Cloud.{user_view, strings_of}
 use Rattle.user_dedup.proofs.Filtered.{from_filter, in_flat, from_flat}
 use Rattle.cloud_areas.specs.Placing.{places_given, places_kept, shares_placed, shares_in, fps_placed, HasPlace}
-use Rattle.cloud_areas.specs.Checkpoints.{AreApart, PutRecord, put_body, of_user, fps_of, items_in, AreFlagged, IsCheckpointOfList}
+use Rattle.cloud_areas.specs.Checkpoints.{AreDistinct, PutRecord, put_body, of_user, fps_of, items_in, AreFlagged, IsCheckpointOfList}
 use Rattle.cloud_areas.specs.Standing.{Chain, region_in, Holds}
 use Rattle.cloud_areas.specs.Chains.{PlacedNew, AreItems, IsRecord, AreRecordsOfList, Summed, Then}
 use Rattle.cloud_areas.proofs.Lists.{in_map, from_map}
@@ -281,7 +281,7 @@ module _ (header : Header) (image : Image) (list : List Command) (c : Chain) (h 
   once : Apart (fps_placed (shares_in c.records))
   once = placed_once header.format header.shape (region_in c) (records_of c.start.checkpoint) (commands_of c.start.checkpoint) c.records list c.recipes h.says
 
-  pub placed_apart : AreApart (fps_placed (shares_in c.records))
+  pub placed_apart : AreDistinct (fps_placed (shares_in c.records))
   placed_apart = are_apart (fps_placed (shares_in c.records)) once
 
   pub placed_one : (fp : Fp) (a b : Place) → Contains (shares_in c.records) (fp, a) → Contains (shares_in c.records) (fp, b) → a ≡ b

@@ -39,7 +39,7 @@ use Rattle.user_dedup.specs.Compact.{compact}
 use Rattle.user_dedup.specs.Spending.{files_of, spent_of}
 use Rattle.user_dedup.proofs.CompactRows.{same, user, tag, tag2, at, s11, rooms_of, r61}
 use Rattle.cloud_areas.specs.Placing.{AreBehind}
-use Rattle.cloud_areas.specs.Checkpoints.{AreApart, AreFull, AreFlagged}
+use Rattle.cloud_areas.specs.Checkpoints.{AreDistinct, AreFull, AreFlagged}
 use Rattle.cloud_areas.specs.Chains.{PlacedNew, AreItems, LiesIn, DontOverlap}
 use Rattle.cloud_areas.specs.Standing.{Chain, where_of, new_chain, IsChain, StandsFor}
 use Rattle.cloud_areas.specs.Adding.{with_record, Adds}
@@ -184,7 +184,7 @@ region_is_asked : LiesIn 1 (place_at 0 11) → ⊥
 region_is_asked lies = (let from = lies.0 in omega (arith, from))
 
 -- a checkpoint that lists a share twice, one with a record that isn't full before the last, and one that places a share where it is listed again
-twice_listed_is_refused : (fp : Fp) → AreApart (fp ∷ fp ∷ []) → ⊥
+twice_listed_is_refused : (fp : Fp) → AreDistinct (fp ∷ fp ∷ []) → ⊥
 twice_listed_is_refused fp apart = (let one = apart 0 1 fp refl refl in omega (arith, one))
 
 half_full_is_refused : AreFull (255 ∷ 1 ∷ []) → ⊥

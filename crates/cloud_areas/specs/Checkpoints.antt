@@ -25,13 +25,13 @@ use Rattle.record_body.specs.Spelling.{Body}
 -- ---- lists that name each of some things once
 
 -- no two of them are the same
-abbrev pub AreApart : {X : Type 0} → List X → Type 0
-AreApart {X} xs = (i j : ℕ) (x : X) → slice_get xs i ≡ Some x → slice_get xs j ≡ Some x → i ≡ j
+abbrev pub AreDistinct : {X : Type 0} → List X → Type 0
+AreDistinct {X} xs = (i j : ℕ) (x : X) → slice_get xs i ≡ Some x → slice_get xs j ≡ Some x → i ≡ j
 
 -- the list has each of these once, and no other
 pub record Lists {X : Type 0} (xs : List X) (P : X → Type 0) : Type 0 where
   pub each : (x : X) → Contains xs x ↔ P x
-  pub once : AreApart xs
+  pub once : AreDistinct xs
 
 -- so many items of each record: from 1 to the most that one may have, and all but the last have the most
 abbrev pub AreFull : List ℕ → Type 0

@@ -83,7 +83,7 @@ pub record HasChainOf (image : Image) (header : Header) (list : List Command) (w
 -- ---- where a share and a recipe lie
 
 -- The string that is held under the fingerprint lies at this place.
-pub record ShareLies (image : Image) (list : List Command) (fp : Fp) (place : Place) : Type 0 where
+pub record HeldShareLies (image : Image) (list : List Command) (fp : Fp) (place : Place) : Type 0 where
   pub len : place.len ≡ length (held_bytes list fp)
   pub lies : IsAt (image Shares) (record { place = place.at; blob = held_bytes list fp })
 

@@ -30,12 +30,12 @@ ghost use Rattle.user_dedup.specs.Cloud.{counted, strings_in, user_view};
 ghost use Rattle.user_dedup.specs.Spending.{spent_by_all, IsWithin};
 ghost use Rattle.cloud_areas.specs.Adding.{with_record, Adds, KeepsBlobs, HasRoomFor};
 ghost use Rattle.cloud_areas.specs.Chains.{IsRecord, laid_shares, BothHaveRoom};
-ghost use Rattle.cloud_areas.specs.Checkpoints.{AreApart, IsCheckpointOfList};
+ghost use Rattle.cloud_areas.specs.Checkpoints.{AreDistinct, IsCheckpointOfList};
 ghost use Rattle.cloud_areas.specs.Placing.{shares_in, shares_placed, recipes_in, recipes_placed, fps_placed};
 ghost use Rattle.cloud_areas.specs.Laid.{AreLaid, end_behind, place_by, IsLaidBehind, HaveEnds};
 ghost use Rattle.cloud_areas.specs.Placing.{AreBehind, HasPlace, places_of, total_len, region_start, shares_end, recipes_end};
 ghost use Rattle.cloud_areas.specs.Standing.{Chain, where_of, region_in, number_at, IsChain, Holds, StandsFor};
-ghost use Rattle.cloud_areas.specs.Standing.{HasChainOf, ShareLies, EntryLies};
+ghost use Rattle.cloud_areas.specs.Standing.{HasChainOf, HeldShareLies, EntryLies};
 ghost use Rattle.cloud_areas.specs.Summaries.{SumsUp};
 
 /// Which areas stand for which lists.
@@ -138,13 +138,13 @@ pub fn law_of_places()
         → Holds header image list c → Contains (map fingerprint (strings_in list)) fp ↔ HasPlace c.records fp }
     // Each has one place, which one record names.
     ensures once { (header : Header) (image : Image) (list : List Command) (c : Chain) → Holds header image list c
-        → AreApart (fps_placed (shares_in c.records)) }
+        → AreDistinct (fps_placed (shares_in c.records)) }
     ensures one { (header : Header) (image : Image) (list : List Command) (c : Chain) (fp : Fp) (a b : Place)
         → Holds header image list c → Contains (shares_in c.records) (fp, a) → Contains (shares_in c.records) (fp, b)
         → a ≡ b }
     // There the string lies that is held; and the recipe of each entry lies where a Commit of its key says.
     ensures share_lies { (header : Header) (image : Image) (list : List Command) (c : Chain) (fp : Fp) (place : Place)
-        → Holds header image list c → Contains (shares_in c.records) (fp, place) → ShareLies image list fp place }
+        → Holds header image list c → Contains (shares_in c.records) (fp, place) → HeldShareLies image list fp place }
     ensures entry_lies { (header : Header) (image : Image) (list : List Command) (c : Chain) (user : UserId)
         (key : Tag × Version) (entry : FileEntry) → Holds header image list c
         → entry_at (user_view header.shape list user).files key ≡ Some entry → EntryLies image c user key entry }

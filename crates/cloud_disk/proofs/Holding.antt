@@ -5,7 +5,7 @@ use Rattle.commit_journal.specs.CdEdges.area.Area.{Area}
 use Rattle.commit_journal.specs.CdEdges.Disk.{Store, Areas, Cloud, LeavesOnly, IsAtArea, moment, overwritten}
 use Rattle.commit_journal.specs.CdEdges.Shelf.{stable}
 use Rattle.commit_journal.proofs.CdEdges.Moments.{weaker}
-use Rattle.cloud_areas.specs.ContainerLog.Caches.{Kept, AreOf}
+use Rattle.cloud_areas.specs.ContainerLog.Caches.{Kept, AreContainersOf}
 use Rattle.cloud_areas.specs.ContainerLog.Kept.{KeepsBelow}
 use Rattle.cloud_areas.specs.ContainerLog.Places.{end_of_laid}
 use Rattle.cloud_areas.specs.ContainerLog.Laying.{Placed, lengths, placed, IsAt}
@@ -24,8 +24,8 @@ by_log area blobs log now h = subst (λ (a : Area). LogHolds a blobs log now) (s
 -- the same containers, over the same bytes
 pub agrees_as : (old new : State) (now later : Areas) → new.area ≡ old.area → new.kept ≡ old.kept → later old.area ≡ now old.area → Agrees old (now old.area).read → Agrees new (later new.area).read
 agrees_as old new now later area kept store c =
-    subst (λ (a : Area). AreOf (later a).read new.kept) (sym area)
-    (subst (λ (k : List Kept). AreOf (later old.area).read k) (sym kept) (subst (λ (s : Store). AreOf s.read old.kept) (sym store) c))
+    subst (λ (a : Area). AreContainersOf (later a).read new.kept) (sym area)
+    (subst (λ (k : List Kept). AreContainersOf (later old.area).read k) (sym kept) (subst (λ (s : Store). AreContainersOf s.read old.kept) (sym store) c))
 
 -- whenever a crash comes, the blobs that lay there lie there
 pub images_kept : (log : State) (c0 c1 : Cloud) (blobs : List Placed) → LogHolds log.area blobs log c0.now

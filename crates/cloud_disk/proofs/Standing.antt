@@ -21,7 +21,7 @@ use Rattle.cloud_areas.specs.Placing.{region_start, greatest_end, shares_in, rec
 use Rattle.cloud_areas.specs.Chains.{laid_shares}
 use Rattle.cloud_areas.specs.Standing.{Chain, where_of, region_in, IsChain, Holds, StandsFor}
 use Rattle.cloud_disk.specs.Held.{LogsHold, LieIn}
-use Rattle.cloud_disk.specs.Disk.{Disk, IsRead, IsBehind, IsOn, AreEnds, Stages, IsReadLog, IsReadThrough, ended_at}
+use Rattle.cloud_disk.specs.Disk.{Disk, IsRead, IsLogBehind, IsOn, AreEnds, Stages, IsReadLog, IsReadThrough, ended_at}
 use Rattle.cloud_disk.proofs.Holding.{agrees_as}
 use Rattle.cloud_disk.proofs.Both.{as_read}
 use Rattle.cloud_disk.proofs.Ends.{shares_below, recipes_below, recipes_said, place_at}
@@ -92,7 +92,7 @@ module _ (header : Header) (list : List Command) (c : Chain) where
   }
     where
       behind_alike : (area : Area) (region : ℕ) (places : List Place) (old new : logs.State) (cloud : Cloud) → new.area ≡ old.area → new.end ≡ old.end → new.kept ≡ old.kept
-          → IsBehind area region places old cloud.now → IsBehind area region places new cloud.now
+          → IsLogBehind area region places old cloud.now → IsLogBehind area region places new cloud.now
       behind_alike area region places old new cloud same end kept is = record {
         area_is = same ∙ is.area_is;
         behind = subst (λ (n : ℕ). greatest_end (region_start region) places ≤ n) (sym end) is.behind;
@@ -140,7 +140,7 @@ module _ (header : Header) (list : List Command) (c : Chain) where
   }
     where
       behind_read : (area : Area) (region : ℕ) (places : List Place) (old new : logs.State) → IsReadLog old new after.now
-          → IsBehind area region places old before.now → IsBehind area region places new after.now
+          → IsLogBehind area region places old before.now → IsLogBehind area region places new after.now
       behind_read area region places old new read is = record {
         area_is = ap (λ (s : logs.State). s.area) read.same ∙ is.area_is;
         behind = subst (λ (n : ℕ). greatest_end (region_start region) places ≤ n) (sym (ap (λ (s : logs.State). s.end) read.same)) is.behind;
@@ -154,7 +154,7 @@ module _ (header : Header) (list : List Command) (c : Chain) where
     recipes = behind_still Recipes (region_in c) (recipes_in c.records) disk.recipes on.recipes;
   }
     where
-      behind_still : (area : Area) (region : ℕ) (places : List Place) (log : logs.State) → IsBehind area region places log old.now → IsBehind area region places log new.now
+      behind_still : (area : Area) (region : ℕ) (places : List Place) (log : logs.State) → IsLogBehind area region places log old.now → IsLogBehind area region places log new.now
       behind_still area region places log is = record {
         area_is = is.area_is;
         behind = is.behind;

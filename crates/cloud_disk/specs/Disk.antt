@@ -56,7 +56,7 @@ pub record IsRead (header : Header) (list : List Command) (c : Chain) (journal :
   pub holds : Holds header (reads cloud.now) list c
 
 -- The log is this area's and ends behind these places, in this region or behind it. Each container that it keeps is what the area has there.
-pub record IsBehind (area : Area) (region : ℕ) (places : List Place) (log : logs.State) (now : Areas) : Type 0 where
+pub record IsLogBehind (area : Area) (region : ℕ) (places : List Place) (log : logs.State) (now : Areas) : Type 0 where
   pub area_is : log.area ≡ area
   pub behind : greatest_end (region_start region) places ≤ log.end
   pub agrees : logs.Agrees log (now log.area).read
@@ -64,8 +64,8 @@ pub record IsBehind (area : Area) (region : ℕ) (places : List Place) (log : lo
 -- The journal was read and the chain holds the list; and both logs end behind all that the chain's records place.
 pub record IsOn (header : Header) (list : List Command) (c : Chain) (disk : Disk) (cloud : Cloud) : Type 0 where
   pub read : IsRead header list c disk.journal cloud
-  pub shares : IsBehind Shares (region_in c) (places_of (shares_in c.records)) disk.shares cloud.now
-  pub recipes : IsBehind Recipes (region_in c) (recipes_in c.records) disk.recipes cloud.now
+  pub shares : IsLogBehind Shares (region_in c) (places_of (shares_in c.records)) disk.shares cloud.now
+  pub recipes : IsLogBehind Recipes (region_in c) (recipes_in c.records) disk.recipes cloud.now
 
 -- The journal was read and the chain holds the list; and both ends lie behind all that the chain's records place.
 pub record AreEnds (header : Header) (list : List Command) (c : Chain) (disk : Disk) (shares_end recipes_end : ℕ) (cloud : Cloud) : Type 0 where
@@ -112,8 +112,8 @@ IsGrown disk old w next image = IsEither w next (image Journal) × KeepsBelow di
     × KeepsBelow disk.recipes.end (old.now Recipes) (image Recipes)
 
 -- Whatever the chain that was read says: each image since has it, or it with this record, and keeps what lies below the ends of both logs.
-abbrev pub KeepsOrGrows : Disk → List ℕ → Cloud → Cloud → Type 0
-KeepsOrGrows disk body old new = IsTrue old.told → disk.shares.area ≡ Shares → disk.recipes.area ≡ Recipes
+abbrev pub KeepsDiskOrGrows : Disk → List ℕ → Cloud → Cloud → Type 0
+KeepsDiskOrGrows disk body old new = IsTrue old.told → disk.shares.area ≡ Shares → disk.recipes.area ≡ Recipes
     → (w : Where) → journals.IsJournalEnded disk.journal (old.now Journal) w → LeavesOnly old new (IsGrown disk old w (with_body w body))
 
 -- A record was added, whatever the records say: the chain that was read has it as its last one, and all of the journal is on the disk; and
@@ -124,8 +124,9 @@ pub record IsGrownBy (old new : Disk) (body : List ℕ) (before after : Cloud) :
   pub recipes : IsFlushed old.recipes (before.now Recipes) (after.now Recipes)
 
 -- Where the cloud is told, and the two logs are those of the shares and the recipes: after Ok the record was added.
-abbrev pub HasGrown : {T E : Type 0} → Disk → Disk → List ℕ → Cloud → Cloud → Result T E → Type 0
-HasGrown old new body before after result = IsTrue before.told → old.shares.area ≡ Shares → old.recipes.area ≡ Recipes
+abbrev pub HasDiskGrown : {T E : Type 0} → Disk → Disk → List ℕ → Cloud → Cloud → Result T E → Type 0
+HasDiskGrown old new body before after result = IsTrue before.told → old.shares.area ≡ Shares
+    → old.recipes.area ≡ Recipes
     → OnOk result (IsGrownBy old new body before after)
 
 -- What lies in front of the ends of both logs lies there still.

@@ -81,8 +81,8 @@ abbrev pub FlushBoth : {T E : Type 0} → State → State → Cloud → Cloud �
 FlushBoth shares recipes old new result = IsTrue old.told → shares.area ≡ Shares → recipes.area ≡ Recipes → OnOk result (AreFlushed shares recipes old new)
 
 -- Whatever blobs lie there: each image since has them.
-abbrev pub KeepsBlobs : State → Cloud → Cloud → Type 0
-KeepsBlobs log old new = IsTrue old.told → (blobs : List Placed) → LogHolds log.area blobs log old.now
+abbrev pub KeepsBlobsSince : State → Cloud → Cloud → Type 0
+KeepsBlobsSince log old new = IsTrue old.told → (blobs : List Placed) → LogHolds log.area blobs log old.now
     → LeavesOnly old new (IsAtArea old.now log.area (LieIn blobs))
 
 -- Whatever blobs lie there, and whatever is staged: those that were staged lie there too.

@@ -24,7 +24,7 @@ ghost use Rattle.cloud_areas.specs.Standing.{Chain};
 ghost use Rattle.cloud_areas.specs.Adding.{with_record};
 ghost use Rattle.cloud_disk.specs.Held.{flush_moments};
 ghost use Rattle.cloud_disk.specs.Disk.{Disk, regions_end, empty_log, ended_at, without_staged, IsOn, AreEnds, Stages};
-ghost use Rattle.cloud_disk.specs.Disk.{IsPrepared, KeepsOrAdds, KeepsOrGrows, HasGrown, KeepsFronts, EndsBehind, SameRooms};
+ghost use Rattle.cloud_disk.specs.Disk.{IsPrepared, KeepsOrAdds, KeepsDiskOrGrows, HasDiskGrown, KeepsFronts, EndsBehind, SameRooms};
 ghost use Rattle.cloud_disk.specs.Lending.{LendsJournal, LendsShares, LendsRecipes};
 
 use crate::flush::flush_both;
@@ -271,8 +271,9 @@ impl CloudDisk {
             + flush_moments self.old.shares + flush_moments self.old.recipes + 4) }
 
         // whatever the records say
-        ensures chain { KeepsOrGrows self.old body.now (V.cloud_at shelf.old cloud.0) (V.cloud_at shelf.new cloud.0) }
-        ensures grown { HasGrown self.old self.new body.now (V.cloud_at shelf.old cloud.0)
+        ensures chain { KeepsDiskOrGrows self.old body.now (V.cloud_at shelf.old cloud.0)
+            (V.cloud_at shelf.new cloud.0) }
+        ensures grown { HasDiskGrown self.old self.new body.now (V.cloud_at shelf.old cloud.0)
             (V.cloud_at shelf.new cloud.0) result }
         ensures none { HasStaged self.new.shares [] × HasStaged self.new.recipes [] }
         ensures ends { OnOk result (EndsBehind self.old self.new body.now) }

@@ -5,7 +5,7 @@ ghost use Rattle.commit_journal.specs.CdEdges.area.Area.{Area};
 ghost use Rattle.commit_journal.specs.CdEdges.Disk.{moment, LeavesOnly};
 ghost use Rattle.commit_journal.specs.CdEdges.Shelf.{IsCall, HasFailed, KeepsCounts};
 ghost use Rattle.cloud_areas.specs.ContainerLog.States.{HasStaged, staged_end, after_flush, KeepsEarlier};
-ghost use Rattle.cloud_disk.specs.Held.{flush_moments, IsFlushed, KeepsBlobs, HasFlushed, KeepBoth, HaveFlushed};
+ghost use Rattle.cloud_disk.specs.Held.{flush_moments, IsFlushed, KeepsBlobsSince, HasFlushed, KeepBoth, HaveFlushed};
 ghost use Rattle.cloud_disk.specs.Held.{FlushBoth, KeepFronts, KeepsJournal};
 
 use cloud_areas::Log;
@@ -13,7 +13,7 @@ use commit_journal::{Area, CloudNo, Failed, Shelf};
 
 // Writes what is staged in a log.
 fn flush_log<V: Shelf>(log: &mut Log, shelf: &mut V, cloud: CloudNo) -> Result<(), Failed>
-    ensures any_moment { KeepsBlobs log.old (V.cloud_at shelf.old cloud.0) (V.cloud_at shelf.new cloud.0) }
+    ensures any_moment { KeepsBlobsSince log.old (V.cloud_at shelf.old cloud.0) (V.cloud_at shelf.new cloud.0) }
     ensures earlier { IsTrue (V.cloud_at shelf.old cloud.0).told
         → LeavesOnly (V.cloud_at shelf.old cloud.0) (V.cloud_at shelf.new cloud.0)
         (KeepsEarlier log.old (V.cloud_at shelf.old cloud.0)) }

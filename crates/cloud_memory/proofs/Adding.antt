@@ -23,7 +23,7 @@ use Rattle.cloud_areas.proofs.UserDedup.Owned.{fp_same}
 use Rattle.cloud_memory.specs.declared.cloud.CloudMemory.{CloudMemory}
 use Rattle.cloud_memory.specs.declared.rooms.New.{New}
 use Rattle.cloud_memory.specs.Memory.{Memory}
-use Rattle.cloud_memory.specs.News.{AreApart}
+use Rattle.cloud_memory.specs.News.{AreFingerprintsApart}
 use Rattle.cloud_memory.specs.Rooms.{memory_of}
 use Rattle.cloud_memory.specs.Steps.{places_with, with_item, with_items, part_in, parts_of, placed_len, len_or, held_len}
 use Rattle.cloud_memory.specs.Inner.{KeepsLimits, HasAddedShare, AddsAll, HasShareRoom, MayAdd}
@@ -41,13 +41,13 @@ others_at : (n : New) (ns : List New) → ((j : ℕ) (fp : Fp) → slice_get (ma
 others_at n [] other = tt
 others_at n (m ∷ ms) other = (other 0 m.fp refl, others_at n ms (λ j fp e. other (suc j) fp e))
 
-pub others : (n : New) (ns : List New) → AreApart (n ∷ ns) → Others n ns
+pub others : (n : New) (ns : List New) → AreFingerprintsApart (n ∷ ns) → Others n ns
 others n ns apart = others_at n ns (λ j fp e. false_from_ne_true _ (λ t.
     let same : n.fp ≡ fp = (fp_same n.fp fp).0 t in
     let wrong : 0 ≡ suc j = apart 0 (suc j) fp (ap (λ f. Some f) same) e in
     absurd (omega (arith, wrong))))
 
-pub rest_apart : (n : New) (ns : List New) → AreApart (n ∷ ns) → AreApart ns
+pub rest_apart : (n : New) (ns : List New) → AreFingerprintsApart (n ∷ ns) → AreFingerprintsApart ns
 rest_apart n ns apart i j fp a b = let e = apart (suc i) (suc j) fp a b in omega (arith, e)
 
 and_false : (a b : Bool) → b ≡ false → (a && b) ≡ false
@@ -231,7 +231,7 @@ same_read f m user n (x ∷ xs) other =
     or_none None = refl
     or_none (Some p) = refl
 
-pub cost_held : (m : Memory) (user : UserId) (news : List New) → AreApart news
+pub cost_held : (m : Memory) (user : UserId) (news : List New) → AreFingerprintsApart news
     → sum_by (λ (item : PutItem). placed_len (get (with_items user m (parts_of user m news)).places item.fp.0)) (parts_of user m news) ≡ sum_by (held_len m.places) news
 cost_held m user [] apart = refl
 cost_held m user (n ∷ ns) apart =

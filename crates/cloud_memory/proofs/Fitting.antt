@@ -33,7 +33,7 @@ use Rattle.cloud_memory.specs.declared.rooms.New.{New}
 use Rattle.cloud_memory.specs.Memory.{Memory}
 use Rattle.cloud_memory.specs.Sharing.{AreOwned}
 use Rattle.cloud_memory.specs.Steps.{begun, with_item, with_items, with_put, places_with, part_in, parts_of, with_commit, without_entry, with_kept, with_kepts, with_entry, spends, with_spent, raised, with_use, less_one, without_use}
-use Rattle.cloud_memory.specs.Fitting.{AreShares, AreRecipes, AreShort, FitsPart, FitsRecords, AreItemsPlaced}
+use Rattle.cloud_memory.specs.Fitting.{AreSharePlaces, AreRecipes, AreShort, FitsPart, FitsRecords, AreItemsPlaced}
 
 pub begun_fits : (users region : ℕ) → FitsRecords (begun users region)
 begun_fits users region = record {
@@ -147,7 +147,7 @@ abbrev pub place_or : Place → Option Place → Place
 place_or other None = other
 place_or other (Some place) = place
 
-more_places : (places : FinMap fp_cmp Place) (fp : Fp) (o : Option Place) → ((place : Place) → o ≡ Some place → (1 ≤ place.len) × (place.len ≤ share_limit)) → AreShares places → AreShares (places_with places fp o)
+more_places : (places : FinMap fp_cmp Place) (fp : Fp) (o : Option Place) → ((place : Place) → o ≡ Some place → (1 ≤ place.len) × (place.len ≤ share_limit)) → AreSharePlaces places → AreSharePlaces (places_with places fp o)
 more_places places fp None part fit = fit
 more_places places fp (Some new) part fit = λ q place at. by_test q place (eq_by_cmp fp_cmp q fp.0) (sym (get-insert fp_total places fp.0 new q) ∙ at)
   where
@@ -155,7 +155,7 @@ more_places places fp (Some new) part fit = λ q place at. by_test q place (eq_b
     by_test q place true e = part place e
     by_test q place false e = fit q place e
 
-items_fit : (user : UserId) (items : List PutItem) (m : Memory) → All FitsPart items → AreShares m.places → AreShares (with_items user m items).places
+items_fit : (user : UserId) (items : List PutItem) (m : Memory) → All FitsPart items → AreSharePlaces m.places → AreSharePlaces (with_items user m items).places
 items_fit user [] m parts fit = fit
 items_fit user (item ∷ items) m parts fit =
     items_fit user items (with_item user m item) (All-tail FitsPart item items parts) (more_places m.places item.fp item.place (All-head FitsPart item items parts) fit)

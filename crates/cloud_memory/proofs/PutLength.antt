@@ -13,7 +13,7 @@ use Rattle.spent_table.specs.CdBase.place.Place.{Place}
 use Rattle.spent_table.specs.CdBase.Order.{fp_cmp}
 use Rattle.cloud_memory.specs.declared.rooms.New.{New}
 use Rattle.cloud_memory.specs.Memory.{Memory}
-use Rattle.cloud_memory.specs.News.{AreApart}
+use Rattle.cloud_memory.specs.News.{AreFingerprintsApart}
 use Rattle.cloud_memory.specs.Inner.{part_len}
 use Rattle.cloud_memory.specs.Steps.{with_item, part_in, parts_of}
 use Rattle.cloud_memory.proofs.Adding.{others, rest_apart, same_read}
@@ -36,7 +36,7 @@ part_long m n = length-append n.fp.0 (placed_bytes (part_in m n).place) ∙ ap (
     by_test true = refl
     by_test false = refl
 
-parts_long : (m : Memory) (user : UserId) (news : List New) → AreApart news → length (flat_map item_bytes (parts_of user m news)) ≡ sum_by (bytes_of m.places) news
+parts_long : (m : Memory) (user : UserId) (news : List New) → AreFingerprintsApart news → length (flat_map item_bytes (parts_of user m news)) ≡ sum_by (bytes_of m.places) news
 parts_long m user [] apart = refl
 parts_long m user (n ∷ ns) apart =
     let mid = with_item user m (part_in m n) in
@@ -46,5 +46,5 @@ parts_long m user (n ∷ ns) apart =
     ∙ length-append (item_bytes (part_in m n)) (flat_map item_bytes (parts_of user mid ns))
     ∙ (λ i. first i + rest i) ∙ sym (sum_by-cons (bytes_of m.places) n ns)
 
-pub put_long : (m : Memory) (user : UserId) (news : List New) → AreApart news → length (body_bytes (bodies.Put user (parts_of user m news))) ≡ 7 + sum_by (bytes_of m.places) news
+pub put_long : (m : Memory) (user : UserId) (news : List New) → AreFingerprintsApart news → length (body_bytes (bodies.Put user (parts_of user m news))) ≡ 7 + sum_by (bytes_of m.places) news
 put_long m user news apart = omega (arith, parts_long m user news apart)

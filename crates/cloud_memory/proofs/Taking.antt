@@ -29,7 +29,7 @@ use Rattle.cloud_areas.specs.UserDedup.Dedup.{FullRoom}
 use Rattle.cloud_memory.specs.declared.cloud.CloudMemory.{CloudMemory}
 use Rattle.cloud_memory.specs.declared.rooms.New.{New}
 use Rattle.cloud_memory.specs.Memory.{Memory}
-use Rattle.cloud_memory.specs.News.{AreApart, AreNewTo}
+use Rattle.cloud_memory.specs.News.{AreFingerprintsApart, AreNewTo}
 use Rattle.cloud_memory.specs.Rooms.{memory_of, HasRooms, full_put}
 use Rattle.cloud_memory.specs.Steps.{with_items, part_in, spent_on, spends, held_len, with_put}
 use Rattle.cloud_memory.specs.Inner.{HasPlacedShare, Owned, HasAddedShare, HasShareRoom, MayAdd, FitsPut}
@@ -183,7 +183,7 @@ with_rows m rows = record { places = m.places; owners = m.owners; files = m.file
 pub same_spent : (old mid : CloudMemory) (user : UserId) (news : List New) (items : List PutItem) → Added old mid user news items → mid.spent ≡ old.spent
 same_spent old mid user news items added = ap (λ (m : Memory). m.spent) added.taken ∙ spent_stays user (memory_of old) items
 
-pub put_taken : (old mid : CloudMemory) (user : UserId) (news : List New) (items : List PutItem) (count more : ℕ) (rows : List Row) → Added old mid user news items → AreApart news
+pub put_taken : (old mid : CloudMemory) (user : UserId) (news : List New) (items : List PutItem) (count more : ℕ) (rows : List Row) → Added old mid user news items → AreFingerprintsApart news
     → count ≡ length news → more ≡ sum_by (held_len old.shares.places) news
     → rows ≡ slice_set mid.spent user.0 (both (spent_by mid.spent user) (record { owners = count; shares = more; recipes = 0 }))
     → with_rows (memory_of mid) rows ≡ with_put user items (memory_of old)

@@ -14,8 +14,8 @@ use Rattle.cloud_memory.specs.Memory.{Memory}
 use Rattle.cloud_memory.specs.Steps.{places_with}
 
 -- Each share has from 1 to 8,208 bytes.
-abbrev pub AreShares : FinMap fp_cmp Place → Type 0
-AreShares places = (fp : List ℕ) (place : Place) → get places fp ≡ Some place → (1 ≤ place.len) × (place.len ≤ share_limit)
+abbrev pub AreSharePlaces : FinMap fp_cmp Place → Type 0
+AreSharePlaces places = (fp : List ℕ) (place : Place) → get places fp ≡ Some place → (1 ≤ place.len) × (place.len ≤ share_limit)
 
 -- Each recipe has a byte.
 abbrev pub AreRecipes : FinMap key_cmp Entry → Type 0
@@ -28,7 +28,7 @@ AreShort files = (key : FileKey) (e : Entry) → get files key ≡ Some e → e.
 -- What the memory has fits records: each share has from 1 to 8,208 bytes, each recipe from 1 to 1,180,190, and each fingerprint that some
 -- user owns has a place.
 pub record FitsRecords (m : Memory) : Type 0 where
-  pub shares : AreShares m.places
+  pub shares : AreSharePlaces m.places
   pub recipes : AreRecipes m.files
   pub short : AreShort m.files
   pub placed : AreAllPlaced m.places m.owners

@@ -114,5 +114,5 @@ pub record IsCrowded (old new : CloudMemory) (body : CommitBody) (full : Full) :
   pub full_is : full ≡ full_entries old body.user
   pub used : files_used old.files body.user.0 ≡ limit_for old.files.accounts body.user.0
 
-abbrev pub Enters : CloudMemory → CloudMemory → CommitBody → Result Unit Full → Type 0
-Enters old new body result = MatchResult result (λ _. Entered old new body) (λ full. IsCrowded old new body full)
+abbrev pub EntersCommit : CloudMemory → CloudMemory → CommitBody → Result Unit Full → Type 0
+EntersCommit old new body result = MatchResult result (λ _. Entered old new body) (λ full. IsCrowded old new body full)

@@ -16,8 +16,8 @@ abbrev pub seen : Full → FullRoom
 seen full = record { room = full.room; used = full.used; need = full.need; limit = full.limit }
 
 -- no two shares have one fingerprint
-abbrev pub AreApart : List New → Type 0
-AreApart news = (i j : ℕ) (fp : Fp) → slice_get (map (λ (n : New). n.fp) news) i ≡ Some fp → slice_get (map (λ (n : New). n.fp) news) j ≡ Some fp → i ≡ j
+abbrev pub AreFingerprintsApart : List New → Type 0
+AreFingerprintsApart news = (i j : ℕ) (fp : Fp) → slice_get (map (λ (n : New). n.fp) news) i ≡ Some fp → slice_get (map (λ (n : New). n.fp) news) j ≡ Some fp → i ≡ j
 
 -- These are the fingerprints and the lengths of the strings, in order.
 pub record AreOf (news : List New) (strings : List (List ℕ)) : Type 0 where
@@ -27,4 +27,4 @@ pub record AreOf (news : List New) (strings : List (List ℕ)) : Type 0 where
 -- None of these shares is the user's, and no two have one fingerprint.
 pub record AreNewTo (m : Memory) (user : UserId) (news : List New) : Type 0 where
   pub new : All (λ (n : New). get m.owners (owner_of user.0 n.fp.0) ≡ None) news
-  pub apart : AreApart news
+  pub apart : AreFingerprintsApart news

@@ -34,7 +34,8 @@ ghost use Rattle.cloud_memory.specs.News.{AreOf, AreNewTo, seen};
 ghost use Rattle.cloud_memory.specs.Rooms.{memory_of, HasRooms, full_news, full_commit};
 ghost use Rattle.cloud_memory.specs.Sharing.{AreOwned};
 ghost use Rattle.cloud_memory.specs.Steps.{begun, with_put, parts_of, with_commit, without_entry};
-ghost use Rattle.cloud_memory.specs.Inner.{HasPlacedShare, Owned, HasAddedShare, AddsAll, HasShareRoom, MayAdd, Enters};
+ghost use Rattle.cloud_memory.specs.Inner.{HasPlacedShare, Owned, HasAddedShare, AddsAll, HasShareRoom, MayAdd};
+ghost use Rattle.cloud_memory.specs.Inner.{EntersCommit};
 ghost use Rattle.cloud_memory.specs.Inner.{Entered};
 
 use crate::places::{farther, place_behind};
@@ -311,7 +312,7 @@ impl CloudMemory {
     // Enters a version that the user doesn't have. `Full` comes exactly where the user has as many entries as it may.
     pub(crate) fn enter(&mut self, body: &CommitBody) -> Result<(), Full>
         requires { maps.get self.old.files.files (key_of body.now.user.0 body.now.tag.0 body.now.version.0) ≡ None }
-        ensures { Enters self.old self.new body.now result }
+        ensures { EntersCommit self.old self.new body.now result }
     {
         let entry = Entry {
             at: body.at,

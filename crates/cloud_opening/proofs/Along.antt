@@ -19,9 +19,9 @@ use Rattle.record_laws.specs.RecordChecks.CloudMemory.Rooms.{memory_of, HasRooms
 use Rattle.record_laws.specs.RecordChecks.ground.Ground.{Ground}
 use Rattle.record_laws.specs.RecordChecks.taking.Taking.{Taking}
 use Rattle.cloud_opening.specs.Exact.{Closes, number_behind}
-use Rattle.cloud_opening.specs.Steps.{IsTraced, From, NextAs, AllAs}
+use Rattle.cloud_opening.specs.Steps.{IsTraced, From, NextAs, AllRecordsAs}
 use Rattle.cloud_opening.specs.declared.window.Window.{Window}
-use Rattle.cloud_opening.specs.Windows.{Shows}
+use Rattle.cloud_opening.specs.Windows.{ShowsWindow}
 use Rattle.cloud_opening.proofs.Synced.{still, counts_still, counted_behind}
 
 -- the chain with these records
@@ -101,7 +101,7 @@ module _ (c0 c d : ℕ → Cloud) (number before mid now : ℕ) (g : Ground) (st
 
   -- the end
   pub all_taken : StepAs (Ok false) → IsTrue (c0 number).told → (w : Where) → IsJournalReading start ((c0 number).now Journal) w → w.bodies ≡ []
-      → AllAs g ((c0 number).now Recipes).read ((c0 number).now Journal) w start (memory_of first) t0 new (memory_of after) u (Ok records)
+      → AllRecordsAs g ((c0 number).now Recipes).read ((c0 number).now Journal) w start (memory_of first) t0 new (memory_of after) u (Ok records)
   all_taken step told w reading none =
       let f = so_far (Ok false) step told w reading none in
       let next = exactly (Ok false) step told w reading none in (
@@ -113,7 +113,7 @@ module _ (c0 c d : ℕ → Cloud) (number before mid now : ℕ) (g : Ground) (st
 
   -- an Err
   pub not_taken : (error : OpenErr) → StepAs (Err error) → IsTrue (c0 number).told → (w : Where) → IsJournalReading start ((c0 number).now Journal) w → w.bodies ≡ []
-      → AllAs g ((c0 number).now Recipes).read ((c0 number).now Journal) w start (memory_of first) t0 new (memory_of after) u (Err error)
+      → AllRecordsAs g ((c0 number).now Recipes).read ((c0 number).now Journal) w start (memory_of first) t0 new (memory_of after) u (Err error)
   not_taken Fault step told w reading none = tt
   not_taken (Damaged at byte) step told w reading none = λ last.
       let f = so_far (Err (Damaged at byte)) step told w reading none in
@@ -130,4 +130,4 @@ module _ (c0 c d : ℕ → Cloud) (number before mid now : ℕ) (g : Ground) (st
 -- The steps so far, and what the buffer has of the area of recipes.
 pub record Looking (c0 c : ℕ → Cloud) (number before now : ℕ) (g : Ground) (start journal : JournalState) (first memory : CloudMemory) (t0 t : Taking) (records : ℕ) (given buffer : List ℕ) (window : Window) : Type 0 where
   pub along : Along c0 c number before now g start journal first memory t0 t records (length given) (length buffer)
-  pub shows : Shows (c number) window buffer
+  pub shows : ShowsWindow (c number) window buffer

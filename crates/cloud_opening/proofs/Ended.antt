@@ -16,7 +16,7 @@ use Rattle.record_laws.specs.RecordChecks.taking.Taking.{Taking}
 use Rattle.record_laws.specs.RecordChecks.Noting.{nothing_noted}
 use Rattle.cloud_opening.specs.Exact.{Closes, number_behind}
 use Rattle.cloud_opening.specs.Roomy.{SpendWithin}
-use Rattle.cloud_opening.specs.Steps.{IsTraced, From, AllAs, HasChainEnded}
+use Rattle.cloud_opening.specs.Steps.{IsTraced, From, AllRecordsAs, HasChainEnded}
 use Rattle.cloud_opening.proofs.Roomy.{begun_within}
 
 pub traced_begun : (g : Ground) (users : ℕ) (m : Memory) (t : Taking) → m ≡ begun users g.region → t ≡ nothing_noted → IsTraced g m t
@@ -33,14 +33,14 @@ module _ (g : Ground) (recipes : List ℕ) (store : Store) (w : Where) (before :
   from_begun new answer from =
       subst (λ (t : Taking). From g recipes store new before 0 (begun users g.region) t answer) none (subst (λ (m : Memory). From g recipes store new before 0 m t0 answer) same from)
 
-  pub all_closed : (records number : ℕ) (answer : Result ℕ OpenErr) → AllAs g recipes store w before m0 t0 after mid u (Ok records) → number ≡ number_behind before.start records → Closes g mid u number answer
+  pub all_closed : (records number : ℕ) (answer : Result ℕ OpenErr) → AllRecordsAs g recipes store w before m0 t0 after mid u (Ok records) → number ≡ number_behind before.start records → Closes g mid u number answer
       → From g recipes store mid before 0 (begun users g.region) nothing_noted answer
   all_closed records number answer all is closes = from_begun mid answer (all.1 answer (subst (λ (n : ℕ). Closes g mid u n answer) is closes))
 
-  pub all_ended : (records : ℕ) → AllAs g recipes store w before m0 t0 after mid u (Ok records) → HasChainEnded after store w
+  pub all_ended : (records : ℕ) → AllRecordsAs g recipes store w before m0 t0 after mid u (Ok records) → HasChainEnded after store w
   all_ended records all = record { bodies = all.0.0; ended = all.0.2 }
 
-  pub all_failed : (error : OpenErr) (new : Memory) → AllAs g recipes store w before m0 t0 after mid u (Err error)
+  pub all_failed : (error : OpenErr) (new : Memory) → AllRecordsAs g recipes store w before m0 t0 after mid u (Err error)
       → OnFault {T = ℕ} (Err error) (Unit {0}) (From g recipes store new before 0 (begun users g.region) nothing_noted (Err error))
   all_failed Fault new all = tt
   all_failed (Damaged at byte) new all = from_begun new (Err (Damaged at byte)) (all new)

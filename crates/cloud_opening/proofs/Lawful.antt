@@ -8,7 +8,7 @@ use Rattle.std.proofs.lemmas.List.Elements.{All-head, All-tail}
 use Rattle.cloud_disk.specs.CdEdges.area.Area.TheVariants.{Journal, Recipes}
 use Rattle.cloud_disk.specs.CdEdges.Disk.{Image}
 use Rattle.cloud_disk.specs.JournalHalves.Records.{sized, chain, IsJournal}
-use Rattle.cloud_disk.specs.JournalHalves.Frames.{IsClosed, IsRecord}
+use Rattle.cloud_disk.specs.JournalHalves.Frames.{IsClosed, IsRecordAhead}
 use Rattle.cloud_disk.proofs.JournalHalves.Headed.{one_record}
 use Rattle.cloud_disk.proofs.JournalHalves.Unique.{undamaged, whole_record}
 use Rattle.cloud_disk.specs.JournalStart.start.Header.{Header}
@@ -60,7 +60,7 @@ pub record IsLast (g : Ground) (start : Start) (new old : Memory) (t : Taking) (
   pub closes : Closes g old t (number_behind start records) answer
 
 module _ (g : Ground) (half : ℕ) (start : Start) (recipes : List ℕ) (new : Memory) where
-  by_record : (rest body : List ℕ) (gate records : ℕ) (old : Memory) (t : Taking) (answer : Result ℕ OpenErr) → IsRecord rest body → Replays g half start recipes new rest gate records old t answer
+  by_record : (rest body : List ℕ) (gate records : ℕ) (old : Memory) (t : Taking) (answer : Result ℕ OpenErr) → IsRecordAhead rest body → Replays g half start recipes new rest gate records old t answer
       → Further g half start recipes new rest body gate records old t answer ⊎ IsStopped g start recipes body gate records old t
   by_record rest body gate records old t answer r (Ended l k n u a c full closes) = absurd (not_open rest body c r)
   by_record rest body gate records old t answer r (Early l k n o u c few) = absurd (not_open rest body c r)
@@ -101,7 +101,7 @@ rest_after b bodies rest j =
       spelled = ap (λ (l : List ℕ). drop (5 + length b) l) whole ∙ ap (λ (n : ℕ). drop n (front ++ behind)) long ∙ drop_at front behind (length front) refl;
     }
 
-pub record_first : (b : List ℕ) (bodies : List (List ℕ)) (rest : List ℕ) → IsJournal (b ∷ bodies) rest → IsRecord rest b
+pub record_first : (b : List ℕ) (bodies : List (List ℕ)) (rest : List ℕ) → IsJournal (b ∷ bodies) rest → IsRecordAhead rest b
 record_first b bodies rest j = whole_record b bodies j.gate j.behind rest j.sizes.0 j.spelled
 
 pub closed_end : (rest : List ℕ) → IsJournal [] rest → IsClosed rest

@@ -6,7 +6,7 @@ use Rattle.cloud_disk.specs.CdEdges.area.Area.TheVariants.{Recipes}
 use Rattle.cloud_disk.specs.CdEdges.Disk.{Areas, Cloud}
 use Rattle.cloud_disk.specs.CdEdges.Shelf.{Stays}
 use Rattle.cloud_opening.specs.declared.window.Window.{Window}
-use Rattle.cloud_opening.specs.Windows.{IsFrontOfWindow, Shows}
+use Rattle.cloud_opening.specs.Windows.{IsFrontOfWindow, ShowsWindow}
 
 -- a part of what the buffer has
 pub found : (buffer held : List ℕ) (at n from len place : ℕ) → take n buffer ≡ take n (drop at held) → place ≡ at + from → from + len ≤ n
@@ -30,14 +30,14 @@ read_there held buffer place len count asked few front more is =
     ∙ whole_part (drop place held) asked few (omega (arith, is, front.lesser, length-drop place held, more))
 
 -- nothing
-pub shows_none : (cloud : Cloud) (window : Window) (buffer : List ℕ) → window.len ≡ 0 → Shows cloud window buffer
+pub shows_none : (cloud : Cloud) (window : Window) (buffer : List ℕ) → window.len ≡ 0 → ShowsWindow cloud window buffer
 shows_none cloud window buffer none = record {
   held = omega (arith, none);
   bytes = λ told. ap (λ (n : ℕ). take n buffer) none ∙ sym (ap (λ (n : ℕ). take n (drop window.at (cloud.now Recipes).read)) none);
 }
 
 -- the same over a cloud that stays
-pub shows_still : (c0 c1 : Cloud) (window : Window) (buffer : List ℕ) → Stays c0 c1 → c1.told ≡ c0.told → Shows c0 window buffer → Shows c1 window buffer
+pub shows_still : (c0 c1 : Cloud) (window : Window) (buffer : List ℕ) → Stays c0 c1 → c1.told ≡ c0.told → ShowsWindow c0 window buffer → ShowsWindow c1 window buffer
 shows_still c0 c1 window buffer stays told shows = record {
   held = shows.held;
   bytes = λ told1. subst (λ (a : Areas). take window.len buffer ≡ take window.len (drop window.at (a Recipes).read)) (sym stays.now) (shows.bytes (subst IsTrue told told1));
@@ -45,10 +45,10 @@ shows_still c0 c1 window buffer stays told shows = record {
 
 -- what was read just now
 pub shows_read : (c0 c1 : Cloud) (window : Window) (buffer : List ℕ) (len : ℕ) → Stays c0 c1 → c1.told ≡ c0.told → window.len ≤ length buffer
-    → (IsTrue c0.told → IsFrontOfWindow (c0.now Recipes).read window.at len window.len buffer) → Shows c1 window buffer
+    → (IsTrue c0.told → IsFrontOfWindow (c0.now Recipes).read window.at len window.len buffer) → ShowsWindow c1 window buffer
 shows_read c0 c1 window buffer len stays told held front =
     shows_still c0 c1 window buffer stays told (record { held = held; bytes = λ told0. (front told0).bytes })
 
 -- however much was taken
-pub shows_taken : (cloud : Cloud) (window : Window) (buffer : List ℕ) (taken : ℕ) → Shows cloud window buffer → Shows cloud (record window { taken = taken }) buffer
+pub shows_taken : (cloud : Cloud) (window : Window) (buffer : List ℕ) (taken : ℕ) → ShowsWindow cloud window buffer → ShowsWindow cloud (record window { taken = taken }) buffer
 shows_taken cloud window buffer taken shows = record { held = shows.held; bytes = shows.bytes }

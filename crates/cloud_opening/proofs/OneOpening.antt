@@ -2,7 +2,7 @@
 use Rattle.std.proofs.Common.{◌≡◌, ℕ, ◌+◌, ◌*◌, Bool, true, false, List, length, take, drop, nat_lt, Option, Some, Result, Ok, Err, OnOk, refl, sym, ◌∙◌, ap, subst, arith}
 use Rattle.cloud_disk.specs.CdEdges.area.Area.TheVariants.{Journal, Recipes}
 use Rattle.cloud_disk.specs.CdEdges.Disk.{Image}
-use Rattle.cloud_disk.specs.JournalHalves.Frames.{IsRecord}
+use Rattle.cloud_disk.specs.JournalHalves.Frames.{IsRecordAhead}
 use Rattle.cloud_disk.proofs.JournalHalves.Headed.{one_record}
 use Rattle.cloud_disk.proofs.JournalHalves.Unique.{undamaged}
 use Rattle.cloud_disk.proofs.CommitJournal.Opening.{not_unbegun}
@@ -21,7 +21,7 @@ use Rattle.record_laws.specs.RecordChecks.CloudMemory.Memory.{Memory}
 use Rattle.record_laws.specs.RecordChecks.damage.Damage.{Damage}
 use Rattle.record_laws.specs.RecordChecks.ground.Ground.{Ground}
 use Rattle.record_laws.specs.RecordChecks.taking.Taking.{Taking}
-use Rattle.record_laws.specs.RecordChecks.Checks.{Asks, ByCommit, ByDelete, AsksFor}
+use Rattle.record_laws.specs.RecordChecks.Checks.{NamesRecipePlace, ByCommit, ByDelete, AsksFor}
 use Rattle.record_laws.specs.RecordChecks.Judging.{Judges}
 use Rattle.record_laws.specs.RecordChecks.Judging as judging
 use Rattle.record_laws.specs.RecordChecks.Noting.{IsNoted}
@@ -39,12 +39,12 @@ body_of b b2 r x y = let same : Ok b ≡ Ok b2 = sym x ∙ y in cc
 pub entry_of : (e e2 : Entry) (o : Option Entry) → o ≡ Some e → o ≡ Some e2 → e ≡ e2
 entry_of e e2 o x y = let same : Some e ≡ Some e2 = sym x ∙ y in cc
 
-pub one_asked : (g : Ground) (inside : Bool) (m : Memory) (b : Body) (p q : Place) → Asks g inside m b p → Asks g inside m b q → p ≡ q
+pub one_asked : (g : Ground) (inside : Bool) (m : Memory) (b : Body) (p q : Place) → NamesRecipePlace g inside m b p → NamesRecipePlace g inside m b q → p ≡ q
 one_asked g inside m b p q (ByCommit c lies none) (ByCommit c2 lies2 none2) = refl
 one_asked g inside m b p q (ByDelete d e is few) (ByDelete d2 e2 is2 few2) = ap (λ (x : Entry). record { at = x.at; len = x.len }) (entry_of e e2 _ is is2)
 
 pub one_place : (g : Ground) (inside : Bool) (m : Memory) (body : List ℕ) (p q : Place) → AsksFor g inside m body p → AsksFor g inside m body q → p ≡ q
-one_place g inside m body p q a b = one_asked g inside m a.0 p q a.2 (subst (λ (x : Body). Asks g inside m x q) (sym (body_of a.0 b.0 (body_at body) a.1 b.1)) b.2)
+one_place g inside m body p q a b = one_asked g inside m a.0 p q a.2 (subst (λ (x : Body). NamesRecipePlace g inside m x q) (sym (body_of a.0 b.0 (body_at body) a.1 b.1)) b.2)
 
 pub one_read : (g : Ground) (inside : Bool) (m : Memory) (body recipes one two : List ℕ) → ReadsFor g inside m body recipes one → ReadsFor g inside m body recipes two → one ≡ two
 one_read g inside m body recipes one two (Recipe p asks) (Recipe q asks2) = ap (λ (x : Place). take x.len (drop x.at recipes)) (one_place g inside m body p q asks asks2)
@@ -107,7 +107,7 @@ module _ (g : Ground) (half : ℕ) (start : Start) (recipes : List ℕ) where
   inside_at records = nat_lt records (records_of start.checkpoint)
 
   -- the answers to what stands at one gate
-  judged_alike : (rest body body2 read read2 : List ℕ) (gate records : ℕ) (old : Memory) (t : Taking) (x y : Result Memory Damage) → IsRecord rest body → IsRecord rest body2
+  judged_alike : (rest body body2 read read2 : List ℕ) (gate records : ℕ) (old : Memory) (t : Taking) (x y : Result Memory Damage) → IsRecordAhead rest body → IsRecordAhead rest body2
       → ReadsFor g (inside_at records) old body recipes read → ReadsFor g (inside_at records) old body2 recipes read2
       → Judges g (inside_at records) read t.spent old (gate + 5) body x → Judges g (inside_at records) read2 t.spent old (gate + 5) body2 y → x ≡ y
   judged_alike rest body body2 read read2 gate records old t x y r r2 reads reads2 j j2 =

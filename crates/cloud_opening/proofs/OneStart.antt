@@ -13,7 +13,7 @@ use Rattle.cloud_disk.specs.JournalStart.Spelling.{start_bytes, epoch_of}
 use Rattle.cloud_disk.proofs.JournalStart.Whole.{again}
 use Rattle.cloud_disk.specs.JournalHalves.Halves.{half_len, half_of, is_half_begun, HasStart, IsCurrent}
 use Rattle.cloud_disk.proofs.JournalHalves.Current.{one_start, begun_half, epoch_small, other_before}
-use Rattle.cloud_disk.specs.JournalHalves.Findings.{part_of, IsFaultAt, IsBodyDamage, IsStartDamage, IsSound, epoch_place, IsFoundDamage, InFirst, InSecond, Epochs}
+use Rattle.cloud_disk.specs.JournalHalves.Findings.{part_of, IsFaultAt, IsBodyDamage, IsStartDamage, IsHalfSound, epoch_place, IsFoundDamage, InFirst, InSecond, Epochs}
 use Rattle.cloud_disk.specs.JournalHalves.Beginnings.{IsUnbegun}
 use Rattle.cloud_disk.proofs.CommitJournal.Kept.{record_off}
 
@@ -75,7 +75,7 @@ not_next (suc zero) le is = cc
 not_next (suc (suc zero)) le is = cc
 not_next (suc (suc (suc e))) le is = omega arith
 
-first_whole : (journal : List ℕ) (at byte : ℕ) → is_half_begun 0 journal ≡ true → IsStartDamage 0 (part_of 0 journal) at byte → IsSound journal 0 → ⊥
+first_whole : (journal : List ℕ) (at byte : ℕ) → is_half_begun 0 journal ≡ true → IsStartDamage 0 (part_of 0 journal) at byte → IsHalfSound journal 0 → ⊥
 first_whole journal at byte begun d (inl none) = false≢true (sym none ∙ begun)
 first_whole journal at byte begun d (inr has) = whole_start journal 0 at byte has.0 has.1 d
 

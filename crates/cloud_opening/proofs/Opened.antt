@@ -8,7 +8,7 @@ use Rattle.cloud_disk.specs.CdEdges.Disk.{Store, Areas, Image, Cloud, IsImage, L
 use Rattle.cloud_disk.specs.CdEdges.Shelf.{stable, Stays}
 use Rattle.cloud_disk.proofs.CdEdges.Moments.{joined, stayed, weaker, at_end}
 use Rattle.cloud_disk.specs.JournalHalves.Records.{sized, chain, IsDamage, LastGate, BadLength}
-use Rattle.cloud_disk.specs.JournalHalves.Frames.{IsClosed, IsRecord}
+use Rattle.cloud_disk.specs.JournalHalves.Frames.{IsClosed, IsRecordAhead}
 use Rattle.cloud_disk.specs.JournalStart.start.Header.{Header}
 use Rattle.cloud_disk.specs.JournalStart.start.Start.{Start}
 use Rattle.cloud_disk.specs.JournalStart.Spelling.{start_bytes, records_of, commands_of, region_of}
@@ -20,7 +20,7 @@ use Rattle.cloud_disk.proofs.JournalHalves.Unique.{head_of}
 use Rattle.cloud_disk.specs.JournalHalves.Findings.{part_of}
 use Rattle.cloud_disk.specs.CommitJournal.errors.OpenErr.{OpenErr}
 use Rattle.cloud_disk.specs.CommitJournal.errors.OpenErr.TheVariants.{Fault, NotBegun, Damaged, OtherStore}
-use Rattle.cloud_disk.specs.CommitJournal.Openings.{IsNewOrUnbegun, MayBecome, OpensIs, OnFault}
+use Rattle.cloud_disk.specs.CommitJournal.Openings.{IsNewOrUnbegun, MayBeBegun, OpensIs, OnFault}
 use Rattle.cloud_disk.specs.JournalHalves.Beginnings.{IsUnbegun}
 use Rattle.cloud_disk.specs.CommitJournal.States.{JournalState, IsJournalReading}
 use Rattle.cloud_disk.specs.JournalHalves.Beginnings.{new_of}
@@ -32,7 +32,7 @@ use Rattle.record_laws.specs.RecordChecks.CloudMemory.Steps.{begun}
 use Rattle.record_laws.specs.RecordChecks.ground.Ground.{Ground}
 use Rattle.record_laws.specs.RecordChecks.taking.Taking.{Taking}
 use Rattle.cloud_opening.specs.Exact.{Closes, Within, SharesPast, RecipesPast, number_behind, Replays, Ended, Early, Taken, Refused, Broken, ReplaysAll, Opens, Unbegun, NoStart, Other, New, Read}
-use Rattle.cloud_opening.specs.Spared.{Spares, StandsForSome, KeepsLists, IsReadWhole}
+use Rattle.cloud_opening.specs.Spared.{Spares, StandsForAnyOf, KeepsLists, IsReadWhole}
 use Rattle.cloud_opening.specs.Starts.{IsStarted}
 use Rattle.cloud_opening.specs.Steps.{HasChainEnded}
 use Rattle.cloud_opening.proofs.Current.{same_half, same_start}
@@ -40,7 +40,7 @@ use Rattle.cloud_opening.proofs.Synced.{none_behind, of_all, on_answer, same_err
 
 -- ---- nothing comes behind a closed gate
 
-pub not_open : (rest body : List ℕ) → IsClosed rest → IsRecord rest body → ⊥
+pub not_open : (rest body : List ℕ) → IsClosed rest → IsRecordAhead rest body → ⊥
 not_open rest body c r = c.shut (head_of c.gate 1 c.behind (sized body ++ r.gate ∷ r.behind) (sym c.spelled ∙ r.spelled))
 
 pub not_broken : (rest : List ℕ) (gate at byte : ℕ) → IsClosed rest → IsDamage rest gate at byte → ⊥
@@ -166,7 +166,7 @@ spares_err header begin c0 c1 state error s read = record {
 
 pub spares_ok : (header : Header) (begin : Bool) (c0 c1 c2 : Cloud) (state : JournalState) (result : Result ℕ OpenErr) → IsStarted header begin c0 c1 state (Ok tt) → Stays c1 c2 → IsImage c2.now (reads c2.now) → Spares header begin c0 c2 result
 spares_ok header begin c0 c1 c2 state result s stays read =
-    let run = then_stays c0 c1 c2 (MayBecome c0.now header begin) s.any_moment stays in
+    let run = then_stays c0 c1 c2 (MayBeBegun c0.now header begin) s.any_moment stays in
     record {
       any_moment = run;
       still_read = at_end c0 c2 _ run (reads c2.now) read;
@@ -185,15 +185,15 @@ module _ (header : Header) (begin : Bool) (c0 c1 : Cloud) (read : IsImage c0.now
   none_stands image (inl none) = unbegun image header none
   none_stands image (inr new) = started image header new
 
-  module _ (lists : List (List Command)) (now : (image : Image) → IsImage c0.now image → StandsForSome header lists image) where
-    become : (image : Image) → MayBecome c0.now header begin image → StandsForSome header lists image
+  module _ (lists : List (List Command)) (now : (image : Image) → IsImage c0.now image → StandsForAnyOf header lists image) where
+    become : (image : Image) → MayBeBegun c0.now header begin image → StandsForAnyOf header lists image
     become image (inl left) = now image left
     become image (inr new) =
         let some = now (reads c0.now) read in
         let none : some.0 ≡ [] = only (reads c0.now) header some.0 some.2 new.1 in
         ([], subst (Contains lists) none some.1, none_stands image new.2.area)
 
-  pub keeps : LeavesOnly c0 c1 (MayBecome c0.now header begin) → KeepsLists header c0 c1
+  pub keeps : LeavesOnly c0 c1 (MayBeBegun c0.now header begin) → KeepsLists header c0 c1
   keeps run lists now = weaker c0 c1 _ _ run (become lists now)
 
 -- ---- what stands after Ok

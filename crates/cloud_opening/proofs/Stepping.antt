@@ -4,7 +4,7 @@ use Rattle.std.proofs.Math.Seq.{take-append-add}
 use Rattle.std.proofs.lemmas.List.{append_cancel_left, drop-drop, drop_at}
 use Rattle.cloud_disk.specs.CdEdges.Disk.{Store}
 use Rattle.cloud_disk.specs.JournalHalves.Records.{sized, chain, AreBodies}
-use Rattle.cloud_disk.specs.JournalHalves.Frames.{IsClosed, IsRecord}
+use Rattle.cloud_disk.specs.JournalHalves.Frames.{IsClosed, IsRecordAhead}
 use Rattle.cloud_disk.proofs.JournalHalves.Chain.{chain-push}
 use Rattle.cloud_disk.specs.JournalStart.start.Start.{Start}
 use Rattle.cloud_disk.specs.JournalStart.Spelling.{records_of}
@@ -33,22 +33,22 @@ pub bodies_left : (one more : List (List ℕ)) → AreBodies (one ++ more) → A
 bodies_left [] more all = all
 bodies_left (b ∷ one) more all = bodies_left one more all.1
 
-pub rest_at : (old : records.HalfState) (store : Store) (bodies : List (List ℕ)) (r : records.IsReading old store bodies) → rest_of old store ≡ r.rest
+pub rest_at : (old : records.HalfState) (store : Store) (bodies : List (List ℕ)) (r : records.IsHalfReading old store bodies) → rest_of old store ≡ r.rest
 rest_at old store bodies r = ap (λ (l : List ℕ). drop old.gate l) r.spelled ∙ ap (λ (n : ℕ). drop n (chain bodies ++ r.rest)) r.gate ∙ drop_at (chain bodies) r.rest (length (chain bodies)) refl
 
-pub record_there : (rest body behind : List ℕ) → AreBodies (body ∷ []) → 0 < length behind → rest ≡ 1 ∷ (sized body ++ behind) → IsRecord rest body
+pub record_there : (rest body behind : List ℕ) → AreBodies (body ∷ []) → 0 < length behind → rest ≡ 1 ∷ (sized body ++ behind) → IsRecordAhead rest body
 record_there rest body [] sizes some e = absurd (omega (arith, some))
 record_there rest body (gate ∷ behind) sizes some e = record { gate = gate; behind = behind; is_body = sizes.0; spelled = e }
 
-pub record_at : (old new : records.HalfState) (store : Store) (bodies : List (List ℕ)) (body : List ℕ) → records.IsReading old store bodies → new.half ≡ old.half → records.IsReading new store (bodies ++ body ∷ [])
-    → IsRecord (rest_of old store) body
+pub record_at : (old new : records.HalfState) (store : Store) (bodies : List (List ℕ)) (body : List ℕ) → records.IsHalfReading old store bodies → new.half ≡ old.half → records.IsHalfReading new store (bodies ++ body ∷ [])
+    → IsRecordAhead (rest_of old store) body
 record_at old new store bodies body r half f =
     let part : part_of old.half store.read ≡ part_of new.half store.read = ap (λ (h : ℕ). part_of h store.read) (sym half) in
     let whole : chain bodies ++ r.rest ≡ chain bodies ++ (1 ∷ (sized body ++ f.rest)) = sym r.spelled ∙ part ∙ f.spelled ∙ chain-push bodies body f.rest in
     record_there (rest_of old store) body f.rest (bodies_left bodies (body ∷ []) f.sizes) f.more
     (rest_at old store bodies r ∙ append_cancel_left (chain bodies) r.rest (1 ∷ (sized body ++ f.rest)) whole)
 
-pub closed_at : (old new : records.HalfState) (store : Store) (bodies : List (List ℕ)) → records.IsReading old store bodies → new.half ≡ old.half → records.IsEnded new store bodies → IsClosed (rest_of old store)
+pub closed_at : (old new : records.HalfState) (store : Store) (bodies : List (List ℕ)) → records.IsHalfReading old store bodies → new.half ≡ old.half → records.IsEnded new store bodies → IsClosed (rest_of old store)
 closed_at old new store bodies r half e =
     let j = e.chain_is in
     let front = chain bodies ++ j.gate ∷ [] in
@@ -86,7 +86,7 @@ module _ (g : Ground) (recipes : List ℕ) (store : Store) (old mid : JournalSta
   inside_is inside is = is ∙ ap (λ (s : Start). nat_lt (length w.bodies) (records_of s.checkpoint)) (sym reading.start)
 
   module _ (inside : Bool) (is : inside ≡ nat_lt (length w.bodies) (records_of w.start.checkpoint)) (further : IsJournalReading mid store (with_body w mid.current.body)) (over : IsRecordFurther old.current mid.current) where
-    at_gate : IsRecord (rest_of old.current store) mid.current.body
+    at_gate : IsRecordAhead (rest_of old.current store) mid.current.body
     at_gate = record_at old.current mid.current store (all_bodies w) mid.current.body reading.read over.half further.read
 
     pub as_taken : (stage : Stage) (m : Memory) (u : Taking) → mid.start ≡ old.start → OneAs g inside recipes before t mid.current.body_at mid.current.body m u (Ok tt)

@@ -11,7 +11,7 @@ use Rattle.cloud_disk.proofs.CommitJournal.Opening.{synced_only}
 use Rattle.cloud_disk.specs.JournalStart.start.Header.{Header}
 use Rattle.cloud_disk.specs.CommitJournal.errors.OpenErr.{OpenErr}
 use Rattle.cloud_disk.specs.CommitJournal.errors.OpenErr.TheVariants.{Fault, NotBegun, Damaged, OtherStore}
-use Rattle.cloud_disk.specs.CommitJournal.Openings.{MayBecome, OpensIs, IsOpening, OnFault, HasBegun}
+use Rattle.cloud_disk.specs.CommitJournal.Openings.{MayBeBegun, OpensIs, IsOpening, OnFault, HasBegun}
 use Rattle.cloud_disk.specs.JournalHalves.Beginnings.{IsUnbegun}
 use Rattle.cloud_disk.specs.CommitJournal.States.{JournalState}
 use Rattle.cloud_opening.specs.Starts.{IsStarted}
@@ -25,7 +25,7 @@ synced_at c0 c1 s Shares = s.recipes.others Shares (λ e. cc) ∙ s.shares.area 
 synced_at c0 c1 s Recipes = s.recipes.area ∙ ap (λ (a : Store). stable a.read) (s.shares.others Recipes (λ e. cc) ∙ s.journal.others Recipes (λ e. cc))
 
 become : (c0 c1 : Cloud) (header : Header) (begin : Bool) → ((area : Area) → MayLeave (c0.now area) (c0.now area).read) → LeavesOnly c0 c1 (IsImage c0.now) → AreSynced c0 c1
-    → (image : Image) → MayBecome c1.now header begin image → MayBecome c0.now header begin image
+    → (image : Image) → MayBeBegun c1.now header begin image → MayBeBegun c0.now header begin image
 become c0 c1 header begin reads first synced image (inl left) = inl (at_end c0 c1 _ first image left)
 become c0 c1 header begin reads first synced image (inr new) = inr (
   new.0,
@@ -38,7 +38,7 @@ become c0 c1 header begin reads first synced image (inr new) = inr (
 )
 
 then_opened : (c0 c1 c2 : Cloud) (header : Header) (begin : Bool) → ((area : Area) → MayLeave (c0.now area) (c0.now area).read) → LeavesOnly c0 c1 (IsImage c0.now) → AreSynced c0 c1
-    → LeavesOnly c1 c2 (MayBecome c1.now header begin) → LeavesOnly c0 c2 (MayBecome c0.now header begin)
+    → LeavesOnly c1 c2 (MayBeBegun c1.now header begin) → LeavesOnly c0 c2 (MayBeBegun c0.now header begin)
 then_opened c0 c1 c2 header begin reads first synced second =
     joined c0 c1 c2 _ (synced_only c0 c1 header begin first) (weaker c1 c2 _ _ second (become c0 c1 header begin reads first synced))
 
@@ -120,7 +120,7 @@ module _ (header : Header) (begin : Bool) (c0 c1 : Cloud) (first : LeavesOnly c0
           begun = λ no. always result _ (ap (λ (a : Areas). a Journal) (still no).now ∙ synced_at c0 c1 synced Journal);
           unbegun = λ none. opening.unbegun (subst IsUnbegun (sym same) none);
           others = on_ok result _ _ (λ others other ne. others other ne ∙ synced_at c0 c1 synced other) opening.others;
-          synced = of_all result _ (begins c0 c1 c2 (MayBecome c1.now header begin) synced opening.any_moment);
+          synced = of_all result _ (begins c0 c1 c2 (MayBeBegun c1.now header begin) synced opening.any_moment);
           unasked = λ no. of_all result _ (none_behind c0 c1 c2 synced (unasked no));
           begun_stays = λ no. of_all result _ (none_behind c0 c1 c2 synced (still no));
         }

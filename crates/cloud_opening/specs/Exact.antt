@@ -5,7 +5,7 @@ use Rattle.std.specs.List.{sum_by}
 use Rattle.cloud_disk.specs.CdEdges.area.Area.TheVariants.{Journal, Shares, Recipes}
 use Rattle.cloud_disk.specs.CdEdges.Disk.{Image}
 use Rattle.cloud_disk.specs.JournalHalves.Records.{IsDamage}
-use Rattle.cloud_disk.specs.JournalHalves.Frames.{IsClosed, IsRecord}
+use Rattle.cloud_disk.specs.JournalHalves.Frames.{IsClosed, IsRecordAhead}
 use Rattle.cloud_disk.specs.CdBase.place.Place.{Place}
 use Rattle.record_laws.specs.SpentTable.Spent.{Spent}
 use Rattle.cloud_disk.specs.JournalStart.start.Header.{Header}
@@ -80,12 +80,12 @@ pub data Replays (g : Ground) (half : ℕ) (start : Start) (recipes : List ℕ) 
   Early : (rest : List ℕ) (gate records : ℕ) (old : Memory) (t : Taking) → IsClosed rest → records < records_of start.checkpoint
       → Replays g half start recipes new rest gate records old t
       (Err (Damaged (half * half_len + records_place start) (slice_index (to_be_bytes w32 (records_of start.checkpoint)) 0)))
-  Taken : (rest body read : List ℕ) (gate records : ℕ) (old mid : Memory) (t after : Taking) (answer : Result ℕ OpenErr) → IsRecord rest body
+  Taken : (rest body read : List ℕ) (gate records : ℕ) (old mid : Memory) (t after : Taking) (answer : Result ℕ OpenErr) → IsRecordAhead rest body
       → ReadsFor g (nat_lt records (records_of start.checkpoint)) old body recipes read
       → Judges g (nat_lt records (records_of start.checkpoint)) read t.spent old (gate + 5) body (Ok mid) → IsNoted (gate + 5) body old t after
       → Replays g half start recipes new (drop (5 + length body) rest) (gate + 5 + length body) (records + 1) mid after answer
       → Replays g half start recipes new rest gate records old t answer
-  Refused : (rest body read : List ℕ) (gate records : ℕ) (old : Memory) (t : Taking) (damage : Damage) → IsRecord rest body
+  Refused : (rest body read : List ℕ) (gate records : ℕ) (old : Memory) (t : Taking) (damage : Damage) → IsRecordAhead rest body
       → ReadsFor g (nat_lt records (records_of start.checkpoint)) old body recipes read
       → Judges g (nat_lt records (records_of start.checkpoint)) read t.spent old (gate + 5) body (Err damage)
       → Replays g half start recipes new rest gate records old t (Err (Damaged damage.at damage.byte))

@@ -10,7 +10,7 @@ use Rattle.cloud_disk.specs.JournalHalves.Halves.{half_limit}
 use Rattle.cloud_disk.specs.JournalHalves.Journals.{Where}
 use Rattle.cloud_disk.specs.CommitJournal.errors.OpenErr.{OpenErr}
 use Rattle.cloud_disk.specs.CommitJournal.errors.OpenErr.TheVariants.{Fault, NotBegun, Damaged, OtherStore}
-use Rattle.cloud_disk.specs.CommitJournal.Openings.{MayBecome, OnFault}
+use Rattle.cloud_disk.specs.CommitJournal.Openings.{MayBeBegun, OnFault}
 use Rattle.cloud_disk.specs.JournalHalves.Beginnings.{IsUnbegun}
 use Rattle.cloud_disk.specs.CommitJournal.States.{JournalState, IsJournalEnded}
 use Rattle.cloud_disk.specs.UserDedup.command.Command.{Command}
@@ -24,19 +24,19 @@ use Rattle.cloud_opening.specs.Synced.{AreSynced, BeginsSynced}
 -- it is left so or with this header alone, and the other areas as they might have been left before. The three syncs come first. Where some
 -- half was begun, and where none was to be, after any answer but Fault nothing else was made.
 pub record Spares {T : Type 0} (header : Header) (begin : Bool) (old new : Cloud) (result : Result T OpenErr) : Type 0 where
-  pub any_moment : LeavesOnly old new (MayBecome old.now header begin)
-  pub still_read : MayBecome old.now header begin (reads new.now)
+  pub any_moment : LeavesOnly old new (MayBeBegun old.now header begin)
+  pub still_read : MayBeBegun old.now header begin (reads new.now)
   pub synced : OnFault result (Unit {0}) (BeginsSynced old new)
   pub begun_stays : ¬ IsUnbegun (old.now Journal).read → OnFault result (Unit {0}) (AreSynced old new)
   pub unasked : begin ≡ false → OnFault result (Unit {0}) (AreSynced old new)
 
 -- the image stands for some list of these
-abbrev pub StandsForSome : Header → List (List Command) → Image → Type 0
-StandsForSome header lists image = (list : List Command) × Contains lists list × StandsFor image header list
+abbrev pub StandsForAnyOf : Header → List (List Command) → Image → Type 0
+StandsForAnyOf header lists image = (list : List Command) × Contains lists list × StandsFor image header list
 
 -- Whatever lists the images stood for, each image since stands for one of them.
 abbrev pub KeepsLists : Header → Cloud → Cloud → Type 0
-KeepsLists header old new = (lists : List (List Command)) → ((image : Image) → IsImage old.now image → StandsForSome header lists image) → LeavesOnly old new (StandsForSome header lists)
+KeepsLists header old new = (lists : List (List Command)) → ((image : Image) → IsImage old.now image → StandsForAnyOf header lists image) → LeavesOnly old new (StandsForAnyOf header lists)
 
 -- All of each area is on the disk, and the journal was read to its end: its current half has a chain with this header, which has so many
 -- commands, and the memory is what its records leave.

@@ -7,7 +7,7 @@ use Rattle.cloud_disk.specs.CdEdges.Shelf.{stable}
 use Rattle.cloud_disk.specs.JournalStart.start.Header.{Header}
 use Rattle.cloud_disk.specs.JournalHalves.Journals.{HasChain}
 use Rattle.cloud_disk.specs.CommitJournal.errors.OpenErr.{OpenErr}
-use Rattle.cloud_disk.specs.CommitJournal.Openings.{MayBecome, OpensIs, IsOpened, OnFault}
+use Rattle.cloud_disk.specs.CommitJournal.Openings.{MayBeBegun, OpensIs, IsOpened, OnFault}
 use Rattle.cloud_disk.specs.JournalHalves.Beginnings.{IsUnbegun}
 use Rattle.cloud_disk.specs.CommitJournal.States.{JournalState}
 use Rattle.cloud_disk.specs.JournalHalves.Beginnings.{new_of}
@@ -15,7 +15,7 @@ use Rattle.cloud_opening.specs.Synced.{AreSynced, BeginsSynced}
 
 -- Each image since, the answer, and what stands after Ok.
 pub record IsStarted (header : Header) (begin : Bool) (old new : Cloud) (after : JournalState) (result : Result (Unit {0}) OpenErr) : Type 0 where
-  pub any_moment : LeavesOnly old new (MayBecome old.now header begin)
+  pub any_moment : LeavesOnly old new (MayBeBegun old.now header begin)
   pub answer : OpensIs (old.now Journal).read header begin result
   pub opened : OnOk result (IsOpened after (new.now Journal) header)
   pub begun : ¬ IsUnbegun (old.now Journal).read → OnOk result (new.now Journal ≡ stable (old.now Journal).read)

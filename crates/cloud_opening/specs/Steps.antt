@@ -77,15 +77,15 @@ NextAs g recipes store w before old t after mid u (Err (NotBegun len)) = ⊥
 NextAs g recipes store w before old t after mid u (Err (OtherStore found asked place)) = ⊥
 
 -- All records were taken, so many, and the bounds decide; or this is the answer.
-abbrev pub AllAs : Ground → List ℕ → Store → Where → journals.JournalState → Memory → Taking → journals.JournalState → Memory → Taking → Result ℕ OpenErr → Type 0
-AllAs g recipes store w before old t after mid u (Ok records) =
+abbrev pub AllRecordsAs : Ground → List ℕ → Store → Where → journals.JournalState → Memory → Taking → journals.JournalState → Memory → Taking → Result ℕ OpenErr → Type 0
+AllRecordsAs g recipes store w before old t after mid u (Ok records) =
     ((bodies : List (List ℕ)) × (records ≡ length bodies)
     × journals.IsJournalEnded after store (record w { bodies = bodies }))
     × ((answer : Result ℕ OpenErr) → Closes g mid u (number_behind before.start records) answer → From g recipes store mid before 0 old t answer)
-AllAs g recipes store w before old t after mid u (Err Fault) = Unit {0}
-AllAs g recipes store w before old t after mid u (Err (Damaged at byte)) = (new : Memory) → From g recipes store new before 0 old t (Err (Damaged at byte))
-AllAs g recipes store w before old t after mid u (Err (NotBegun len)) = ⊥
-AllAs g recipes store w before old t after mid u (Err (OtherStore found asked place)) = ⊥
+AllRecordsAs g recipes store w before old t after mid u (Err Fault) = Unit {0}
+AllRecordsAs g recipes store w before old t after mid u (Err (Damaged at byte)) = (new : Memory) → From g recipes store new before 0 old t (Err (Damaged at byte))
+AllRecordsAs g recipes store w before old t after mid u (Err (NotBegun len)) = ⊥
+AllRecordsAs g recipes store w before old t after mid u (Err (OtherStore found asked place)) = ⊥
 
 -- The chain was read to its end, whatever its records are.
 pub record HasChainEnded (journal : journals.JournalState) (store : Store) (w : Where) : Type 0 where

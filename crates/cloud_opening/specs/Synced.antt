@@ -6,7 +6,7 @@ use Rattle.cloud_disk.specs.CdEdges.Disk.{Areas, Cloud}
 use Rattle.cloud_disk.specs.CdEdges.Shelf.{stable}
 
 -- One area is synced: a crash leaves it as it reads. The others are as they were.
-pub record IsSynced (synced : Area) (old new : Areas) : Type 0 where
+pub record IsAreaSynced (synced : Area) (old new : Areas) : Type 0 where
   pub area : new synced ≡ stable (old synced).read
   pub others : (other : Area) → other ≢ synced → new other ≡ old other
 
@@ -15,9 +15,9 @@ pub record AreSynced (old new : Cloud) : Type 0 where
   pub first : Areas
   pub second : Areas
   pub past : new.past ≡ old.past ++ (old.now ∷ first ∷ second ∷ [])
-  pub journal : IsSynced Journal old.now first
-  pub shares : IsSynced Shares first second
-  pub recipes : IsSynced Recipes second new.now
+  pub journal : IsAreaSynced Journal old.now first
+  pub shares : IsAreaSynced Shares first second
+  pub recipes : IsAreaSynced Recipes second new.now
 
 -- They were synced first, and then came what else there was.
 pub record BeginsSynced (old new : Cloud) : Type 0 where

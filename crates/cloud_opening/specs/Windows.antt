@@ -5,7 +5,7 @@ use Rattle.cloud_disk.specs.CdEdges.Disk.{Cloud}
 use Rattle.cloud_opening.specs.declared.window.Window.{Window}
 
 -- The buffer holds so many bytes. Where the cloud is told they are what its area of recipes has from the window's place on.
-pub record Shows (cloud : Cloud) (window : Window) (buffer : List ℕ) : Type 0 where
+pub record ShowsWindow (cloud : Cloud) (window : Window) (buffer : List ℕ) : Type 0 where
   pub held : window.len ≤ length buffer
   pub bytes : IsTrue cloud.told → take window.len buffer ≡ take window.len (drop window.at (cloud.now Recipes).read)
 

@@ -15,8 +15,9 @@ ghost use Rattle.cloud_disk.specs.JournalHalves.Journals.{Where};
 ghost use Rattle.record_laws.specs.RecordChecks.CloudMemory.Rooms.{memory_of, HasRooms};
 ghost use Rattle.record_laws.specs.RecordChecks.Judging.{Judges};
 ghost use Rattle.record_laws.specs.RecordChecks.Noting.{IsNoted};
-ghost use Rattle.cloud_opening.specs.Steps.{BodyAs, OneAs, NextAs, AllAs, IsTraced, IsOfRecords, OnTrue, stage_of};
-ghost use Rattle.cloud_opening.specs.Windows.{Shows};
+ghost use Rattle.cloud_opening.specs.Steps.{BodyAs, OneAs, NextAs, AllRecordsAs, IsTraced, IsOfRecords, OnTrue};
+ghost use Rattle.cloud_opening.specs.Steps.{stage_of};
+ghost use Rattle.cloud_opening.specs.Windows.{ShowsWindow};
 
 use crate::window::Window;
 use cloud_disk::{Area, CloudNo, Failed, Journal, OpenErr, Place, RecordErr, Shelf};
@@ -122,7 +123,7 @@ fn take_read<V: Shelf>(
     requires body { IsJournalBody (state_of journal.old).current.body }
     requires place { 5 ≤ (state_of journal.old).current.body_at }
     requires end { (state_of journal.old).current.body_at + length (state_of journal.old).current.body < 2 ^ 64 }
-    requires shows { Shows (V.cloud_at shelf.old judging.now.cloud.0) window.old buffer.old }
+    requires shows { ShowsWindow (V.cloud_at shelf.old judging.now.cloud.0) window.old buffer.old }
     requires room { place.len ≤ length buffer.old }
     ensures judged { IsTrue (V.cloud_at shelf.old judging.now.cloud.0).told → OnFault result (Unit {0})
         (BodyAs judging.now.ground.now judging.now.inside
@@ -135,7 +136,7 @@ fn take_read<V: Shelf>(
     ensures journal { state_of journal.new ≡ record
         (state_of journal.old) { stage = (if is_ok result then (state_of journal.old).stage else Stage.Shut) } }
     ensures kind { IsOfRecords result }
-    ensures shows { Shows (V.cloud_at shelf.new judging.now.cloud.0) window.new buffer.new }
+    ensures shows { ShowsWindow (V.cloud_at shelf.new judging.now.cloud.0) window.new buffer.new }
     ensures stays { Stays (V.cloud_at shelf.old judging.now.cloud.0) (V.cloud_at shelf.new judging.now.cloud.0) }
     ensures call { IsCall (V.cloud_at shelf.old) (V.cloud_at shelf.new) judging.now.cloud.0 (V.faults shelf.old)
         (V.faults shelf.new) }
@@ -177,7 +178,7 @@ fn take_record<V: Shelf>(
     requires place { 5 ≤ (state_of journal.old).current.body_at }
     requires end { (state_of journal.old).current.body_at + length (state_of journal.old).current.body < 2 ^ 64 }
     requires buffer { recipe_limit ≤ length buffer.old }
-    requires shows { Shows (V.cloud_at shelf.old judging.now.cloud.0) window.old buffer.old }
+    requires shows { ShowsWindow (V.cloud_at shelf.old judging.now.cloud.0) window.old buffer.old }
     ensures judged { IsTrue (V.cloud_at shelf.old judging.now.cloud.0).told → OnFault result (Unit {0})
         (OneAs judging.now.ground.now judging.now.inside
         ((V.cloud_at shelf.old judging.now.cloud.0).now Area.Recipes).read
@@ -190,7 +191,7 @@ fn take_record<V: Shelf>(
         (state_of journal.old) { stage = (if is_ok result then (state_of journal.old).stage else Stage.Shut) } }
     ensures kind { IsOfRecords result }
     ensures buffer { length buffer.new ≡ length buffer.old }
-    ensures shows { Shows (V.cloud_at shelf.new judging.now.cloud.0) window.new buffer.new }
+    ensures shows { ShowsWindow (V.cloud_at shelf.new judging.now.cloud.0) window.new buffer.new }
     ensures stays { Stays (V.cloud_at shelf.old judging.now.cloud.0) (V.cloud_at shelf.new judging.now.cloud.0) }
     ensures call { IsCall (V.cloud_at shelf.old) (V.cloud_at shelf.new) judging.now.cloud.0 (V.faults shelf.old)
         (V.faults shelf.new) }
@@ -225,7 +226,7 @@ fn take_next<V: Shelf>(
     requires reading { (state_of journal.old).stage ≡ Stage.Reading }
     requires rooms { HasRooms judging.now.ground.now.rooms memory.old }
     requires buffer { recipe_limit ≤ length buffer.old }
-    requires shows { Shows (V.cloud_at shelf.old judging.now.cloud.0) window.old buffer.old }
+    requires shows { ShowsWindow (V.cloud_at shelf.old judging.now.cloud.0) window.old buffer.old }
     ensures exact { IsTrue (V.cloud_at shelf.old judging.now.cloud.0).told → (w : Where)
         → IsJournalReading (state_of journal.old) ((V.cloud_at shelf.old judging.now.cloud.0).now Area.Journal) w
         → judging.now.inside ≡ nat_lt (length w.bodies) (records_of w.start.checkpoint)
@@ -242,7 +243,7 @@ fn take_next<V: Shelf>(
     ensures limit { (state_of journal.new).limit ≡ (state_of journal.old).limit }
     ensures kind { IsOfRecords result }
     ensures buffer { length buffer.new ≡ length buffer.old }
-    ensures shows { Shows (V.cloud_at shelf.new judging.now.cloud.0) window.new buffer.new }
+    ensures shows { ShowsWindow (V.cloud_at shelf.new judging.now.cloud.0) window.new buffer.new }
     ensures stays { Stays (V.cloud_at shelf.old judging.now.cloud.0) (V.cloud_at shelf.new judging.now.cloud.0) }
     ensures call { IsCall (V.cloud_at shelf.old) (V.cloud_at shelf.new) judging.now.cloud.0 (V.faults shelf.old)
         (V.faults shelf.new) }
@@ -278,7 +279,7 @@ pub(crate) fn take_all<V: Shelf>(
     requires buffer { recipe_limit ≤ length buffer.old }
     ensures exact { IsTrue (V.cloud_at shelf.old cloud.0).told → (w : Where)
         → IsJournalReading (state_of journal.old) ((V.cloud_at shelf.old cloud.0).now Area.Journal) w → w.bodies ≡ []
-        → AllAs ground.now ((V.cloud_at shelf.old cloud.0).now Area.Recipes).read
+        → AllRecordsAs ground.now ((V.cloud_at shelf.old cloud.0).now Area.Recipes).read
         ((V.cloud_at shelf.old cloud.0).now Area.Journal) w (state_of journal.old) (memory_of memory.old) taking.old
         (state_of journal.new) (memory_of memory.new) taking.new result }
     ensures traced { IsTraced ground.now (memory_of memory.old) taking.old

@@ -3,7 +3,7 @@
 ghost use Rattle.std.specs.Prelude.{◌≡◌, ◌+◌, ◌≤◌, length, take, drop, IsTrue, IfOk, IfSome, OnOk, OnErr};
 ghost use Rattle.cloud_disk.specs.CdEdges.area.Area.{Area};
 ghost use Rattle.cloud_disk.specs.CdEdges.Shelf.{IsCall, HasFailed, KeepsCounts, Stays};
-ghost use Rattle.cloud_opening.specs.Windows.{IsFrontOfWindow, Shows};
+ghost use Rattle.cloud_opening.specs.Windows.{IsFrontOfWindow, ShowsWindow};
 
 use cloud_disk::{Area, CloudNo, Failed, Place, Shelf};
 
@@ -110,14 +110,14 @@ impl Window {
         place: &Place,
         buffer: &mut [u8],
     ) -> Result<Part, Failed>
-        requires shows { Shows (V.cloud_at shelf.old cloud.0) self.old buffer.old }
+        requires shows { ShowsWindow (V.cloud_at shelf.old cloud.0) self.old buffer.old }
         requires room { place.now.len ≤ length buffer.old }
         ensures bytes { IsTrue (V.cloud_at shelf.old cloud.0).told → IfOk result (λ part.
             take part.len (drop part.from buffer.new)
             ≡ take place.now.len (drop place.now.at ((V.cloud_at shelf.old cloud.0).now Area.Recipes).read)) }
         ensures inside { IfOk result (λ part. part.from + part.len ≤ length buffer.new) }
         ensures few { IfOk result (λ part. part.len ≤ place.now.len) }
-        ensures shows { Shows (V.cloud_at shelf.new cloud.0) self.new buffer.new }
+        ensures shows { ShowsWindow (V.cloud_at shelf.new cloud.0) self.new buffer.new }
         ensures stays { Stays (V.cloud_at shelf.old cloud.0) (V.cloud_at shelf.new cloud.0) }
         ensures call { IsCall (V.cloud_at shelf.old) (V.cloud_at shelf.new) cloud.0 (V.faults shelf.old)
             (V.faults shelf.new) }

@@ -44,7 +44,7 @@ from_second s w body journal (inr new) = inr (inr new)
 
 module _ (s mid : CloudStore) (body : List ℕ) (c0 c1 c2 : Cloud) (shares : mid.disk.shares ≡ s.disk.shares) (recipes : mid.disk.recipes ≡ s.disk.recipes)
     (is_shares : s.disk.shares.area ≡ Shares) (is_recipes : s.disk.recipes.area ≡ Recipes) (told1 : IsTrue c0.told → IsTrue c1.told)
-    (sums : KeepsOrSums s c0 c1) (grows : disks.KeepsOrGrows mid.disk body c1 c2) where
+    (sums : KeepsOrSums s c0 c1) (grows : disks.KeepsDiskOrGrows mid.disk body c1 c2) where
   fronts : ((other : Area) → other ≢ Journal → c1.now other ≡ c0.now other) → (w : Where) (image : Image) → IsOneOf s w body (image Journal)
       → KeepsBelow mid.disk.shares.end (c1.now Shares) (image Shares) → KeepsBelow mid.disk.recipes.end (c1.now Recipes) (image Recipes) → IsLeftOf s c0 w body image
   fronts others w image one in_shares in_recipes = (

@@ -25,7 +25,7 @@ use Rattle.checkpoints.specs.CloudAreas.Standing.{Chain}
 use Rattle.checkpoints.specs.CloudDisk.Disk.{Stages, shares_laid}
 use Rattle.checkpoints.specs.CloudMemory.rooms.New.{New}
 use Rattle.checkpoints.specs.CloudMemory.Memory.{Memory}
-use Rattle.checkpoints.specs.CloudMemory.News.{AreOf, AreApart, AreNewTo}
+use Rattle.checkpoints.specs.CloudMemory.News.{AreOf, AreFingerprintsApart, AreNewTo}
 use Rattle.checkpoints.specs.CloudMemory.Steps.{with_item, part_in, parts_of}
 use Rattle.checkpoints.proofs.MemoryProofs.Adding.{Others, others, rest_apart}
 use Rattle.checkpoints.specs.CloudMemory.Rooms.{memory_of}
@@ -160,7 +160,7 @@ same_rest m user n (k ∷ news) (s ∷ strings) fps other =
     let rest = same_rest m user n news strings (ap rest_fps fps) other.1 in
     λ i. cond (test i) (rest i) (s ∷ rest i)
 
-fresh_are : (m : Memory) (user : UserId) (news : List New) (strings : List (List ℕ)) → map (λ (k : New). k.fp) news ≡ map fingerprint strings → AreApart news
+fresh_are : (m : Memory) (user : UserId) (news : List New) (strings : List (List ℕ)) → map (λ (k : New). k.fp) news ≡ map fingerprint strings → AreFingerprintsApart news
     → fresh user m news strings ≡ unplaced m.places strings
 fresh_are m user [] [] fps apart = refl
 fresh_are m user [] (s ∷ strings) fps apart = absurd (let no : [] ≡ fingerprint s ∷ map fingerprint strings = fps in cc)
@@ -172,7 +172,7 @@ fresh_are m user (n ∷ news) (s ∷ strings) fps apart =
     λ i. cond (is_some (get m.places (fp_is i).0)) (rest i) (s ∷ rest i)
 
 -- what a Put lays
-pub put_lays : (list : List Command) (user : UserId) (news : List New) (strings : List (List ℕ)) (m : Memory) → AreOf news strings → AreApart news
+pub put_lays : (list : List Command) (user : UserId) (news : List New) (strings : List (List ℕ)) (m : Memory) → AreOf news strings → AreFingerprintsApart news
     → ((fp : Fp) → get m.places fp.0 ≡ None → find (has_fingerprint fp) (strings_in list) ≡ None)
     → shares_laid list (asked.Put user strings) (bodies.Put user (parts_of user m news)) ≡ placed m.shares_end (unplaced m.places strings)
 put_lays list user news strings m of apart none =
@@ -180,7 +180,7 @@ put_lays list user news strings m of apart none =
     ∙ ap (placed m.shares_end) (fresh_are m user news strings of.fps apart)
 
 -- its record gives each of these strings that has no place yet the place where it is laid
-pub shares_given : (user : UserId) (news : List New) (strings : List (List ℕ)) (m : Memory) → AreOf news strings → AreApart news
+pub shares_given : (user : UserId) (news : List New) (strings : List (List ℕ)) (m : Memory) → AreOf news strings → AreFingerprintsApart news
     → map (share_at strings) (places_given (parts_of user m news)) ≡ placed m.shares_end (unplaced m.places strings)
 shares_given user news strings m of apart =
     all_laid user strings m news strings [] of.fps of.lens refl (λ fp free. refl) ∙ ap (placed m.shares_end) (fresh_are m user news strings of.fps apart)

@@ -13,7 +13,7 @@ use Rattle.checkpoints.specs.CloudMemory.Memory.{HasEnds}
 use Rattle.checkpoints.specs.CloudMemory.Rooms.{memory_of, HasRooms}
 use Rattle.cloud_opening.specs.Roomy.{IsRoomy}
 use Rattle.cloud_opening.specs.Spared.{IsFor}
-use Rattle.checkpoints.specs.Known.{IsKnown, checkpoint_in}
+use Rattle.checkpoints.specs.Known.{IsDiskKnown, checkpoint_in}
 use Rattle.cloud_store.specs.declared.store.CloudStore.{CloudStore}
 
 -- Commands may be added: the journal was read to its end.
@@ -44,7 +44,7 @@ closed s = record s { disk = record s.disk { journal = record s.disk.journal { s
 -- A memory and a disk serve the list: the disk stands for it by this chain, the memory is the list's and placed by the chain's records, all
 -- that it places stands in the areas, the list is within the rooms and has so many commands, and both logs end where the memory says.
 pub record ServesBy (header : Header) (list : List Command) (c : Chain) (commands region : ℕ) (memory : CloudMemory) (disk : Disk) (cloud : Cloud) : Type 0 where
-  pub known : IsKnown header list c commands region memory disk cloud
+  pub known : IsDiskKnown header list c commands region memory disk cloud
   pub ends : HasEnds region list c.records (memory_of memory)
   pub shares_end : disk.shares.end ≡ memory.shares_end
   pub recipes_end : disk.recipes.end ≡ memory.recipes_end
@@ -61,8 +61,8 @@ pub record ServesSome (list : List Command) (s : CloudStore) (cloud : Cloud) : T
 -- ---- room for a record
 
 -- A record whose body has so many bytes fits the current half.
-abbrev pub Fits : CloudStore → ℕ → Type 0
-Fits s len = s.disk.journal.current.gate + 1 + (len + 5) ≤ s.disk.journal.limit
+abbrev pub FitsHalf : CloudStore → ℕ → Type 0
+FitsHalf s len = s.disk.journal.current.gate + 1 + (len + 5) ≤ s.disk.journal.limit
 
 -- the chain that has room for such a record: that of the checkpoint of the memory exactly where it doesn't fit
 abbrev pub chain_with_room : CloudStore → List Command → Chain → ℕ → Chain

@@ -5,7 +5,7 @@ ghost use Rattle.std.specs.Prelude.{◌≡◌, ◌≤◌, ℕ, List, [], ◌∷�
 ghost use Rattle.recipe.specs.CdBase.Limits.{recipe_limit};
 ghost use Rattle.checkpoints.specs.CdEdges.Disk.{Cloud, moment};
 ghost use Rattle.checkpoints.specs.CloudDisk.Held.{flush_moments};
-ghost use Rattle.checkpoints.specs.CloudDisk.Disk.{KeepsOrGrows as GrowsBy, HasGrown as DiskGrows};
+ghost use Rattle.checkpoints.specs.CloudDisk.Disk.{KeepsDiskOrGrows as GrowsBy, HasDiskGrown as DiskGrows};
 ghost use Rattle.std.specs.FinMap.{get};
 ghost use Rattle.checkpoints.specs.CdEdges.Shelf.{IsCall, HasFailed, KeepsCounts};
 ghost use Rattle.checkpoints.specs.ContainerLog.Places.{place_of};
@@ -25,7 +25,7 @@ ghost use Rattle.checkpoints.specs.CommitJournal.journal.Stage.TheVariants.{AtEn
 ghost use Rattle.checkpoints.specs.CommitJournal.Outcomes.{stage_after as journal_after};
 ghost use Rattle.checkpoints.specs.CloudAreas.Adding.{with_record};
 ghost use Rattle.checkpoints.specs.CloudMemory.Steps.{with_commit};
-ghost use Rattle.cloud_store.specs.Store.{IsOpen, IsSettled, Serves, Fits};
+ghost use Rattle.cloud_store.specs.Store.{IsOpen, IsSettled, Serves, FitsHalf};
 ghost use Rattle.cloud_store.specs.Adding.{IsCommit, commit_body, ServesMore, MadeFirst, unstaged, NoneStaged};
 ghost use Rattle.cloud_store.specs.Adding.{EndBehind, Unmoved, KeepsOrGrows, HasGrown};
 ghost use Rattle.cloud_store.specs.Adding.{OnAdded, MatchFull, MatchFailed, NotLong, WhenLong, IsTooLong, stage_after};
@@ -58,7 +58,7 @@ fn add_roomy<V: Shelf>(
     requires owned { AreOwned (memory_of store.old.memory).owners user (fps_in recipe.now.items) }
     requires room { full_commit store.old.header.rooms user (memory_of store.old.memory) len ≡ None }
     requires end { store.old.memory.recipes_end ≤ regions_end }
-    requires fits { Fits store.old 89 }
+    requires fits { FitsHalf store.old 89 }
     ensures any_moment { (list : List Command) (c : Chain) (bytes : List ℕ)
         → IsCommit list c store.old user tag version fp len (fps_in recipe.now.items) bytes
         (V.cloud_at shelf.old store.old.header.cloud.0)
@@ -152,7 +152,7 @@ impl CloudStore {
         ensures checkpoint_first { (list : List Command) (c : Chain) (bytes : List ℕ)
             → IsCommit list c self.old user tag version fp len (fps_in recipe.now.items) bytes
             (V.cloud_at shelf.old self.old.header.cloud.0)
-            → ¬ (Fits self.old (length (body_bytes (bodies.Commit (commit_body self.old user tag version fp len)))))
+            → ¬ (FitsHalf self.old (length (body_bytes (bodies.Commit (commit_body self.old user tag version fp len)))))
             → OnAdded result (MadeFirst list c self.old (commands.Commit user tag version bytes)
             (V.cloud_at shelf.old self.old.header.cloud.0) (V.cloud_at shelf.new self.old.header.cloud.0)) }
         ensures full_list { (list : List Command) (c : Chain) (bytes : List ℕ)
@@ -182,7 +182,7 @@ impl CloudStore {
             (body_bytes (bodies.Commit (commit_body self.old user tag version fp len)))
             (V.cloud_at shelf.old self.old.header.cloud.0) (V.cloud_at shelf.new self.old.header.cloud.0)) }
         ensures ends { OnAdded result (EndBehind self.old self.new) }
-        ensures moments { IsTrue (V.cloud_at shelf.old self.old.header.cloud.0).told → Fits self.old 89
+        ensures moments { IsTrue (V.cloud_at shelf.old self.old.header.cloud.0).told → FitsHalf self.old 89
             → OnAdded result (moment (V.cloud_at shelf.new self.old.header.cloud.0)
             ≡ moment (V.cloud_at shelf.old self.old.header.cloud.0) + flush_moments self.old.disk.shares
             + flush_moments self.old.disk.recipes + 4) }

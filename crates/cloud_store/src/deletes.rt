@@ -4,7 +4,7 @@ ghost use Rattle.std.specs.Prelude.{◌+◌, ◌-◌, min};
 ghost use Rattle.std.specs.Prelude.{◌≡◌, ◌<◌, ◌^◌, ℕ, List, [], ◌∷◌, ◌++◌, length, IsSome, Some, IsTrue, OnOk, OnErr};
 ghost use Rattle.checkpoints.specs.CdEdges.Disk.{moment};
 ghost use Rattle.checkpoints.specs.CloudDisk.Held.{flush_moments};
-ghost use Rattle.checkpoints.specs.CloudDisk.Disk.{KeepsOrGrows as GrowsBy, HasGrown as DiskGrows};
+ghost use Rattle.checkpoints.specs.CloudDisk.Disk.{KeepsDiskOrGrows as GrowsBy, HasDiskGrown as DiskGrows};
 ghost use Rattle.std.specs.FinMap.{get};
 ghost use Rattle.checkpoints.specs.CdEdges.Shelf.{IsCall, HasFailed, KeepsCounts};
 ghost use Rattle.checkpoints.specs.FileIndex.Files.{key_of};
@@ -26,7 +26,7 @@ ghost use Rattle.checkpoints.specs.UserDedup.Cloud.{user_view};
 ghost use Rattle.checkpoints.specs.CloudAreas.Adding.{with_record};
 ghost use Rattle.checkpoints.specs.CloudMemory.Memory.{Remembers};
 ghost use Rattle.checkpoints.specs.CloudMemory.Steps.{without_entry};
-ghost use Rattle.cloud_store.specs.Store.{IsOpen, IsSettled, Serves, Fits};
+ghost use Rattle.cloud_store.specs.Store.{IsOpen, IsSettled, Serves, FitsHalf};
 ghost use Rattle.cloud_store.specs.Adding.{IsDelete, ServesMore, MadeFirst, NoneStaged};
 ghost use Rattle.cloud_store.specs.Adding.{EndBehind, Unmoved, KeepsOrGrows, HasGrown};
 ghost use Rattle.cloud_store.specs.Adding.{OnAdded, MatchFull, MatchFailed, NotLong, WhenLong, IsTooLong, stage_after};
@@ -78,7 +78,7 @@ fn add_roomy<V: Shelf>(
     requires open { IsOpen store.old }
     requires recipe { length recipe.now < 2 ^ 32 }
     requires there { IsSome (get (memory_of store.old.memory).files (key_of user.0 tag.0 version.0)) }
-    requires fits { Fits store.old 45 }
+    requires fits { FitsHalf store.old 45 }
     ensures any_moment { (list : List Command) (c : Chain) (entry : FileEntry)
         → IsDelete list c store.old user tag version entry recipe.now (V.cloud_at shelf.old store.old.header.cloud.0)
         → KeepsOrAdds store.old.header list (commands.Delete user tag version)
@@ -159,7 +159,7 @@ impl CloudStore {
         ensures checkpoint_first { (list : List Command) (c : Chain) (entry : FileEntry)
             → IsDelete list c self.old user tag version entry recipe.now
             (V.cloud_at shelf.old self.old.header.cloud.0)
-            → ¬ (Fits self.old (length (body_bytes (bodies.Delete
+            → ¬ (FitsHalf self.old (length (body_bytes (bodies.Delete
             (record { user = user; tag = tag; version = version })))))
             → OnAdded result (MadeFirst list c self.old (commands.Delete user tag version)
             (V.cloud_at shelf.old self.old.header.cloud.0) (V.cloud_at shelf.new self.old.header.cloud.0)) }
@@ -178,7 +178,7 @@ impl CloudStore {
             (record { user = user; tag = tag; version = version })))
             (V.cloud_at shelf.old self.old.header.cloud.0) (V.cloud_at shelf.new self.old.header.cloud.0)) }
         ensures ends { OnAdded result (EndBehind self.old self.new) }
-        ensures moments { IsTrue (V.cloud_at shelf.old self.old.header.cloud.0).told → Fits self.old 45
+        ensures moments { IsTrue (V.cloud_at shelf.old self.old.header.cloud.0).told → FitsHalf self.old 45
             → OnAdded result (moment (V.cloud_at shelf.new self.old.header.cloud.0)
             ≡ moment (V.cloud_at shelf.old self.old.header.cloud.0) + flush_moments self.old.disk.shares
             + flush_moments self.old.disk.recipes + 4) }

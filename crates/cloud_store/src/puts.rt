@@ -4,7 +4,7 @@ ghost use Rattle.std.specs.Prelude.{◌+◌, ◌-◌, ◌^◌, min};
 ghost use Rattle.std.specs.Prelude.{◌≡◌, ◌<◌, ◌≤◌, ℕ, List, [], ◌∷◌, ◌++◌, length, All, Some, None, IsTrue, OnOk, OnErr};
 ghost use Rattle.checkpoints.specs.CdEdges.Disk.{Cloud, moment};
 ghost use Rattle.checkpoints.specs.CloudDisk.Held.{flush_moments};
-ghost use Rattle.checkpoints.specs.CloudDisk.Disk.{KeepsOrGrows as GrowsBy, HasGrown as DiskGrows};
+ghost use Rattle.checkpoints.specs.CloudDisk.Disk.{KeepsDiskOrGrows as GrowsBy, HasDiskGrown as DiskGrows};
 ghost use Rattle.checkpoints.specs.CdEdges.Shelf.{IsCall, HasFailed, KeepsCounts};
 ghost use Rattle.checkpoints.specs.UserDedup.Dedup.{FullRoom};
 ghost use Rattle.checkpoints.specs.UserDedup.command.Command.{Command};
@@ -19,7 +19,7 @@ ghost use Rattle.checkpoints.specs.CommitJournal.Outcomes.{stage_after as journa
 ghost use Rattle.checkpoints.specs.RecordBody.Spelling.{body_bytes};
 ghost use Rattle.checkpoints.specs.CloudAreas.Adding.{with_record};
 ghost use Rattle.checkpoints.specs.CloudMemory.Steps.{parts_of, with_put};
-ghost use Rattle.cloud_store.specs.Store.{IsOpen, IsSettled, Serves, Fits};
+ghost use Rattle.cloud_store.specs.Store.{IsOpen, IsSettled, Serves, FitsHalf};
 ghost use Rattle.cloud_store.specs.Adding.{IsShareNew, HasFp, IsPut, put_record, ServesMore, MadeFirst, unstaged, NoneStaged};
 ghost use Rattle.cloud_store.specs.Adding.{EndBehind, Unmoved, KeepsOrGrows, HasGrown};
 ghost use Rattle.cloud_store.specs.Adding.{OnAdded, MatchFull, MatchFailed, NotLong, WhenLong, IsTooLong, stage_after};
@@ -45,7 +45,7 @@ fn add_roomy<V: Shelf>(
     requires new { AreNewTo (memory_of store.old.memory) user news.now }
     requires room { full_news store.old.header.rooms user (memory_of store.old.memory) news.now ≡ None }
     requires end { store.old.memory.shares_end ≤ regions_end }
-    requires fits { Fits store.old (length (body_bytes (put_record store.old user news.now))) }
+    requires fits { FitsHalf store.old (length (body_bytes (put_record store.old user news.now))) }
     ensures any_moment { (list : List Command) (c : Chain) (strings : List (List ℕ))
         → IsPut list c store.old user news.now strings (V.cloud_at shelf.old store.old.header.cloud.0)
         → KeepsOrAdds store.old.header list (commands.Put user strings)
@@ -131,7 +131,7 @@ impl CloudStore {
         ensures checkpoint_first { (list : List Command) (c : Chain) (strings : List (List ℕ))
             → IsPut list c self.old user news.now strings
             (V.cloud_at shelf.old self.old.header.cloud.0)
-            → ¬ (Fits self.old (length (body_bytes (put_record self.old user news.now))))
+            → ¬ (FitsHalf self.old (length (body_bytes (put_record self.old user news.now))))
             → OnAdded result (MadeFirst list c self.old (commands.Put user strings)
             (V.cloud_at shelf.old self.old.header.cloud.0) (V.cloud_at shelf.new self.old.header.cloud.0)) }
         ensures full_list { (list : List Command) (c : Chain) (strings : List (List ℕ))
@@ -159,7 +159,7 @@ impl CloudStore {
             (V.cloud_at shelf.old self.old.header.cloud.0) (V.cloud_at shelf.new self.old.header.cloud.0)) }
         ensures ends { OnAdded result (EndBehind self.old self.new) }
         ensures moments { IsTrue (V.cloud_at shelf.old self.old.header.cloud.0).told
-            → Fits self.old (length (body_bytes (put_record self.old user news.now)))
+            → FitsHalf self.old (length (body_bytes (put_record self.old user news.now)))
             → OnAdded result (moment (V.cloud_at shelf.new self.old.header.cloud.0)
             ≡ moment (V.cloud_at shelf.old self.old.header.cloud.0) + flush_moments self.old.disk.shares
             + flush_moments self.old.disk.recipes + 4) }

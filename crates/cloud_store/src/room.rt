@@ -10,7 +10,7 @@ ghost use Rattle.checkpoints.specs.Records.{records_of};
 ghost use Rattle.checkpoints.specs.Known.{stage_behind, IfFailed, UnlessFailed, IfLong};
 ghost use Rattle.checkpoints.specs.CloudDisk.Disk.{regions_end};
 ghost use Rattle.cloud_store.specs.Adding.{NoneStaged, IsTooLong, Unmoved, KeepsOrSums, HasRoomMade};
-ghost use Rattle.cloud_store.specs.Store.{IsOpen, IsSettled, Serves, Fits, chain_with_room, KeepsServing};
+ghost use Rattle.cloud_store.specs.Store.{IsOpen, IsSettled, Serves, FitsHalf, chain_with_room, KeepsServing};
 
 use crate::CloudStore;
 use checkpoints::{CheckpointSpace, Shelf, Unsettled, checkpoint_of_memory};
@@ -50,11 +50,11 @@ impl CloudStore {
             (V.cloud_at shelf.new self.old.header.cloud.0) }
         ensures made { HasRoomMade self.old self.new (V.cloud_at shelf.old self.old.header.cloud.0)
             (V.cloud_at shelf.new self.old.header.cloud.0) result }
-        ensures fits { OnOk result (Fits self.new len) }
+        ensures fits { OnOk result (FitsHalf self.new len) }
         ensures long { IfLong result (self.old.disk.journal.limit
             < 63 + records_len (records_of self.old.memory) + (len + 5)) }
-        ensures untouched { Fits self.old len → (self.new ≡ self.old) × (shelf.new ≡ shelf.old) × IsOk result }
-        ensures gate { OnOk result (¬ Fits self.old len
+        ensures untouched { FitsHalf self.old len → (self.new ≡ self.old) × (shelf.new ≡ shelf.old) × IsOk result }
+        ensures gate { OnOk result (¬ FitsHalf self.old len
             → self.new.disk.journal.current.gate + 1 ≡ 63 + records_len (records_of self.old.memory)) }
         ensures same { KeepsServing self.old self.new }
         ensures settled { IsSettled self.new }
@@ -118,10 +118,10 @@ pub(crate) fn have_room<V: Shelf>(
         (V.cloud_at shelf.new store.old.header.cloud.0) }
     ensures made { HasRoomMade store.old store.new (V.cloud_at shelf.old store.old.header.cloud.0)
         (V.cloud_at shelf.new store.old.header.cloud.0) result }
-    ensures fits { OnOk result (Fits store.new len) }
+    ensures fits { OnOk result (FitsHalf store.new len) }
     ensures long { IfLong result (IsTooLong store.old len) }
     ensures unmoved { IfLong result (Unmoved store.old store.new) }
-    ensures untouched { Fits store.old len → (store.new ≡ store.old) × (shelf.new ≡ shelf.old) × IsOk result }
+    ensures untouched { FitsHalf store.old len → (store.new ≡ store.old) × (shelf.new ≡ shelf.old) × IsOk result }
     ensures ends { OnOk result ((store.new.memory.shares_end ≤ regions_end)
         × (store.new.memory.recipes_end ≤ regions_end)) }
     ensures same { OnOk result (KeepsServing store.old store.new) }

@@ -10,9 +10,10 @@ ghost use Rattle.checkpoints.specs.RecordBody.Spelling.{Body, Put, body_bytes};
 ghost use Rattle.checkpoints.specs.UserDedup.command.Command.{Command};
 ghost use Rattle.checkpoints.specs.CloudAreas.Adding.{with_record};
 ghost use Rattle.checkpoints.specs.CloudAreas.Standing.{Chain};
-ghost use Rattle.checkpoints.specs.CloudDisk.Disk.{IsOn, IsPrepared, KeepsOrAdds, KeepsOrGrows, HasGrown, KeepsFronts};
+ghost use Rattle.checkpoints.specs.CloudDisk.Disk.{IsOn, IsPrepared, KeepsOrAdds, KeepsDiskOrGrows, HasDiskGrown};
+ghost use Rattle.checkpoints.specs.CloudDisk.Disk.{KeepsFronts};
 ghost use Rattle.checkpoints.specs.CloudDisk.Disk.{EndsBehind, SameRooms};
-ghost use Rattle.cloud_store.specs.Store.{IsOpen, IsSettled, Fits};
+ghost use Rattle.cloud_store.specs.Store.{IsOpen, IsSettled, FitsHalf};
 ghost use Rattle.checkpoints.specs.CommitJournal.journal.Stage.TheVariants.{AtEnd};
 ghost use Rattle.checkpoints.specs.CommitJournal.Outcomes.{stage_after};
 ghost use Rattle.cloud_store.specs.Adding.{NoneStaged};
@@ -46,7 +47,7 @@ pub(crate) fn add_record<V: Shelf>(store: &mut CloudStore, shelf: &mut V) -> Res
     requires settled { IsSettled store.old }
     requires open { IsOpen store.old }
     requires some { 1 ≤ length store.old.body }
-    requires fits { Fits store.old (length store.old.body) }
+    requires fits { FitsHalf store.old (length store.old.body) }
 
     ensures any_moment { (list : List Command) (c : Chain) (command : Command) (b : Body) (laid : List Placed)
         → IsPrepared store.old.header list c command b laid store.old.disk store.old.body
@@ -60,9 +61,9 @@ pub(crate) fn add_record<V: Shelf>(store: &mut CloudStore, shelf: &mut V) -> Res
         (V.cloud_at shelf.new store.old.header.cloud.0)
         × KeepsFronts store.old.disk (V.cloud_at shelf.old store.old.header.cloud.0)
         (V.cloud_at shelf.new store.old.header.cloud.0)) }
-    ensures chain { KeepsOrGrows store.old.disk store.old.body (V.cloud_at shelf.old store.old.header.cloud.0)
+    ensures chain { KeepsDiskOrGrows store.old.disk store.old.body (V.cloud_at shelf.old store.old.header.cloud.0)
         (V.cloud_at shelf.new store.old.header.cloud.0) }
-    ensures grown { HasGrown store.old.disk store.new.disk store.old.body
+    ensures grown { HasDiskGrown store.old.disk store.new.disk store.old.body
         (V.cloud_at shelf.old store.old.header.cloud.0) (V.cloud_at shelf.new store.old.header.cloud.0) result }
     ensures moments { IsTrue (V.cloud_at shelf.old store.old.header.cloud.0).told
         → OnOk result (moment (V.cloud_at shelf.new store.old.header.cloud.0)

@@ -22,7 +22,7 @@ use Rattle.cloud_opening.specs.JournalHalves.Beginnings.{IsUnbegun}
 use Rattle.cloud_opening.specs.JournalStart.rooms.UserRooms.{UserRooms}
 use Rattle.cloud_opening.specs.JournalStart.start.Header.{Header}
 use Rattle.cloud_opening.specs.JournalStart.Ranges.{AreRooms}
-use Rattle.serve_command.specs.Served.{HasRooms, IsUnreadable}
+use Rattle.serve_command.specs.Served.{HasJournalRooms, IsUnreadable}
 use Rattle.serve_command.proofs.Openings.{comes_to}
 use Rattle.serve_command.proofs.Completing.{OneHeader}
 use Rattle.serve_command.proofs.InRooms.{no_rooms}
@@ -64,7 +64,7 @@ reopened made header server old new before now result answer of is raw =
 
 module _ (one : OneHeader) (shape : Shape) (rooms : UserRooms) (cloud : CloudNo) (server : Server) (old new : ℕ → Cloud) (before now : ℕ)
     (allowed : AreRooms rooms)
-    (found : IsTrue (old cloud.0).told → HasRooms ((old cloud.0).now Journal).read rooms) where
+    (found : IsTrue (old cloud.0).told → HasJournalRooms ((old cloud.0).now Journal).read rooms) where
   abbrev asked : CloudCall
   asked = cloud_call shape cloud (old cloud.0) (new cloud.0) before now
 

@@ -11,8 +11,8 @@ use Rattle.serve_command.specs.ShareServer.Names.{header_of}
 use Rattle.serve_command.specs.ShareServer.Serving.{number_of, some_commands}
 use Rattle.serve_command.specs.ShareServer.server.Server.{Server}
 use Rattle.serve_command.specs.CloudOpening.Spared.{Spares}
-use Rattle.cloud_opening.specs.Synced.{AreSynced, BeginsSynced, IsSynced}
-use Rattle.cloud_opening.specs.CommitJournal.Openings.{MayBecome}
+use Rattle.cloud_opening.specs.Synced.{AreSynced, BeginsSynced, IsAreaSynced}
+use Rattle.cloud_opening.specs.CommitJournal.Openings.{MayBeBegun}
 use Rattle.cloud_opening.specs.JournalStart.rooms.UserRooms.{UserRooms}
 use Rattle.cloud_opening.specs.JournalStart.start.Header.{Header}
 use Rattle.cloud_opening.specs.UserDedup.command.Command.{Command}
@@ -34,7 +34,7 @@ module _ (old mid new : Cloud) (stays : Stays mid new) where
     past = stays.past ∙ a.past;
     journal = a.journal;
     shares = a.shares;
-    recipes = subst (λ (n : Areas). IsSynced Recipes a.second n) (sym stays.now) a.recipes;
+    recipes = subst (λ (n : Areas). IsAreaSynced Recipes a.second n) (sym stays.now) a.recipes;
   }
 
   begins_still : BeginsSynced old mid → BeginsSynced old new
@@ -43,8 +43,8 @@ module _ (old mid new : Cloud) (stays : Stays mid new) where
   pub spared_still : (header : Header) (commands : ℕ) → Spares header false old mid (some_commands commands)
       → Spares header false old new (some_commands commands)
   spared_still header commands s = record {
-    any_moment = leaves_still (MayBecome old.now header false) s.any_moment;
-    still_read = subst (λ (n : Areas). MayBecome old.now header false (reads n)) (sym stays.now) s.still_read;
+    any_moment = leaves_still (MayBeBegun old.now header false) s.any_moment;
+    still_read = subst (λ (n : Areas). MayBeBegun old.now header false (reads n)) (sym stays.now) s.still_read;
     synced = begins_still s.synced;
     begun_stays = λ begun. synced_still (s.begun_stays begun);
     unasked = λ is. synced_still (s.unasked is);

@@ -18,7 +18,7 @@ use Rattle.cloud_opening.specs.JournalHalves.Beginnings.{IsUnbegun}
 use Rattle.cloud_opening.specs.JournalStart.rooms.UserRooms.{UserRooms}
 use Rattle.cloud_opening.specs.JournalStart.start.Header.{Header}
 use Rattle.cloud_opening.specs.JournalStart.Ranges.{AreRooms}
-use Rattle.serve_command.specs.Served.{HasRooms, IsUnreadable}
+use Rattle.serve_command.specs.Served.{HasJournalRooms, IsUnreadable}
 use Rattle.cloud_opening.specs.UserDedup.command.Command.{Command}
 use Rattle.cloud_opening.specs.UserDedup.Spending.{IsWithin}
 
@@ -75,7 +75,7 @@ pub record StandsWithin (call : CloudCall) (rooms : UserRooms) (list : List Comm
 -- the bytes of the areas come to, record by record, unless a device call failed; and the areas are spared, whatever they hold.
 pub record IsShut (rooms : UserRooms) (call : CloudCall) (error : OpenErr) : Type 0 where
   pub allowed : AreRooms rooms
-  pub found : IsTrue call.old.told → HasRooms (journal_of call) rooms
+  pub found : IsTrue call.old.told → HasJournalRooms (journal_of call) rooms
   pub exact : IsTrue call.old.told → OnFault (an_error error) (Unit {0})
       (OpensTo (header_within rooms call) false (reads call.old.now) (an_error error))
   pub not_begun : IsTrue call.old.told → NotBegunIs call.old call.new false (an_error error)
@@ -98,7 +98,7 @@ pub data IsNotOpened (call : CloudCall) (error : OpenErr) : Type 0 where
 -- are the rooms, and the memory is the list's.
 pub record IsOpenedIn (rooms : UserRooms) (memory : Memory) (call : CloudCall) : Type 0 where
   pub allowed : AreRooms rooms
-  pub found : IsTrue call.old.told → HasRooms (journal_of call) rooms
+  pub found : IsTrue call.old.told → HasJournalRooms (journal_of call) rooms
   pub commands : ℕ
   pub exact : IsTrue call.old.told → Opens (header_within rooms call) false (reads call.old.now) memory (Ok commands)
   pub begun : IsTrue call.old.told → ¬ (IsUnbegun (journal_of call))

@@ -5,7 +5,7 @@ ghost use Rattle.backup_command.specs.CdEdges.area.Area.TheVariants.{Journal};
 ghost use Rattle.backup_command.specs.CdEdges.Shelf.{IsCall};
 ghost use Rattle.cloud_opening.specs.JournalHalves.Records.{window_len};
 ghost use Rattle.cloud_opening.specs.JournalStart.Ranges.{AreRooms};
-ghost use Rattle.serve_command.specs.Served.{HasRooms};
+ghost use Rattle.serve_command.specs.Served.{HasJournalRooms};
 ghost use Rattle.command_cloud.specs.Opened.{cloud_call};
 ghost use Rattle.command_cloud.specs.Opens.{OpensCloud, OpensIn};
 
@@ -34,7 +34,7 @@ fn open_in<V: Shelf>(
     requires cloud { cloud.0 < shape.n }
     requires allowed { AreRooms rooms }
     requires found { IsTrue (V.cloud_at shelf.old cloud.0).told
-        → HasRooms ((V.cloud_at shelf.old cloud.0).now Journal).read rooms }
+        → HasJournalRooms ((V.cloud_at shelf.old cloud.0).now Journal).read rooms }
     ensures opens { OpensIn rooms (cloud_call shape cloud (V.cloud_at shelf.old cloud.0) (V.cloud_at shelf.new cloud.0)
         (V.faults shelf.old) (V.faults shelf.new)) result }
     ensures call { IsCall (V.cloud_at shelf.old) (V.cloud_at shelf.new) cloud.0

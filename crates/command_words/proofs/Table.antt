@@ -26,7 +26,7 @@ use Rattle.command_words.specs.Asked.{ForAudit, ForCheck, ForReclaim, ForMigrate
 use Rattle.command_words.specs.Commands.{read_words, serve_words, file_words, spool_words, resume_words, cloud_words, session_words}
 use Rattle.command_words.specs.Commands.{migrate_words, rooms_words}
 use Rattle.command_words.specs.Commands.{FitsRead, FitsServe, FitsFile, FitsResume, FitsCloud, FitsMigrate, FitsSession, IsCommand}
-use Rattle.command_words.specs.Reading.{◌>>=◌, ◌▷◌, ◌▷▷◌, Gives, word_at, any, user, version, path, shape_at}
+use Rattle.command_words.specs.Reading.{◌>>=◌, ◌▷◌, ◌▷▷◌, GivesOrNone, word_at, any, user, version, path, shape_at}
 use Rattle.command_words.specs.Reading.{replay_at, make_read, read_at, make_serve, has_cloud, serve_at, make_file}
 use Rattle.command_words.specs.Reading.{has_addresses, file_at, make_spool, spool_at, make_resume, has_clouds, resume_at}
 use Rattle.command_words.specs.Reading.{make_cloud, is_of_shape, cloud_at, rooms_at, make_migrate, is_placed, migrate_at}
@@ -498,7 +498,7 @@ none_first words none asked h = let k : command_at words ≡ Some asked =
 
 -- the answer for a row, seen by view
 pub some_is : {C E : Type 0} (view : C → Asked) (row : Row) (rest words : List (List ℕ)) (r : Result (Option C) E)
-    → word_at named words ≡ Some (row, rest) → IfOk r (λ o. Gives view o (row_at row rest))
+    → word_at named words ≡ Some (row, rest) → IfOk r (λ o. GivesOrNone view o (row_at row rest))
     → IfOk r (λ o. IfSome o (λ c. IsCommand words (view c)))
 some_is view row rest words (Ok (Some c)) first given =
     command_takes words (view c) (by_first row rest words (Some (view c)) first given)
@@ -506,7 +506,7 @@ some_is view row rest words (Ok None) first given = tt
 some_is view row rest words (Err e) first given = tt
 
 pub none_is : {C E : Type 0} (view : C → Asked) (row : Row) (rest words : List (List ℕ)) (r : Result (Option C) E)
-    → word_at named words ≡ Some (row, rest) → IfOk r (λ o. Gives view o (row_at row rest))
+    → word_at named words ≡ Some (row, rest) → IfOk r (λ o. GivesOrNone view o (row_at row rest))
     → IfOk r (λ o. IfNone o ((asked : Asked) → IsCommand words asked → ⊥))
 none_is view row rest words (Ok (Some c)) first given = tt
 none_is view row rest words (Ok None) first given = λ asked h. absurd (let e =

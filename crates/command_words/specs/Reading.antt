@@ -21,9 +21,9 @@ abbrev pub ◌>>=◌ : {A B : Type 0} → Option A → (A → Option B) → Opti
 None >>= f = None
 
 -- What a function returned, seen by view, is what reading gives.
-abbrev pub Gives : {X Y : Type 0} → (X → Y) → Option X → Option Y → Type 0
-Gives view (Some x) read = read ≡ Some (view x)
-Gives view None read = read ≡ None
+abbrev pub GivesOrNone : {X Y : Type 0} → (X → Y) → Option X → Option Y → Type 0
+GivesOrNone view (Some x) read = read ≡ Some (view x)
+GivesOrNone view None read = read ≡ None
 
 -- ---- readers of words: a value, and the words behind it
 

@@ -4,7 +4,7 @@ ghost use Rattle.std.specs.Prelude.{◌≡◌, ◌≤◌, ℕ, List, [], ◌∷�
 ghost use Rattle.std.specs.Prelude.{string_bytes, length, if◌then◌else◌, nat_le};
 ghost use Rattle.session.specs.Grammar.Numerals.{number};
 ghost use Rattle.session.specs.Reading.{each_room, needed, sources};
-ghost use Rattle.command_words.specs.Reading.{Gives, any, path, rooms_at, shape_at, word_at};
+ghost use Rattle.command_words.specs.Reading.{GivesOrNone, any, path, rooms_at, shape_at, word_at};
 
 use session::{
     CloudNo, Clouds, NoMemory, Shape, UserRooms, after, before, is_path, len_to, number_of,
@@ -25,7 +25,7 @@ pub fn no_word(words: &[String]) -> Option<()>
 /// Any word.
 #[tactic(auto, unfolding(crate::specs::Reading::word_at))]
 pub fn any_word(words: &[String]) -> Option<(&str, &[String])>
-    ensures { Gives (λ x. (x.0.now, map string_bytes x.1.now)) result (word_at any (map string_bytes words.now)) }
+    ensures { GivesOrNone (λ x. (x.0.now, map string_bytes x.1.now)) result (word_at any (map string_bytes words.now)) }
 {
     match words {
         [] => None,
@@ -36,7 +36,7 @@ pub fn any_word(words: &[String]) -> Option<(&str, &[String])>
 /// A number in a range, both ends in it.
 #[tactic(auto, unfolding(crate::specs::Reading::word_at))]
 pub fn number_word(words: &[String], low: u64, high: u64) -> Option<(u64, &[String])>
-    ensures value { Gives (λ x. (x.0, map string_bytes x.1.now)) result
+    ensures value { GivesOrNone (λ x. (x.0, map string_bytes x.1.now)) result
         (word_at (number low high) (map string_bytes words.now)) }
     ensures range { IfSome result (λ x. x.0 ≤ high) }
 {
@@ -52,7 +52,7 @@ pub fn number_word(words: &[String], low: u64, high: u64) -> Option<(u64, &[Stri
 // The word, where it is a path.
 #[tactic(auto, using(crate::proofs::WordLaws::path_named, crate::proofs::WordLaws::path_unnamed))]
 fn path_of(word: &[u8]) -> Option<&[u8]>
-    ensures { Gives (λ x. x.now) result (path word.now) }
+    ensures { GivesOrNone (λ x. x.now) result (path word.now) }
 {
     if is_path(word) { Some(word) } else { None }
 }
@@ -60,7 +60,8 @@ fn path_of(word: &[u8]) -> Option<&[u8]>
 /// A path: the word's own bytes.
 #[tactic(auto, unfolding(crate::specs::Reading::word_at))]
 pub fn path_word(words: &[String]) -> Option<(&[u8], &[String])>
-    ensures { Gives (λ x. (x.0.now, map string_bytes x.1.now)) result (word_at path (map string_bytes words.now)) }
+    ensures { GivesOrNone (λ x. (x.0.now, map string_bytes x.1.now)) result
+        (word_at path (map string_bytes words.now)) }
 {
     match words {
         [] => None,
@@ -84,7 +85,8 @@ fn needed_of(n: u8, word: &[u8]) -> Option<Shape>
 
 #[tactic(auto, unfolding(crate::specs::Reading::word_at))]
 fn needed_word(n: u8, words: &[String]) -> Option<(Shape, &[String])>
-    ensures { Gives (λ x. (x.0, map string_bytes x.1.now)) result (word_at (needed n) (map string_bytes words.now)) }
+    ensures { GivesOrNone (λ x. (x.0, map string_bytes x.1.now)) result
+        (word_at (needed n) (map string_bytes words.now)) }
 {
     match words {
         [] => None,
@@ -98,7 +100,7 @@ fn needed_word(n: u8, words: &[String]) -> Option<(Shape, &[String])>
 /// N and K.
 #[tactic(auto, unfolding(crate::specs::Reading::shape_at))]
 pub fn shape_words(words: &[String]) -> Option<(Shape, &[String])>
-    ensures { Gives (λ x. (x.0, map string_bytes x.1.now)) result (shape_at (map string_bytes words.now)) }
+    ensures { GivesOrNone (λ x. (x.0, map string_bytes x.1.now)) result (shape_at (map string_bytes words.now)) }
 {
     let (n, words) = number_word(words, 0, 255)?;
     needed_word(n as u8, words)
@@ -116,7 +118,7 @@ const MOST_FILES: u64 = 16_384;
 // How many users there are: 1 to 256.
 #[tactic(auto, using(crate::proofs::RoomWords::some_users))]
 fn users_word(words: &[String]) -> Option<(u64, &[String])>
-    ensures value { Gives (λ x. (x.0, map string_bytes x.1.now)) result
+    ensures value { GivesOrNone (λ x. (x.0, map string_bytes x.1.now)) result
         (word_at (number 1 256) (map string_bytes words.now)) }
     ensures some { IfSome result (λ x. 1 ≤ x.0) }
     ensures few { IfSome result (λ x. x.0 ≤ 256) }
@@ -128,7 +130,7 @@ fn users_word(words: &[String]) -> Option<(u64, &[String])>
 #[tactic(auto, using(crate::proofs::RoomWords::part_le))]
 fn each_word(words: &[String], most: u64, users: u64) -> Option<(u64, &[String])>
     requires some { 1 ≤ users }
-    ensures value { Gives (λ x. (x.0, map string_bytes x.1.now)) result
+    ensures value { GivesOrNone (λ x. (x.0, map string_bytes x.1.now)) result
         (word_at (each_room most users) (map string_bytes words.now)) }
     ensures range { IfSome result (λ x. x.0 ≤ most) }
 {
@@ -138,7 +140,7 @@ fn each_word(words: &[String], most: u64, users: u64) -> Option<(u64, &[String])
 /// USERS, SHARES, RECIPES, OWNERS and FILES.
 #[tactic(auto, unfolding(crate::specs::Reading::rooms_at))]
 pub fn rooms_words(words: &[String]) -> Option<(UserRooms, &[String])>
-    ensures { Gives (λ x. (x.0, map string_bytes x.1.now)) result (rooms_at (map string_bytes words.now)) }
+    ensures { GivesOrNone (λ x. (x.0, map string_bytes x.1.now)) result (rooms_at (map string_bytes words.now)) }
 {
     let (users, words) = users_word(words)?;
     let (shares, words) = each_word(words, MOST_SHARES, users)?;

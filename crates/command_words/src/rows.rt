@@ -5,7 +5,7 @@ ghost use Rattle.std.specs.Prelude.{map, string_bytes};
 ghost use Rattle.session.specs.Reading.{sources};
 ghost use Rattle.command_words.specs.Asked.{Asked, AskedRead, ForReplay, ForRead};
 ghost use Rattle.command_words.specs.Commands.{IsCommand};
-ghost use Rattle.command_words.specs.Reading.{Gives, named, replay_at, read_at, serve_at, file_at, spool_at};
+ghost use Rattle.command_words.specs.Reading.{GivesOrNone, named, replay_at, read_at, serve_at, file_at, spool_at};
 ghost use Rattle.command_words.specs.Reading.{cloud_at, migrate_at};
 ghost use Rattle.command_words.specs.Reading.{resume_at, row_at, session_at, word_at};
 ghost use Rattle.command_words.specs.Views.{asked_read, asked_serve, asked_backup, asked_restore, asked_delete};
@@ -76,7 +76,7 @@ fn named_by(word: &str) -> Option<Row>
 
 #[tactic(auto, unfolding(crate::specs::Reading::replay_at))]
 fn replay_of(words: &[String]) -> Option<&str>
-    ensures { Gives (λ directory. directory.now) result (replay_at (map string_bytes words.now)) }
+    ensures { GivesOrNone (λ directory. directory.now) result (replay_at (map string_bytes words.now)) }
 {
     let (directory, words) = any_word(words)?;
     no_word(words)?;
@@ -125,7 +125,7 @@ fn read_row(words: &[String]) -> Option<ReadRow<'_>>
 }
 
 fn read_of(alloc: Global, words: &[String]) -> Result<Option<ReadWords<'_>>, NoMemory>
-    ensures value { IfOk result (λ o. Gives asked_read o (read_at (map string_bytes words.now))) }
+    ensures value { IfOk result (λ o. GivesOrNone asked_read o (read_at (map string_bytes words.now))) }
     ensures memory { OnErr result ((asked : AskedRead) × (read_at (map string_bytes words.now) ≡ Some asked)) }
 {
     let Some(row) = read_row(words) else {
@@ -158,7 +158,7 @@ fn cloud_in(number: u64, shape: Shape) -> Option<CloudNo>
 
 #[tactic(auto, unfolding(crate::specs::Reading::serve_at))]
 fn serve_of(words: &[String]) -> Option<ServeWords<'_>>
-    ensures { Gives asked_serve result (serve_at (map string_bytes words.now)) }
+    ensures { GivesOrNone asked_serve result (serve_at (map string_bytes words.now)) }
 {
     let (directory, words) = any_word(words)?;
     let (number, words) = number_word(words, 0, 255)?;
@@ -179,7 +179,7 @@ fn serve_of(words: &[String]) -> Option<ServeWords<'_>>
 // USER PATH VERSION and the addresses, so many at least.
 #[tactic(auto, unfolding(crate::specs::Reading::file_at))]
 fn file_of(words: &[String], least: usize) -> Option<BackupWords<'_>>
-    ensures { Gives asked_backup result (file_at least (map string_bytes words.now)) }
+    ensures { GivesOrNone asked_backup result (file_at least (map string_bytes words.now)) }
 {
     let (user, words) = number_word(words, 0, u32::MAX as u64)?;
     let (path, words) = path_word(words)?;
@@ -196,7 +196,7 @@ fn file_of(words: &[String], least: usize) -> Option<BackupWords<'_>>
 }
 
 fn restore_of(words: &[String]) -> Option<RestoreWords<'_>>
-    ensures { Gives asked_restore result (file_at 2 (map string_bytes words.now)) }
+    ensures { GivesOrNone asked_restore result (file_at 2 (map string_bytes words.now)) }
 {
     let file = file_of(words, 2)?;
     Some(RestoreWords {
@@ -208,7 +208,7 @@ fn restore_of(words: &[String]) -> Option<RestoreWords<'_>>
 }
 
 fn delete_of(words: &[String]) -> Option<DeleteWords<'_>>
-    ensures { Gives asked_delete result (file_at 3 (map string_bytes words.now)) }
+    ensures { GivesOrNone asked_delete result (file_at 3 (map string_bytes words.now)) }
 {
     let BackupWords {
         user,
@@ -226,7 +226,7 @@ fn delete_of(words: &[String]) -> Option<DeleteWords<'_>>
 
 #[tactic(auto, unfolding(crate::specs::Reading::spool_at))]
 fn spool_of(words: &[String]) -> Option<SpoolWords<'_>>
-    ensures { Gives asked_spool result (spool_at (map string_bytes words.now)) }
+    ensures { GivesOrNone asked_spool result (spool_at (map string_bytes words.now)) }
 {
     let (directory, words) = any_word(words)?;
     let file = file_of(words, 3)?;
@@ -235,7 +235,7 @@ fn spool_of(words: &[String]) -> Option<SpoolWords<'_>>
 
 #[tactic(auto, unfolding(crate::specs::Reading::resume_at))]
 fn resume_of(words: &[String]) -> Option<ResumeWords<'_>>
-    ensures { Gives asked_resume result (resume_at (map string_bytes words.now)) }
+    ensures { GivesOrNone asked_resume result (resume_at (map string_bytes words.now)) }
 {
     let (directory, addresses) = any_word(words)?;
     if addresses.len() < 3 || addresses.len() > 16 {
@@ -249,7 +249,7 @@ fn resume_of(words: &[String]) -> Option<ResumeWords<'_>>
 
 #[tactic(auto, unfolding(crate::specs::Reading::cloud_at))]
 fn cloud_of(words: &[String]) -> Option<CloudWords<'_>>
-    ensures { Gives asked_cloud result (cloud_at (map string_bytes words.now)) }
+    ensures { GivesOrNone asked_cloud result (cloud_at (map string_bytes words.now)) }
 {
     let (directory, words) = any_word(words)?;
     let (number, words) = number_word(words, 0, 255)?;
@@ -265,7 +265,7 @@ fn cloud_of(words: &[String]) -> Option<CloudWords<'_>>
 
 #[tactic(auto, unfolding(crate::specs::Reading::migrate_at))]
 fn migrate_of(words: &[String]) -> Option<MigrateWords<'_>>
-    ensures { Gives asked_migrate result (migrate_at (map string_bytes words.now)) }
+    ensures { GivesOrNone asked_migrate result (migrate_at (map string_bytes words.now)) }
 {
     let (directory, words) = any_word(words)?;
     let (number, words) = number_word(words, 0, 255)?;
@@ -283,7 +283,7 @@ fn migrate_of(words: &[String]) -> Option<MigrateWords<'_>>
 
 #[tactic(auto, unfolding(crate::specs::Reading::session_at))]
 fn session_of(words: &[String]) -> Option<GenerateWords<'_>>
-    ensures { Gives asked_session result (session_at (map string_bytes words.now)) }
+    ensures { GivesOrNone asked_session result (session_at (map string_bytes words.now)) }
 {
     let (seed, words) = number_word(words, 0, u64::MAX)?;
     let (files, words) = number_word(words, 1, 1000)?;
@@ -304,7 +304,7 @@ fn session_of(words: &[String]) -> Option<GenerateWords<'_>>
 // The row that the first word names, and the words behind it.
 #[tactic(auto, unfolding(crate::specs::Reading::word_at))]
 fn row_word(words: &[String]) -> Option<(Row, &[String])>
-    ensures { Gives (λ x. (x.0, map string_bytes x.1.now)) result (word_at named (map string_bytes words.now)) }
+    ensures { GivesOrNone (λ x. (x.0, map string_bytes x.1.now)) result (word_at named (map string_bytes words.now)) }
 {
     match words {
         [] => None,
@@ -317,7 +317,7 @@ fn row_word(words: &[String]) -> Option<(Row, &[String])>
 
 // What the words of a row ask for.
 fn row_of(alloc: Global, row: Row, words: &[String]) -> Result<Option<AskedCommand<'_>>, NoMemory>
-    ensures value { IfOk result (λ o. Gives asked_of o (row_at row (map string_bytes words.now))) }
+    ensures value { IfOk result (λ o. GivesOrNone asked_of o (row_at row (map string_bytes words.now))) }
     ensures memory { OnErr result ((asked : AskedRead)
         × (row_at row (map string_bytes words.now) ≡ Some (ForRead asked))) }
 {

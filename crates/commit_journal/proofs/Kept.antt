@@ -2,7 +2,7 @@
 use Rattle.std.proofs.Common.{◌≡◌, ◌⊎◌, inl, inr, ℕ, ◌+◌, ◌-◌, ◌*◌, ◌%◌, ◌≤◌, false, List, [], ◌∷◌, ◌++◌, length, take, sym, ◌∙◌, ap, subst, arith, append_assoc, length-append}
 use Rattle.std.proofs.Math.Seq.{take-append-add}
 use Rattle.journal_halves.specs.Records.{sized, is_begun}
-use Rattle.journal_halves.specs.Frames.{IsRecord}
+use Rattle.journal_halves.specs.Frames.{IsRecordAhead}
 use Rattle.journal_halves.specs.JournalStart.start.Start.{Start}
 use Rattle.journal_halves.specs.JournalStart.Spelling.{start_bytes, epoch_of}
 use Rattle.journal_halves.specs.Halves.{half_len, half_of, is_half_begun, HasStart, IsCurrent}
@@ -13,7 +13,7 @@ use Rattle.journal_halves.proofs.Looks.{begun_part, has_start}
 use Rattle.journal_halves.specs.States.{IsHalfKept, IsAdded}
 
 -- a half's first record lies in its places
-pub record_off : (xs body : List ℕ) → IsRecord xs body → IsRecord (take half_len xs) body
+pub record_off : (xs body : List ℕ) → IsRecordAhead xs body → IsRecordAhead (take half_len xs) body
 record_off xs body r =
     let front = 1 ∷ (sized body ++ r.gate ∷ []) in
     let long : length front ≡ length body + 6 = omega (arith, length-append body (r.gate ∷ [])) in
@@ -33,7 +33,7 @@ module _ (old image : List ℕ) (half : ℕ) (same : part_of half image ≡ part
   unbegun_stays none = sym (begun_part half image) ∙ ap is_begun same ∙ begun_part half old ∙ none
 
   pub start_stays : (start : Start) → HasStart old half start → HasStart image half start
-  start_stays start has = has_start half image start has.is_start (subst (λ (l : List ℕ). IsRecord l (start_bytes start)) (sym same) (record_off (half_of half old) (start_bytes start) has.record_is))
+  start_stays start has = has_start half image start has.is_start (subst (λ (l : List ℕ). IsRecordAhead l (start_bytes start)) (sym same) (record_off (half_of half old) (start_bytes start) has.record_is))
 
 -- the other half's places, which an added record leaves as they were
 pub other_stays : (half : ℕ) (old : List ℕ) (bodies : List (List ℕ)) (body image : List ℕ) → IsAdded half old bodies body image → part_of (1 - half) image ≡ part_of (1 - half) old
@@ -46,7 +46,7 @@ kept_chain old image w c k = record {
     is_half = c.is_half;
     begun = record {
       is_start = c.begun.is_start;
-      record_is = subst (λ (l : List ℕ). IsRecord l (start_bytes w.start)) (sym k.chain_is.spelled) (starts (start_bytes w.start) w.bodies k.chain_is.gate k.chain_is.behind k.chain_is.sizes.0);
+      record_is = subst (λ (l : List ℕ). IsRecordAhead l (start_bytes w.start)) (sym k.chain_is.spelled) (starts (start_bytes w.start) w.bodies k.chain_is.gate k.chain_is.behind k.chain_is.sizes.0);
     };
     other = elim c.other [
       | inl none ↦ inl (unbegun_stays old image (1 - w.half) k.other none)

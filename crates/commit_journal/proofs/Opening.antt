@@ -8,7 +8,7 @@ use Rattle.journal_halves.specs.CdEdges.Shelf.{Stays, wrote, stable, Changes}
 use Rattle.journal_halves.proofs.CdEdges.Moments.{joined, weaker, stayed, started, at_end}
 use Rattle.journal_halves.proofs.CdEdges.Torn.{only}
 use Rattle.journal_halves.specs.Records.{IsJournalBody, sized, chain, IsJournal, is_begun}
-use Rattle.journal_halves.specs.Frames.{IsRecord}
+use Rattle.journal_halves.specs.Frames.{IsRecordAhead}
 use Rattle.journal_halves.proofs.Begin.{journal_unbegun, unbegun_journal, small_unbegun, one_zero, zero_journal}
 use Rattle.journal_halves.specs.JournalStart.start.Header.{Header}
 use Rattle.journal_halves.specs.JournalStart.start.Start.{Start}
@@ -26,7 +26,7 @@ use Rattle.journal_halves.specs.Beginnings.{new_of}
 use Rattle.journal_halves.specs.declared.found.Found.{Found}
 use Rattle.commit_journal.specs.declared.errors.OpenErr.{OpenErr}
 use Rattle.commit_journal.specs.declared.errors.OpenErr.TheVariants.{Fault, NotBegun, Damaged, OtherStore}
-use Rattle.commit_journal.specs.Openings.{IsNewOrUnbegun, MayBecome, OpensIs, IsOpened, IsOpening, HasHeader, TakenIs, IsFree, IsReady}
+use Rattle.commit_journal.specs.Openings.{IsNewOrUnbegun, MayBeBegun, OpensIs, IsOpened, IsOpening, HasHeader, FoundHalfIs, IsFree, IsReady}
 use Rattle.journal_halves.specs.Beginnings.{IsUnbegun}
 use Rattle.commit_journal.proofs.Kept.{record_off, unbegun_stays}
 
@@ -110,7 +110,7 @@ has_new old image header unbegun is k = record {
     is_half = inl refl;
     begun = record {
       is_start = plain_start header is;
-      record_is = subst (λ (l : List ℕ). IsRecord l (start_bytes (new_of header).start)) (sym k.chain_is.spelled) (starts (start_bytes (new_of header).start) [] k.chain_is.gate k.chain_is.behind k.chain_is.sizes.0);
+      record_is = subst (λ (l : List ℕ). IsRecordAhead l (start_bytes (new_of header).start)) (sym k.chain_is.spelled) (starts (start_bytes (new_of header).start) [] k.chain_is.gate k.chain_is.behind k.chain_is.sizes.0);
     };
     other = inl (unbegun_stays old image 1 k.other unbegun.second);
   };
@@ -138,11 +138,11 @@ begun_new store last header state ready is half ended same =
 
 -- ---- an opening that makes no write, and one that begins a journal
 
-pub read_only : (c0 c1 : Cloud) (header : Header) (begin : Bool) → Stays c0 c1 → LeavesOnly c0 c1 (MayBecome c0.now header begin)
+pub read_only : (c0 c1 : Cloud) (header : Header) (begin : Bool) → Stays c0 c1 → LeavesOnly c0 c1 (MayBeBegun c0.now header begin)
 read_only c0 c1 header begin stays = stayed c0 c1 _ stays (λ image now. inl now)
 
 pub then_began : (c0 c1 c2 : Cloud) (header : Header) (begin : Bool) → IsTrue begin → IsUnbegun (c0.now Journal).read → Stays c0 c1
-    → LeavesOnly c1 c2 (IsAtArea c1.now Journal (IsNewOrUnbegun header)) → LeavesOnly c0 c2 (MayBecome c0.now header begin)
+    → LeavesOnly c1 c2 (IsAtArea c1.now Journal (IsNewOrUnbegun header)) → LeavesOnly c0 c2 (MayBeBegun c0.now header begin)
 then_began c0 c1 c2 header begin is unbegun stays second = joined c0 c1 c2 _ (read_only c0 c1 header begin stays)
     (weaker c1 c2 _ _ second (λ image at. inr (
       is,
@@ -154,7 +154,7 @@ then_began c0 c1 c2 header begin is unbegun stays second = joined c0 c1 c2 _ (re
     )))
 
 -- the same behind a sync
-become : (c0 c1 : Cloud) (header : Header) (begin : Bool) → LeavesOnly c0 c1 (IsImage c0.now) → Changes c0 c1 Journal (stable (c0.now Journal).read) → (image : Image) → MayBecome c1.now header begin image → MayBecome c0.now header begin image
+become : (c0 c1 : Cloud) (header : Header) (begin : Bool) → LeavesOnly c0 c1 (IsImage c0.now) → Changes c0 c1 Journal (stable (c0.now Journal).read) → (image : Image) → MayBeBegun c1.now header begin image → MayBeBegun c0.now header begin image
 become c0 c1 header begin first synced image (inl left) = inl (at_end c0 c1 _ first image left)
 become c0 c1 header begin first synced image (inr new) = inr (
   new.0,
@@ -165,10 +165,10 @@ become c0 c1 header begin first synced image (inr new) = inr (
   },
 )
 
-pub synced_only : (c0 c1 : Cloud) (header : Header) (begin : Bool) → LeavesOnly c0 c1 (IsImage c0.now) → LeavesOnly c0 c1 (MayBecome c0.now header begin)
+pub synced_only : (c0 c1 : Cloud) (header : Header) (begin : Bool) → LeavesOnly c0 c1 (IsImage c0.now) → LeavesOnly c0 c1 (MayBeBegun c0.now header begin)
 synced_only c0 c1 header begin run = weaker c0 c1 _ _ run (λ image left. inl left)
 
-pub then_opened : (c0 c1 c2 : Cloud) (header : Header) (begin : Bool) → LeavesOnly c0 c1 (IsImage c0.now) → Changes c0 c1 Journal (stable (c0.now Journal).read) → LeavesOnly c1 c2 (MayBecome c1.now header begin) → LeavesOnly c0 c2 (MayBecome c0.now header begin)
+pub then_opened : (c0 c1 c2 : Cloud) (header : Header) (begin : Bool) → LeavesOnly c0 c1 (IsImage c0.now) → Changes c0 c1 Journal (stable (c0.now Journal).read) → LeavesOnly c1 c2 (MayBeBegun c1.now header begin) → LeavesOnly c0 c2 (MayBeBegun c0.now header begin)
 then_opened c0 c1 c2 header begin first synced second = joined c0 c1 c2 _ (synced_only c0 c1 header begin first) (weaker c1 c2 _ _ second (become c0 c1 header begin first synced))
 
 -- ---- an opening
@@ -184,7 +184,7 @@ pub not_opened : (header : Header) (begin : Bool) (c0 c1 : Cloud) (after : Journ
 not_opened header begin c0 c1 after e stays answer = record { any_moment = read_only c0 c1 header begin stays; answer = answer; opened = tt; unbegun = λ none. tt; alone = λ none. tt; others = tt }
 
 pub found_taken : (header : Header) (begin : Bool) (c0 c1 : Cloud) (after : JournalState) (found : Found) (result : Result (Unit {0}) OpenErr) → Stays c0 c1 → IsCurrent (c0.now Journal).read found.half found.start
-    → TakenIs after (c0.now Journal) found header result → IsOpening header begin c0 c1 after result
+    → FoundHalfIs after (c0.now Journal) found header result → IsOpening header begin c0 c1 after result
 found_taken header begin c0 c1 after found (Ok value) stays c is = record {
   any_moment = read_only c0 c1 header begin stays;
   answer = inr (found.half, is.1);

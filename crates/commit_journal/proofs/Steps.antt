@@ -32,7 +32,7 @@ half_stays old new true over = over.half
 half_stays old new false same = same.0
 
 -- the gate at which the records end
-closed_gate : (before now : records.HalfState) (store : Store) (bodies : List (List ℕ)) → records.IsReading before store bodies → now.half ≡ before.half → records.IsEnded now store bodies
+closed_gate : (before now : records.HalfState) (store : Store) (bodies : List (List ℕ)) → records.IsHalfReading before store bodies → now.half ≡ before.half → records.IsEnded now store bodies
     → IsClosed (steps.rest_of before store)
 closed_gate before now store bodies r half e =
     let j = e.chain_is in
@@ -53,7 +53,7 @@ closed_gate before now store bodies r half e =
     }
 
 pub took_is : (before after : JournalState) (now : records.HalfState) (store : Store) (w : Where) (more : Bool) (result : Result Bool RecordErr) → IsJournalReading before store w → now.half ≡ before.current.half
-    → steps.NextIs before.current now store (all_bodies w) (Ok more) → TookIs (record before { current = now }) after more result → NextIs before after store w result
+    → steps.NextBodyIs before.current now store (all_bodies w) (Ok more) → TookIs (record before { current = now }) after more result → NextIs before after store w result
 took_is before after now store w true (Ok true) is half read same =
     subst (λ (s : JournalState). IsJournalReading s store (with_body w s.current.body)) (sym same) (record {
       half = half ∙ is.half;
@@ -90,7 +90,7 @@ step_is from before after true (Ok false) step none = absurd none
 step_is from before after true (Err e) step none = absurd none
 step_is from before after false (Ok true) step none = absurd none
 
-pub err_is : (before after : JournalState) (now : records.HalfState) (store : Store) (w : Where) (e : RecordErr) → steps.NextIs before.current now store (all_bodies w) (Err e) → NextIs before after store w (Err e)
+pub err_is : (before after : JournalState) (now : records.HalfState) (store : Store) (w : Where) (e : RecordErr) → steps.NextBodyIs before.current now store (all_bodies w) (Err e) → NextIs before after store w (Err e)
 err_is before after now store w (Damaged at byte) damage = inl damage
 err_is before after now store w Failed damage = tt
 

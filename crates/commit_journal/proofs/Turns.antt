@@ -14,7 +14,7 @@ use Rattle.journal_halves.specs.JournalStart.start.Checkpoint.{Checkpoint}
 use Rattle.journal_halves.specs.JournalStart.start.Start.{Start}
 use Rattle.journal_halves.specs.JournalStart.Spelling.{rooms_bytes, front_bytes, header_bytes, behind_header, start_bytes}
 use Rattle.journal_halves.specs.Halves.{half_len, half_of, is_half_begun}
-use Rattle.journal_halves.specs.Journals.{Where, all_bodies, with_body, used_by, HasChain, Stands, MayFollow, IsClosedAt, AreInHalf, IsApart, IsCheckpointLaid, IsLaidWhole}
+use Rattle.journal_halves.specs.Journals.{Where, all_bodies, with_body, used_by, HasChain, Stands, MayFollow, IsClosedAt, AreInHalf, IsHalfApart, IsCheckpointLaid, IsLaidWhole}
 use Rattle.journal_halves.proofs.Laying.{laying_stands, closed_stays}
 use Rattle.journal_halves.proofs.Settling.{opened}
 use Rattle.commit_journal.specs.Turning.{begun_with}
@@ -42,7 +42,7 @@ start_is_body s = subst IsJournalBody (sym (as_shaped s s.checkpoint refl)) (sma
 
 -- ---- the beginning
 
-pub stands_apart : (store : Store) (w : Where) (half : ℕ) → Stands store w → half ≡ 1 - w.half → IsClosedAt store.read half → IsApart store w half
+pub stands_apart : (store : Store) (w : Where) (half : ℕ) → Stands store w → half ≡ 1 - w.half → IsClosedAt store.read half → IsHalfApart store w half
 stands_apart store w half is other closed =
     let same : store.synced ≡ store.read = ap (λ (s : Store). s.synced) is.synced in
     let none : store.written ≡ [] = ap (λ (s : Store). s.written) is.synced in
@@ -80,7 +80,7 @@ with_record store w next written waiting body is one = record {
 
 -- ---- a piece is written
 
-pub apart_wrote : (store : Store) (w : Where) (half at : ℕ) (bytes : List ℕ) → IsApart store w half → half * half_len + 1 ≤ at → at + length bytes ≤ half * half_len + half_len → IsApart (wrote store at bytes) w half
+pub apart_wrote : (store : Store) (w : Where) (half at : ℕ) (bytes : List ℕ) → IsHalfApart store w half → half * half_len + 1 ≤ at → at + length bytes ≤ half * half_len + half_len → IsHalfApart (wrote store at bytes) w half
 apart_wrote store w half at bytes is from to = record {
   other = is.other;
   chain_there = is.chain_there;

@@ -30,8 +30,8 @@ IsNewOrUnbegun header journal = IsUnbegun journal ⊎ HasChain journal (new_of h
 
 -- A crash leaves what it might have left before; or, where no half is begun and one is to be, it leaves that so or with this
 -- header alone, and the other areas as it might have left them before.
-abbrev pub MayBecome : Areas → Header → Bool → Image → Type 0
-MayBecome old header begin image = IsImage old image ⊎ (IsTrue begin × IsUnbegun (old Journal).read × IsAtArea old Journal (IsNewOrUnbegun header) image)
+abbrev pub MayBeBegun : Areas → Header → Bool → Image → Type 0
+MayBeBegun old header begin image = IsImage old image ⊎ (IsTrue begin × IsUnbegun (old Journal).read × IsAtArea old Journal (IsNewOrUnbegun header) image)
 
 -- what an opening answers over an area of these bytes
 abbrev pub OpensIs : List ℕ → Header → Bool → Result (Unit {0}) OpenErr → Type 0
@@ -66,7 +66,7 @@ pub record IsOpened (state : JournalState) (store : Store) (header : Header) : T
 
 -- What an opening does to a told cloud: each image since, the answer, and what stands after Ok.
 pub record IsOpening (header : Header) (begin : Bool) (old new : Cloud) (after : JournalState) (result : Result (Unit {0}) OpenErr) : Type 0 where
-  pub any_moment : LeavesOnly old new (MayBecome old.now header begin)
+  pub any_moment : LeavesOnly old new (MayBeBegun old.now header begin)
   pub answer : OpensIs (old.now Journal).read header begin result
   pub opened : OnOk result (IsOpened after (new.now Journal) header)
   -- where no half was begun, half 0 has this header then, and no other record
@@ -82,12 +82,12 @@ IsSynced store = store ≡ stable store.read
 -- ---- the steps of an opening
 
 -- what is answered of a current half that was found
-abbrev pub TakenIs : JournalState → Store → Found → Header → Result (Unit {0}) OpenErr → Type 0
-TakenIs after store found asked (Ok value) = IsOpened after store asked × HasHeader store.read found.half asked
-TakenIs after store found asked (Err (OtherStore other wanted at)) = HasHeader store.read found.half other × (other ≢ asked) × (wanted ≡ asked) × (at ≡ found.half * half_len + 5)
-TakenIs after store found asked (Err Fault) = ⊥
-TakenIs after store found asked (Err (NotBegun len)) = ⊥
-TakenIs after store found asked (Err (Damaged at byte)) = ⊥
+abbrev pub FoundHalfIs : JournalState → Store → Found → Header → Result (Unit {0}) OpenErr → Type 0
+FoundHalfIs after store found asked (Ok value) = IsOpened after store asked × HasHeader store.read found.half asked
+FoundHalfIs after store found asked (Err (OtherStore other wanted at)) = HasHeader store.read found.half other × (other ≢ asked) × (wanted ≡ asked) × (at ≡ found.half * half_len + 5)
+FoundHalfIs after store found asked (Err Fault) = ⊥
+FoundHalfIs after store found asked (Err (NotBegun len)) = ⊥
+FoundHalfIs after store found asked (Err (Damaged at byte)) = ⊥
 
 -- an area in which no half is begun, of so many bytes, which a crash leaves as it reads
 pub record IsFree (store : Store) (len : ℕ) : Type 0 where

@@ -64,14 +64,14 @@ stage_after stage (Ok value) = stage
 stage_after stage (Err e) = Shut
 
 -- whatever chain was read so far
-abbrev pub ReadsNext : JournalState → JournalState → Cloud → Result Bool RecordErr → Type 0
-ReadsNext before after old result = IsTrue old.told → (w : Where) → IsJournalReading before (old.now Journal) w → NextIs before after (old.now Journal) w result
+abbrev pub ReadsNextOfChain : JournalState → JournalState → Cloud → Result Bool RecordErr → Type 0
+ReadsNextOfChain before after old result = IsTrue old.told → (w : Where) → IsJournalReading before (old.now Journal) w → NextIs before after (old.now Journal) w result
 
 -- ---- writing
 
 -- Whatever chain the journal has: each image since has it, or it with this record.
-abbrev pub KeepsOrAdds : JournalState → List ℕ → Cloud → Cloud → Type 0
-KeepsOrAdds state body old new = IsTrue old.told → (w : Where) → IsJournalEnded state (old.now Journal) w
+abbrev pub KeepsChainOrAdds : JournalState → List ℕ → Cloud → Cloud → Type 0
+KeepsChainOrAdds state body old new = IsTrue old.told → (w : Where) → IsJournalEnded state (old.now Journal) w
     → LeavesOnly old new (IsAtArea old.now Journal (IsEither w (with_body w body)))
 
 -- Whatever chain the journal has: each image since has the places of the other half as they were.
@@ -79,8 +79,9 @@ abbrev pub KeepsOtherHalf : JournalState → Cloud → Cloud → Type 0
 KeepsOtherHalf state old new = IsTrue old.told → (w : Where) → IsJournalEnded state (old.now Journal) w
     → LeavesOnly old new (λ image. part_of (1 - w.half) (image Journal) ≡ part_of (1 - w.half) (old.now Journal).read)
 
-abbrev pub HasAdded : {T E : Type 0} → JournalState → JournalState → List ℕ → Cloud → Cloud → Result T E → Type 0
-HasAdded before after body old new result = IsTrue old.told → (w : Where) → IsJournalEnded before (old.now Journal) w
+abbrev pub HasAddedToChain : {T E : Type 0} → JournalState → JournalState → List ℕ → Cloud → Cloud → Result T E → Type 0
+HasAddedToChain before after body old new result = IsTrue old.told → (w : Where)
+    → IsJournalEnded before (old.now Journal) w
     → OnOk result (IsJournalEnded after (new.now Journal) (with_body w body))
 
 -- Whatever chain the journal has: each image since has it.
@@ -103,10 +104,11 @@ HasLaid before after body old new result = IsTrue old.told → (w next : Where) 
     → OnOk result (IsLaying after (new.now Journal) w (with_body next body))
 
 -- Each image since has that chain, or the checkpoint's.
-abbrev pub KeepsOrSettles : JournalState → Cloud → Cloud → Type 0
-KeepsOrSettles state old new = IsTrue old.told → (w next : Where) → IsLaying state (old.now Journal) w next
+abbrev pub KeepsChainOrSettles : JournalState → Cloud → Cloud → Type 0
+KeepsChainOrSettles state old new = IsTrue old.told → (w next : Where) → IsLaying state (old.now Journal) w next
     → LeavesOnly old new (IsAtArea old.now Journal (IsEither w next))
 
-abbrev pub HasSettled : {T E : Type 0} → JournalState → JournalState → Cloud → Cloud → Result T E → Type 0
-HasSettled before after old new result = IsTrue old.told → (w next : Where) → IsLaying before (old.now Journal) w next
+abbrev pub HasJournalSettled : {T E : Type 0} → JournalState → JournalState → Cloud → Cloud → Result T E → Type 0
+HasJournalSettled before after old new result = IsTrue old.told → (w next : Where)
+    → IsLaying before (old.now Journal) w next
     → OnOk result (IsJournalEnded after (new.now Journal) next)

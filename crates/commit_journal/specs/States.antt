@@ -37,7 +37,7 @@ pub record IsJournalReading (state : JournalState) (store : Store) (w : Where) :
   pub half : state.current.half ≡ w.half
   pub start : state.start ≡ w.start
   pub is_current : IsCurrent store.read w.half w.start
-  pub read : records.IsReading state.current store (all_bodies w)
+  pub read : records.IsHalfReading state.current store (all_bodies w)
   pub left : state.left ≡ records_of w.start.checkpoint - length w.bodies
 
 -- All of the area is on the disk, the current half has this chain, and the gate is the closed one behind it.

@@ -5,7 +5,7 @@ ghost use Rattle.journal_halves.specs.CdEdges.area.Area.{Area};
 ghost use Rattle.journal_halves.specs.CdEdges.Shelf.{IsCall, HasFailed, KeepsCounts, Stays, Writes};
 ghost use Rattle.journal_halves.specs.Halves.{half_len};
 ghost use Rattle.journal_halves.specs.Journals.{IsClosedAt, IsOpenAt};
-ghost use Rattle.commit_journal.specs.Leaving.{KeepsStanding, LeavesWrite, HasClosed, HasWritten, OthersStay, IsLater, IsSpared, IsLaterOpen};
+ghost use Rattle.commit_journal.specs.Leaving.{KeepsStanding, LeavesWrite, HasClosed, HasWritten, OtherAreasStay, IsLater, IsSparedIfClosed, IsLaterOpen};
 ghost use Rattle.commit_journal.specs.Pieces.{piece_len};
 
 use crate::piece::Piece;
@@ -44,9 +44,9 @@ pub(crate) fn close<V: Shelf>(shelf: &mut V, cloud: CloudNo, half: u8) -> Result
     requires { half ≤ 1 }
     ensures any_moment { KeepsStanding half (V.cloud_at shelf.old cloud.0) (V.cloud_at shelf.new cloud.0) }
     ensures closed { HasClosed half (V.cloud_at shelf.old cloud.0) (V.cloud_at shelf.new cloud.0) result }
-    ensures spared { IsSpared half (V.cloud_at shelf.old cloud.0) (V.cloud_at shelf.new cloud.0) }
+    ensures spared { IsSparedIfClosed half (V.cloud_at shelf.old cloud.0) (V.cloud_at shelf.new cloud.0) }
     ensures moments { IsLaterOpen 2 half (V.cloud_at shelf.old cloud.0) (V.cloud_at shelf.new cloud.0) result }
-    ensures others { OthersStay (V.cloud_at shelf.old cloud.0) (V.cloud_at shelf.new cloud.0) result }
+    ensures others { OtherAreasStay (V.cloud_at shelf.old cloud.0) (V.cloud_at shelf.new cloud.0) result }
     ensures call { IsCall (V.cloud_at shelf.old) (V.cloud_at shelf.new) cloud.0
         (V.faults shelf.old) (V.faults shelf.new) }
     ensures failed { OnErr result (HasFailed (V.cloud_at shelf.old cloud.0) (V.cloud_at shelf.new cloud.0)
@@ -95,7 +95,7 @@ pub(crate) fn write_last<V: Shelf>(
         (V.cloud_at shelf.old cloud.0) (V.cloud_at shelf.new cloud.0) }
     ensures written { HasWritten at (waiting.old ++ 0 ∷ [])
         (V.cloud_at shelf.old cloud.0) (V.cloud_at shelf.new cloud.0) result }
-    ensures others { OthersStay (V.cloud_at shelf.old cloud.0) (V.cloud_at shelf.new cloud.0) result }
+    ensures others { OtherAreasStay (V.cloud_at shelf.old cloud.0) (V.cloud_at shelf.new cloud.0) result }
     ensures moments { IsLater 2 (V.cloud_at shelf.old cloud.0) (V.cloud_at shelf.new cloud.0) result }
     ensures none { waiting.new ≡ [] }
     ensures call { IsCall (V.cloud_at shelf.old) (V.cloud_at shelf.new) cloud.0

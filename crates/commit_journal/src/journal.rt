@@ -4,7 +4,7 @@ ghost use Rattle.std.specs.Prelude.{◌≡◌, ◌≢◌, ◌⊎◌, ◌↔◌, 
 ghost use Rattle.journal_halves.specs.CdEdges.Shelf.{IsCall, HasFailed, KeepsCounts, Stays};
 ghost use Rattle.journal_halves.specs.Halves.{half_len};
 ghost use Rattle.journal_halves.specs.JournalStart.Spelling.{commands_of, records_of, region_of};
-ghost use Rattle.commit_journal.specs.Leaving.{OthersStay, IsLater};
+ghost use Rattle.commit_journal.specs.Leaving.{OtherAreasStay, IsLater};
 ghost use Rattle.journal_halves.specs.Outcomes.{StepIs, OnFailed, IsHandled};
 
 use crate::CheckpointWriter;
@@ -42,7 +42,7 @@ pub struct Journal {
 
 impl Journal {
     ghost use Rattle.commit_journal.specs.States.{state_of};
-    ghost use Rattle.commit_journal.specs.Outcomes.{stage_of, stage_after, TookIs, ReadsNext, KeepsOrAdds, KeepsOtherHalf, HasAdded};
+    ghost use Rattle.commit_journal.specs.Outcomes.{stage_of, stage_after, TookIs, ReadsNextOfChain, KeepsChainOrAdds, KeepsOtherHalf, HasAddedToChain};
 
     /// A journal that isn't open, of whose halves each takes so many bytes at most. It takes all its memory here: a window of
     /// 65,541 bytes and a piece of 4 MiB. The only error is want of memory.
@@ -144,7 +144,7 @@ impl Journal {
     pub fn next<V: Shelf>(&mut self, shelf: &mut V, cloud: CloudNo) -> Result<bool, RecordErr>
         requires { (state_of self.old).stage ≡ Stage.Reading }
 
-        ensures reads { ReadsNext (state_of self.old) (state_of self.new) (V.cloud_at shelf.old cloud.0) result }
+        ensures reads { ReadsNextOfChain (state_of self.old) (state_of self.new) (V.cloud_at shelf.old cloud.0) result }
         ensures step { StepIs (state_of self.old).current (state_of self.new).current result }
         ensures stage { (state_of self.new).stage ≡ stage_of result }
         ensures start { (state_of self.new).start ≡ (state_of self.old).start }
@@ -226,13 +226,13 @@ impl Journal {
         requires few { length body.now ≤ 65535 }
         requires fits { (state_of self.old).current.gate + 1 + (length body.now + 5) ≤ (state_of self.old).limit }
 
-        ensures any_moment { KeepsOrAdds (state_of self.old) body.now
+        ensures any_moment { KeepsChainOrAdds (state_of self.old) body.now
             (V.cloud_at shelf.old cloud.0) (V.cloud_at shelf.new cloud.0) }
         ensures other { KeepsOtherHalf (state_of self.old) (V.cloud_at shelf.old cloud.0)
             (V.cloud_at shelf.new cloud.0) }
-        ensures added { HasAdded (state_of self.old) (state_of self.new) body.now
+        ensures added { HasAddedToChain (state_of self.old) (state_of self.new) body.now
             (V.cloud_at shelf.old cloud.0) (V.cloud_at shelf.new cloud.0) result }
-        ensures others { OthersStay (V.cloud_at shelf.old cloud.0) (V.cloud_at shelf.new cloud.0) result }
+        ensures others { OtherAreasStay (V.cloud_at shelf.old cloud.0) (V.cloud_at shelf.new cloud.0) result }
         ensures moments { IsLater 4 (V.cloud_at shelf.old cloud.0) (V.cloud_at shelf.new cloud.0) result }
         ensures gate { OnOk result ((state_of self.new).current.gate
             ≡ (state_of self.old).current.gate + 5 + length body.now) }

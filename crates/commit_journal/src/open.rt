@@ -9,7 +9,7 @@ ghost use Rattle.journal_halves.specs.Journals.{HasChain};
 ghost use Rattle.journal_halves.specs.JournalStart.Ranges.{IsHeader, IsStart};
 ghost use Rattle.journal_halves.specs.Findings.{FindIs};
 ghost use Rattle.journal_halves.specs.Findings as findings;
-ghost use Rattle.commit_journal.specs.Leaving.{OthersStay};
+ghost use Rattle.commit_journal.specs.Leaving.{OtherAreasStay};
 ghost use Rattle.commit_journal.specs.Openings.{LeavesFree, HasReady};
 
 use crate::starts::is_same;
@@ -22,7 +22,7 @@ use journal_halves::{
 fn close<V: Shelf>(shelf: &mut V, cloud: CloudNo, len: u64) -> Result<(), Failed>
     ensures any_moment { LeavesFree len (V.cloud_at shelf.old cloud.0) (V.cloud_at shelf.new cloud.0) }
     ensures ready { HasReady len (V.cloud_at shelf.old cloud.0) (V.cloud_at shelf.new cloud.0) result }
-    ensures others { OthersStay (V.cloud_at shelf.old cloud.0) (V.cloud_at shelf.new cloud.0) result }
+    ensures others { OtherAreasStay (V.cloud_at shelf.old cloud.0) (V.cloud_at shelf.new cloud.0) result }
     ensures call { IsCall (V.cloud_at shelf.old) (V.cloud_at shelf.new) cloud.0
         (V.faults shelf.old) (V.faults shelf.new) }
     ensures failed { OnErr result (HasFailed (V.cloud_at shelf.old cloud.0) (V.cloud_at shelf.new cloud.0)
@@ -40,7 +40,7 @@ impl Journal {
     ghost use Rattle.commit_journal.specs.States.{state_of};
     ghost use Rattle.journal_halves.specs.Beginnings.{new_of};
     ghost use Rattle.commit_journal.specs.Outcomes.{stage_after};
-    ghost use Rattle.commit_journal.specs.Openings.{IsOpening, IsSynced, TakenIs, IsAnswered, LeavesBegun, HasNew, OnFault, HasBegun};
+    ghost use Rattle.commit_journal.specs.Openings.{IsOpening, IsSynced, FoundHalfIs, IsAnswered, LeavesBegun, HasNew, OnFault, HasBegun};
     ghost use Rattle.journal_halves.specs.Beginnings.{IsUnbegun};
 
     /// Finds the current half of the journal and its start, whatever its header: as `journal_halves`' `find`. The journal is
@@ -54,7 +54,7 @@ impl Journal {
         ensures stays { Stays (V.cloud_at shelf.old cloud.0) (V.cloud_at shelf.new cloud.0) }
         ensures call { IsCall (V.cloud_at shelf.old) (V.cloud_at shelf.new) cloud.0
             (V.faults shelf.old) (V.faults shelf.new) }
-        ensures counts { findings.OnFault result
+        ensures counts { findings.OnFindFault result
             (HasFailed (V.cloud_at shelf.old cloud.0) (V.cloud_at shelf.new cloud.0)
             (V.faults shelf.old) (V.faults shelf.new))
             (KeepsCounts (V.cloud_at shelf.old cloud.0) (V.cloud_at shelf.new cloud.0)
@@ -165,7 +165,7 @@ impl Journal {
         requires shut { (state_of self.old).stage ≡ Stage.Shut }
         requires start { IsStart found.half found.start }
         ensures taken { (store : Store) → store ≡ stable store.read → IsCurrent store.read found.half found.start
-            → TakenIs (state_of self.new) store found asked.now result }
+            → FoundHalfIs (state_of self.new) store found asked.now result }
         ensures gate { OnOk result ((state_of self.new).current.gate ≤ 62) }
         ensures stage { (state_of self.new).stage ≡ stage_after Stage.Reading result }
         ensures limit { (state_of self.new).limit ≡ (state_of self.old).limit }
@@ -202,7 +202,7 @@ impl Journal {
         ensures begun { HasNew len (state_of self.new) asked.now
             (V.cloud_at shelf.old cloud.0) (V.cloud_at shelf.new cloud.0) result }
         ensures gate { OnOk result ((state_of self.new).current.gate ≤ 62) }
-        ensures others { OthersStay (V.cloud_at shelf.old cloud.0) (V.cloud_at shelf.new cloud.0) result }
+        ensures others { OtherAreasStay (V.cloud_at shelf.old cloud.0) (V.cloud_at shelf.new cloud.0) result }
         ensures start { OnOk result (IsStart (state_of self.new).current.half (state_of self.new).start) }
         ensures stage { (state_of self.new).stage ≡ stage_after Stage.Reading result }
         ensures limit { (state_of self.new).limit ≡ (state_of self.old).limit }

@@ -32,7 +32,7 @@ pub struct CheckpointWriter {
 
 impl CheckpointWriter {
     ghost use Rattle.commit_journal.specs.Turning.{state_of, used_of};
-    ghost use Rattle.commit_journal.specs.Leaving.{KeepsStanding, KeepsLaid, KeepsOrSettles, HasTurned, IsLaidStill, HasLaid, HasSettled, IsFull, OthersStay, IsLater, IsSpared, IsLaterOpen};
+    ghost use Rattle.commit_journal.specs.Leaving.{KeepsStanding, KeepsWriterLaid, KeepsWriterOrSettles, HasWriterTurned, IsLaidStill, HasWriterLaid, HasWriterSettled, IsFull, OtherAreasStay, IsLater, IsSparedIfClosed, IsLaterOpen};
 
     /// A writer with memory for a piece of 4 MiB, which is all that it ever takes. The only error is want of memory.
     pub fn make(alloc: Global) -> Result<CheckpointWriter, NoMemory>
@@ -77,13 +77,13 @@ impl CheckpointWriter {
         requires { half ≤ 1 }
 
         ensures any_moment { KeepsStanding half (V.cloud_at shelf.old cloud.0) (V.cloud_at shelf.new cloud.0) }
-        ensures turned { HasTurned (state_of self.new) half start.now
+        ensures turned { HasWriterTurned (state_of self.new) half start.now
             (V.cloud_at shelf.old cloud.0) (V.cloud_at shelf.new cloud.0) result }
         ensures state { OnOk result (((state_of self.new).left ≡ records_of start.now.checkpoint)
             × (used_of (state_of self.new) ≡ length (start_bytes start.now) + 6)) }
-        ensures spared { IsSpared half (V.cloud_at shelf.old cloud.0) (V.cloud_at shelf.new cloud.0) }
+        ensures spared { IsSparedIfClosed half (V.cloud_at shelf.old cloud.0) (V.cloud_at shelf.new cloud.0) }
         ensures moments { IsLaterOpen 2 half (V.cloud_at shelf.old cloud.0) (V.cloud_at shelf.new cloud.0) result }
-        ensures others { OthersStay (V.cloud_at shelf.old cloud.0) (V.cloud_at shelf.new cloud.0) result }
+        ensures others { OtherAreasStay (V.cloud_at shelf.old cloud.0) (V.cloud_at shelf.new cloud.0) result }
         ensures call { IsCall (V.cloud_at shelf.old) (V.cloud_at shelf.new) cloud.0
             (V.faults shelf.old) (V.faults shelf.new) }
         ensures failed { OnErr result (HasFailed (V.cloud_at shelf.old cloud.0) (V.cloud_at shelf.new cloud.0)
@@ -131,13 +131,13 @@ impl CheckpointWriter {
         requires few { length body.now ≤ 65535 }
         requires room { used_of (state_of self.old) + length body.now + 5 ≤ half_len }
 
-        ensures any_moment { KeepsLaid (state_of self.old)
+        ensures any_moment { KeepsWriterLaid (state_of self.old)
             (V.cloud_at shelf.old cloud.0) (V.cloud_at shelf.new cloud.0) }
-        ensures laid { HasLaid (state_of self.old) (state_of self.new) body.now
+        ensures laid { HasWriterLaid (state_of self.old) (state_of self.new) body.now
             (V.cloud_at shelf.old cloud.0) (V.cloud_at shelf.new cloud.0) result }
         ensures state { OnOk result (((state_of self.new).left + 1 ≡ (state_of self.old).left)
             × (used_of (state_of self.new) ≡ used_of (state_of self.old) + length body.now + 5)) }
-        ensures others { OthersStay (V.cloud_at shelf.old cloud.0) (V.cloud_at shelf.new cloud.0) result }
+        ensures others { OtherAreasStay (V.cloud_at shelf.old cloud.0) (V.cloud_at shelf.new cloud.0) result }
         ensures call { IsCall (V.cloud_at shelf.old) (V.cloud_at shelf.new) cloud.0
             (V.faults shelf.old) (V.faults shelf.new) }
         ensures failed { OnErr result (HasFailed (V.cloud_at shelf.old cloud.0) (V.cloud_at shelf.new cloud.0)
@@ -158,11 +158,11 @@ impl CheckpointWriter {
         len: usize,
     ) -> Result<(), Failed>
         requires { len ≤ 65535 }
-        ensures any_moment { KeepsLaid (state_of self.old)
+        ensures any_moment { KeepsWriterLaid (state_of self.old)
             (V.cloud_at shelf.old cloud.0) (V.cloud_at shelf.new cloud.0) }
         ensures still { IsLaidStill (state_of self.old) (state_of self.new)
             (V.cloud_at shelf.old cloud.0) (V.cloud_at shelf.new cloud.0) result }
-        ensures others { OthersStay (V.cloud_at shelf.old cloud.0) (V.cloud_at shelf.new cloud.0) result }
+        ensures others { OtherAreasStay (V.cloud_at shelf.old cloud.0) (V.cloud_at shelf.new cloud.0) result }
         ensures room { OnOk result (length (state_of self.new).waiting + len + 5 < piece_len) }
         ensures used { used_of (state_of self.new) ≡ used_of (state_of self.old) }
         ensures left { (state_of self.new).left ≡ (state_of self.old).left }
@@ -207,13 +207,13 @@ impl CheckpointWriter {
     pub fn settle<V: Shelf>(&mut self, shelf: &mut V, cloud: CloudNo) -> Result<(), Failed>
         requires { (state_of self.old).left ≡ 0 }
 
-        ensures any_moment { KeepsOrSettles (state_of self.old)
+        ensures any_moment { KeepsWriterOrSettles (state_of self.old)
             (V.cloud_at shelf.old cloud.0) (V.cloud_at shelf.new cloud.0) }
-        ensures settled { HasSettled (state_of self.old)
+        ensures settled { HasWriterSettled (state_of self.old)
             (V.cloud_at shelf.old cloud.0) (V.cloud_at shelf.new cloud.0) result }
         ensures full { IsFull (state_of self.old) (V.cloud_at shelf.old cloud.0) }
         ensures moments { IsLater 4 (V.cloud_at shelf.old cloud.0) (V.cloud_at shelf.new cloud.0) result }
-        ensures others { OthersStay (V.cloud_at shelf.old cloud.0) (V.cloud_at shelf.new cloud.0) result }
+        ensures others { OtherAreasStay (V.cloud_at shelf.old cloud.0) (V.cloud_at shelf.new cloud.0) result }
         ensures call { IsCall (V.cloud_at shelf.old) (V.cloud_at shelf.new) cloud.0
             (V.faults shelf.old) (V.faults shelf.new) }
         ensures failed { OnErr result (HasFailed (V.cloud_at shelf.old cloud.0) (V.cloud_at shelf.new cloud.0)

@@ -5,7 +5,7 @@ ghost use Rattle.journal_halves.specs.CdEdges.Shelf.{IsCall, HasFailed, KeepsCou
 ghost use Rattle.journal_halves.specs.JournalStart.Ranges.{IsHeader, IsStart};
 ghost use Rattle.journal_halves.specs.Halves.{half_len};
 ghost use Rattle.commit_journal.specs.Turning.{used_of};
-ghost use Rattle.commit_journal.specs.Leaving.{OthersStay, IsLater, IsSpared, IsLaterOpen};
+ghost use Rattle.commit_journal.specs.Leaving.{OtherAreasStay, IsLater, IsSparedIfClosed, IsLaterOpen};
 
 use crate::starts::next_start;
 use crate::{Journal, Stage};
@@ -13,7 +13,7 @@ use journal_halves::{CloudNo, Failed, Header, Shelf};
 
 impl Journal {
     ghost use Rattle.commit_journal.specs.States.{state_of};
-    ghost use Rattle.commit_journal.specs.Outcomes.{stage_after, KeepsChain, HasTurned, KeepsLaid, HasLaid, KeepsOrSettles, HasSettled};
+    ghost use Rattle.commit_journal.specs.Outcomes.{stage_after, KeepsChain, HasTurned, KeepsLaid, HasLaid, KeepsChainOrSettles, HasJournalSettled};
 
     /// How many bytes of its half the checkpoint takes so far, with its closed gate.
     pub fn laid(&self) -> u64
@@ -56,11 +56,11 @@ impl Journal {
             (V.cloud_at shelf.old cloud.0) (V.cloud_at shelf.new cloud.0) result }
         ensures state { OnOk result (((state_of self.new).laid.left ≡ records)
             × (used_of (state_of self.new).laid ≡ 63)) }
-        ensures spared { IsSpared (1 - (state_of self.old).current.half)
+        ensures spared { IsSparedIfClosed (1 - (state_of self.old).current.half)
             (V.cloud_at shelf.old cloud.0) (V.cloud_at shelf.new cloud.0) }
         ensures moments { IsLaterOpen 2 (1 - (state_of self.old).current.half)
             (V.cloud_at shelf.old cloud.0) (V.cloud_at shelf.new cloud.0) result }
-        ensures others { OthersStay (V.cloud_at shelf.old cloud.0) (V.cloud_at shelf.new cloud.0) result }
+        ensures others { OtherAreasStay (V.cloud_at shelf.old cloud.0) (V.cloud_at shelf.new cloud.0) result }
         ensures stage { (state_of self.new).stage ≡ stage_after Stage.Laying result }
         ensures limit { (state_of self.new).limit ≡ (state_of self.old).limit }
         ensures call { IsCall (V.cloud_at shelf.old) (V.cloud_at shelf.new) cloud.0
@@ -101,7 +101,7 @@ impl Journal {
             (V.cloud_at shelf.old cloud.0) (V.cloud_at shelf.new cloud.0) result }
         ensures state { OnOk result (((state_of self.new).laid.left + 1 ≡ (state_of self.old).laid.left)
             × (used_of (state_of self.new).laid ≡ used_of (state_of self.old).laid + length body.now + 5)) }
-        ensures others { OthersStay (V.cloud_at shelf.old cloud.0) (V.cloud_at shelf.new cloud.0) result }
+        ensures others { OtherAreasStay (V.cloud_at shelf.old cloud.0) (V.cloud_at shelf.new cloud.0) result }
         ensures stage { (state_of self.new).stage ≡ stage_after Stage.Laying result }
         ensures limit { (state_of self.new).limit ≡ (state_of self.old).limit }
         ensures call { IsCall (V.cloud_at shelf.old) (V.cloud_at shelf.new) cloud.0
@@ -127,12 +127,12 @@ impl Journal {
         requires laying { (state_of self.old).stage ≡ Stage.Laying }
         requires full { (state_of self.old).laid.left ≡ 0 }
 
-        ensures any_moment { KeepsOrSettles (state_of self.old)
+        ensures any_moment { KeepsChainOrSettles (state_of self.old)
             (V.cloud_at shelf.old cloud.0) (V.cloud_at shelf.new cloud.0) }
-        ensures settled { HasSettled (state_of self.old) (state_of self.new)
+        ensures settled { HasJournalSettled (state_of self.old) (state_of self.new)
             (V.cloud_at shelf.old cloud.0) (V.cloud_at shelf.new cloud.0) result }
         ensures gate { OnOk result ((state_of self.new).current.gate + 1 ≡ used_of (state_of self.old).laid) }
-        ensures others { OthersStay (V.cloud_at shelf.old cloud.0) (V.cloud_at shelf.new cloud.0) result }
+        ensures others { OtherAreasStay (V.cloud_at shelf.old cloud.0) (V.cloud_at shelf.new cloud.0) result }
         ensures moments { IsLater 4 (V.cloud_at shelf.old cloud.0) (V.cloud_at shelf.new cloud.0) result }
         ensures stage { (state_of self.new).stage ≡ stage_after Stage.AtEnd result }
         ensures start { OnOk result ((state_of self.new).start ≡ (state_of self.old).next) }

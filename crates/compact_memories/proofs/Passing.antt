@@ -21,7 +21,7 @@ use Rattle.checkpoints.specs.CloudMemory.Steps.{placed_len}
 use Rattle.checkpoints.specs.Picking.{onto, picked}
 use Rattle.checkpoints.specs.Records.{owned_at, owned_in}
 use Rattle.checkpoints.proofs.Picks.{picked-append}
-use Rattle.compact_memories.specs.Passes.{row_of, owned_len, entry_at, entries_of, IsRow, AreSmall, OwnedSoFar, KeptSoFar}
+use Rattle.compact_memories.specs.Passes.{row_of, owned_len, entry_at, entries_of, IsRow, AreRowsSmall, OwnedSoFar, KeptSoFar}
 
 pub more : {S X : Type 0} (f : Option S → Option X) (slots : List (Option S)) (slot : ℕ) → slot < length slots
     → picked f (take (slot + 1) slots) ≡ picked f (take slot slots) ++ onto (f (get_or slots slot None)) []
@@ -202,7 +202,7 @@ module _ (shares : Shares) (index : Files) (rows : List Spent) (slot : ℕ) (bel
 
 -- ---- bytes of recipes
 
-module _ (rows : List Spent) (user bytes slot : ℕ) (small : AreSmall rows slot) (few : bytes < 4294967296) where
+module _ (rows : List Spent) (user bytes slot : ℕ) (small : AreRowsSmall rows slot) (few : bytes < 4294967296) where
   abbrev longer : Spent
   longer = both (row_of rows user) (of_recipe bytes)
 
@@ -210,7 +210,7 @@ module _ (rows : List Spent) (user bytes slot : ℕ) (small : AreSmall rows slot
   with_longer = set rows user longer
 
   -- a row with so many more bytes of a recipe leaves all rows small
-  pub still_small : AreSmall with_longer (slot + 1)
+  pub still_small : AreRowsSmall with_longer (slot + 1)
   still_small u = elim (cases_lt u (length rows)) [
     | inl inside ↦ elim (cases_eq u user) [
       | inl same ↦
@@ -255,7 +255,7 @@ pub kept_ends : (shares : Shares) (files : Files) (rows : List Spent) → KeptSo
 kept_ends shares files rows s user inside =
     subst (λ (slots : List (Option (FileKey × Entry))). IsRow shares.places shares.owner_slots slots user (row_of rows user)) (take_all (length files.slots) files.slots (omega arith)) (s.are_rows user inside)
 
-pub owned_small : (shares : Shares) (rows : List Spent) (slot : ℕ) → OwnedSoFar shares rows slot → AreSmall rows 0
+pub owned_small : (shares : Shares) (rows : List Spent) (slot : ℕ) → OwnedSoFar shares rows slot → AreRowsSmall rows 0
 owned_small shares rows slot s user = elim (cases_lt user (length rows)) [
   | inl inside ↦ let none = (s.are_rows user inside).recipes in omega (arith, none)
   | inr beyond ↦ let none = ap (λ (r : Spent). r.recipes) (get_or_past rows user nothing (omega (arith, beyond))) in omega (arith, none)

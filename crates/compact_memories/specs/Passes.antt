@@ -56,8 +56,8 @@ pub record OwnedSoFar (shares : Shares) (rows : List Spent) (slot : ℕ) : Type 
   pub small : (user : ℕ) → (row_of rows user).shares ≤ slot * 4294967295
 
 -- No row has more bytes of recipes than so many slots can make them.
-abbrev pub AreSmall : List Spent → ℕ → Type 0
-AreSmall rows slot = (user : ℕ) → (row_of rows user).recipes ≤ slot * 4294967295
+abbrev pub AreRowsSmall : List Spent → ℕ → Type 0
+AreRowsSmall rows slot = (user : ℕ) → (row_of rows user).recipes ≤ slot * 4294967295
 
 -- Each row is what its user keeps by all slots of owners, and so many of entries.
 pub record KeptSoFar (shares : Shares) (files : Files) (rows : List Spent) (slot : ℕ) : Type 0 where

@@ -11,7 +11,7 @@ ghost use Rattle.checkpoints.specs.CloudMemory.Memory.{as_spent};
 ghost use Rattle.checkpoints.specs.CloudMemory.Rooms.{memory_of};
 ghost use Rattle.checkpoints.specs.CloudMemory.Steps.{placed_len};
 ghost use Rattle.compact_memories.specs.Kept.{kept_in};
-ghost use Rattle.compact_memories.specs.Passes.{AreSmall, OwnedSoFar, KeptSoFar, row_of};
+ghost use Rattle.compact_memories.specs.Passes.{AreRowsSmall, OwnedSoFar, KeptSoFar, row_of};
 
 use checkpoints::{CloudMemory, FileIndex, ShareIndex, Spent};
 use compact_lists::Fp;
@@ -80,8 +80,8 @@ fn add_owned(shares: &ShareIndex, rows: &mut [Spent], slot: u32)
 // Adds what a slot of entries has.
 fn add_entry(files: &FileIndex, rows: &mut [Spent], slot: u32)
     requires inside { slot < length files.now.slots }
-    requires small { AreSmall rows.old slot }
-    ensures small { AreSmall rows.new (slot + 1) }
+    requires small { AreRowsSmall rows.old slot }
+    ensures small { AreRowsSmall rows.new (slot + 1) }
     ensures so_far { (shares : Shares) → KeptSoFar shares files.now rows.old slot
         → KeptSoFar shares files.now rows.new (slot + 1) }
     ensures users { length rows.new ≡ length rows.old }
@@ -102,7 +102,7 @@ fn wipe(rows: &mut [Spent])
 // What each user owns, in place of what the rows had.
 fn add_all_owned(shares: &ShareIndex, rows: &mut [Spent])
     ensures kept { (files : Files) → KeptSoFar shares.now files rows.new 0 }
-    ensures small { AreSmall rows.new 0 }
+    ensures small { AreRowsSmall rows.new 0 }
     ensures users { length rows.new ≡ length rows.old }
 {
     wipe(rows);
@@ -113,7 +113,7 @@ fn add_all_owned(shares: &ShareIndex, rows: &mut [Spent])
 
 // And the recipes of its entries.
 fn add_all_entries(files: &FileIndex, rows: &mut [Spent])
-    requires small { AreSmall rows.old 0 }
+    requires small { AreRowsSmall rows.old 0 }
     ensures kept { (shares : Shares) → KeptSoFar shares files.now rows.old 0
         → KeptSoFar shares files.now rows.new (length files.now.slots) }
     ensures users { length rows.new ≡ length rows.old }

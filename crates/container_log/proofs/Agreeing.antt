@@ -11,7 +11,7 @@ use Rattle.std.proofs.lemmas.List.Elements.{All-nil, All-cons, All-head, All-tai
 use Rattle.cd_edges.specs.Disk.{overwritten}
 use Rattle.cd_edges.specs.Shelf.{ReadsFrom}
 use Rattle.cd_edges.proofs.Overwritten.{length-overwritten, overwritten_before, overwritten_after}
-use Rattle.container_log.specs.Caches.{Kept, Cache, AreOf, container_of, kept_of, in_front, with_room, with_container, is_left, kept_over, IsKeptOr, IsReadOf}
+use Rattle.container_log.specs.Caches.{Kept, Cache, AreContainersOf, container_of, kept_of, in_front, with_room, with_container, is_left, kept_over, IsKeptOr, IsReadOf}
 
 -- ---- a part of a list. No lemma here names how many bytes a container has, so that nothing has a list of that length to compute
 
@@ -104,16 +104,16 @@ module _ (P : Kept → Type 0) (t : ℕ → Bool) where
 abbrev Is : List ℕ → Kept → Type 0
 Is bytes k = k.1 ≡ container_of bytes k.0
 
-pub agrees_front : (bytes : List ℕ) (number : ℕ) (kept : List Kept) → AreOf bytes kept → AreOf bytes (in_front number kept)
+pub agrees_front : (bytes : List ℕ) (number : ℕ) (kept : List Kept) → AreContainersOf bytes kept → AreContainersOf bytes (in_front number kept)
 agrees_front bytes number kept all = fronted (Is bytes) (nat_eq number) kept (lookup_entry (nat_eq number) kept) refl all
 
-pub agrees_with : (bytes new : List ℕ) (number keep : ℕ) (kept : List Kept) → new ≡ container_of bytes number → AreOf bytes kept → AreOf bytes (with_container number new keep kept)
+pub agrees_with : (bytes new : List ℕ) (number keep : ℕ) (kept : List Kept) → new ≡ container_of bytes number → AreContainersOf bytes kept → AreContainersOf bytes (with_container number new keep kept)
 agrees_with bytes new number keep kept is all = All-cons (Is bytes) (number, new) (take (keep - 1) kept) is (All-take (Is bytes) (keep - 1) kept all)
 
-pub agrees_room : (bytes : List ℕ) (keep : ℕ) (kept : List Kept) → AreOf bytes kept → AreOf bytes (with_room keep kept)
+pub agrees_room : (bytes : List ℕ) (keep : ℕ) (kept : List Kept) → AreContainersOf bytes kept → AreContainersOf bytes (with_room keep kept)
 agrees_room bytes keep kept all = All-take (Is bytes) (keep - 1) kept all
 
-pub agrees_found : (bytes found : List ℕ) (number : ℕ) (kept : List Kept) → AreOf bytes kept → kept_of kept number ≡ Some found → found ≡ container_of bytes number
+pub agrees_found : (bytes found : List ℕ) (number : ℕ) (kept : List Kept) → AreContainersOf bytes kept → kept_of kept number ≡ Some found → found ≡ container_of bytes number
 agrees_found bytes found number kept all e =
     let v = valued (Is bytes) (nat_eq number) kept found all e in
     let same : number ≡ v.0 = nat_same number v.0 v.1 in
@@ -148,12 +148,12 @@ module _ (old : List ℕ) (end : ℕ) (bytes : List ℕ) (first last : ℕ) (som
   filtered_by true k rest e is all = All-cons (Is (overwritten old end bytes)) k rest (left k e is) all
   filtered_by false k rest e is all = all
 
-  filtered : (kept : List Kept) → AreOf old kept → All (Is (overwritten old end bytes)) (filter (is_left first last) kept)
+  filtered : (kept : List Kept) → AreContainersOf old kept → All (Is (overwritten old end bytes)) (filter (is_left first last) kept)
   filtered [] all = All-nil (Is (overwritten old end bytes))
   filtered (k ∷ kept) all = filtered_by (is_left first last k) k (filter (is_left first last) kept) refl (All-head (Is old) k kept all) (filtered kept (All-tail (Is old) k kept all))
 
-pub agrees_over : (old : List ℕ) (end : ℕ) (bytes : List ℕ) (kept : List Kept) → 1 ≤ length bytes → AreOf old kept
-    → AreOf (overwritten old end bytes) (filter (is_left (end / 4194304) ((end + (length bytes - 1)) / 4194304)) kept)
+pub agrees_over : (old : List ℕ) (end : ℕ) (bytes : List ℕ) (kept : List Kept) → 1 ≤ length bytes → AreContainersOf old kept
+    → AreContainersOf (overwritten old end bytes) (filter (is_left (end / 4194304) ((end + (length bytes - 1)) / 4194304)) kept)
 agrees_over old end bytes kept some all = filtered old end bytes (end / 4194304) ((end + (length bytes - 1)) / 4194304) some refl refl kept all
 
 pub kept_over_some : (end : ℕ) (bytes : List ℕ) (kept : List Kept) → 1 ≤ length bytes
@@ -164,8 +164,8 @@ kept_over_some end (byte ∷ bytes) kept some = ap (λ (n : ℕ). filter (is_lef
 -- ---- a read
 
 -- After a read that found the container, or that put it in front, what is kept is still the area's.
-pub agrees_read : (bytes : List ℕ) (number : ℕ) (old new : Cache) → AreOf bytes old.kept → new ≡ record old { kept = in_front number old.kept } → AreOf bytes new.kept
-agrees_read bytes number old new all is = subst (λ (c : Cache). AreOf bytes c.kept) (sym is) (agrees_front bytes number old.kept all)
+pub agrees_read : (bytes : List ℕ) (number : ℕ) (old new : Cache) → AreContainersOf bytes old.kept → new ≡ record old { kept = in_front number old.kept } → AreContainersOf bytes new.kept
+agrees_read bytes number old new all is = subst (λ (c : Cache). AreContainersOf bytes c.kept) (sym is) (agrees_front bytes number old.kept all)
 
 room_twice : (keep : ℕ) (kept : List Kept) → with_room keep (with_room keep kept) ≡ with_room keep kept
 room_twice keep kept = take_all (keep - 1) (take (keep - 1) kept) (omega (arith, length-take (keep - 1) kept))
@@ -194,8 +194,8 @@ all_anew P number bytes old room new one all room_is kept =
     kept
 
 -- What is kept then is still the area's.
-pub agrees_anew : (held bytes : List ℕ) (number : ℕ) (old room new : Cache) → bytes ≡ container_of held number → AreOf held old.kept → room ≡ record old { kept = with_room old.keep old.kept }
-    → IsKeptOr number bytes room new → AreOf held new.kept
+pub agrees_anew : (held bytes : List ℕ) (number : ℕ) (old room new : Cache) → bytes ≡ container_of held number → AreContainersOf held old.kept → room ≡ record old { kept = with_room old.keep old.kept }
+    → IsKeptOr number bytes room new → AreContainersOf held new.kept
 agrees_anew held bytes number old room new is all room_is kept = all_anew (Is held) number bytes old room new is all room_is kept
 
 -- a place in its container
@@ -206,10 +206,10 @@ pub few_of : (place len long : ℕ) → long ≡ len → place % 4194304 + len �
 few_of place len long same few = omega (arith, same, few)
 
 pub agrees_flushed : (old now : List ℕ) (end used : ℕ) (staged : List ℕ) (kept left : List Kept) → 1 ≤ used → used ≡ length staged
-    → left ≡ filter (is_left (end / 4194304) ((end + (used - 1)) / 4194304)) kept → now ≡ overwritten old end staged → AreOf old kept → AreOf now left
+    → left ≡ filter (is_left (end / 4194304) ((end + (used - 1)) / 4194304)) kept → now ≡ overwritten old end staged → AreContainersOf old kept → AreContainersOf now left
 agrees_flushed old now end used staged kept left_kept some same left_is now_is all =
-    subst (λ (l : List ℕ). AreOf l left_kept) (sym now_is)
-    (subst (λ (l : List Kept). AreOf (overwritten old end staged) l) (sym (left_is ∙ ap (λ (n : ℕ). filter (is_left (end / 4194304) ((end + (n - 1)) / 4194304)) kept) same))
+    subst (λ (l : List ℕ). AreContainersOf l left_kept) (sym now_is)
+    (subst (λ (l : List Kept). AreContainersOf (overwritten old end staged) l) (sym (left_is ∙ ap (λ (n : ℕ). filter (is_left (end / 4194304) ((end + (n - 1)) / 4194304)) kept) same))
     (agrees_over old end staged kept (subst (λ (n : ℕ). 1 ≤ n) same some) all))
 
 pub kept_flushed : (end used : ℕ) (staged : List ℕ) (kept left : List Kept) → 1 ≤ used → used ≡ length staged

@@ -21,12 +21,12 @@ abbrev pub container_of : List ℕ → ℕ → List ℕ
 container_of bytes number = take container_len (drop (number * container_len) bytes)
 
 -- Each is what an area with these bytes has in that container.
-abbrev pub AreOf : List ℕ → List Kept → Type 0
-AreOf bytes kept = All (λ (k : Kept). k.1 ≡ container_of bytes k.0) kept
+abbrev pub AreContainersOf : List ℕ → List Kept → Type 0
+AreContainersOf bytes kept = All (λ (k : Kept). k.1 ≡ container_of bytes k.0) kept
 
 -- Where the cloud is told, and each of these is what its area has in that container, P holds.
 abbrev pub OnKept : Cloud → Area → List Kept → Type 0 → Type 0
-OnKept cloud area kept P = IsTrue cloud.told → AreOf (cloud.now area).read kept → P
+OnKept cloud area kept P = IsTrue cloud.told → AreContainersOf (cloud.now area).read kept → P
 
 -- the bytes that are kept of a container
 abbrev pub kept_of : List Kept → ℕ → Option (List ℕ)

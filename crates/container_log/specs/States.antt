@@ -6,7 +6,7 @@ use Rattle.cd_edges.specs.Shelf.{wrote, stable}
 use Rattle.container_log.specs.Kept.{KeepsBelow}
 use Rattle.container_log.specs.Places.{container_len, place_of, end_after}
 use Rattle.container_log.specs.Laying.{laid, Fit}
-use Rattle.container_log.specs.Caches.{Kept, AreOf, in_front, with_room, with_container, kept_of, kept_over}
+use Rattle.container_log.specs.Caches.{Kept, AreContainersOf, in_front, with_room, with_container, kept_of, kept_over}
 
 -- what a log shows
 pub record State : Type 0 where
@@ -45,7 +45,7 @@ after_flush log result = record log { end = (if is_ok result then staged_end log
 
 -- Each container that is kept is what these bytes of the log's area have there.
 abbrev pub Agrees : State → List ℕ → Type 0
-Agrees log bytes = AreOf bytes log.kept
+Agrees log bytes = AreContainersOf bytes log.kept
 
 -- what a cloud has in the log's area
 abbrev pub in_area : State → Cloud → List ℕ
@@ -73,8 +73,8 @@ abbrev pub without_kept : State → State
 without_kept log = record log { kept = [] }
 
 -- so many bytes from the place on lie in its container, which is kept with these bytes
-abbrev pub IsKept : State → ℕ → ℕ → List ℕ → Type 0
-IsKept log place len bytes = (place % container_len + len ≤ container_len) × (kept_of log.kept (place / container_len) ≡ Some bytes)
+abbrev pub IsContainerKept : State → ℕ → ℕ → List ℕ → Type 0
+IsContainerKept log place len bytes = (place % container_len + len ≤ container_len) × (kept_of log.kept (place / container_len) ≡ Some bytes)
 
 -- After a read without an error the containers are as they were, or that of the place is in front now: it was kept, or it is a container
 -- more, with room made for it: where as many were kept as may be, the last one is gone. Or it wasn't kept and still isn't, and room was

@@ -9,7 +9,7 @@ ghost use Rattle.container_log.specs.Kept.{KeepsBelow};
 ghost use Rattle.container_log.specs.Laying.{Placed, lengths, placed, IsAt};
 ghost use Rattle.container_log.specs.Places.{container_len, place_of, end_after, end_of_laid};
 ghost use Rattle.container_log.specs.States.{State, HasStaged, staged_end, need_of, with_blob, without_staged, after_flush};
-ghost use Rattle.container_log.specs.States.{Agrees, OnAgreeing, IsKept, IsAfterRead};
+ghost use Rattle.container_log.specs.States.{Agrees, OnAgreeing, IsContainerKept, IsAfterRead};
 ghost use Rattle.container_log.specs.States.{in_area, KeepsEarlier, IsTorn, area_flushed};
 
 use crate::LogFull;
@@ -279,7 +279,7 @@ impl Log {
         ensures bound { IfOk result (λ count. count ≤ length out.new) }
         ensures agrees { OnAgreeing self.old (V.cloud_at shelf.old cloud.0)
             (Agrees self.new (in_area self.new (V.cloud_at shelf.new cloud.0))) }
-        ensures no_call { (bytes : List ℕ) → IsKept self.old place (length out.old) bytes
+        ensures no_call { (bytes : List ℕ) → IsContainerKept self.old place (length out.old) bytes
             → (shelf.new ≡ shelf.old) × IsOk result }
         ensures log { self.new ≡ record self.old { kept = self.new.kept } }
         ensures kept { OnOk result (IsAfterRead self.old place self.new) }

@@ -3,7 +3,7 @@
 ghost use Rattle.std.specs.Prelude.{◌≡◌, ℕ, ◌+◌, ◌*◌, ◌/◌, ◌%◌, ◌^◌, ◌<◌, ◌≤◌, List, length, None, Some, IsTrue};
 ghost use Rattle.std.specs.Prelude.{IsOk, IfOk, OnOk, OnErr};
 ghost use Rattle.cd_edges.specs.Shelf.{IsCall, HasFailed, KeepsCounts, Stays, ReadsFrom};
-ghost use Rattle.container_log.specs.Caches.{AreOf, OnKept, kept_of, IsReadOf};
+ghost use Rattle.container_log.specs.Caches.{AreContainersOf, OnKept, kept_of, IsReadOf};
 ghost use Rattle.container_log.specs.Places.{container_len};
 
 use crate::cache::Cache;
@@ -26,7 +26,7 @@ fn read_new<V: Shelf>(
         → IfOk result (λ count. ReadsFrom ((V.cloud_at shelf.old cloud.0).now area).read place count out.new) }
     ensures bound { IfOk result (λ count. count ≤ length out.new) }
     ensures agrees { OnKept (V.cloud_at shelf.old cloud.0) area cache.old.kept
-        (AreOf ((V.cloud_at shelf.old cloud.0).now area).read cache.new.kept) }
+        (AreContainersOf ((V.cloud_at shelf.old cloud.0).now area).read cache.new.kept) }
     ensures kept { IsReadOf cache.old (place / container_len) cache.new }
     ensures stays { Stays (V.cloud_at shelf.old cloud.0) (V.cloud_at shelf.new cloud.0) }
     ensures call { IsCall (V.cloud_at shelf.old) (V.cloud_at shelf.new) cloud.0
@@ -64,7 +64,7 @@ pub(crate) fn read_kept<V: Shelf>(
         (IfOk result (λ count. ReadsFrom ((V.cloud_at shelf.old cloud.0).now area).read place count out.new)) }
     ensures bound { IfOk result (λ count. count ≤ length out.new) }
     ensures agrees { OnKept (V.cloud_at shelf.old cloud.0) area cache.old.kept
-        (AreOf ((V.cloud_at shelf.old cloud.0).now area).read cache.new.kept) }
+        (AreContainersOf ((V.cloud_at shelf.old cloud.0).now area).read cache.new.kept) }
     ensures no_call { (bytes : List ℕ) → place % container_len + length out.old ≤ container_len
         → kept_of cache.old.kept (place / container_len) ≡ Some bytes → (shelf.new ≡ shelf.old) × IsOk result }
     ensures kept { IsReadOf cache.old (place / container_len) cache.new }

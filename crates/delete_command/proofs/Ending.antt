@@ -12,7 +12,7 @@ use Rattle.delete_command.specs.declared.asking.AskHalt.{AskHalt}
 use Rattle.delete_command.specs.declared.asking.AskHalt.TheVariants as halts
 use Rattle.delete_command.specs.declared.carrying.DeleteErr.TheVariants as errors
 use Rattle.delete_command.specs.Deleted.{DeleteCall, delete_bytes, IsDeleted, HelloRefused, WentThrough, AskFailed}
-use Rattle.delete_command.specs.Steps.{Carries, IfLost, Went, of_asked}
+use Rattle.delete_command.specs.Steps.{CarriesDeletion, IfAskLost, Went, of_asked}
 use Rattle.delete_command.specs.Lines.{text_of}
 use Rattle.delete_command.specs.Writing.{DeleteOutput, HasWrittenReplies}
 
@@ -20,7 +20,7 @@ use Rattle.delete_command.specs.Writing.{DeleteOutput, HasWrittenReplies}
 pub carried : (call : DeleteCall) (greeted : Greeted) (behind : Telling) (result : Result Bool AskHalt) (before text : List ℕ)
     → MeetsAll Backup call.addresses call.before behind (Ok greeted) → behind.told ≡ call.before.told → before ≡ []
     → Went (delete_bytes call greeted.shape) behind greeted.lines.items result before text call.after
-    → IfLost result (Rose call.faults_before call.faults_after) → Carries call (of_asked result) text
+    → IfAskLost result (Rose call.faults_before call.faults_after) → CarriesDeletion call (of_asked result) text
 carried call greeted behind (Ok gone) before text meets told empty went rose = (
   went.0,
   record { greeted = greeted; behind = behind; meets = meets; told = told; asks = went.1 },
@@ -36,11 +36,11 @@ carried call greeted behind (Err halts.Lost) before text meets told empty went r
 carried call greeted behind (Err halts.NoMemory) before text meets told empty went rose = tt
 
 pub refused : (status : ℕ) (call : DeleteCall) (out : DeleteOutput) (text : List ℕ) (why : Refused)
-    → Carries call (Err (errors.Refused why)) text → HasWrittenReplies (refused_text why) 8 out status → IsDeleted status call out
+    → CarriesDeletion call (Err (errors.Refused why)) text → HasWrittenReplies (refused_text why) 8 out status → IsDeleted status call out
 refused status call out text why carries writes = HelloRefused (record { why = why; writes = writes; meets = carries })
 
 pub through : (status : ℕ) (call : DeleteCall) (out : DeleteOutput) (text now : List ℕ) (gone : Bool) (due : ℕ)
-    → Carries call (Ok gone) text → now ≡ text → due ≡ (if gone then 0 else 8) → HasWrittenReplies now due out status
+    → CarriesDeletion call (Ok gone) text → now ≡ text → due ≡ (if gone then 0 else 8) → HasWrittenReplies now due out status
     → IsDeleted status call out
 through status call out text now gone due carries same due_is writes = WentThrough (record {
   answers = carries.0;
@@ -52,7 +52,7 @@ through status call out text now gone due carries same due_is writes = WentThrou
       (subst (λ (n : ℕ). HasWrittenReplies now n out status) due_is writes));
 })
 
-pub lost : (status : ℕ) (call : DeleteCall) (out : DeleteOutput) (text now : List ℕ) → Carries call (Err errors.Lost) text
+pub lost : (status : ℕ) (call : DeleteCall) (out : DeleteOutput) (text now : List ℕ) → CarriesDeletion call (Err errors.Lost) text
     → now ≡ text → HasWrittenReplies now 9 out status → IsDeleted status call out
 lost status call out text now carries same writes = AskFailed (record {
   rose = carries.3;

@@ -8,14 +8,14 @@ use Rattle.deletions.specs.Replies.{HasLine}
 
 -- The frame of the request was sent on a port, and this is the content of the first frame that was to come there, just
 -- which came, or an empty one where none was to come.
-abbrev pub Hears : List ℕ → Telling → Telling → ℕ → List ℕ → Type 0
-Hears request old new port content =
+abbrev pub HearsReply : List ℕ → Telling → Telling → ℕ → List ℕ → Type 0
+HearsReply request old new port content =
     HasRepliedOnPort old new port request content ⊎ (Broke old new port request × (content ≡ []))
 
 -- A cloud was asked on its port, and its reply has this line. The ports say so where they tell their bytes.
 pub record IsAskedOnPort (request : List ℕ) (t : Telling) (at : CloudNo × ℕ) (line : Line) (u : Telling) : Type 0 where
   pub content : List ℕ
-  pub hears : IsTrue t.told → Hears request t u at.1 content
+  pub hears : IsTrue t.told → HearsReply request t u at.1 content
   pub told : u.told ≡ t.told
   pub line_is : HasLine at.0 content line
 

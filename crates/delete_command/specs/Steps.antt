@@ -18,9 +18,9 @@ use Rattle.delete_command.specs.Deleted.{HasAskedToDelete, DeleteCall}
 use Rattle.delete_command.specs.Lines.{IsGone, text_of}
 
 -- the ports failed
-abbrev pub IfLost : {A : Type 0} → Result A AskHalt → Type 0 → Type 0
-IfLost (Err halts.Lost) P = P
-IfLost result P = Unit {0}
+abbrev pub IfAskLost : {A : Type 0} → Result A AskHalt → Type 0 → Type 0
+IfAskLost (Err halts.Lost) P = P
+IfAskLost result P = Unit {0}
 
 -- one cloud was asked, with its line behind what was there, and whether the version is gone
 abbrev pub OneWent : List ℕ → Telling → CloudNo × ℕ → Result Bool AskHalt → List ℕ → List ℕ → Telling → Type 0
@@ -54,14 +54,15 @@ abbrev pub Unmet : DeleteCall → MeetErr → Type 0
 Unmet call why = MeetsAll asked.Backup call.addresses call.before call.after (Err why)
 
 -- What came of a deletion, with the text that is due.
-abbrev pub Carries : DeleteCall → Result Bool DeleteErr → List ℕ → Type 0
-Carries call (Ok gone) text =
+abbrev pub CarriesDeletion : DeleteCall → Result Bool DeleteErr → List ℕ → Type 0
+CarriesDeletion call (Ok gone) text =
     (answers : List Line) × HasAskedToDelete call true answers × (IsTrue gone ↔ All IsGone answers)
     × (text ≡ text_of answers)
-Carries call (Err (errors.Refused why)) text = Unmet call (unmet.Refused why)
-Carries call (Err errors.Undialled) text = Unmet call unmet.Undialled × Rose call.faults_before call.faults_after
-Carries call (Err errors.Unheard) text = Unmet call unmet.Lost × Rose call.faults_before call.faults_after
-Carries call (Err errors.Lost) text =
+CarriesDeletion call (Err (errors.Refused why)) text = Unmet call (unmet.Refused why)
+CarriesDeletion call (Err errors.Undialled) text = Unmet call unmet.Undialled
+    × Rose call.faults_before call.faults_after
+CarriesDeletion call (Err errors.Unheard) text = Unmet call unmet.Lost × Rose call.faults_before call.faults_after
+CarriesDeletion call (Err errors.Lost) text =
     (answers : List Line) × HasAskedToDelete call false answers × (text ≡ text_of answers)
     × Rose call.faults_before call.faults_after
-Carries call (Err errors.NoMemory) text = Unit {0}
+CarriesDeletion call (Err errors.NoMemory) text = Unit {0}

@@ -7,8 +7,8 @@ ghost use Rattle.ports_link.specs.CdEdges.Ports.{OthersStay};
 ghost use Rattle.deletions.specs.Frames.Frames.{IsContent};
 ghost use Rattle.ports_link.specs.Hellos.{ports_of};
 ghost use Rattle.ports_link.specs.Sending.{SendsOnly};
-ghost use Rattle.delete_command.specs.Asks.{Hears};
-ghost use Rattle.delete_command.specs.Steps.{IfLost, OneWent, Went, both as both_of};
+ghost use Rattle.delete_command.specs.Asks.{HearsReply};
+ghost use Rattle.delete_command.specs.Steps.{IfAskLost, OneWent, Went, both as both_of};
 
 use crate::lines::is_gone;
 use deletions::{Bytes, CloudNo, NoMemory, ReplyBuf, line_of, write_line};
@@ -43,7 +43,7 @@ fn ask_on<P: Ports>(
 ) -> Result<(), Failed>
     requires { IsContent request.now }
     ensures hears { IsTrue (P.tells ports.old).told
-        → OnOk result (Hears request.now (P.tells ports.old) (P.tells ports.new) port reply.new) }
+        → OnOk result (HearsReply request.now (P.tells ports.old) (P.tells ports.new) port reply.new) }
     ensures others { IsTrue (P.tells ports.old).told → OthersStay (P.tells ports.old) (P.tells ports.new) port }
     ensures sends { IsTrue (P.tells ports.old).told
         → SendsOnly (λ content. content ≡ request.now) (P.tells ports.old) (P.tells ports.new) }
@@ -72,7 +72,7 @@ fn ask_one<P: Ports>(
         → SendsOnly (λ content. content ≡ request.now) (P.tells ports.old) (P.tells ports.new) }
     ensures told { (P.tells ports.new).told ≡ (P.tells ports.old).told }
     ensures later { P.faults ports.old ≤ P.faults ports.new }
-    ensures lost { IfLost result (Rose (P.faults ports.old) (P.faults ports.new)) }
+    ensures lost { IfAskLost result (Rose (P.faults ports.old) (P.faults ports.new)) }
 {
     let (cloud, port) = line;
     match ask_on(ports, port, request, reply) {
@@ -117,7 +117,7 @@ pub fn ask_each<P: Ports>(
         → SendsOnly (λ content. content ≡ request.now) (P.tells ports.old) (P.tells ports.new) }
     ensures told { (P.tells ports.new).told ≡ (P.tells ports.old).told }
     ensures later { P.faults ports.old ≤ P.faults ports.new }
-    ensures lost { IfLost result (Rose (P.faults ports.old) (P.faults ports.new)) }
+    ensures lost { IfAskLost result (Rose (P.faults ports.old) (P.faults ports.new)) }
 {
     let Some((line, more)) = next_line(lines) else {
         return Ok(true);

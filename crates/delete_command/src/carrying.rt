@@ -4,7 +4,7 @@ ghost use Rattle.std.specs.Prelude.{◌≡◌, ◌≤◌, [], length, IsTrue};
 ghost use Rattle.deletions.specs.CdBase.Limits.{IsPath};
 ghost use Rattle.ports_link.specs.Dialled.{OnlyDialled};
 ghost use Rattle.delete_command.specs.Deleted.{OnlyDeletes};
-ghost use Rattle.delete_command.specs.Steps.{Carries, of_asked};
+ghost use Rattle.delete_command.specs.Steps.{CarriesDeletion, of_asked};
 
 use crate::asking::{AskHalt, ask_each};
 use deletions::{Bytes, NoMemory, ReplyBuf, UserId, Version, delete_request};
@@ -53,7 +53,7 @@ pub fn carry<P: Ports>(
     requires some { 1 ≤ length addresses.now }
     requires many { length addresses.now ≤ 255 }
     requires empty { text.old ≡ [] }
-    ensures carries { Carries (record {
+    ensures carries { CarriesDeletion (record {
       user = user;
       path = path.now;
       version = version;

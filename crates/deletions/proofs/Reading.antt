@@ -12,7 +12,7 @@ use Rattle.messages.specs.Answering.{IsReplyTo}
 use Rattle.messages.specs.Replies.{IsReply}
 use Rattle.messages.specs.ReplyReading.{reply_at}
 use Rattle.transcript.specs.declared.line.Line.{Line}
-use Rattle.deletions.specs.Replies.{IsStrange, Reads, line_of}
+use Rattle.deletions.specs.Replies.{IsStrange, ReadsDeleteReply, line_of}
 
 -- what has no line is no reply to a Delete
 no_reply_to : (cloud : CloudNo) (reply : Reply) (user : UserId) (tag : Tag) (version : Version)
@@ -36,7 +36,7 @@ no_reply_to cloud (replies.Malformed at) user tag version none to = to
 no_reply_to cloud replies.NoMemory user tag version none to = cc
 no_reply_to cloud replies.Deleted user tag version none to = cc
 
-pub strange : (cloud : CloudNo) (content : List ℕ) → Reads cloud content None → IsStrange content
+pub strange : (cloud : CloudNo) (content : List ℕ) → ReadsDeleteReply cloud content None → IsStrange content
 strange cloud content none reply is user tag version = no_reply_to cloud reply user tag version (none reply is)
 
 -- a content is one reply at most
@@ -58,6 +58,6 @@ one_line cloud reply other line told same one two =
     cc
 
 -- a reply that has a line is not said to have none
-pub no_line : (cloud : CloudNo) (content : List ℕ) (reply : Reply) (told : Line) → Reads cloud content None
+pub no_line : (cloud : CloudNo) (content : List ℕ) (reply : Reply) (told : Line) → ReadsDeleteReply cloud content None
     → IsReply content reply → line_of cloud reply ≡ Some told → ⊥
 no_line cloud content reply told none is has = let e : None ≡ Some told = sym (none reply is) ∙ has in cc

@@ -37,6 +37,6 @@ pub data HasLine (cloud : CloudNo) (content : List ℕ) : Line → Type 0 where
   Strange : IsStrange content → HasLine cloud content (lines.Strange cloud (kind_in content))
 
 -- what reading a content gives: the line of the reply to a Delete that it is, or nothing
-abbrev pub Reads : CloudNo → List ℕ → Option Line → Type 0
-Reads cloud content (Some line) = (reply : Reply) × IsReply content reply × (line_of cloud reply ≡ Some line)
-Reads cloud content None = (reply : Reply) → IsReply content reply → line_of cloud reply ≡ None
+abbrev pub ReadsDeleteReply : CloudNo → List ℕ → Option Line → Type 0
+ReadsDeleteReply cloud content (Some line) = (reply : Reply) × IsReply content reply × (line_of cloud reply ≡ Some line)
+ReadsDeleteReply cloud content None = (reply : Reply) → IsReply content reply → line_of cloud reply ≡ None

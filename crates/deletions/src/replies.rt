@@ -4,7 +4,7 @@ ghost use Rattle.std.specs.Prelude.{◌≡◌, ◌<◌, ◌^◌, length, IfOk, S
 ghost use Rattle.messages.specs.declared.reply.Reply.{Reply};
 ghost use Rattle.messages.specs.Replies.{IsReply};
 ghost use Rattle.transcript.specs.declared.line.Line.{Line};
-ghost use Rattle.deletions.specs.Replies.{HasLine, Reads, line_of as line_by};
+ghost use Rattle.deletions.specs.Replies.{HasLine, ReadsDeleteReply, line_of as line_by};
 
 use messages::{MsgErr, Reply, ReplyView, kind_of};
 use std::alloc::Global;
@@ -49,7 +49,7 @@ fn told_by(cloud: CloudNo, reply: &Reply) -> Option<Line>
 #[tactic(auto, using(crate::proofs::Reading::one_reply))]
 fn read_line(alloc: Global, cloud: CloudNo, content: &[u8]) -> Result<Option<Line>, NoMemory>
     requires { length content.now < 2 ^ 32 }
-    ensures reads { IfOk result (Reads cloud content.now) }
+    ensures reads { IfOk result (ReadsDeleteReply cloud content.now) }
     ensures one { (reply other : Reply) → IsReply content.now reply → IsReply content.now other → reply ≡ other }
 {
     match ReplyView::read(alloc, content) {

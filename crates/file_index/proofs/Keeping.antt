@@ -20,7 +20,7 @@ use Rattle.file_index.specs.declared.key.FileKey.{FileKey}
 use Rattle.file_index.specs.declared.key.Entry.{Entry}
 use Rattle.file_index.specs.Order.{key_cmp, key_exact}
 use Rattle.file_index.specs.Files.{Files, key_of, used_by, HasNoNext}
-use Rattle.file_index.specs.Kept.{files_of, IsKept, HasTags, IsLeastFrom, HasNoneFrom, IsFound}
+use Rattle.file_index.specs.Kept.{files_of, IsKept, HasTags, IsLeastFrom, HasNoneFrom, IsKeyFound}
 use Rattle.file_index.proofs.Order.{key_total, user-le, least-key}
 
 module _ {X Y : Type 0} (f : X → Y) where
@@ -194,10 +194,10 @@ module _ (p : PoolContents (Pair FileKey Entry)) where
       })
       (copied _ (IsLeastAbove table key) r c is h)
 
-  pub next-above : (user : ℕ) (last : Tag × Version) (given : FileKey) (r : Option (Bor FileKey)) (c : Option FileKey) → given ≡ key_of user last.0.0 last.1.0 → c ≡ option_copied r → MatchOption r (HasNoneAbove table given) (λ a. IsLeastAbove table given a.now) → MatchOption c (HasNoNext (shown value table) user (Some last)) (IsFound (shown value table) user (Some last))
+  pub next-above : (user : ℕ) (last : Tag × Version) (given : FileKey) (r : Option (Bor FileKey)) (c : Option FileKey) → given ≡ key_of user last.0.0 last.1.0 → c ≡ option_copied r → MatchOption r (HasNoneAbove table given) (λ a. IsLeastAbove table given a.now) → MatchOption c (HasNoNext (shown value table) user (Some last)) (IsKeyFound (shown value table) user (Some last))
   next-above user last given r c same is h =
       let key = key_of user last.0.0 last.1.0 in
-      matched (IsLeastAbove table key) (IsFound (shown value table) user (Some last)) c
+      matched (IsLeastAbove table key) (IsKeyFound (shown value table) user (Some last)) c
       (λ no k some after. no k (sym (present-shown table k) ∙ some) after.1)
       (λ a up. record {
         present = present-shown table a ∙ up.present;
@@ -208,10 +208,10 @@ module _ (p : PoolContents (Pair FileKey Entry)) where
       (copied _ (IsLeastAbove table key) r c is (subst (λ k. MatchOption r (HasNoneAbove table k) (λ a. IsLeastAbove table k a.now)) same h))
 
 -- from the user's least key on
-pub next-from : (m : FinMap key_cmp Entry) (user : ℕ) (given : FileKey) (c : Option FileKey) → given ≡ key_of user (replicate 32 0) 0 → HasTags m → MatchOption c (HasNoneFrom m given) (IsLeastFrom m given) → MatchOption c (HasNoNext m user None) (IsFound m user None)
+pub next-from : (m : FinMap key_cmp Entry) (user : ℕ) (given : FileKey) (c : Option FileKey) → given ≡ key_of user (replicate 32 0) 0 → HasTags m → MatchOption c (HasNoneFrom m given) (IsLeastFrom m given) → MatchOption c (HasNoNext m user None) (IsKeyFound m user None)
 next-from m user given c is tags h =
     let least = key_of user (replicate 32 0) 0 in
-    matched (IsLeastFrom m least) (IsFound m user None) c
+    matched (IsLeastFrom m least) (IsKeyFound m user None) c
     (λ no k some same. least-key k user same (tags k some) (no k some))
     (λ a from. record {
       present = from.present;

@@ -46,7 +46,7 @@ abbrev pub HasNoneFrom : FinMap key_cmp Entry → FileKey → Type 0
 HasNoneFrom m key = (k : FileKey) → IsSome (get m k) → key_cmp key k ≡ Greater
 
 -- a key of the map that comes next, if it is the user's, and that shows that nothing does, if it is another's
-pub record IsFound (m : FinMap key_cmp Entry) (user : ℕ) (last : Option (Tag × Version)) (found : FileKey) : Type 0 where
+pub record IsKeyFound (m : FinMap key_cmp Entry) (user : ℕ) (last : Option (Tag × Version)) (found : FileKey) : Type 0 where
   pub present : IsSome (get m found)
   pub after : found.user ≡ user → IsAfter user last found
   pub beyond : user ≤ found.user

@@ -11,7 +11,7 @@ ghost use Rattle.pool_map.specs.declared.accounts.IndexErr.TheVariants.{Full};
 ghost use Rattle.pool_map.specs.Accounts.{IsKnown, limit_for, slots_of};
 ghost use Rattle.pool_map.specs.Slots.{slot_of, IsListed, IsRewritten};
 ghost use Rattle.file_index.specs.Files.{key_of, used_by, IsNext, HasNoNext, entry_with};
-ghost use Rattle.file_index.specs.Kept.{IsLeastFrom, HasNoneFrom, HasTags, IsFound};
+ghost use Rattle.file_index.specs.Kept.{IsLeastFrom, HasNoneFrom, HasTags, IsKeyFound};
 
 mod key;
 
@@ -152,7 +152,7 @@ impl FileIndex {
 
     // The least key above the last one, or from the user's least one on.
     fn key_after(&self, user: UserId, last: Option<(Tag, Version)>) -> Option<FileKey>
-        ensures { MatchOption result (HasNoNext self.now.files user.0 last) (IsFound self.now.files user.0 last) }
+        ensures { MatchOption result (HasNoNext self.now.files user.0 last) (IsKeyFound self.now.files user.0 last) }
     {
         match last {
             Some((tag, version)) => self.table.above(&FileKey::of(user, &tag, version)).copied(),

@@ -15,7 +15,7 @@ use Rattle.rabin_chunker.proofs.RuleLaws.{ends_cut}
 use Rattle.caont_rs.specs.Package.{share}
 use Rattle.caont_rs.proofs.Opened.{length-share}
 use Rattle.recipe.specs.declared.items.Item.{Item}
-use Rattle.recipe.specs.Spelling.{is_count, is_len, AreItems, Fits, total}
+use Rattle.recipe.specs.Spelling.{is_count, is_len, AreRecipeItems, Fits, total}
 use Rattle.file_recipe.specs.FileRecipe.{parts_from, secrets, shares_at, item_of, recipe_of}
 use Rattle.file_recipe.proofs.Secrets.{part_is, part_long, secrets_joined, secrets_few, secrets_none, secrets_some}
 
@@ -28,7 +28,7 @@ last_len n some few = both_true (leb 1 n) (leb n 16384) (le-leb _ _ some) (le-le
 inner_len : (n : ℕ) → 2048 ≤ n → n ≤ 16384 → is_len false n ≡ true
 inner_len n some few = both_true (leb 2048 n) (leb n 16384) (le-leb _ _ some) (le-leb _ _ few)
 
-parts_fit : (s : Shape) (j : ℕ) (file : List ℕ) (start : ℕ) (es : List ℕ) → IsCutFrom file start es → AreItems (map (item_of s j) (parts_from file start es))
+parts_fit : (s : Shape) (j : ℕ) (file : List ℕ) (start : ℕ) (es : List ℕ) → IsCutFrom file start es → AreRecipeItems (map (item_of s j) (parts_from file start es))
 parts_fit s j file start [] h = tt
 parts_fit s j file start (e ∷ []) h =
     let is = part_is file start e h.0 in
@@ -40,7 +40,7 @@ parts_fit s j file start (e ∷ f ∷ es) h =
     let len : is_len (eqb (length (map (item_of s j) (parts_from file e (f ∷ es)))) 0) (length (slice_range file start e)) ≡ true = ap (λ (b : Bool). is_len b (length (slice_range file start e))) others ∙ inner_len (length (slice_range file start e)) long is.few in
     ((length-sha256 (share s j (slice_range file start e)), len), parts_fit s j file e (f ∷ es) h.1)
 
-items_fit : (s : Shape) (j : ℕ) (file : List ℕ) → AreItems (map (item_of s j) (secrets file))
+items_fit : (s : Shape) (j : ℕ) (file : List ℕ) → AreRecipeItems (map (item_of s j) (secrets file))
 unfolding secrets
 items_fit s j file = parts_fit s j file 0 (ends file) (ends_cut file)
 

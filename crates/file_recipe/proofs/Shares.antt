@@ -11,7 +11,7 @@ use Rattle.caont_rs.specs.ReedSolomon.Dispersal.{row}
 use Rattle.recipe.specs.declared.items.Item.{Item}
 use Rattle.file_recipe.specs.FileRecipe.{secrets, item_of, shares_at}
 use Rattle.file_recipe.specs.Clouds.{cloud_file, files_from}
-use Rattle.file_recipe.specs.Progress.{AreEnds, parts_behind, unshared, with_share, with_secrets, EachWithShare, EachWithSecrets}
+use Rattle.file_recipe.specs.Progress.{AreEndsOfParts, parts_behind, unshared, with_share, with_secrets, EachWithShare, EachWithSecrets}
 use Rattle.file_recipe.specs.declared.cloud_file.CloudFile.{CloudFile}
 
 -- ---- one secret's shares, cloud after cloud
@@ -62,12 +62,12 @@ no_secrets s j f = rw (append-nil f.recipe.items, append-nil f.shares) refl
 
 -- where the reader is: the secrets before are given, and those from here on are the rest
 pub record Along (s : Shape) (first base : ℕ) (part es : List ℕ) (i start : ℕ) (before now : List CloudFile) : Type 0 where
-  pub ends : AreEnds (base + length part) start (drop i es)
+  pub ends : AreEndsOfParts (base + length part) start (drop i es)
   pub after : base ≤ start
   pub rest : drop i (parts_behind base part base es) ≡ parts_behind base part start (drop i es)
   pub each : EachWithSecrets s first (take i (parts_behind base part base es)) before now
 
-pub along_none : (s : Shape) (first base : ℕ) (part es : List ℕ) (before : List CloudFile) → AreEnds (base + length part) base es → Along s first base part es 0 base before before
+pub along_none : (s : Shape) (first base : ℕ) (part es : List ℕ) (before : List CloudFile) → AreEndsOfParts (base + length part) base es → Along s first base part es 0 base before before
 along_none s first base part es before ends = record {
   ends = ends;
   after = omega arith;
@@ -84,11 +84,11 @@ record IsNextEnd (base : ℕ) (part es : List ℕ) (i start : ℕ) : Type 0 wher
   pub after : start < get_or es i 0
   pub few : get_or es i 0 ≤ start + 16384
   pub within : get_or es i 0 ≤ base + length part
-  pub more : AreEnds (base + length part) (get_or es i 0) (drop (i + 1) es)
+  pub more : AreEndsOfParts (base + length part) (get_or es i 0) (drop (i + 1) es)
 
 next_end : (s : Shape) (first base : ℕ) (part es : List ℕ) (i start : ℕ) (before now : List CloudFile) → Along s first base part es i start before now → i < length es → IsNextEnd base part es i start
 next_end s first base part es i start before now h lt =
-    let all = subst (λ (xs : List ℕ). AreEnds (base + length part) start xs) (here es i lt) h.ends in
+    let all = subst (λ (xs : List ℕ). AreEndsOfParts (base + length part) start xs) (here es i lt) h.ends in
     record { base_first = h.after; after = all.0; few = all.1; within = all.2; more = all.3 }
 
 first_is : {A : Type 0} (x y : A) (xs ys : List A) → x ∷ xs ≡ y ∷ ys → x ≡ y

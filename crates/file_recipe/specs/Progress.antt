@@ -10,9 +10,10 @@ use Rattle.file_recipe.specs.FileRecipe.{item_of}
 use Rattle.file_recipe.specs.declared.cloud_file.CloudFile.{CloudFile}
 
 -- Each of these places ends a part of 1 to 16,384 bytes, the first of which begins at `start`, and none lies behind the last.
-abbrev pub AreEnds : ℕ → ℕ → List ℕ → Type 0
-AreEnds last start [] = Unit {0}
-AreEnds last start (end ∷ ends) = (start < end) × (end ≤ start + secret_limit) × (end ≤ last) × AreEnds last end ends
+abbrev pub AreEndsOfParts : ℕ → ℕ → List ℕ → Type 0
+AreEndsOfParts last start [] = Unit {0}
+AreEndsOfParts last start (end ∷ ends) = (start < end) × (end ≤ start + secret_limit) × (end ≤ last)
+    × AreEndsOfParts last end ends
 
 -- the parts of a file that end at these places, of which the first begins at `start`, where the bytes begin at `base`
 abbrev pub parts_behind : ℕ → List ℕ → ℕ → List ℕ → List (List ℕ)

@@ -8,7 +8,7 @@ ghost use Rattle.rabin_chunker.specs.Cuts.{ends as ends_of_file};
 ghost use Rattle.caont_rs.specs.Package.{share};
 ghost use Rattle.recipe.specs.Spelling.{file_limit, item_limit};
 ghost use Rattle.file_recipe.specs.Clouds.{cloud_file, files_from, dispersed};
-ghost use Rattle.file_recipe.specs.Progress.{AreEnds, parts_behind, unshared, EachWithShare, EachWithSecrets, HasDigests};
+ghost use Rattle.file_recipe.specs.Progress.{AreEndsOfParts, parts_behind, unshared, EachWithShare, EachWithSecrets, HasDigests};
 
 use crate::{CloudFile, CloudFiles};
 use caont_rs::{Fp, disperse};
@@ -228,7 +228,7 @@ pub fn add_secrets(
     first: usize,
     files: &mut [CloudFile],
 ) -> Result<(), NoMemory>
-    requires ends { AreEnds (base + length part.now) base ends.now }
+    requires ends { AreEndsOfParts (base + length part.now) base ends.now }
     requires clouds { first + length files.old ≤ shape.n }
     ensures { OnOk result (EachWithSecrets shape first (parts_behind base part.now base ends.now) files.old files.new) }
 {

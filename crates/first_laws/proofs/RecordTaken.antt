@@ -30,7 +30,7 @@ use Rattle.compact_memories.proofs.CloudAreas.Lists.{in_map, from_map}
 use Rattle.compact_memories.proofs.CloudAreas.Placed.{placed_is_sent}
 use Rattle.compact_memories.specs.CloudMemory.Memory.{Memory}
 use Rattle.record_laws.specs.RecordChecks.ground.Ground.{Ground}
-use Rattle.record_laws.specs.RecordChecks.Checks.{Asks, AsksFor, ByCommit, ByDelete}
+use Rattle.record_laws.specs.RecordChecks.Checks.{NamesRecipePlace, AsksFor, ByCommit, ByDelete}
 use Rattle.record_laws.specs.Fronts.{is_inside}
 use Rattle.record_laws.specs.Leaving.{entry_bytes, recipe_for}
 use Rattle.record_laws.proofs.Chain.{checkpoint_within, long_before}
@@ -102,7 +102,7 @@ module _ (shape : Shape) (cloud count commands : ℕ) (area : List ℕ) (all : L
   ]
 
 -- what its checks ask for is its recipe
-asked : (area : List ℕ) (g : Ground) (inside : Bool) (m : Memory) (body : Body) (place : Place) → Asks g inside m body place
+asked : (area : List ℕ) (g : Ground) (inside : Bool) (m : Memory) (body : Body) (place : Place) → NamesRecipePlace g inside m body place
     → take place.len (drop place.at area) ≡ recipe_for area m body
 asked area g inside m _ _ (ByCommit c lies none) = refl
 asked area g inside m _ _ (ByDelete d e got few) = sym (ap (entry_bytes area) got)
@@ -254,7 +254,7 @@ module _ (header : Header) (image : Image) (users : ℕ) (list : List Command) (
       → JudgesFirst g (is_inside c before) (take place.len (drop place.at area)) m at (body_bytes body) (Ok new)
   there_taken at fits place asks =
       let same : asks.0 ≡ body = some_ok asks.0 body (sym asks.1 ∙ again body fits) in
-      let read = asked area g (is_inside c before) m body place (subst (λ (b : Body). Asks g (is_inside c before) m b place) same asks.2) in
+      let read = asked area g (is_inside c before) m body place (subst (λ (b : Body). NamesRecipePlace g (is_inside c before) m b place) same asks.2) in
       subst (λ (bytes : List ℕ). JudgesFirst g (is_inside c before) bytes m at (body_bytes body) (Ok new)) (sym read) (bytes_taken at fits)
 
   -- or with nothing, where they ask for nothing

@@ -11,14 +11,14 @@ use Rattle.first_records.specs.declared.errors.Fault.{Fault}
 use Rattle.first_records.specs.declared.errors.Fault.TheVariants.{Passes}
 use Rattle.first_records.specs.Limits.{if_past, crowded, overfull}
 use Rattle.first_records.specs.Judging.{Faulty, Unplaced, Entered, Leaves, JudgesSaid, Overfull, Fits}
-use Rattle.first_records.specs.Steps.{JudgedAs}
+use Rattle.first_records.specs.Steps.{FirstJudgedAs}
 
 module _ (g : Ground) (inside : Bool) (read : List ℕ) where
   -- its checks pass, and then comes its room by bytes
   pub ends : (old new left : Memory) (b : Body) (room : Room) (used : ℕ) (result : Result Unit Fault) → crowded old b ≡ None → Leaves g inside read old b left → new ≡ left
       → overfull b new ≡ if_past room used
       → MatchResult result (λ u. if_past room used ≡ None) (λ fault. (fault ≡ Passes room) × (if_past room used ≡ Some room))
-      → JudgedAs g inside read old b result new
+      → FirstJudgedAs g inside read old b result new
   ends old new left b room used (Ok u) none leaves is over fits = Fits new none (subst (Leaves g inside read old b) (sym is) leaves) (over ∙ fits)
   ends old new left b room used (Err fault) none leaves is over past =
       subst (λ (f : Fault). JudgesSaid g inside read old b (Err f)) (sym past.0) (Overfull new room none (subst (Leaves g inside read old b) (sym is) leaves) (over ∙ past.1))

@@ -15,14 +15,14 @@ use Rattle.first_records.specs.Judging.{JudgesSaid}
 use Rattle.first_records.specs.Limits.{limit_of, HasFirstRooms}
 
 -- an answer and what is left, as the record's judgement
-abbrev pub JudgedAs : Ground → Bool → List ℕ → Memory → Body → Result Unit Fault → Memory → Type 0
-JudgedAs g inside read old b (Ok u) new = JudgesSaid g inside read old b (Ok new)
-JudgedAs g inside read old b (Err fault) new = JudgesSaid g inside read old b (Err fault)
+abbrev pub FirstJudgedAs : Ground → Bool → List ℕ → Memory → Body → Result Unit Fault → Memory → Type 0
+FirstJudgedAs g inside read old b (Ok u) new = JudgesSaid g inside read old b (Ok new)
+FirstJudgedAs g inside read old b (Err fault) new = JudgesSaid g inside read old b (Err fault)
 
 -- the field that fails is one of a body of so many bytes
-abbrev pub IsWithin : ℕ → Fault → Type 0
-IsWithin len (Field place) = place < len
-IsWithin len (Passes room) = Unit {0}
+abbrev pub IsFaultWithin : ℕ → Fault → Type 0
+IsFaultWithin len (Field place) = place < len
+IsFaultWithin len (Passes room) = Unit {0}
 
 -- The indexes have room for these items of a Put.
 pub record HasItemsRoom (cloud : CloudMemory) (items : List PutItem) : Type 0 where

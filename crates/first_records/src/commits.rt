@@ -8,7 +8,7 @@ ghost use Rattle.record_checks.specs.CloudMemory.Sharing.{AreOwned};
 ghost use Rattle.record_checks.specs.CloudMemory.Steps.{with_entry};
 ghost use Rattle.record_checks.specs.Checks.{commit_entry};
 ghost use Rattle.first_records.specs.Limits.{HasFirstRooms, crowded};
-ghost use Rattle.first_records.specs.Steps.{JudgedAs, IsWithin};
+ghost use Rattle.first_records.specs.Steps.{FirstJudgedAs, IsFaultWithin};
 
 use crate::Ground;
 use crate::errors::Fault;
@@ -55,9 +55,9 @@ pub(crate) fn take_commit(
 ) -> Result<(), Fault>
     requires rooms { HasFirstRooms memory.old }
     requires read { length read.now < 2 ^ 32 }
-    ensures judged { JudgedAs ground.now inside read.now (memory_of memory.old) (Commit commit.now) result
+    ensures judged { FirstJudgedAs ground.now inside read.now (memory_of memory.old) (Commit commit.now) result
         (memory_of memory.new) }
-    ensures within { IfErr result (IsWithin 89) }
+    ensures within { IfErr result (IsFaultWithin 89) }
     ensures rooms { HasFirstRooms memory.new }
 {
     match crowded_by(memory, commit) {
@@ -87,9 +87,9 @@ pub(crate) fn take_delete(
 ) -> Result<(), Fault>
     requires rooms { HasFirstRooms memory.old }
     requires read { length read.now < 2 ^ 32 }
-    ensures judged { JudgedAs ground.now inside read.now (memory_of memory.old) (Delete delete.now) result
+    ensures judged { FirstJudgedAs ground.now inside read.now (memory_of memory.old) (Delete delete.now) result
         (memory_of memory.new) }
-    ensures within { IfErr result (IsWithin 45) }
+    ensures within { IfErr result (IsFaultWithin 45) }
     ensures rooms { HasFirstRooms memory.new }
 {
     let entry = match memory.entry(delete.user, &delete.tag, delete.version) {

@@ -4,7 +4,7 @@ ghost use Rattle.std.specs.Prelude.{◌≡◌, ◌+◌, ◌<◌, ◌≤◌, ◌^
 ghost use Rattle.record_checks.specs.RecordBody.FirstReading.{IsPlaced};
 ghost use Rattle.record_checks.specs.Checks.{damaged_at, body_fault};
 ghost use Rattle.first_records.specs.Judging.{err_of};
-ghost use Rattle.first_records.specs.Steps.{IsWithin};
+ghost use Rattle.first_records.specs.Steps.{IsFaultWithin};
 
 use crate::FirstErr;
 use crate::errors::Fault;
@@ -46,7 +46,7 @@ pub(crate) fn damaged_body(body: &[u8], at: u64, err: BodyErr) -> Damage
 pub(crate) fn answer_for(body: &[u8], at: u64, fault: Fault) -> FirstErr
     requires place { 5 ≤ at }
     requires end { at + length body.now < 2 ^ 64 }
-    requires within { IsWithin (length body.now) fault }
+    requires within { IsFaultWithin (length body.now) fault }
     ensures { result ≡ err_of at body.now fault }
 {
     match fault {

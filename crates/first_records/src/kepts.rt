@@ -6,7 +6,7 @@ ghost use Rattle.record_checks.specs.CloudMemory.Rooms.{memory_of};
 ghost use Rattle.record_checks.specs.CloudMemory.Steps.{with_kepts};
 ghost use Rattle.record_checks.specs.Checks.{AreRightKepts, KeptsFault};
 ghost use Rattle.first_records.specs.Limits.{HasFirstRooms, crowded};
-ghost use Rattle.first_records.specs.Steps.{HasKeptsRoom, JudgedAs, IsWithin};
+ghost use Rattle.first_records.specs.Steps.{HasKeptsRoom, FirstJudgedAs, IsFaultWithin};
 
 use crate::Ground;
 use crate::errors::Fault;
@@ -59,9 +59,9 @@ pub(crate) fn take_kept(
     requires rooms { HasFirstRooms memory.old }
     requires few { length items.items ≤ 256 }
     requires from { items.at ≡ 3 }
-    ensures judged { (read : List ℕ) → JudgedAs ground.now inside read (memory_of memory.old)
+    ensures judged { (read : List ℕ) → FirstJudgedAs ground.now inside read (memory_of memory.old)
         (Kept items.entry.items) result (memory_of memory.new) }
-    ensures within { IfErr result (IsWithin (length items.entry.body)) }
+    ensures within { IfErr result (IsFaultWithin (length items.entry.body)) }
     ensures rooms { HasFirstRooms memory.new }
 {
     match crowded_by(memory, &items) {

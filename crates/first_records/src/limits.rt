@@ -3,7 +3,7 @@
 ghost use Rattle.std.specs.Prelude.{◌≡◌, ℕ, IfErr, MatchResult, None, Some};
 ghost use Rattle.message_fields.specs.CdBase.rooms.Room.TheVariants as names;
 ghost use Rattle.first_records.specs.Limits.{limit_of, if_past};
-ghost use Rattle.first_records.specs.Steps.{IsWithin};
+ghost use Rattle.first_records.specs.Steps.{IsFaultWithin};
 ghost use Rattle.first_records.specs.declared.errors.Fault.TheVariants as faults;
 
 use crate::errors::Fault;
@@ -40,7 +40,7 @@ pub(crate) fn if_past(room: Room, used: u64) -> Option<Room>
 fn within(room: Room, used: u64) -> Result<(), Fault>
     ensures room { MatchResult result (λ _. if_past room used ≡ None)
         (λ fault. (fault ≡ faults.Passes room) × (if_past room used ≡ Some room)) }
-    ensures within { (len : ℕ) → IfErr result (IsWithin len) }
+    ensures within { (len : ℕ) → IfErr result (IsFaultWithin len) }
 {
     match if_past(room, used) {
         Some(_) => Err(Fault::Passes(room)),
@@ -53,7 +53,7 @@ pub(crate) fn shares_within(memory: &CloudMemory) -> Result<(), Fault>
     ensures room { MatchResult result (λ _. if_past names.Shares memory.now.shares_end ≡ None)
         (λ fault. (fault ≡ faults.Passes names.Shares)
         × (if_past names.Shares memory.now.shares_end ≡ Some names.Shares)) }
-    ensures within { (len : ℕ) → IfErr result (IsWithin len) }
+    ensures within { (len : ℕ) → IfErr result (IsFaultWithin len) }
 {
     within(Room::Shares, memory.shares_end())
 }
@@ -63,7 +63,7 @@ pub(crate) fn recipes_within(memory: &CloudMemory) -> Result<(), Fault>
     ensures room { MatchResult result (λ _. if_past names.Recipes memory.now.recipes_end ≡ None)
         (λ fault. (fault ≡ faults.Passes names.Recipes)
         × (if_past names.Recipes memory.now.recipes_end ≡ Some names.Recipes)) }
-    ensures within { (len : ℕ) → IfErr result (IsWithin len) }
+    ensures within { (len : ℕ) → IfErr result (IsFaultWithin len) }
 {
     within(Room::Recipes, memory.recipes_end())
 }

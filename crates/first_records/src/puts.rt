@@ -8,7 +8,7 @@ ghost use Rattle.record_checks.specs.CloudMemory.Steps.{with_items};
 ghost use Rattle.record_checks.specs.Checks.{AreRight, ItemsFault};
 ghost use Rattle.record_checks.specs.Steps.{has_place};
 ghost use Rattle.first_records.specs.Limits.{HasFirstRooms, crowded};
-ghost use Rattle.first_records.specs.Steps.{HasItemsRoom, JudgedAs, IsWithin};
+ghost use Rattle.first_records.specs.Steps.{HasItemsRoom, FirstJudgedAs, IsFaultWithin};
 
 use crate::Ground;
 use crate::errors::Fault;
@@ -84,9 +84,9 @@ pub(crate) fn take_put(
     requires rooms { HasFirstRooms memory.old }
     requires few { length items.items ≤ 256 }
     requires from { items.at ≡ 7 }
-    ensures judged { (read : List ℕ) → JudgedAs ground.now inside read (memory_of memory.old)
+    ensures judged { (read : List ℕ) → FirstJudgedAs ground.now inside read (memory_of memory.old)
         (Put user items.entry.items) result (memory_of memory.new) }
-    ensures within { IfErr result (IsWithin (length items.entry.body)) }
+    ensures within { IfErr result (IsFaultWithin (length items.entry.body)) }
     ensures rooms { HasFirstRooms memory.new }
 {
     match crowded_by(memory, &items) {

@@ -7,7 +7,7 @@ ghost use Rattle.record_checks.specs.CloudMemory.Fitting.{FitsRecords};
 ghost use Rattle.record_checks.specs.CloudMemory.Rooms.{memory_of};
 ghost use Rattle.first_records.specs.Judging.{IsForeign, JudgesFirst};
 ghost use Rattle.first_records.specs.Limits.{HasFirstRooms};
-ghost use Rattle.first_records.specs.Steps.{JudgedAs, IsWithin};
+ghost use Rattle.first_records.specs.Steps.{FirstJudgedAs, IsFaultWithin};
 
 use crate::commits::{take_commit, take_delete};
 use crate::damage::{answer_for, damaged, damaged_body};
@@ -42,9 +42,9 @@ fn take_view(
     requires fits { IsBody body.now (seen view) }
     requires starts { StartsIn body.now view }
     requires read { length recipe.now < 2 ^ 32 }
-    ensures judged { JudgedAs ground.now inside recipe.now (memory_of memory.old) (seen view.entry) result
+    ensures judged { FirstJudgedAs ground.now inside recipe.now (memory_of memory.old) (seen view.entry) result
         (memory_of memory.new) }
-    ensures within { IfErr result (IsWithin (length body.now)) }
+    ensures within { IfErr result (IsFaultWithin (length body.now)) }
     ensures rooms { HasFirstRooms memory.new }
 {
     match view {

@@ -7,7 +7,7 @@ use Rattle.std.proofs.lemmas.List.{length-append, length-drop, length-take-le, t
 use Rattle.frames.specs.Frames.{IsLength, IsFrame, length_in}
 use Rattle.cd_base.specs.Reading.{AreBytes}
 use Rattle.frames.specs.Standing.{IsStanding}
-use Rattle.frames.specs.Steps.{Takes, Refuses}
+use Rattle.frames.specs.Steps.{TakesPiece, RefusesLength}
 use Rattle.frames.proofs.FrameLaws.{measured, framed, length_in-append}
 
 -- the bytes with a part of the piece, and then the rest of it
@@ -26,7 +26,7 @@ same_old : (old piece : List ℕ) → 4 ≤ length old → length_in old ≡ len
 same_old old piece long = sym (length_in-append old piece long)
 
 -- Fewer than four bytes stand, and the whole piece is taken.
-pub unfinished : (old piece : List ℕ) (count : ℕ) (new : List ℕ) → count ≡ min (4 - length old) (length piece) → new ≡ old ++ take count piece → length new < 4 → Takes old piece count new
+pub unfinished : (old piece : List ℕ) (count : ℕ) (new : List ℕ) → count ≡ min (4 - length old) (length piece) → new ≡ old ++ take count piece → length new < 4 → TakesPiece old piece count new
 unfinished old piece count new is e short =
     let within : count ≤ length piece = omega arith in
     let long : length new ≡ length old + count = ap length e ∙ count_with old piece count within in
@@ -40,7 +40,7 @@ unfinished old piece count new is e short =
     }
 
 -- A length that no frame has was completed.
-pub refuses : (old piece : List ℕ) (count : ℕ) (new : List ℕ) → count ≡ min (4 - length old) (length piece) → new ≡ old ++ take count piece → 4 ≤ length new → (IsLength (length_in new) → ⊥) → Refuses old piece (length_in new) new
+pub refuses : (old piece : List ℕ) (count : ℕ) (new : List ℕ) → count ≡ min (4 - length old) (length piece) → new ≡ old ++ take count piece → 4 ≤ length new → (IsLength (length_in new) → ⊥) → RefusesLength old piece (length_in new) new
 refuses old piece count new is e long wrong =
     let within : count ≤ length piece = omega arith in
     let counted : length new ≡ length old + count = ap length e ∙ count_with old piece count within in
@@ -70,7 +70,7 @@ short_standing new short long = absurd (omega arith)
 
 -- What a push takes of a content: up to its end, or all of the piece.
 pub record Finishes (old piece : List ℕ) (count : ℕ) (new : List ℕ) : Type 0 where
-  pub takes : Takes old piece count new
+  pub takes : TakesPiece old piece count new
   pub stands : IsStanding new
 
 -- no frame stands with fewer bytes of the piece than its length says

@@ -43,7 +43,7 @@ impl Model for Framer {
 impl Framer {
     ghost use Rattle.std.specs.Prelude.{◌≡◌, [], ◌++◌, length, IfOk, IfErr, IfSome, IfNone};
     ghost use Rattle.frames.specs.Frames.{IsFrame, IsFrameOf, IsRefused, length_in};
-    ghost use Rattle.frames.specs.Steps.{Takes, Refuses};
+    ghost use Rattle.frames.specs.Steps.{TakesPiece, RefusesLength};
     ghost use Rattle.frames.specs.Found.{found_of};
 
     /// No bytes, with memory for a whole frame of 4 MiB. The only error is want of memory.
@@ -61,8 +61,8 @@ impl Framer {
     /// push, until `reset`. The bytes of the piece behind that length are not taken.
     pub fn push(&mut self, piece: &[u8]) -> Result<usize, FrameErr>
         requires { ¬ IsFrame self.old }
-        ensures ok { IfOk result (λ count. Takes self.old piece.now count self.new) }
-        ensures err { IfErr result (λ error. Refuses self.old piece.now (found_of error) self.new) }
+        ensures ok { IfOk result (λ count. TakesPiece self.old piece.now count self.new) }
+        ensures err { IfErr result (λ error. RefusesLength self.old piece.now (found_of error) self.new) }
         ensures ready { IfErr result (λ _. ¬ IsFrame self.new) }
         ensures again { IsRefused self.old → (result ≡ Err (FrameErr.Length (length_in self.old)))
             × (self.new ≡ self.old) }

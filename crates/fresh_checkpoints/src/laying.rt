@@ -6,7 +6,7 @@ ghost use Rattle.cloud_disk.specs.CdEdges.Shelf.{IsCall, HasFailed, KeepsCounts}
 ghost use Rattle.cloud_disk.specs.JournalHalves.Halves.{half_limit};
 ghost use Rattle.cloud_disk.specs.JournalStart.Ranges.{IsHeader};
 ghost use Rattle.cloud_disk.specs.JournalStart.start.Header.{Header as OfStore};
-ghost use Rattle.cloud_disk.specs.CommitJournal.Leaving.{OthersStay};
+ghost use Rattle.cloud_disk.specs.CommitJournal.Leaving.{OtherAreasStay};
 ghost use Rattle.cloud_disk.specs.CommitJournal.journal.Stage.TheVariants.{AtEnd};
 ghost use Rattle.cloud_disk.specs.CommitJournal.States.{state_of};
 ghost use Rattle.cloud_disk.specs.UserDedup.command.Command.{Command};
@@ -122,7 +122,7 @@ pub fn lay_fresh<V: Shelf>(
     ensures taken { HasSettled (state_of journal.old) (state_of journal.new) header.now next.commands
         (length (records_of memory.now)) next.region (records_of memory.now)
         (V.cloud_at shelf.old cloud.0) (V.cloud_at shelf.new cloud.0) result }
-    ensures others { OthersStay (V.cloud_at shelf.old cloud.0) (V.cloud_at shelf.new cloud.0) result }
+    ensures others { OtherAreasStay (V.cloud_at shelf.old cloud.0) (V.cloud_at shelf.new cloud.0) result }
     ensures stage { (state_of journal.new).stage ≡ stage_behind result }
     ensures gate { OnOk result ((state_of journal.new).current.gate + 1 ≡ 63 + records_len (records_of memory.now)) }
     ensures limit { (state_of journal.new).limit ≡ (state_of journal.old).limit }

@@ -18,7 +18,7 @@ use Rattle.lane_steps.specs.UploadJob.Upload.{FileVersion}
 use Rattle.lane_steps.specs.UploadJob.Lanes.{LaneView, lanes_begun}
 use Rattle.subset_restore.specs.RestoreJob.error.RestoreErr.{RestoreErr}
 use Rattle.replay_core.specs.LocalLink.link.LocalLink.{LocalLink}
-use Rattle.replay_core.specs.Session.Spelling.{AreBytes, IsJob}
+use Rattle.replay_core.specs.Session.Spelling.{AreLineBytes, IsJob}
 use Rattle.replay_core.specs.Session.event.Event.{Event}
 use Rattle.replay_core.specs.Session.event.Event.TheVariants as events
 use Rattle.subset_restore.specs.Transcript.line.Line.{Line}
@@ -30,7 +30,7 @@ use Rattle.replay_core.specs.SessionModel.Steps.{version_of, all_done, IsGetLine
 use Rattle.replay_core.specs.SessionModel.Kept.{upload_of}
 use Rattle.replay_core.specs.SessionModel.Run.{Answered, script_of}
 use Rattle.replay_core.specs.SessionModel.Headline.{IsPartOf}
-use Rattle.replay_core.specs.ScriptLines.At.{IsAt, KeepsOtherClouds}
+use Rattle.replay_core.specs.ScriptLines.At.{IsAtVault, KeepsOtherClouds}
 use Rattle.replay_core.specs.ScriptLines.Does.{Goes, IsLineCut}
 use Rattle.replay_core.specs.ScriptLines.Finishing.{FinishedPart}
 use Rattle.replay_core.specs.ScriptLines.Jobs.{job_lanes}
@@ -95,7 +95,7 @@ module _ {V : Type 0} (clouds : V → ℕ → Cloud) (begun : ℕ → Cloud) (s 
 
   -- a job was begun
   pub job_made : Later → Here → (user : UserId) (path : List ℕ) (version : Version) (bytes : List ℕ) (lanes : List LaneView) (shape : Shape) (number : ℕ) (m : Numbers) → number ≡ count + 1 → number ≤ 1000 → IsPath path → length bytes ≤ 67108864
-      → user.0 < 2 ^ 32 → AreBytes path → version.0 < 2 ^ 64 → AreBytes bytes → shape ≡ old.servers.shape → lanes ≡ lanes_begun shape (version_of user path version bytes)
+      → user.0 < 2 ^ 32 → AreLineBytes path → version.0 < 2 ^ 64 → AreLineBytes bytes → shape ≡ old.servers.shape → lanes ≡ lanes_begun shape (version_of user path version bytes)
       → m ≡ record n { bytes = n.bytes + length bytes } → HasLastJob clouds begun s old files (script ++ events.Upload user path version bytes ∷ []) number m lanes
   job_made later here user path version bytes lanes shape number m next few named short user_few path_bytes version_few bytes_bytes same_shape begun_so added =
       let goes = upload_goes clouds s old made.jobs made.come.at user path version bytes lanes (length made.jobs + 1) made.come.is_at (begun_so ∙ ap (λ (sh : Shape). lanes_begun sh (version_of user path version bytes)) same_shape) refl in
@@ -175,7 +175,7 @@ path_named = record {
   no_zero = All-from_recursion (λ byte. byte ≢ 0) file_path ((λ e. omega (arith, e)), ((λ e. omega (arith, e)), ((λ e. omega (arith, e)), ((λ e. omega (arith, e)), tt))));
 }
 
-pub path_bytes : AreBytes file_path
+pub path_bytes : AreLineBytes file_path
 path_bytes = All-from_recursion (λ byte. byte < 256) file_path (omega arith, (omega arith, (omega arith, (omega arith, tt))))
 
 -- the job of a file was begun

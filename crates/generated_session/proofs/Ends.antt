@@ -22,8 +22,8 @@ use Rattle.replay_core.specs.declared.end.ReplayEnd.{ReplayEnd}
 use Rattle.replay_core.specs.declared.end.ReplayEnd.TheVariants as ends
 use Rattle.replay_core.specs.Endings.{IsEmptyAt, AreEmptyBelow, AreSpared}
 use Rattle.replay_core.specs.Replayed.{Replayed, status_of}
-use Rattle.replay_core.specs.Opening.{AreSame, PreparesAll, EndsUnopened, OpensTo, before_first}
-use Rattle.replay_core.specs.Going.{WritesFront, EndsSink, IsReplayReady}
+use Rattle.replay_core.specs.Opening.{AreSame, PreparesAll, EndsUnopened, OpensClouds, before_first}
+use Rattle.replay_core.specs.Going.{AppendsFront, EndsSink, IsReplayReady}
 use Rattle.replay_core.proofs.Clouds.{spared_by, spared_same}
 use Rattle.replay_core.proofs.Sessions.{Later, Here, Part, Holds, holds_between, holds_cut, appends_none}
 use Rattle.replay_core.proofs.Whole.{Laws, session_of, replayed, apart}
@@ -31,7 +31,7 @@ use Rattle.replay_core.proofs.Begins.{unopened_of, replayed_unopened, come_first
 use Rattle.generated_session.specs.declared.numbers.Numbers.{Numbers}
 use Rattle.generated_session.specs.Lines.{generated_lines}
 use Rattle.generated_session.specs.Numbers.{HasNumbers, summary_text}
-use Rattle.generated_session.specs.Generates.{Order, Passing, IsSessionWhole, IsSessionUnopened, IsCaused, WritesSummary, IsSummed, Generates, IsStill, GoesWell, IsDone}
+use Rattle.generated_session.specs.Generates.{Order, Passing, IsSessionWhole, IsSessionUnopened, IsCaused, WritesSummary, IsSummaryWritten, Generates, HasNotRisen, GoesWell, IsDone}
 use Rattle.generated_session.specs.Progress.{start_of, no_numbers, HasMade, IsStopped}
 use Rattle.generated_session.proofs.Tallies.{numbers_none}
 use Rattle.generated_session.proofs.Script.{lines_len}
@@ -49,7 +49,7 @@ Opens s = (s.shape.n ≡ 4) × (s.shape.k ≡ 3) × (s.rooms ≡ usual_rooms)
 
 module _ (laws : Laws) (order : Order) (call : Passing) (s : Setting) (four : Opens s) (told : (cloud : ℕ) → s.told cloud ≡ (call.old cloud).told)
     (prepares : PreparesAll (header_in s) s.shape call.old call.new) (sank : call.sink_after ≡ call.sink_before) (still : call.after ≡ call.before) where
-  unopened : (end : ReplayEnd) → (status_of end ≡ 0 → ⊥) → AreSpared s.shape.n call.old call.new → IsCaused end order call (unopened_of s call.old) → IsSummed end order call (unopened_of s call.old) → Generates end order call
+  unopened : (end : ReplayEnd) → (status_of end ≡ 0 → ⊥) → AreSpared s.shape.n call.old call.new → IsCaused end order call (unopened_of s call.old) → IsSummaryWritten end order call (unopened_of s call.old) → Generates end order call
   unopened end some spared cause summed = record {
     run = unopened_of s call.old;
     replayed = replayed_unopened laws (status_of end) (start_of call.old) s call.new some told prepares;
@@ -93,7 +93,7 @@ module _ (laws : Laws) (order : Order) (call : Passing) (s : Setting) (four : Op
 
 -- the clouds are opened, and no line was carried out
 pub made_first : {V : Type 0} (clouds : V → ℕ → Cloud) (laws : Laws) (begun : ℕ → Cloud) (s : Setting) (old new : LocalLink V)
-    → IsReplayReady clouds (start_of begun) s old before_first None 0 None 0 → OpensTo clouds old new old.servers.shape.n → (order : Order) → HasMade clouds begun s new (uploads (lines_of order)) [] 0 no_numbers
+    → IsReplayReady clouds (start_of begun) s old before_first None 0 None 0 → OpensClouds clouds old new old.servers.shape.n → (order : Order) → HasMade clouds begun s new (uploads (lines_of order)) [] 0 no_numbers
 made_first clouds laws begun s old new ready to order = record {
   jobs = [];
   lines = 0;
@@ -108,7 +108,7 @@ module _ {V : Type 0} (clouds : V → ℕ → Cloud) (laws : Laws) (order : Orde
   opened : (end : ReplayEnd) (history : List Answered) (at : Vault) (begun : Option Begun) (last : ℕ → Peer) → Holds (start_of call.old) s (clouds link.shelf.now) history at begun last
       → (status_of end ≡ 0 → (cloud : ℕ) → cloud < s.shape.n → (last cloud).faults ≡ (clouds link.shelf.now cloud).faults) → ((cloud : ℕ) → (clouds link.shelf.now cloud).told ≡ (call.old cloud).told)
       → (rest : List Event) → script_of history ++ event_of begun ++ rest ≡ lines_of order
-      → IsCaused end order call (session_of s history at begun last) → IsSummed end order call (session_of s history at begun last) → Generates end order call
+      → IsCaused end order call (session_of s history at begun last) → IsSummaryWritten end order call (session_of s history at begun last) → Generates end order call
   opened end history at begun last holds same told rest lines cause summed = record {
     run = session_of s history at begun last;
     replayed = all;
@@ -178,7 +178,7 @@ module _ {V : Type 0} (clouds : V → ℕ → Cloud) (laws : Laws) (order : Orde
 
 -- ---- where nothing fails
 
-none_rose : (before now : ℕ) → IsStill before now → Rose before now → ⊥
+none_rose : (before now : ℕ) → HasNotRisen before now → Rose before now → ⊥
 none_rose before now still rose = let same = still.0 in let few = still.1 in omega arith
 
 pub goes_well : (end : ReplayEnd) (order : Order) (call : Passing) → Generates end order call → GoesWell call → IsDone end

@@ -10,7 +10,7 @@ use Rattle.lane_steps.specs.CdEdges.Disk.{Cloud}
 use Rattle.lane_steps.specs.UploadJob.Upload.{FileVersion}
 use Rattle.subset_restore.specs.RestoreJob.error.RestoreErr.{RestoreErr}
 use Rattle.replay_core.specs.LocalLink.link.LocalLink.{LocalLink}
-use Rattle.replay_core.specs.Session.Spelling.{AreBytes, AreSources}
+use Rattle.replay_core.specs.Session.Spelling.{AreLineBytes, AreSources}
 use Rattle.replay_core.specs.Session.event.Event.{Event}
 use Rattle.replay_core.specs.Session.event.Event.TheVariants as events
 use Rattle.subset_restore.specs.Transcript.line.Line.{Line}
@@ -81,7 +81,7 @@ module _ (files : List FileVersion) (user : UserId) (path : List ℕ) (version :
 
 module _ {V : Type 0} (clouds : V → ℕ → Cloud) (begun : ℕ → Cloud) (s : Setting) (files : List FileVersion) (script : List Event) (count : ℕ) (n : Numbers) (old : LocalLink V)
     (made : HasMade clouds begun s old files script count n) (new : LocalLink V) (user : UserId) (path : List ℕ) (version : Version) (named : List ℕ)
-    (is_path : IsPath path) (user_few : user.0 < 2 ^ 32) (path_bytes : AreBytes path) (version_few : version.0 < 2 ^ 64) (are : AreSources old.servers.shape named)
+    (is_path : IsPath path) (user_few : user.0 < 2 ^ 32) (path_bytes : AreLineBytes path) (version_few : version.0 < 2 ^ 64) (are : AreSources old.servers.shape named)
     (result : Result (Unit {0}) RestoreErr) (file : List ℕ) (r : Read clouds s old new named result user path version file) (leaves : KeepsOtherClouds clouds old new) where
   can_get : CanBe s.shape (length made.jobs) (events.Get user path version named)
   can_get = record {

@@ -14,7 +14,7 @@ use Rattle.subset_restore.specs.Transcript.line.Line.{Line}
 use Rattle.replay_core.specs.SessionModel.Vault.{Setting, Vault, HasVaultExecuted, lanes_of, with_lanes}
 use Rattle.replay_core.specs.SessionModel.Steps.{moment_of, step_line, all_done, stored_line}
 use Rattle.replay_core.specs.Session.Texts.{text_of}
-use Rattle.replay_core.specs.ScriptLines.At.{IsAt}
+use Rattle.replay_core.specs.ScriptLines.At.{IsAtVault}
 use Rattle.replay_core.specs.ScriptLines.Jobs.{job_lanes, with_job}
 use Rattle.replay_core.specs.ScriptLines.Stepping.{stored_if}
 use Rattle.replay_core.specs.ScriptLines.Finishing.{Finished, FinishedPart}
@@ -27,7 +27,7 @@ use Rattle.generated_session.specs.Progress.{HasAddedAnswers, Brings}
 use Rattle.generated_session.proofs.Tallies.{adds_none, adds_join}
 
 module _ {V : Type 0} (clouds : V → ℕ → Cloud) (s : Setting) (job : ℕ) where
-  pub brings_none : (old : LocalLink V) (jobs : List (List LaneView)) (v : Vault) (n : Numbers) → IsAt clouds s old jobs v → Brings clouds s job [] old old jobs v n n
+  pub brings_none : (old : LocalLink V) (jobs : List (List LaneView)) (v : Vault) (n : Numbers) → IsAtVault clouds s old jobs v → Brings clouds s job [] old old jobs v n n
   brings_none old jobs v n is = record {
     answers = [];
     moments = [];
@@ -58,7 +58,7 @@ module _ {V : Type 0} (clouds : V → ℕ → Cloud) (s : Setting) (job : ℕ) w
       (record { answers = f.answers; moments = f.moments; after = f.after; lanes_run = f.lanes_run; is_at = f.is_at; text_is = refl; images = f.images }) g
 
 module _ {V : Type 0} (clouds : V → ℕ → Cloud) (talk : LocalLink V → ℕ → Talk → Type 0) (s : Setting) (job cloud : ℕ) where
-  one_brought : (old new : LocalLink V) (jobs : List (List LaneView)) (v : Vault) (after : List LaneView) (now : List LaneNews) (stored : Bool) (n m : Numbers) → IsAt clouds s old jobs v → cloud < s.shape.n
+  one_brought : (old new : LocalLink V) (jobs : List (List LaneView)) (v : Vault) (after : List LaneView) (now : List LaneNews) (stored : Bool) (n m : Numbers) → IsAtVault clouds s old jobs v → cloud < s.shape.n
       → Finishes (telling clouds) talk cloud old (lanes_of v.jobs job) [] (Ok tt) new after now → stored ≡ (not (all_done (lanes_of v.jobs job)) && all_done after)
       → HasAddedAnswers (map (step_line job cloud) now ++ stored_if job stored) n m → Brings clouds s job (cloud ∷ []) old new (with_job jobs job after) v n m
   one_brought old new jobs v after now stored n m is lt f e adds =
@@ -93,7 +93,7 @@ module _ {V : Type 0} (clouds : V → ℕ → Cloud) (talk : LocalLink V → ℕ
       }
 
   -- the job has these lanes by its number
-  pub lane_brought : (old new : LocalLink V) (jobs : List (List LaneView)) (v : Vault) (views after : List LaneView) (now : List LaneNews) (before is_now : Bool) (n m : Numbers) → IsAt clouds s old jobs v → cloud < s.shape.n
+  pub lane_brought : (old new : LocalLink V) (jobs : List (List LaneView)) (v : Vault) (views after : List LaneView) (now : List LaneNews) (before is_now : Bool) (n m : Numbers) → IsAtVault clouds s old jobs v → cloud < s.shape.n
       → job_lanes jobs job ≡ views → Finishes (telling clouds) talk cloud old views [] (Ok tt) new after now → before ≡ all_done views → is_now ≡ all_done after
       → HasAddedAnswers (map (step_line job cloud) now ++ stored_if job (not before && is_now)) n m → Brings clouds s job (cloud ∷ []) old new (with_job jobs job after) v n m
   lane_brought old new jobs v views after now before is_now n m is lt same f was becomes adds =

@@ -16,7 +16,7 @@ use Rattle.replay_core.specs.SessionModel.Run.{Answered, script_of, answers_of}
 use Rattle.replay_core.specs.ScriptLines.Stepping.{stored_if}
 use Rattle.replay_core.proofs.Sessions.{script_more, answers_more}
 use Rattle.generated_session.specs.declared.numbers.Numbers.{Numbers}
-use Rattle.generated_session.specs.Numbers.{stored_in, sent_in, known_in, GivesUploaded, Counts, bytes_in, HasNumbers}
+use Rattle.generated_session.specs.Numbers.{stored_in, sent_in, known_in, GivesUploaded, CountsSuch, bytes_in, HasNumbers}
 use Rattle.generated_session.specs.Progress.{sent_by, known_by, no_numbers, HasAddedAnswers}
 
 -- ---- the lines of a lane
@@ -103,7 +103,7 @@ adds_end xs job b n m adds = record {
 
 -- ---- one line more
 
-counts_more : {A : Type 0} (P : A → Type 0) (xs : List A) (x : A) (c d : ℕ) → Counts P xs c → (P x × (d ≡ c + 1)) ⊎ ((¬ P x) × (d ≡ c)) → Counts P (xs ++ x ∷ []) d
+counts_more : {A : Type 0} (P : A → Type 0) (xs : List A) (x : A) (c d : ℕ) → CountsSuch P xs c → (P x × (d ≡ c + 1)) ⊎ ((¬ P x) × (d ≡ c)) → CountsSuch P (xs ++ x ∷ []) d
 counts_more P [] x c d none (inl h) = inl (h.0, (0, h.1 ∙ ap (λ (k : ℕ). k + 1) none, refl))
 counts_more P [] x c d none (inr h) = inr (h.0, h.1 ∙ none)
 counts_more P (y ∷ xs) x c d (inl k) (inl h) =

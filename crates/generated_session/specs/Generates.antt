@@ -81,10 +81,10 @@ pub record WritesSummary (order : Order) (call : Passing) (run : Session) (rest 
   pub written : Appends call.before call.after text
 
 -- With Done the whole summary is written, where the sink failed a front of it, and else nothing.
-abbrev pub IsSummed : ReplayEnd → Order → Passing → Session → Type 0
-IsSummed (ends.Done events) order call run = WritesSummary order call run []
-IsSummed ends.SinkFault order call run = (rest : List ℕ) × WritesSummary order call run rest
-IsSummed end order call run = Appends call.before call.after []
+abbrev pub IsSummaryWritten : ReplayEnd → Order → Passing → Session → Type 0
+IsSummaryWritten (ends.Done events) order call run = WritesSummary order call run []
+IsSummaryWritten ends.SinkFault order call run = (rest : List ℕ) × WritesSummary order call run rest
+IsSummaryWritten end order call run = Appends call.before call.after []
 
 -- The whole promise: of the clouds what each session promises, over four clouds of which three give a file back, in the
 -- usual rooms. Its lines are those that the generated session begins with, the line that want of memory cut among them.
@@ -100,20 +100,20 @@ pub record Generates (end : ReplayEnd) (order : Order) (call : Passing) : Type 0
   -- where a told cloud isn't empty, nothing was written, whatever the end
   pub spared : AreSpared 4 call.old call.new
   pub cause : IsCaused end order call run
-  pub summed : IsSummed end order call run
+  pub summed : IsSummaryWritten end order call run
 
 -- ---- where nothing fails
 
 -- the count didn't rise, and isn't at its last value
-abbrev pub IsStill : ℕ → ℕ → Type 0
-IsStill before now = (now ≡ before) × (before < 2 ^ 64 - 1)
+abbrev pub HasNotRisen : ℕ → ℕ → Type 0
+HasNotRisen before now = (now ≡ before) × (before < 2 ^ 64 - 1)
 
 -- the four clouds are told and empty, and no count of theirs and of the sink rises
 pub record GoesWell (call : Passing) : Type 0 where
   pub told : (cloud : ℕ) → cloud < 4 → IsTrue (call.old cloud).told
   pub empty : (cloud : ℕ) (area : Area) → cloud < 4 → IsEmptyAt (call.old cloud) area
-  pub counts : (cloud : ℕ) → cloud < 4 → IsStill (call.old cloud).faults (call.new cloud).faults
-  pub sink : IsStill call.sink_before call.sink_after
+  pub counts : (cloud : ℕ) → cloud < 4 → HasNotRisen (call.old cloud).faults (call.new cloud).faults
+  pub sink : HasNotRisen call.sink_before call.sink_after
 
 -- all was done, or memory ran out
 abbrev pub IsDone : ReplayEnd → Type 0

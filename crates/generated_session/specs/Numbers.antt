@@ -39,10 +39,10 @@ GivesUploaded files (events.Get user path version clouds) (lines.Got bytes ∷ [
 GivesUploaded files event answers = ⊥
 
 -- so many of these are such
-abbrev pub Counts : {A : Type 0} → (A → Type 0) → List A → ℕ → Type 0
-Counts P [] count = count ≡ 0
-Counts P (x ∷ xs) count =
-    (P x × ((rest : ℕ) × (count ≡ rest + 1) × Counts P xs rest)) ⊎ ((¬ P x) × Counts P xs count)
+abbrev pub CountsSuch : {A : Type 0} → (A → Type 0) → List A → ℕ → Type 0
+CountsSuch P [] count = count ≡ 0
+CountsSuch P (x ∷ xs) count =
+    (P x × ((rest : ℕ) × (count ≡ rest + 1) × CountsSuch P xs rest)) ⊎ ((¬ P x) × CountsSuch P xs count)
 
 -- ---- all of them
 
@@ -56,7 +56,7 @@ pub record HasNumbers (files : List FileVersion) (history : List Answered) (n : 
   pub stored : n.stored ≡ sum_by stored_in (answers_of history)
   pub sent : n.sent ≡ sum_by sent_in (answers_of history)
   pub known : n.known ≡ sum_by known_in (answers_of history)
-  pub equal : Counts (λ (a : Answered). GivesUploaded files a.event a.answers) history n.equal
+  pub equal : CountsSuch (λ (a : Answered). GivesUploaded files a.event a.answers) history n.equal
 
 -- ---- the summary
 

@@ -16,7 +16,7 @@ use Rattle.replay_core.specs.SessionModel.Vault.{Setting, Vault}
 use Rattle.subset_restore.specs.Refusals.{refusal_of}
 use Rattle.replay_core.specs.SessionModel.Steps.{Moment, FinishLanes}
 use Rattle.replay_core.specs.SessionModel.Run.{script_of}
-use Rattle.replay_core.specs.ScriptLines.At.{IsAt, KeepsOtherClouds}
+use Rattle.replay_core.specs.ScriptLines.At.{IsAtVault, KeepsOtherClouds}
 use Rattle.replay_core.specs.ScriptLines.Does.{Images, IsLineCut}
 use Rattle.replay_core.specs.ScriptLines.Finishing.{FinishedPart}
 use Rattle.replay_core.specs.ScriptLines.Jobs.{job_lanes}
@@ -47,7 +47,7 @@ pub record HasRoom (lanes : ℕ) (n : Numbers) : Type 0 where
   pub known : n.known + lanes * 2 ^ 80 < 2 ^ 128
 
 -- So many lanes added no more than they can.
-pub record Grows (lanes : ℕ) (n m : Numbers) : Type 0 where
+pub record GrowsByLanes (lanes : ℕ) (n m : Numbers) : Type 0 where
   pub stored : m.stored ≤ n.stored + lanes
   pub sent : m.sent ≤ n.sent + lanes * 2 ^ 80
   pub known : m.known ≤ n.known + lanes * 2 ^ 80
@@ -83,7 +83,7 @@ pub record Brings {V : Type 0} (clouds : V → ℕ → Cloud) (s : Setting) (job
   pub moments : List Moment
   pub after : Vault
   pub lanes_run : FinishLanes s job lanes v answers moments after
-  pub is_at : IsAt clouds s new jobs after
+  pub is_at : IsAtVault clouds s new jobs after
   pub images : Images clouds s old new moments after.peers
   pub adds : HasAddedAnswers answers n m
 
@@ -91,7 +91,7 @@ pub record Brings {V : Type 0} (clouds : V → ℕ → Cloud) (s : Setting) (job
 abbrev pub BringsLanes : {V : Type 0} → (V → ℕ → Cloud) → (Setting → List ℕ) → LocalLink V → List LaneView → LocalLink V
     → List LaneView → Numbers → Numbers → Type 0
 BringsLanes clouds lanes old views new views_now n m =
-    (s : Setting) (v : Vault) (jobs : List (List LaneView)) (job : ℕ) → IsAt clouds s old jobs v → IsJob (length jobs) job
+    (s : Setting) (v : Vault) (jobs : List (List LaneView)) (job : ℕ) → IsAtVault clouds s old jobs v → IsJob (length jobs) job
     → job_lanes jobs job ≡ views
     → (later : List (List LaneView)) × (length later ≡ length jobs) × (job_lanes later job ≡ views_now)
     × Brings clouds s job (lanes s) old new later v n m
@@ -99,7 +99,7 @@ BringsLanes clouds lanes old views new views_now n m =
 -- Of each of those: want of memory cut it.
 abbrev pub CutsJob : {V : Type 0} → (V → ℕ → Cloud) → (Setting → List ℕ) → LocalLink V → List LaneView → LocalLink V → Type 0
 CutsJob clouds lanes old views new =
-    (s : Setting) (v : Vault) (jobs : List (List LaneView)) (job : ℕ) → IsAt clouds s old jobs v → IsJob (length jobs) job
+    (s : Setting) (v : Vault) (jobs : List (List LaneView)) (job : ℕ) → IsAtVault clouds s old jobs v → IsJob (length jobs) job
     → job_lanes jobs job ≡ views → FinishedPart clouds s job (lanes s) old new v
 
 -- ---- the lines
@@ -170,8 +170,8 @@ Makes clouds files part count later old new n m =
     → HasMade clouds begun s new files (script ++ part) later m
 
 -- Of each of those: it stopped within these lines.
-abbrev pub Stops : {V : Type 0} → (V → ℕ → Cloud) → List FileVersion → List Event → ℕ → LocalLink V → LocalLink V
+abbrev pub StopsWithin : {V : Type 0} → (V → ℕ → Cloud) → List FileVersion → List Event → ℕ → LocalLink V → LocalLink V
     → Numbers → Type 0
-Stops clouds files part count old new n =
+StopsWithin clouds files part count old new n =
     (begun : ℕ → Cloud) (s : Setting) (script : List Event) → HasMade clouds begun s old files script count n
     → IsStopped clouds begun s new (script ++ part)

@@ -15,8 +15,8 @@ ghost use Rattle.replay_core.specs.ScriptLines.At.{KeepsOtherClouds};
 ghost use Rattle.generated_session.specs.Drawn.{file_of};
 ghost use Rattle.generated_session.specs.Lines.{user_at, version_at, file_path, clouds_at, upload_lines, get_line};
 ghost use Rattle.generated_session.specs.Lines.{generated_lines};
-ghost use Rattle.generated_session.specs.Progress.{no_numbers, HasRoom, Grows, AreWithin, BringsLanes, CutsJob};
-ghost use Rattle.generated_session.specs.Progress.{HasMade, HasLastJob, IsFileOf, IsStopped, Makes, Stops};
+ghost use Rattle.generated_session.specs.Progress.{no_numbers, HasRoom, GrowsByLanes, AreWithin, BringsLanes, CutsJob};
+ghost use Rattle.generated_session.specs.Progress.{HasMade, HasLastJob, IsFileOf, IsStopped, Makes, StopsWithin};
 
 use crate::Numbers;
 use crate::counting::{count_got, count_lane, is_same};
@@ -108,7 +108,7 @@ fn finish_one<V: Shelf>(
     ensures does { OnOk result (BringsLanes V.cloud_at (λ s. lane.0 ∷ []) link.old job.old link.new job.new
         numbers.old numbers.new) }
     ensures cut { OnErr result (CutsJob V.cloud_at (λ s. lane.0 ∷ []) link.old job.old link.new) }
-    ensures grows { Grows 1 numbers.old numbers.new }
+    ensures grows { GrowsByLanes 1 numbers.old numbers.new }
     ensures leaves { KeepsOtherClouds V.cloud_at link.old link.new }
     ensures reached { IsReached link.old.servers.shape job.new }
     ensures same_reference { link.new.shelf.ghost_name ≡ link.old.shelf.ghost_name }
@@ -145,7 +145,7 @@ fn finish_lanes<V: Shelf>(
         (BringsLanes V.cloud_at (λ s. range_with_len 0 s.shape.n) link.old job.old link.new job.new
         numbers.old numbers.new) }
     ensures cut { OnErr result (CutsJob V.cloud_at (λ s. range_with_len 0 s.shape.n) link.old job.old link.new) }
-    ensures grows { Grows 256 numbers.old numbers.new }
+    ensures grows { GrowsByLanes 256 numbers.old numbers.new }
     ensures leaves { KeepsOtherClouds V.cloud_at link.old link.new }
     ensures same_reference { link.new.shelf.ghost_name ≡ link.old.shelf.ghost_name }
 {
@@ -173,7 +173,7 @@ fn finish_job<V: Shelf>(
         (count : ℕ)
         → HasLastJob V.cloud_at begun s link.old files script count numbers.old job.old
         → IsStopped V.cloud_at begun s link.new (script ++ events.Finish count ∷ [])) }
-    ensures grows { Grows 256 numbers.old numbers.new }
+    ensures grows { GrowsByLanes 256 numbers.old numbers.new }
     ensures shape { link.new.servers.shape ≡ link.old.servers.shape }
     ensures same_reference { link.new.shelf.ghost_name ≡ link.old.shelf.ghost_name }
 {
@@ -200,7 +200,8 @@ fn upload_file<V: Shelf>(
     requires room { AreWithin (number - 1) numbers.old }
     ensures makes { OnOk result ((files : List FileVersion) → Makes V.cloud_at files (upload_lines seed pieces number)
         (number - 1) number link.old link.new numbers.old numbers.new) }
-    ensures stops { OnErr result ((files : List FileVersion) → Stops V.cloud_at files (upload_lines seed pieces number)
+    ensures stops { OnErr result
+        ((files : List FileVersion) → StopsWithin V.cloud_at files (upload_lines seed pieces number)
         (number - 1) link.old link.new numbers.old) }
     ensures within { OnOk result (AreWithin number numbers.new) }
     ensures equal { numbers.new.equal ≡ numbers.old.equal }
@@ -245,7 +246,7 @@ fn get_file<V: Shelf>(
         (file_of seed pieces (version_at number).0))
         → Makes V.cloud_at files (get_line number ∷ []) count count link.old link.new numbers.old numbers.new) }
     ensures stops { OnErr result ((files : List FileVersion) (count : ℕ)
-        → Stops V.cloud_at files (get_line number ∷ []) count link.old link.new numbers.old) }
+        → StopsWithin V.cloud_at files (get_line number ∷ []) count link.old link.new numbers.old) }
     ensures few { OnOk result (numbers.new.equal ≤ number) }
     ensures shape { link.new.servers.shape ≡ link.old.servers.shape }
     ensures same_reference { link.new.shelf.ghost_name ≡ link.old.shelf.ghost_name }
@@ -296,7 +297,7 @@ fn upload_all<V: Shelf>(
         → Makes V.cloud_at all (flat_map (upload_lines seed pieces) (range_with_len 1 files)) 0 files
         link.old link.new numbers.old numbers.new) }
     ensures stops { OnErr result ((all : List FileVersion)
-        → Stops V.cloud_at all (flat_map (upload_lines seed pieces) (range_with_len 1 files)) 0
+        → StopsWithin V.cloud_at all (flat_map (upload_lines seed pieces) (range_with_len 1 files)) 0
         link.old link.new numbers.old) }
     ensures equal { numbers.new.equal ≡ 0 }
     ensures shape { link.new.servers.shape ≡ link.old.servers.shape }
@@ -323,7 +324,7 @@ fn get_all<V: Shelf>(
     requires equal { numbers.old.equal ≡ 0 }
     ensures makes { OnOk result (Makes V.cloud_at (uploads (generated_lines seed files pieces))
         (map get_line (range_with_len 1 files)) files files link.old link.new numbers.old numbers.new) }
-    ensures stops { OnErr result (Stops V.cloud_at (uploads (generated_lines seed files pieces))
+    ensures stops { OnErr result (StopsWithin V.cloud_at (uploads (generated_lines seed files pieces))
         (map get_line (range_with_len 1 files)) files link.old link.new numbers.old) }
     ensures same_reference { link.new.shelf.ghost_name ≡ link.old.shelf.ghost_name }
 {
@@ -347,7 +348,7 @@ pub fn carry_all<V: Shelf>(
     requires shape { (link.old.servers.shape.n ≡ 4) × (link.old.servers.shape.k ≡ 3) }
     ensures makes { IfOk result (λ numbers. Makes V.cloud_at (uploads (generated_lines seed files pieces))
         (generated_lines seed files pieces) 0 files link.old link.new no_numbers numbers) }
-    ensures stops { OnErr result (Stops V.cloud_at (uploads (generated_lines seed files pieces))
+    ensures stops { OnErr result (StopsWithin V.cloud_at (uploads (generated_lines seed files pieces))
         (generated_lines seed files pieces) 0 link.old link.new no_numbers) }
     ensures same_reference { link.new.shelf.ghost_name ≡ link.old.shelf.ghost_name }
 {

@@ -1,7 +1,7 @@
 //! What answers add to the numbers of a session.
 
 ghost use Rattle.std.specs.Prelude.{◌≡◌, ◌<◌, ◌≤◌, ◌+◌, ◌*◌, ◌^◌, sum_by, not, ◌&&◌, if◌then◌else◌, OnOk, OnErr, IsTrue, ◌↔◌};
-ghost use Rattle.generated_session.specs.Progress.{sent_by, known_by, HasRoom, Grows, CountsGot};
+ghost use Rattle.generated_session.specs.Progress.{sent_by, known_by, HasRoom, GrowsByLanes, CountsGot};
 
 use crate::Numbers;
 use lane_steps::{LaneNews, NoMemory};
@@ -77,7 +77,7 @@ pub fn count_lane(told: &[LaneNews], before: bool, now: bool, numbers: &mut Numb
       sent = numbers.old.sent + sum_by sent_by told.now;
       known = numbers.old.known + sum_by known_by told.now;
     } }
-    ensures grows { Grows 1 numbers.old numbers.new }
+    ensures grows { GrowsByLanes 1 numbers.old numbers.new }
 {
     numbers.sent += all_sent(told);
     numbers.known += all_known(told);

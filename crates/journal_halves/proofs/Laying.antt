@@ -5,10 +5,10 @@ use Rattle.std.proofs.lemmas.List.{ext_get_or}
 use Rattle.std.proofs.lemmas.List.Elements.{All-head, All-tail}
 use Rattle.cd_edges.specs.Disk.{Store, MayLeave, IsOutside}
 use Rattle.journal_halves.specs.Records.{IsJournalBody, sized, chain, IsJournal, is_begun}
-use Rattle.journal_halves.specs.Frames.{IsRecord}
+use Rattle.journal_halves.specs.Frames.{IsRecordAhead}
 use Rattle.journal_start.specs.Spelling.{start_bytes}
 use Rattle.journal_halves.specs.Halves.{half_len, half_of, is_half_begun, HasStart}
-use Rattle.journal_halves.specs.Journals.{Where, all_bodies, HasChain, used_by, IsClosedAt, AreInHalf, IsApart}
+use Rattle.journal_halves.specs.Journals.{Where, all_bodies, HasChain, used_by, IsClosedAt, AreInHalf, IsHalfApart}
 
 -- ---- which places weren't written
 
@@ -43,7 +43,7 @@ front old new from bytes behind is long same = ext_get_or 0 _ _
 
 -- ---- a chain begins with its first record
 
-pub starts : (body : List ℕ) (bodies : List (List ℕ)) (gate : ℕ) (behind : List ℕ) → IsJournalBody body → IsRecord (chain (body ∷ bodies) ++ gate ∷ behind) body
+pub starts : (body : List ℕ) (bodies : List (List ℕ)) (gate : ℕ) (behind : List ℕ) → IsJournalBody body → IsRecordAhead (chain (body ∷ bodies) ++ gate ∷ behind) body
 starts body [] gate behind is = record { gate = gate; behind = behind; is_body = is; spelled = ap (λ (l : List ℕ). 1 ∷ l) (append_assoc (sized body) [] (gate ∷ behind)) }
 starts body (next ∷ bodies) gate behind is = record {
   gate = 1;
@@ -67,7 +67,7 @@ still_closed half bytes shut = elim (cases_Bool (is_half_begun half bytes)) [
 
 -- ---- the law
 
-module _ (store : Store) (w : Where) (half : ℕ) (is : IsApart store w half) (image : List ℕ) (left : MayLeave store image) where
+module _ (store : Store) (w : Where) (half : ℕ) (is : IsHalfApart store w half) (image : List ℕ) (left : MayLeave store image) where
   c : IsJournal (all_bodies w) (half_of w.half store.synced)
   c = is.chain_there.chain_is
 
@@ -111,7 +111,7 @@ module _ (store : Store) (w : Where) (half : ℕ) (is : IsApart store w half) (i
   start_stays : HasStart image w.half w.start
   start_stays = record {
     is_start = is.chain_there.current.begun.is_start;
-    record_is = subst (λ (l : List ℕ). IsRecord l (start_bytes w.start)) (sym chain_stays.spelled)
+    record_is = subst (λ (l : List ℕ). IsRecordAhead l (start_bytes w.start)) (sym chain_stays.spelled)
         (starts (start_bytes w.start) w.bodies chain_stays.gate chain_stays.behind is.sizes.0);
   }
 

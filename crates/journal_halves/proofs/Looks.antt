@@ -5,7 +5,7 @@ use Rattle.std.proofs.lemmas.List.{take-take, take_min}
 use Rattle.cd_edges.specs.Shelf.{ReadsFrom}
 use Rattle.journal_halves.specs.declared.errors.RecordErr.TheVariants as errors
 use Rattle.journal_halves.specs.Records.{is_begun}
-use Rattle.journal_halves.specs.Frames.{IsClosed, IsRecord, HasBadLength, IsCutOff}
+use Rattle.journal_halves.specs.Frames.{IsClosed, IsRecordAhead, HasBadLength, IsRecordCutOff}
 use Rattle.journal_halves.specs.Outcomes.{DamageIs}
 use Rattle.journal_halves.proofs.Taken.{record_on, bad_on, short_ahead, prefix_of, all_of, body_ahead, length_ahead}
 use Rattle.journal_halves.proofs.Current.{epoch_small}
@@ -13,14 +13,14 @@ use Rattle.journal_start.specs.declared.fault.StartFault.{StartFault}
 use Rattle.journal_start.specs.declared.start.Start.{Start}
 use Rattle.journal_start.specs.Ranges.{IsStart}
 use Rattle.journal_start.specs.Spelling.{start_bytes, epoch_of, IsSpelled}
-use Rattle.journal_start.specs.Reading.{start_at, IsPlaced}
+use Rattle.journal_start.specs.Reading.{start_at, IsFaultPlaced}
 use Rattle.journal_start.specs.declared.fault.StartFault.TheVariants.{Short, Wrong}
 use Rattle.journal_halves.specs.Halves.{half_len, half_of, is_half_begun, HasStart, IsCurrent}
 use Rattle.journal_halves.specs.declared.found.Found.{Found}
 use Rattle.journal_halves.specs.declared.found.FindErr.{FindErr}
 use Rattle.journal_halves.specs.declared.found.FindErr.TheVariants as finds
-use Rattle.journal_halves.specs.Findings.{part_of, IsFaultAt, IsStartDamage, IsSound, epoch_place, IsFoundDamage, InFirst, InSecond, Epochs, LookIs, OnFault, FindIs}
-use Rattle.journal_halves.specs.Choices.{IsLater, IsOf, AreAlike}
+use Rattle.journal_halves.specs.Findings.{part_of, IsFaultAt, IsStartDamage, IsHalfSound, epoch_place, IsFoundDamage, InFirst, InSecond, Epochs, LookIs, OnFindFault, FindIs}
+use Rattle.journal_halves.specs.Choices.{IsLaterStart, IsStartOfEither, AreAlike}
 
 -- ---- a half's places
 
@@ -44,7 +44,7 @@ part_short half journal = short_of half_len (half_of half journal)
 pub ahead_part : (half : ℕ) (journal ahead : List ℕ) → ahead ≡ take 65541 (half_of half journal) → ahead ≡ take 65541 (part_of half journal)
 ahead_part half journal ahead e = e ∙ sym (take-take 65541 half_len (half_of half journal) (omega arith))
 
-pub has_start : (half : ℕ) (journal : List ℕ) (start : Start) → IsStart half start → IsRecord (part_of half journal) (start_bytes start) → HasStart journal half start
+pub has_start : (half : ℕ) (journal : List ℕ) (start : Start) → IsStart half start → IsRecordAhead (part_of half journal) (start_bytes start) → HasStart journal half start
 has_start half journal start is r = record {
   is_start = is;
   record_is = record_on (part_of half journal) (half_of half journal) (prefix_of (part_of half journal) (half_of half journal) half_len refl) (start_bytes start) r;
@@ -66,7 +66,7 @@ pub read_ahead : (held out : List ℕ) (place count : ℕ) → length out ≡ 65
 read_ahead held out place count size read = read.bytes ∙ ap (λ (n : ℕ). take n (drop place held)) (omega (arith, read.lesser, size, length-drop place held)) ∙ take_min 65541 (drop place held)
 
 -- no device call failed
-pub counted : {T : Type 0} (result : Result T FindErr) (failed other : Type 0) → OnFault result ⊥ (Unit {0}) → other → OnFault result failed other
+pub counted : {T : Type 0} (result : Result T FindErr) (failed other : Type 0) → OnFindFault result ⊥ (Unit {0}) → other → OnFindFault result failed other
 counted (Ok value) failed other is holds = holds
 counted (Err finds.Fault) failed other is holds = absurd is
 counted (Err (finds.NotBegun len)) failed other is holds = holds
@@ -95,27 +95,27 @@ module _ (half : ℕ) (ahead rest : List ℕ) (is : ahead ≡ take 65541 rest) (
   pub bad_length : HasBadLength ahead → (at byte : ℕ) → DamageIs ahead 0 (errors.Damaged at byte) → IsStartDamage half rest at byte
   bad_length bad at byte damage = inl (bad_on ahead rest window 0 bad at byte damage)
 
-  pub cut_off : IsCutOff ahead → (at byte : ℕ) → DamageIs ahead 0 (errors.Damaged at byte) → IsStartDamage half rest at byte
+  pub cut_off : IsRecordCutOff ahead → (at byte : ℕ) → DamageIs ahead 0 (errors.Damaged at byte) → IsStartDamage half rest at byte
   cut_off cut at byte damage = inl (short_ahead ahead rest 0 (all_of ahead rest is cut.few) (some_rest rest begun) cut at byte damage)
 
-  pub is_right : (body read : List ℕ) (start : Start) → IsRecord ahead body → read ≡ body → IsSpelled half read start → IsStart half start × IsRecord rest (start_bytes start)
+  pub is_right : (body read : List ℕ) (start : Start) → IsRecordAhead ahead body → read ≡ body → IsSpelled half read start → IsStart half start × IsRecordAhead rest (start_bytes start)
   is_right body read start r same spelled =
-      (spelled.is_start, subst (IsRecord rest) (sym same ∙ spelled.bytes_are) (record_on ahead rest window body r))
+      (spelled.is_start, subst (IsRecordAhead rest) (sym same ∙ spelled.bytes_are) (record_on ahead rest window body r))
 
-  pub is_wrong : (body read : List ℕ) (fault : StartFault) (at byte : ℕ) → IsRecord ahead body → read ≡ body → start_at half read ≡ Err fault → IsFaultAt fault at byte → IsStartDamage half rest at byte
+  pub is_wrong : (body read : List ℕ) (fault : StartFault) (at byte : ℕ) → IsRecordAhead ahead body → read ≡ body → start_at half read ≡ Err fault → IsFaultAt fault at byte → IsStartDamage half rest at byte
   is_wrong body read fault at byte r same wrong place =
       inr (record { body = body; fault = fault; record_is = record_on ahead rest window body r; no_start = ap (start_at half) (sym same) ∙ wrong; place = place })
 
-pub body_read : (ahead body : List ℕ) (len : ℕ) → IsRecord ahead body → length body ≡ len → take len (drop 5 ahead) ≡ body
+pub body_read : (ahead body : List ℕ) (len : ℕ) → IsRecordAhead ahead body → length body ≡ len → take len (drop 5 ahead) ≡ body
 body_read ahead body len r size = ap (λ (n : ℕ). take n (drop 5 ahead)) (sym size) ∙ body_ahead ahead body r
 
-pub room_read : (ahead body : List ℕ) (len : ℕ) → IsRecord ahead body → length body ≡ len → len + 5 ≤ length ahead
+pub room_read : (ahead body : List ℕ) (len : ℕ) → IsRecordAhead ahead body → length body ≡ len → len + 5 ≤ length ahead
 room_read ahead body len r size = omega (arith, length_ahead ahead body r, size)
 
-pub few_read : (ahead body read : List ℕ) → IsRecord ahead body → read ≡ body → length read ≤ 65535
+pub few_read : (ahead body read : List ℕ) → IsRecordAhead ahead body → read ≡ body → length read ≤ 65535
 few_read ahead body read r same = omega (arith, r.is_body.few, ap length same)
 
-pub placed_more : (n m : ℕ) (fault : StartFault) → n ≤ m → IsPlaced n fault → IsPlaced m fault
+pub placed_more : (n m : ℕ) (fault : StartFault) → n ≤ m → IsFaultPlaced n fault → IsFaultPlaced m fault
 placed_more n m Short le is = tt
 placed_more n m (Wrong place byte) le is = omega (arith, le, is)
 
@@ -140,27 +140,27 @@ abbrev seen : Option Start → Result (Option Start) FindErr
 seen o = Ok o
 
 -- the other half isn't begun, or it is the one before
-other_half : (journal : List ℕ) (half : ℕ) (start : Start) (other : Option Start) → LookIs journal (1 - half) (seen other) → IsLater start other
+other_half : (journal : List ℕ) (half : ℕ) (start : Start) (other : Option Start) → LookIs journal (1 - half) (seen other) → IsLaterStart start other
     → (is_half_begun (1 - half) journal ≡ false) ⊎ ((before : Start) × HasStart journal (1 - half) before × (epoch_of start.checkpoint ≡ (epoch_of before.checkpoint + 1) % 3))
 other_half journal half start None looks later = inl looks
 other_half journal half start (Some before) looks later = inr (before, looks, later)
 
 module _ (journal : List ℕ) (first second : Option Start) (one : LookIs journal 0 (seen first)) (two : LookIs journal 1 (seen second)) where
-  chosen_first : (found : Found) → found.half ≡ 0 → first ≡ Some found.start → IsLater found.start second → IsCurrent journal found.half found.start
+  chosen_first : (found : Found) → found.half ≡ 0 → first ≡ Some found.start → IsLaterStart found.start second → IsCurrent journal found.half found.start
   chosen_first found half is later = subst (λ (h : ℕ). IsCurrent journal h found.start) (sym half) (record {
     is_half = inl refl;
     begun = subst (λ (o : Option Start). LookIs journal 0 (seen o)) is one;
     other = other_half journal 0 found.start second two later;
   })
 
-  chosen_second : (found : Found) → found.half ≡ 1 → second ≡ Some found.start → IsLater found.start first → IsCurrent journal found.half found.start
+  chosen_second : (found : Found) → found.half ≡ 1 → second ≡ Some found.start → IsLaterStart found.start first → IsCurrent journal found.half found.start
   chosen_second found half is later = subst (λ (h : ℕ). IsCurrent journal h found.start) (sym half) (record {
     is_half = inr refl;
     begun = subst (λ (o : Option Start). LookIs journal 1 (seen o)) is two;
     other = other_half journal 1 found.start first one later;
   })
 
-  pub is_current : (found : Found) → IsOf first second found → IsCurrent journal found.half found.start
+  pub is_current : (found : Found) → IsStartOfEither first second found → IsCurrent journal found.half found.start
   is_current found (inl h) = chosen_first found h.0 h.1 h.2
   is_current found (inr h) = chosen_second found h.0 h.1 h.2
 
@@ -186,7 +186,7 @@ module _ (journal : List ℕ) (first second : Option Start) (one : LookIs journa
 
 -- ---- a damaged half
 
-sound_of : (journal : List ℕ) (half : ℕ) (o : Option Start) → LookIs journal half (seen o) → IsSound journal half
+sound_of : (journal : List ℕ) (half : ℕ) (o : Option Start) → LookIs journal half (seen o) → IsHalfSound journal half
 sound_of journal half None looks = inl looks
 sound_of journal half (Some start) looks = inr (start, looks)
 

@@ -3,7 +3,7 @@ use Rattle.std.proofs.Common.{◌≡◌, ◌⊎◌, inl, inr, ℕ, ◌+◌, ◌-
 use Rattle.cd_edges.specs.Disk.{Store, MayLeave, IsOutside, greatest_end}
 use Rattle.cd_edges.specs.Shelf.{wrote, stable}
 use Rattle.journal_halves.specs.Records.{chain, AreBodies, IsJournal}
-use Rattle.journal_halves.specs.Frames.{IsRecord}
+use Rattle.journal_halves.specs.Frames.{IsRecordAhead}
 use Rattle.journal_start.specs.Spelling.{start_bytes}
 use Rattle.journal_halves.specs.Halves.{half_len, half_of, HasStart}
 use Rattle.journal_halves.specs.Journals.{Where, all_bodies, HasChain, used_by}
@@ -76,6 +76,6 @@ module _ (store : Store) (w : Where) (half byte : ℕ) (image : List ℕ) (is : 
   pub start_stays : HasStart image w.half w.start
   start_stays = record {
     is_start = is.chain_there.current.begun.is_start;
-    record_is = subst (λ (l : List ℕ). IsRecord l (start_bytes w.start)) (sym chain_stays.spelled)
+    record_is = subst (λ (l : List ℕ). IsRecordAhead l (start_bytes w.start)) (sym chain_stays.spelled)
         (starts (start_bytes w.start) w.bodies chain_stays.gate chain_stays.behind is.sizes.0);
   }

@@ -4,7 +4,7 @@ use Rattle.std.proofs.lemmas.List.{take-append-drop, drop_at, drop-drop, drop-ta
 use Rattle.cd_edges.specs.Disk.{Store}
 use Rattle.cd_edges.specs.Shelf.{ReadsFrom}
 use Rattle.journal_halves.specs.Records.{sized, chain, IsDamage}
-use Rattle.journal_halves.specs.Frames.{IsClosed, IsRecord, HasBadLength, IsCutOff}
+use Rattle.journal_halves.specs.Frames.{IsClosed, IsRecordAhead, HasBadLength, IsRecordCutOff}
 use Rattle.journal_halves.proofs.Chain.{chain-push, length-chain-push, bodies_more}
 use Rattle.journal_halves.proofs.Taken.{bad_on, short_ahead}
 use Rattle.journal_halves.specs.Halves.{half_len, half_of}
@@ -12,10 +12,10 @@ use Rattle.journal_halves.specs.Findings.{part_of}
 use Rattle.journal_halves.proofs.Looks.{part_short}
 use Rattle.journal_halves.specs.declared.errors.RecordErr.{RecordErr}
 use Rattle.journal_halves.specs.declared.errors.RecordErr.TheVariants.{Failed, Damaged}
-use Rattle.journal_halves.specs.States.{HalfState, IsReading, IsEnded}
-use Rattle.journal_halves.specs.Outcomes.{IsWindow, gate_at, rest_of, IsRecordFurther, StepIs, TakenIs, NextIs, DamageIs}
+use Rattle.journal_halves.specs.States.{HalfState, IsHalfReading, IsEnded}
+use Rattle.journal_halves.specs.Outcomes.{IsWindow, gate_at, rest_of, IsRecordFurther, StepIs, TakenIs, NextBodyIs, DamageIs}
 
-pub rest_at : (state : HalfState) (store : Store) (bodies : List (List ℕ)) (r : IsReading state store bodies) → r.rest ≡ rest_of state store
+pub rest_at : (state : HalfState) (store : Store) (bodies : List (List ℕ)) (r : IsHalfReading state store bodies) → r.rest ≡ rest_of state store
 rest_at state store bodies r =
     sym (ap (λ (n : ℕ). drop n (part_of state.half store.read)) r.gate ∙ ap (λ (l : List ℕ). drop (length (chain bodies)) l) r.spelled ∙ drop_at (chain bodies) r.rest (length (chain bodies)) refl)
 
@@ -25,11 +25,11 @@ rest_in part front rest n e few = omega (arith, ap length e, length-append front
 front_in : (part front rest : List ℕ) (n gate : ℕ) → part ≡ front ++ rest → length part ≤ n → 0 < length rest → gate ≡ length front → gate + 1 ≤ n
 front_in part front rest n gate e few some at = omega (arith, ap length e, length-append front rest, few, some, at)
 
-pub rest_short : (state : HalfState) (store : Store) (bodies : List (List ℕ)) (r : IsReading state store bodies) → length r.rest ≤ half_len
+pub rest_short : (state : HalfState) (store : Store) (bodies : List (List ℕ)) (r : IsHalfReading state store bodies) → length r.rest ≤ half_len
 rest_short state store bodies r = rest_in (part_of state.half store.read) (chain bodies) r.rest half_len r.spelled (part_short state.half store.read)
 
-module _ (old mid new : HalfState) (store : Store) (bodies : List (List ℕ)) (r : IsReading old store bodies) (half : mid.half ≡ old.half) (gate : mid.gate ≡ old.gate) where
-  next_record : IsRecord r.rest new.body → IsRecordFurther mid new → IsWindow new (drop (5 + length new.body) r.rest) → IsReading new store (bodies ++ new.body ∷ [])
+module _ (old mid new : HalfState) (store : Store) (bodies : List (List ℕ)) (r : IsHalfReading old store bodies) (half : mid.half ≡ old.half) (gate : mid.gate ≡ old.gate) where
+  next_record : IsRecordAhead r.rest new.body → IsRecordFurther mid new → IsWindow new (drop (5 + length new.body) r.rest) → IsHalfReading new store (bodies ++ new.body ∷ [])
   next_record one over window =
       let body = new.body in
       let tail = one.gate ∷ one.behind in
@@ -67,7 +67,7 @@ module _ (old mid new : HalfState) (store : Store) (bodies : List (List ℕ)) (r
   same_place : gate_at mid ≡ gate_at old
   same_place = ap (λ (h : ℕ). h * half_len + mid.gate) half ∙ ap (λ (n : ℕ). old.half * half_len + n) gate
 
-  pub next_is : (result : Result Bool RecordErr) → TakenIs mid new r.rest result → NextIs old new store bodies result
+  pub next_is : (result : Result Bool RecordErr) → TakenIs mid new r.rest result → NextBodyIs old new store bodies result
   next_is (Ok true) taken = next_record taken.0 taken.1 taken.2
   next_is (Ok false) taken = next_closed taken.0 taken.1
   next_is (Err (Damaged at byte)) taken =
@@ -92,7 +92,7 @@ module _ (old new : HalfState) (rest : List ℕ) where
   bad_taken window bad (Damaged at byte) damage = bad_on old.ahead rest window (gate_at old) bad at byte damage
   bad_taken window bad Failed damage = damage
 
-  pub short_taken : old.ahead ≡ rest → 0 < length rest → IsCutOff old.ahead → (e : RecordErr) → DamageIs old.ahead (gate_at old) e → TakenIs old new rest (Err e)
+  pub short_taken : old.ahead ≡ rest → 0 < length rest → IsRecordCutOff old.ahead → (e : RecordErr) → DamageIs old.ahead (gate_at old) e → TakenIs old new rest (Err e)
   short_taken same some cut (Damaged at byte) damage = short_ahead old.ahead rest (gate_at old) same some cut at byte damage
   short_taken same some cut Failed damage = damage
 

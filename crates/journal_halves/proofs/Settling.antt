@@ -4,7 +4,7 @@ use Rattle.std.proofs.lemmas.Bool.{cases_Bool}
 use Rattle.cd_edges.specs.Disk.{Store, MayLeave}
 use Rattle.cd_edges.specs.Shelf.{wrote}
 use Rattle.journal_halves.specs.Records.{chain}
-use Rattle.journal_halves.specs.Frames.{IsRecord}
+use Rattle.journal_halves.specs.Frames.{IsRecordAhead}
 use Rattle.journal_start.specs.Spelling.{start_bytes}
 use Rattle.journal_halves.specs.Halves.{half_len, half_of, is_half_begun, HasStart}
 use Rattle.journal_halves.specs.Journals.{Where, all_bodies, HasChain, IsLaidWhole, IsEither}
@@ -67,7 +67,7 @@ module _ (store : Store) (w next : Where) (is : IsLaidWhole store w next) (image
       ];
       begun = record {
         is_start = is.follows.is_start;
-        record_is = subst (λ (l : List ℕ). IsRecord l (start_bytes next.start)) (sym (spelled_now begun))
+        record_is = subst (λ (l : List ℕ). IsRecordAhead l (start_bytes next.start)) (sym (spelled_now begun))
             (starts (start_bytes next.start) next.bodies is.last (is.behind ++ rest) is.next_sizes.0);
       };
       other = inr (w.start, subst (λ (h : ℕ). HasStart image h w.start) back (byte.start_stays store w next.half 1 image one), is.follows.epoch);

@@ -4,7 +4,7 @@ use Rattle.std.proofs.lemmas.List.{take-append-drop, take_at, drop-drop, drop-ta
 use Rattle.std.proofs.Math.Seq.{take-length}
 use Rattle.journal_halves.specs.declared.errors.RecordErr.TheVariants.{Damaged}
 use Rattle.journal_halves.specs.Records.{sized, NoRecord, IsDamage, LastGate, BadLength}
-use Rattle.journal_halves.specs.Frames.{IsClosed, IsRecord, HasBadLength, IsCutOff}
+use Rattle.journal_halves.specs.Frames.{IsClosed, IsRecordAhead, HasBadLength, IsRecordCutOff}
 use Rattle.journal_halves.specs.Outcomes.{DamageIs}
 
 module _ (ahead rest : List ℕ) (window : ahead ≡ take (length ahead) rest) where
@@ -19,7 +19,7 @@ module _ (ahead rest : List ℕ) (window : ahead ≡ take (length ahead) rest) w
     spelled = more_is ∙ ap (λ (l : List ℕ). l ++ drop (length ahead) rest) c.spelled;
   }
 
-  pub record_on : (body : List ℕ) → IsRecord ahead body → IsRecord rest body
+  pub record_on : (body : List ℕ) → IsRecordAhead ahead body → IsRecordAhead rest body
   record_on body r = record {
     gate = r.gate;
     behind = r.behind ++ drop (length ahead) rest;
@@ -44,15 +44,15 @@ module _ (rest : List ℕ) (gate : ℕ) (some : 0 < length rest) where
       let same : byte ≡ b = wrong.2 ∙ ap (λ (l : List ℕ). get_or l 1 0) is in
       BadLength tail (is ∙ ap (λ (x : ℕ). 1 ∷ x ∷ tail) (sym same)) none wrong.1
 
-  pub short_on : IsCutOff rest → (at byte : ℕ) → DamageIs rest gate (Damaged at byte) → IsDamage rest gate at byte
+  pub short_on : IsRecordCutOff rest → (at byte : ℕ) → DamageIs rest gate (Damaged at byte) → IsDamage rest gate at byte
   short_on cut = let opened = cut.opened some in cut_at opened.0 opened.1 cut.none
 
 -- the record's body within what was read ahead
-pub body_ahead : (ahead body : List ℕ) → IsRecord ahead body → take (length body) (drop 5 ahead) ≡ body
+pub body_ahead : (ahead body : List ℕ) → IsRecordAhead ahead body → take (length body) (drop 5 ahead) ≡ body
 body_ahead ahead body r =
     ap (λ (l : List ℕ). take (length body) (drop 5 l)) r.spelled ∙ take_at body (r.gate ∷ r.behind) (length body) refl
 
-pub length_ahead : (ahead body : List ℕ) → IsRecord ahead body → length body + 6 ≤ length ahead
+pub length_ahead : (ahead body : List ℕ) → IsRecordAhead ahead body → length body + 6 ≤ length ahead
 length_ahead ahead body r = omega (arith, ap length r.spelled, length-append body (r.gate ∷ r.behind))
 
 -- a part of what was read ahead, where it lies in the buffer
@@ -75,9 +75,9 @@ pub length_window : (buffer : List ℕ) (from filled : ℕ) → filled ≤ lengt
 length_window buffer from filled within = omega (arith, length-take (filled - from) (drop from buffer), length-drop from buffer)
 
 -- the damage where all that there is was read
-pub short_ahead : (ahead rest : List ℕ) (gate : ℕ) → ahead ≡ rest → 0 < length rest → IsCutOff ahead → (at byte : ℕ) → DamageIs ahead gate (Damaged at byte) → IsDamage rest gate at byte
+pub short_ahead : (ahead rest : List ℕ) (gate : ℕ) → ahead ≡ rest → 0 < length rest → IsRecordCutOff ahead → (at byte : ℕ) → DamageIs ahead gate (Damaged at byte) → IsDamage rest gate at byte
 short_ahead ahead rest gate same some cut at byte damage =
-    short_on rest gate some (subst IsCutOff same cut) at byte (subst (λ (l : List ℕ). DamageIs l gate (Damaged at byte)) same damage)
+    short_on rest gate some (subst IsRecordCutOff same cut) at byte (subst (λ (l : List ℕ). DamageIs l gate (Damaged at byte)) same damage)
 
 -- as much as was asked for
 pub prefix_of : (ahead rest : List ℕ) (most : ℕ) → ahead ≡ take most rest → ahead ≡ take (length ahead) rest

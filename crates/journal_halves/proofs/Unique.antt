@@ -4,7 +4,7 @@ use Rattle.std.proofs.lemmas.List.{take_at, drop_at}
 use Rattle.std.proofs.lemmas.Nat.{from_be_bytes-to_be_bytes_4}
 use Rattle.std.specs.Int.{w32, from_be_bytes}
 use Rattle.journal_halves.specs.Records.{IsJournalBody, sized, chain, AreBodies, IsJournal, IsDamage, LastGate, BadLength}
-use Rattle.journal_halves.specs.Frames.{IsRecord}
+use Rattle.journal_halves.specs.Frames.{IsRecordAhead}
 
 same_length : (a b one two : List ℕ) → length a ≤ 65535 → length b ≤ 65535 → sized a ++ one ≡ sized b ++ two → length a ≡ length b
 same_length a b one two la lb e =
@@ -51,7 +51,7 @@ first_of (a ∷ one) (b ∷ two) s t rest h ys closed e =
 
 -- ---- whole records
 
-pub whole_record : (b : List ℕ) (more : List (List ℕ)) (gate : ℕ) (behind rest : List ℕ) → IsJournalBody b → rest ≡ chain (b ∷ more) ++ gate ∷ behind → IsRecord rest b
+pub whole_record : (b : List ℕ) (more : List (List ℕ)) (gate : ℕ) (behind rest : List ℕ) → IsJournalBody b → rest ≡ chain (b ∷ more) ++ gate ∷ behind → IsRecordAhead rest b
 whole_record b [] gate behind rest one e = record { gate = gate; behind = behind; is_body = one; spelled = e ∙ ap (λ (l : List ℕ). 1 ∷ l) (append_assoc (sized b) [] (gate ∷ behind)) }
 whole_record b (next ∷ more) gate behind rest one e = record {
   gate = 1;
@@ -61,6 +61,6 @@ whole_record b (next ∷ more) gate behind rest one e = record {
 }
 
 -- no whole record is damaged
-pub undamaged : (rest body : List ℕ) (gate at byte : ℕ) → IsRecord rest body → IsDamage rest gate at byte → ⊥
+pub undamaged : (rest body : List ℕ) (gate at byte : ℕ) → IsRecordAhead rest body → IsDamage rest gate at byte → ⊥
 undamaged rest body gate at byte r (LastGate is place same) = omega (arith, ap length (sym is ∙ r.spelled), length-append body (r.gate ∷ r.behind))
 undamaged rest body gate at byte r (BadLength tail is none place) = none body r.gate r.behind r.is_body r.spelled

@@ -9,15 +9,15 @@ use Rattle.journal_halves.specs.declared.choice.Choice.{Choice}
 use Rattle.journal_halves.specs.declared.choice.Choice.TheVariants.{Neither, Current, Equal}
 
 -- its epoch is the one behind that of the other half, if that is begun
-abbrev pub IsLater : Start → Option Start → Type 0
-IsLater start None = Unit {0}
-IsLater start (Some before) = epoch_of start.checkpoint ≡ (epoch_of before.checkpoint + 1) % 3
+abbrev pub IsLaterStart : Start → Option Start → Type 0
+IsLaterStart start None = Unit {0}
+IsLaterStart start (Some before) = epoch_of start.checkpoint ≡ (epoch_of before.checkpoint + 1) % 3
 
 -- the start of the one half or the other
-abbrev pub IsOf : Option Start → Option Start → Found → Type 0
-IsOf first second found =
-    ((found.half ≡ 0) × (first ≡ Some found.start) × IsLater found.start second)
-    ⊎ ((found.half ≡ 1) × (second ≡ Some found.start) × IsLater found.start first)
+abbrev pub IsStartOfEither : Option Start → Option Start → Found → Type 0
+IsStartOfEither first second found =
+    ((found.half ≡ 0) × (first ≡ Some found.start) × IsLaterStart found.start second)
+    ⊎ ((found.half ≡ 1) × (second ≡ Some found.start) × IsLaterStart found.start first)
 
 -- two starts of which none is the later one
 pub record AreAlike (first second : Option Start) (start : Start) : Type 0 where
@@ -29,7 +29,7 @@ pub record AreAlike (first second : Option Start) (start : Start) : Type 0 where
 
 abbrev pub IsChosen : Option Start → Option Start → Choice → Type 0
 IsChosen first second Neither = (first ≡ None) × (second ≡ None)
-IsChosen first second (Current found) = IsOf first second found
+IsChosen first second (Current found) = IsStartOfEither first second found
 IsChosen first second (Equal start) = AreAlike first second start
 
 -- what was chosen of what the two halves begin with is what is found

@@ -1,7 +1,7 @@
 -- What the halves of a journal are found to begin with.
 use Rattle.std.specs.Prelude.{◌≡◌, ◌⊎◌, ℕ, ◌+◌, ◌*◌, true, false, List, take, length, ◌==◌, if◌then◌else◌, Option, Some, None, Result, Ok, Err}
 use Rattle.journal_halves.specs.Records.{IsDamage}
-use Rattle.journal_halves.specs.Frames.{IsRecord}
+use Rattle.journal_halves.specs.Frames.{IsRecordAhead}
 use Rattle.journal_start.specs.declared.fault.StartFault.{StartFault}
 use Rattle.journal_start.specs.declared.fault.StartFault.TheVariants.{Short, Wrong}
 use Rattle.journal_start.specs.declared.start.Start.{Start}
@@ -25,7 +25,7 @@ IsFaultAt (Wrong place wrong) at byte = (at ≡ place + 5) × (byte ≡ wrong)
 pub record IsBodyDamage (half : ℕ) (rest : List ℕ) (at byte : ℕ) : Type 0 where
   pub body : List ℕ
   pub fault : StartFault
-  pub record_is : IsRecord rest body
+  pub record_is : IsRecordAhead rest body
   pub no_start : start_at half body ≡ Err fault
   pub place : IsFaultAt fault at byte
 
@@ -34,8 +34,8 @@ abbrev pub IsStartDamage : ℕ → List ℕ → ℕ → ℕ → Type 0
 IsStartDamage half rest at byte = IsDamage rest 0 at byte ⊎ IsBodyDamage half rest at byte
 
 -- The half has no open first gate, or a start.
-abbrev pub IsSound : List ℕ → ℕ → Type 0
-IsSound journal half = (is_half_begun half journal ≡ false) ⊎ ((start : Start) × HasStart journal half start)
+abbrev pub IsHalfSound : List ℕ → ℕ → Type 0
+IsHalfSound journal half = (is_half_begun half journal ≡ false) ⊎ ((start : Start) × HasStart journal half start)
 
 -- the first place of the epoch in a start's record
 abbrev pub epoch_place : Start → ℕ
@@ -54,7 +54,7 @@ pub record AreEqual (journal : List ℕ) (at byte : ℕ) : Type 0 where
 -- damage of a journal: half 0's start, then half 1's, then equal epochs
 pub data IsFoundDamage (journal : List ℕ) (at byte : ℕ) : Type 0 where
   InFirst : is_half_begun 0 journal ≡ true → IsStartDamage 0 (part_of 0 journal) at byte → IsFoundDamage journal at byte
-  InSecond : (place : ℕ) → IsSound journal 0 → is_half_begun 1 journal ≡ true → IsStartDamage 1 (part_of 1 journal) place byte → at ≡ half_len + place → IsFoundDamage journal at byte
+  InSecond : (place : ℕ) → IsHalfSound journal 0 → is_half_begun 1 journal ≡ true → IsStartDamage 1 (part_of 1 journal) place byte → at ≡ half_len + place → IsFoundDamage journal at byte
   Epochs : AreEqual journal at byte → IsFoundDamage journal at byte
 
 -- what one half begins with, if it is begun
@@ -66,11 +66,11 @@ LookIs journal half (Err (NotBegun len)) = ⊥
 LookIs journal half (Err Fault) = Unit {0}
 
 -- one fact where a device call failed, and another for every other answer
-abbrev pub OnFault : {T : Type 0} → Result T FindErr → Type 0 → Type 0 → Type 0
-OnFault (Ok value) failed other = other
-OnFault (Err Fault) failed other = failed
-OnFault (Err (NotBegun len)) failed other = other
-OnFault (Err (Damaged at byte)) failed other = other
+abbrev pub OnFindFault : {T : Type 0} → Result T FindErr → Type 0 → Type 0 → Type 0
+OnFindFault (Ok value) failed other = other
+OnFindFault (Err Fault) failed other = failed
+OnFindFault (Err (NotBegun len)) failed other = other
+OnFindFault (Err (Damaged at byte)) failed other = other
 
 -- which half is the current one, and its start; or why there is none
 abbrev pub FindIs : List ℕ → Result Found FindErr → Type 0

@@ -12,7 +12,7 @@ pub record IsClosed (ahead : List ℕ) : Type 0 where
   pub spelled : ahead ≡ gate ∷ behind
 
 -- an open record with its next gate
-pub record IsRecord (ahead body : List ℕ) : Type 0 where
+pub record IsRecordAhead (ahead body : List ℕ) : Type 0 where
   pub gate : ℕ
   pub behind : List ℕ
   pub is_body : IsJournalBody body
@@ -26,13 +26,13 @@ pub record HasBadLength (ahead : List ℕ) : Type 0 where
   pub none : (more : List ℕ) → NoRecord (ahead ++ more)
 
 -- nothing, or an open gate before too few bytes
-pub record IsCutOff (ahead : List ℕ) : Type 0 where
+pub record IsRecordCutOff (ahead : List ℕ) : Type 0 where
   pub few : length ahead < window_len
   pub opened : 0 < length ahead → (tail : List ℕ) × (ahead ≡ 1 ∷ tail)
   pub none : NoRecord ahead
 
-abbrev pub IsFrame : List ℕ → Frame → Type 0
-IsFrame ahead Closed = IsClosed ahead
-IsFrame ahead (Record len) = (body : List ℕ) × IsRecord ahead body × (length body ≡ len)
-IsFrame ahead BadLength = HasBadLength ahead
-IsFrame ahead Short = IsCutOff ahead
+abbrev pub IsFrameAhead : List ℕ → Frame → Type 0
+IsFrameAhead ahead Closed = IsClosed ahead
+IsFrameAhead ahead (Record len) = (body : List ℕ) × IsRecordAhead ahead body × (length body ≡ len)
+IsFrameAhead ahead BadLength = HasBadLength ahead
+IsFrameAhead ahead Short = IsRecordCutOff ahead

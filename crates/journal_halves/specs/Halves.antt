@@ -1,7 +1,7 @@
 -- A journal of two halves: which of them are begun, and which is the current one.
 use Rattle.std.specs.Prelude.{◌≡◌, ◌⊎◌, ℕ, ◌+◌, ◌*◌, ◌-◌, ◌%◌, Bool, false, List, drop}
 use Rattle.journal_halves.specs.Records.{is_begun}
-use Rattle.journal_halves.specs.Frames.{IsRecord}
+use Rattle.journal_halves.specs.Frames.{IsRecordAhead}
 use Rattle.journal_start.specs.declared.rooms.UserRooms.{UserRooms}
 use Rattle.journal_start.specs.declared.start.Start.{Start}
 use Rattle.journal_start.specs.Ranges.{IsStart}
@@ -25,7 +25,7 @@ is_half_begun half journal = is_begun (half_of half journal)
 -- The half begins with an open record that is a start, with its next gate.
 pub record HasStart (journal : List ℕ) (half : ℕ) (start : Start) : Type 0 where
   pub is_start : IsStart half start
-  pub record_is : IsRecord (half_of half journal) (start_bytes start)
+  pub record_is : IsRecordAhead (half_of half journal) (start_bytes start)
 
 -- The half is the current one: it begins with this start, and the other isn't begun, or its epoch is the one before.
 pub record IsCurrent (journal : List ℕ) (half : ℕ) (start : Start) : Type 0 where

@@ -62,7 +62,7 @@ AreInHalf half ranges = All (λ (range : ℕ × ℕ). (half * half_len + 1 ≤ r
 
 -- At the last sync the chain was there, and the first gate of this other half was closed; nothing was written since but
 -- behind that gate, within its half.
-pub record IsApart (store : Store) (w : Where) (half : ℕ) : Type 0 where
+pub record IsHalfApart (store : Store) (w : Where) (half : ℕ) : Type 0 where
   pub other : half ≡ 1 - w.half
   pub chain_there : HasChain store.synced w
   pub sizes : AreBodies (all_bodies w)
@@ -73,7 +73,7 @@ pub record IsApart (store : Store) (w : Where) (half : ℕ) : Type 0 where
 -- A checkpoint is being laid in the other half. Behind its first gate these bytes are written, and others wait, which
 -- together are the chain of `next` without its first gate and its closed one.
 pub record IsCheckpointLaid (store : Store) (w next : Where) (written waiting : List ℕ) : Type 0 where
-  pub apart : IsApart store w next.half
+  pub apart : IsHalfApart store w next.half
   pub follows : MayFollow w next.half next.start
   pub next_sizes : AreBodies (all_bodies next)
   pub there : take (length written) (drop (next.half * half_len + 1) store.read) ≡ written

@@ -4,12 +4,12 @@ use Rattle.cd_edges.specs.declared.area.Area.{Area}
 use Rattle.cd_edges.specs.declared.area.Area.TheVariants.{Journal}
 use Rattle.cd_edges.specs.Disk.{Store, Cloud, LeavesOnly, IsAtArea}
 use Rattle.journal_halves.specs.Records.{IsJournalBody, IsDamage}
-use Rattle.journal_halves.specs.Frames.{IsClosed, IsRecord}
+use Rattle.journal_halves.specs.Frames.{IsClosed, IsRecordAhead}
 use Rattle.journal_halves.specs.Halves.{half_len}
 use Rattle.journal_halves.specs.Findings.{part_of}
 use Rattle.journal_halves.specs.declared.errors.RecordErr.{RecordErr}
 use Rattle.journal_halves.specs.declared.errors.RecordErr.TheVariants.{Failed, Damaged}
-use Rattle.journal_halves.specs.States.{HalfState, IsReading, IsEnded, IsAdded}
+use Rattle.journal_halves.specs.States.{HalfState, IsHalfReading, IsEnded, IsAdded}
 
 -- what was read ahead are the first bytes of the rest
 abbrev pub IsWindow : HalfState → List ℕ → Type 0
@@ -38,18 +38,18 @@ StepIs old new (Err e) = Unit {0}
 
 -- what stands at the gate before these bytes
 abbrev pub TakenIs : HalfState → HalfState → List ℕ → Result Bool RecordErr → Type 0
-TakenIs old new rest (Ok true) = IsRecord rest new.body × IsRecordFurther old new × IsWindow new (drop (5 + length new.body) rest)
+TakenIs old new rest (Ok true) = IsRecordAhead rest new.body × IsRecordFurther old new × IsWindow new (drop (5 + length new.body) rest)
 TakenIs old new rest (Ok false) = IsClosed rest × (new ≡ old)
 TakenIs old new rest (Err (Damaged at byte)) = IsDamage rest (gate_at old) at byte
 TakenIs old new rest (Err Failed) = ⊥
 
 -- The next record is added to those that were read; or the gate is closed; or the record there is damaged, or cut off by
 -- the end of the half or of the area.
-abbrev pub NextIs : HalfState → HalfState → Store → List (List ℕ) → Result Bool RecordErr → Type 0
-NextIs old new store bodies (Ok true) = IsReading new store (bodies ++ new.body ∷ [])
-NextIs old new store bodies (Ok false) = IsEnded new store bodies
-NextIs old new store bodies (Err (Damaged at byte)) = IsDamage (rest_of old store) (gate_at old) at byte
-NextIs old new store bodies (Err Failed) = Unit {0}
+abbrev pub NextBodyIs : HalfState → HalfState → Store → List (List ℕ) → Result Bool RecordErr → Type 0
+NextBodyIs old new store bodies (Ok true) = IsHalfReading new store (bodies ++ new.body ∷ [])
+NextBodyIs old new store bodies (Ok false) = IsEnded new store bodies
+NextBodyIs old new store bodies (Err (Damaged at byte)) = IsDamage (rest_of old store) (gate_at old) at byte
+NextBodyIs old new store bodies (Err Failed) = Unit {0}
 
 -- one fact where a device call failed, and another for every other answer
 abbrev pub OnFailed : {T : Type 0} → Result T RecordErr → Type 0 → Type 0 → Type 0
@@ -71,12 +71,12 @@ DamageIs ahead gate Failed = ⊥
 -- ---- a told cloud
 
 -- the areas but the journal are as they were
-abbrev pub OthersStay : Cloud → Cloud → Type 0
-OthersStay old new = (other : Area) → other ≢ Journal → new.now other ≡ old.now other
+abbrev pub AllButJournalStay : Cloud → Cloud → Type 0
+AllButJournalStay old new = (other : Area) → other ≢ Journal → new.now other ≡ old.now other
 
 -- Whatever records the half has: each image since has them, or them and this one, and the other half as it was.
-abbrev pub KeepsOrAdds : HalfState → List ℕ → Cloud → Cloud → Type 0
-KeepsOrAdds state body old new = IsTrue old.told → (bodies : List (List ℕ)) → IsEnded state (old.now Journal) bodies
+abbrev pub KeepsHalfOrAdds : HalfState → List ℕ → Cloud → Cloud → Type 0
+KeepsHalfOrAdds state body old new = IsTrue old.told → (bodies : List (List ℕ)) → IsEnded state (old.now Journal) bodies
     → LeavesOnly old new (IsAtArea old.now Journal (IsAdded state.half (old.now Journal).read bodies body))
 
 -- Whatever records the half had: it has this one behind them, all on the disk, and the other half is as it was.
@@ -87,5 +87,5 @@ HasAdded before after body old new = IsTrue old.told → (bodies : List (List �
 
 -- Whatever records were read of the half: the next step is what stands at the gate.
 abbrev pub ReadsNext : HalfState → HalfState → Cloud → Result Bool RecordErr → Type 0
-ReadsNext before after old result = IsTrue old.told → (bodies : List (List ℕ)) → IsReading before (old.now Journal) bodies
-    → NextIs before after (old.now Journal) bodies result
+ReadsNext before after old result = IsTrue old.told → (bodies : List (List ℕ)) → IsHalfReading before (old.now Journal) bodies
+    → NextBodyIs before after (old.now Journal) bodies result

@@ -30,7 +30,7 @@ begun_at half gate = record { half = half; gate = gate; ahead = []; body = []; b
 
 -- All of the area is on the disk. In the half, up to its end or the area's, the open records before the gate are those of
 -- these bodies, and what was read ahead are the first bytes of what follows.
-pub record IsReading (state : HalfState) (store : Store) (bodies : List (List ℕ)) : Type 0 where
+pub record IsHalfReading (state : HalfState) (store : Store) (bodies : List (List ℕ)) : Type 0 where
   pub synced : store ≡ stable store.read
   pub sizes : AreBodies bodies
   pub rest : List ℕ

@@ -7,7 +7,7 @@ ghost use Rattle.cd_edges.specs.Shelf.{IsCall, HasFailed, KeepsCounts, Stays};
 ghost use Rattle.journal_halves.specs.Records.{window_len, is_begun};
 ghost use Rattle.journal_halves.specs.Halves.{half_of};
 ghost use Rattle.journal_start.specs.declared.start.Start.{Start};
-ghost use Rattle.journal_halves.specs.Findings.{LookIs, FindIs, OnFault};
+ghost use Rattle.journal_halves.specs.Findings.{LookIs, FindIs, OnFindFault};
 ghost use Rattle.journal_halves.specs.Findings as findings;
 ghost use Rattle.journal_halves.specs.Choices.{AnswerIs, IsChosen};
 
@@ -32,7 +32,7 @@ fn judge(half: u8, ahead: &[u8]) -> Result<Option<Start>, FindErr>
     requires { half ≤ 1 }
     ensures looks { (journal : List ℕ) → ahead.now ≡ take window_len (half_of half journal) → LookIs journal half result }
     ensures start { IfOk result (λ found. IfSome found (IsStart half)) }
-    ensures handled { OnFault result ⊥ (Unit {0}) }
+    ensures handled { OnFindFault result ⊥ (Unit {0}) }
 {
     if !begins(ahead) {
         return Ok(None);
@@ -61,7 +61,7 @@ fn look<V: Shelf>(
     ensures stays { Stays (V.cloud_at shelf.old cloud.0) (V.cloud_at shelf.new cloud.0) }
     ensures call { IsCall (V.cloud_at shelf.old) (V.cloud_at shelf.new) cloud.0
         (V.faults shelf.old) (V.faults shelf.new) }
-    ensures counts { OnFault result
+    ensures counts { OnFindFault result
         (HasFailed (V.cloud_at shelf.old cloud.0) (V.cloud_at shelf.new cloud.0)
         (V.faults shelf.old) (V.faults shelf.new))
         (KeepsCounts (V.cloud_at shelf.old cloud.0) (V.cloud_at shelf.new cloud.0)
@@ -93,7 +93,7 @@ fn answer<V: Shelf>(shelf: &mut V, cloud: CloudNo, choice: Choice) -> Result<Fou
     ensures stays { Stays (V.cloud_at shelf.old cloud.0) (V.cloud_at shelf.new cloud.0) }
     ensures call { IsCall (V.cloud_at shelf.old) (V.cloud_at shelf.new) cloud.0
         (V.faults shelf.old) (V.faults shelf.new) }
-    ensures counts { OnFault result
+    ensures counts { OnFindFault result
         (HasFailed (V.cloud_at shelf.old cloud.0) (V.cloud_at shelf.new cloud.0)
         (V.faults shelf.old) (V.faults shelf.new))
         (KeepsCounts (V.cloud_at shelf.old cloud.0) (V.cloud_at shelf.new cloud.0)
@@ -129,7 +129,7 @@ pub fn find<V: Shelf>(shelf: &mut V, cloud: CloudNo, window: &mut [u8]) -> Resul
     ensures stays { Stays (V.cloud_at shelf.old cloud.0) (V.cloud_at shelf.new cloud.0) }
     ensures call { IsCall (V.cloud_at shelf.old) (V.cloud_at shelf.new) cloud.0
         (V.faults shelf.old) (V.faults shelf.new) }
-    ensures counts { OnFault result
+    ensures counts { OnFindFault result
         (HasFailed (V.cloud_at shelf.old cloud.0) (V.cloud_at shelf.new cloud.0)
         (V.faults shelf.old) (V.faults shelf.new))
         (KeepsCounts (V.cloud_at shelf.old cloud.0) (V.cloud_at shelf.new cloud.0)

@@ -1,7 +1,7 @@
 //! What stands at a gate.
 
 ghost use Rattle.std.specs.Prelude.{ℕ, List, length};
-ghost use Rattle.journal_halves.specs.Frames.{IsFrame};
+ghost use Rattle.journal_halves.specs.Frames.{IsFrameAhead};
 
 /// What the bytes from a gate on begin with.
 #[derive(Clone, Copy, Debug, PartialEq, Eq)]
@@ -25,7 +25,7 @@ pub const WINDOW: usize = GREATEST + 6;
 
 /// Tells what the bytes from a gate on begin with.
 pub fn frame_of(ahead: &[u8]) -> Frame
-    ensures { IsFrame ahead.now result }
+    ensures { IsFrameAhead ahead.now result }
 {
     match ahead {
         [] => Frame::Short,

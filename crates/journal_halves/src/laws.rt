@@ -5,7 +5,7 @@ ghost use Rattle.cd_edges.specs.Disk.{Store, MayLeave};
 ghost use Rattle.cd_edges.specs.Shelf.{wrote};
 ghost use Rattle.journal_halves.specs.Records.{IsJournal};
 ghost use Rattle.journal_halves.specs.Halves.{half_len};
-ghost use Rattle.journal_halves.specs.Journals.{Where, HasChain, IsEither, Stands, IsOpenAt, IsApart, IsLaidWhole};
+ghost use Rattle.journal_halves.specs.Journals.{Where, HasChain, IsEither, Stands, IsOpenAt, IsHalfApart, IsLaidWhole};
 
 /// Bytes are the journal of one list of bodies at most.
 pub fn law_of_journals()
@@ -27,7 +27,8 @@ pub fn law_of_turning()
 /// Whatever a crash leaves while the other half's first gate is closed, and anything is written behind it within that
 /// half: the chain.
 pub fn law_of_laying()
-    ensures { (store : Store) (w : Where) (half : ℕ) → IsApart store w half → (image : List ℕ) → MayLeave store image
+    ensures { (store : Store) (w : Where) (half : ℕ) → IsHalfApart store w half → (image : List ℕ)
+        → MayLeave store image
         → HasChain image w }
 {}
 

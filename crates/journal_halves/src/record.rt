@@ -3,9 +3,9 @@
 ghost use Rattle.std.specs.Prelude.{◌≡◌, ℕ, ◌+◌, ◌≤◌, List, length, take, drop, true, MatchResult, IfOk, IfErr};
 ghost use Rattle.journal_halves.specs.Outcomes.{DamageIs};
 ghost use Rattle.journal_halves.specs.declared.errors.RecordErr.TheVariants.{Damaged};
-ghost use Rattle.journal_start.specs.Reading.{IsPlaced};
+ghost use Rattle.journal_start.specs.Reading.{IsFaultPlaced};
 ghost use Rattle.journal_halves.specs.Records.{window_len, is_begun};
-ghost use Rattle.journal_halves.specs.Frames.{IsRecord};
+ghost use Rattle.journal_halves.specs.Frames.{IsRecordAhead};
 ghost use Rattle.journal_halves.specs.Halves.{half_len};
 ghost use Rattle.journal_start.specs.Ranges.{IsStart};
 ghost use Rattle.journal_start.specs.Spelling.{start_bytes};
@@ -34,7 +34,7 @@ fn frame_damage(ahead: &[u8]) -> HalfDamage
 
 // The damage of a body that is no start.
 fn body_damage(fault: StartFault) -> HalfDamage
-    requires { IsPlaced 65535 fault }
+    requires { IsFaultPlaced 65535 fault }
     ensures small { result.at ≤ 65540 }
     ensures place { IsFaultAt fault result.at result.byte }
 {
@@ -66,7 +66,7 @@ pub fn read_start(half: u8, ahead: &[u8]) -> Result<Start, HalfDamage>
     ensures is_start { IfOk result (λ start. IsStart half start) }
     ensures start { (rest : List ℕ) → ahead.now ≡ take window_len rest → length rest ≤ half_len → is_begun rest ≡ true
         → MatchResult result
-        (λ start. IsStart half start × IsRecord rest (start_bytes start))
+        (λ start. IsStart half start × IsRecordAhead rest (start_bytes start))
         (λ damage. IsStartDamage half rest damage.at damage.byte) }
 {
     match frame_of(ahead) {

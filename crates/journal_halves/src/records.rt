@@ -7,7 +7,7 @@ ghost use Rattle.cd_edges.specs.Shelf.{IsCall, HasFailed, KeepsCounts, Stays};
 ghost use Rattle.journal_halves.specs.Records.{window_len, framed};
 ghost use Rattle.journal_start.specs.Ranges.{IsStart};
 ghost use Rattle.journal_halves.specs.Halves.{half_len};
-ghost use Rattle.journal_halves.specs.Findings.{FindIs, OnFault};
+ghost use Rattle.journal_halves.specs.Findings.{FindIs, OnFindFault};
 
 use crate::{FindErr, Found, Frame, HALF_LEN, RecordErr, WINDOW, find, frame_of};
 use cd_edges::{Area, CloudNo, Failed, NoMemory, Shelf, write_synced};
@@ -49,9 +49,9 @@ fn put_framed(buffer: &mut [u8], body: &[u8])
 }
 
 impl HalfRecords {
-    ghost use Rattle.journal_halves.specs.Frames.{IsFrame, IsRecord};
+    ghost use Rattle.journal_halves.specs.Frames.{IsFrameAhead, IsRecordAhead};
     ghost use Rattle.journal_halves.specs.States.{state_of, begun_at};
-    ghost use Rattle.journal_halves.specs.Outcomes.{IsWindow, IsRecordFurther, gate_at, rest_of, TakenIs, DamageIs, StepIs, IsHandled, OnFailed, OthersStay, KeepsOrAdds, HasAdded, ReadsNext};
+    ghost use Rattle.journal_halves.specs.Outcomes.{IsWindow, IsRecordFurther, gate_at, rest_of, TakenIs, DamageIs, StepIs, IsHandled, OnFailed, AllButJournalStay, KeepsHalfOrAdds, HasAdded, ReadsNext};
 
     /// No records of half 0. It takes all its memory here, a window of 65,541 bytes, and the only error is want of memory.
     pub fn make(alloc: Global) -> Result<HalfRecords, NoMemory>
@@ -128,7 +128,7 @@ impl HalfRecords {
         ensures stays { Stays (V.cloud_at shelf.old cloud.0) (V.cloud_at shelf.new cloud.0) }
         ensures call { IsCall (V.cloud_at shelf.old) (V.cloud_at shelf.new) cloud.0
             (V.faults shelf.old) (V.faults shelf.new) }
-        ensures counts { OnFault result
+        ensures counts { OnFindFault result
             (HasFailed (V.cloud_at shelf.old cloud.0) (V.cloud_at shelf.new cloud.0)
             (V.faults shelf.old) (V.faults shelf.new))
             (KeepsCounts (V.cloud_at shelf.old cloud.0) (V.cloud_at shelf.new cloud.0)
@@ -180,12 +180,12 @@ impl HalfRecords {
         requires few { length body.now ≤ 65535 }
         requires room { (state_of self.old).gate + length body.now + 6 ≤ half_len }
 
-        ensures any_moment { KeepsOrAdds (state_of self.old) body.now
+        ensures any_moment { KeepsHalfOrAdds (state_of self.old) body.now
             (V.cloud_at shelf.old cloud.0) (V.cloud_at shelf.new cloud.0) }
         ensures added { OnOk result (HasAdded (state_of self.old) (state_of self.new) body.now
             (V.cloud_at shelf.old cloud.0) (V.cloud_at shelf.new cloud.0)) }
         ensures others { IsTrue (V.cloud_at shelf.old cloud.0).told
-            → OnOk result (OthersStay (V.cloud_at shelf.old cloud.0) (V.cloud_at shelf.new cloud.0)) }
+            → OnOk result (AllButJournalStay (V.cloud_at shelf.old cloud.0) (V.cloud_at shelf.new cloud.0)) }
         ensures moments { IsTrue (V.cloud_at shelf.old cloud.0).told
             → OnOk result (moment (V.cloud_at shelf.new cloud.0) ≡ moment (V.cloud_at shelf.old cloud.0) + 4) }
         ensures gate { OnOk result ((state_of self.new).gate ≡ (state_of self.old).gate + 5 + length body.now) }
@@ -259,7 +259,7 @@ impl HalfRecords {
 
     // Tells what stands at the gate, and reads it where too little was read ahead.
     fn look<V: Shelf>(&mut self, shelf: &mut V, cloud: CloudNo) -> Result<Frame, Failed>
-        ensures frame { IfOk result (IsFrame (state_of self.new).ahead) }
+        ensures frame { IfOk result (IsFrameAhead (state_of self.new).ahead) }
         ensures ahead { IsTrue (V.cloud_at shelf.old cloud.0).told → (rest : List ℕ)
             → rest ≡ rest_of (state_of self.old) ((V.cloud_at shelf.old cloud.0).now Area.Journal)
             → IsWindow (state_of self.old) rest
@@ -286,7 +286,7 @@ impl HalfRecords {
 
     // Goes over what stands at the gate.
     fn take(&mut self, frame: Frame) -> Result<bool, RecordErr>
-        requires frame { IsFrame (state_of self.old).ahead frame }
+        requires frame { IsFrameAhead (state_of self.old).ahead frame }
         ensures taken { (rest : List ℕ) → IsWindow (state_of self.old) rest
             → (frame ≡ Frame.Short → (state_of self.old).ahead ≡ rest) → 0 < length rest → length rest ≤ half_len
             → TakenIs (state_of self.old) (state_of self.new) rest result }
@@ -306,8 +306,9 @@ impl HalfRecords {
 
     // Goes over an open record whose body has so many bytes.
     fn step(&mut self, len: usize)
-        requires { IsFrame (state_of self.old).ahead (Frame.Record len) }
-        ensures found { (rest : List ℕ) → IsWindow (state_of self.old) rest → IsRecord rest (state_of self.new).body
+        requires { IsFrameAhead (state_of self.old).ahead (Frame.Record len) }
+        ensures found { (rest : List ℕ) → IsWindow (state_of self.old) rest
+            → IsRecordAhead rest (state_of self.new).body
             × IsWindow (state_of self.new) (drop (5 + length (state_of self.new).body) rest) }
         ensures over { IsRecordFurther (state_of self.old) (state_of self.new) }
     {

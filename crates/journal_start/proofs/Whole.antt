@@ -17,7 +17,7 @@ use Rattle.journal_start.specs.declared.fault.StartFault.{StartFault}
 use Rattle.journal_start.specs.declared.fault.StartFault.TheVariants as faults
 use Rattle.journal_start.specs.Ranges.{AreRooms, usual_rooms, IsHeader, IsCheckpoint, IsBehind, IsStart}
 use Rattle.journal_start.specs.Spelling.{rooms_bytes, front_bytes, checkpoint_bytes, behind_header, start_bytes, IsSpelled}
-use Rattle.journal_start.specs.Reading.{is_format, is_shape, Front, front_at, rooms_at, first_checkpoint_at, second_checkpoint_at, plain_or, Fields, fields_of, tail_at, make_fields, fields_at, wrong_at, judged, start_at, IsPlaced}
+use Rattle.journal_start.specs.Reading.{is_format, is_shape, Front, front_at, rooms_at, first_checkpoint_at, second_checkpoint_at, plain_or, Fields, fields_of, tail_at, make_fields, fields_at, wrong_at, judged, start_at, IsFaultPlaced}
 use Rattle.journal_start.proofs.Lawful.{lawful_front, spell_front, FitsFront, lawful_rooms, lawful_first, lawful_second}
 
 -- ---- what stands behind a header
@@ -326,8 +326,8 @@ answer_law half body (Err fault) known e s = (
 pub rest_within : (half : ℕ) (bytes : List ℕ) (f : Fields) (rest : List ℕ) → IsBytes bytes → fields_at half bytes ≡ Ok (f, rest) → length rest ≤ length bytes
 rest_within half bytes f rest known e = rest_fits bytes (whole_bytes f) rest (takes half bytes f rest known e).0
 
-pub placed : (bytes : List ℕ) (left : ℕ) (fault : StartFault) → 1 ≤ left → left ≤ length bytes → fault ≡ wrong_at bytes left → IsPlaced (length bytes) fault
-placed bytes left fault some few e = subst (IsPlaced (length bytes)) (sym e) (omega (arith, some, few))
+pub placed : (bytes : List ℕ) (left : ℕ) (fault : StartFault) → 1 ≤ left → left ≤ length bytes → fault ≡ wrong_at bytes left → IsFaultPlaced (length bytes) fault
+placed bytes left fault some few e = subst (IsFaultPlaced (length bytes)) (sym e) (omega (arith, some, few))
 
 -- ---- the answer for all the bytes
 

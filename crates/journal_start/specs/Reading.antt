@@ -139,6 +139,6 @@ unfoldable pub start_at : ℕ → List ℕ → Result Fields StartFault
 start_at half bytes = judged bytes (fields_at half bytes)
 
 -- an error's place is one of so many bytes
-abbrev pub IsPlaced : ℕ → StartFault → Type 0
-IsPlaced len faults.Short = Unit {0}
-IsPlaced len (faults.Wrong place byte) = place < len
+abbrev pub IsFaultPlaced : ℕ → StartFault → Type 0
+IsFaultPlaced len faults.Short = Unit {0}
+IsFaultPlaced len (faults.Wrong place byte) = place < len

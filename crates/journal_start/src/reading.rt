@@ -1,9 +1,9 @@
 //! Reading a start.
 
 ghost use Rattle.std.specs.Prelude.{◌≡◌, ◌≤◌, ◌↔◌, length, Ok, Err, MatchResult, IfErr};
-ghost use Rattle.message_fields.specs.Readings.{IsReading};
+ghost use Rattle.message_fields.specs.Readings.{IsReadingSeenBy};
 ghost use Rattle.journal_start.specs.declared.start.Start.{Start};
-ghost use Rattle.journal_start.specs.Reading.{fields_of, fields_at, start_at, IsPlaced};
+ghost use Rattle.journal_start.specs.Reading.{fields_of, fields_at, start_at, IsFaultPlaced};
 ghost use Rattle.journal_start.specs.Spelling.{IsSpelled};
 ghost use Rattle.journal_start.specs.Reading.{tail_at};
 
@@ -18,7 +18,7 @@ fn tail_of(
     format: u8,
     bytes: &[u8],
 ) -> Result<((UserRooms, Option<Checkpoint>), &[u8]), Left>
-    ensures { IsReading (λ x. ((x.0.0, x.0.1), x.1.now)) result (tail_at half format bytes.now) }
+    ensures { IsReadingSeenBy (λ x. ((x.0.0, x.0.1), x.1.now)) result (tail_at half format bytes.now) }
 {
     if format == 1 {
         let (checkpoint, rest) = first_behind(half, bytes)?;
@@ -33,7 +33,7 @@ fn tail_of(
 // A start in this half, and what follows it.
 #[tactic(auto, unfolding(crate::specs::Reading::fields_at))]
 fn start_of(half: u8, bytes: &[u8]) -> Result<(Start, &[u8]), Left>
-    ensures { IsReading (λ x. (fields_of x.0, x.1.now)) result (fields_at half bytes.now) }
+    ensures { IsReadingSeenBy (λ x. (fields_of x.0, x.1.now)) result (fields_at half bytes.now) }
 {
     let ((format, shape, cloud), rest) = front_of(bytes)?;
     let ((rooms, checkpoint), rest) = tail_of(half, format, rest)?;
@@ -77,7 +77,7 @@ impl Start {
         // The bytes are read as the start that they are the spelling of, and no other bytes are read.
         ensures grammar { (start : Start) → (result ≡ Ok start) ↔ IsSpelled half body.now start }
         // The place of an error is one of the bytes.
-        ensures within { IfErr result (λ fault. IsPlaced (length body.now) fault) }
+        ensures within { IfErr result (λ fault. IsFaultPlaced (length body.now) fault) }
     {
         match start_of(half, body) {
             Ok((start, [])) => Ok(start),

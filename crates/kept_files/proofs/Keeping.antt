@@ -26,22 +26,22 @@ use Rattle.restore_job.specs.UserDedup.Cloud.{fingerprint, user_view, strings_of
 use Rattle.restore_job.specs.UserDedup.Requests.{fps_read, fps_of}
 use Rattle.restore_job.specs.UserDedup.Owning.{fps_in, first_lacking, FindsLacking}
 use Rattle.restore_job.specs.UserDedup.Pages.{is_at, entry_at}
-use Rattle.restore_job.specs.UserDedup.Dedup.{commit_outcome, answer_over, Ends}
+use Rattle.restore_job.specs.UserDedup.Dedup.{commit_outcome, answer_over, TakesVersionOut}
 use Rattle.restore_job.proofs.UserDedup.Owned.{contains_here, contains_later, finds}
 use Rattle.restore_job.proofs.UserDedup.Deleting.{version_stays}
 use Rattle.restore_job.proofs.UserDedup.Growing.{Each, IsNoDelete, ends_none}
 use Rattle.restore_job.proofs.UserDedup.Views.{own_adds, held_is, owned_is_held, held_more}
-use Rattle.kept_files.specs.Kept.{Keeps, IsApart, key_of, AreHarmless}
+use Rattle.kept_files.specs.Kept.{Keeps, IsWithoutCollision, key_of, AreHarmless}
 
 -- ---- more commands
 
-entry_next : (shape : Shape) (list : List Command) (c : Command) (user : UserId) (key : Tag × Version) (r : List ℕ) → ¬ Ends user key c → (o : Option FileEntry) → entry_at (user_view shape list user).files key ≡ o
+entry_next : (shape : Shape) (list : List Command) (c : Command) (user : UserId) (key : Tag × Version) (r : List ℕ) → ¬ TakesVersionOut user key c → (o : Option FileEntry) → entry_at (user_view shape list user).files key ≡ o
     → option_map (λ (e : FileEntry). e.recipe) o ≡ Some r → option_map (λ (e : FileEntry). e.recipe) (entry_at (user_view shape (list ++ c ∷ []) user).files key) ≡ Some r
 entry_next shape list c user key r harmless None at h = absurd (let f : None ≡ Some r = h in cc)
 entry_next shape list c user key r harmless (Some e) at h = ap (option_map (λ (e : FileEntry). e.recipe)) (version_stays shape list c user key e harmless at) ∙ h
 
 keeps_next : (shape : Shape) (cloud : ℕ) (list : List Command) (c : Command) (user : UserId) (path : List ℕ) (version : Version) (file : List ℕ)
-    → ¬ Ends user (key_of shape path version) c → Keeps shape cloud list user path version file → Keeps shape cloud (list ++ c ∷ []) user path version file
+    → ¬ TakesVersionOut user (key_of shape path version) c → Keeps shape cloud list user path version file → Keeps shape cloud (list ++ c ∷ []) user path version file
 keeps_next shape cloud list c user path version file harmless k = record {
   entry = entry_next shape list c user (key_of shape path version) (recipe_bytes shape cloud path file) harmless (entry_at (user_view shape list user).files (key_of shape path version)) refl k.entry;
   shares = λ i d h. held_more list (c ∷ []) _ _ (k.shares i d h);
@@ -52,13 +52,13 @@ pub keeps_still : (shape : Shape) (cloud : ℕ) (list more : List Command) (user
 keeps_still shape cloud list [] user path version file harmless k = subst (λ (l : List Command). Keeps shape cloud l user path version file) (sym (append-nil list)) k
 keeps_still shape cloud list (c ∷ more) user path version file harmless k =
     subst (λ (l : List Command). Keeps shape cloud l user path version file) (append_assoc list (c ∷ []) more)
-    (keeps_still shape cloud (list ++ c ∷ []) more user path version file (All-tail (λ command. ¬ Ends user (key_of shape path version) command) c more harmless)
-    (keeps_next shape cloud list c user path version file (All-head (λ command. ¬ Ends user (key_of shape path version) command) c more harmless) k))
+    (keeps_still shape cloud (list ++ c ∷ []) more user path version file (All-tail (λ command. ¬ TakesVersionOut user (key_of shape path version) command) c more harmless)
+    (keeps_next shape cloud list c user path version file (All-head (λ command. ¬ TakesVersionOut user (key_of shape path version) command) c more harmless) k))
 
 -- commands of which none is a Delete end no version
 pub harmless_all : (user : UserId) (key : Tag × Version) (more : List Command) → Each IsNoDelete more → AreHarmless user key more
-harmless_all user key [] each = All-nil (λ command. ¬ Ends user key command)
-harmless_all user key (c ∷ more) each = All-cons (λ command. ¬ Ends user key command) c more (ends_none user key c each.0) (harmless_all user key more each.1)
+harmless_all user key [] each = All-nil (λ command. ¬ TakesVersionOut user key command)
+harmless_all user key (c ∷ more) each = All-cons (λ command. ¬ TakesVersionOut user key command) c more (ends_none user key c each.0) (harmless_all user key more each.1)
 
 -- ---- a Committed answer
 
@@ -107,7 +107,7 @@ is_same : (shape : Shape) (path : List ℕ) (version : Version) (recipe : List �
 is_same shape path version recipe =
     ap (λ (b : Bool). b && (version.0 == version.0)) ((bytes_eq-Decides (tag shape path) (tag shape path)).1 refl) ∙ eq-eqb version.0 version.0 refl
 
-pub committed_keeps : (shape : Shape) (cloud : ℕ) (list : List Command) (user : UserId) (path : List ℕ) (version : Version) (file : List ℕ) → IsPath path → length file ≤ 67108864 → IsApart shape cloud list file
+pub committed_keeps : (shape : Shape) (cloud : ℕ) (list : List Command) (user : UserId) (path : List ℕ) (version : Version) (file : List ℕ) → IsPath path → length file ≤ 67108864 → IsWithoutCollision shape cloud list file
     → (answer_over shape cloud list (requests.Commit user (record { 0 = tag shape path }) version (recipe_bytes shape cloud path file))).reply ≡ replies.Committed
     → Keeps shape cloud (list ++ option_to_list (answer_over shape cloud list (requests.Commit user (record { 0 = tag shape path }) version (recipe_bytes shape cloud path file))).adds) user path version file
 committed_keeps shape cloud list user path version file named few apart h =

@@ -10,7 +10,7 @@ use Rattle.file_recipe.specs.FileRecipe.{secrets, recipe_bytes}
 use Rattle.restore_job.specs.Messages.request.Request.{Request}
 use Rattle.restore_job.specs.Messages.request.Request.TheVariants as requests
 use Rattle.restore_job.specs.UserDedup.Cloud.{fingerprint, user_view, strings_of, held_string}
-use Rattle.restore_job.specs.UserDedup.Dedup.{Ends}
+use Rattle.restore_job.specs.UserDedup.Dedup.{TakesVersionOut}
 use Rattle.restore_job.specs.UserDedup.Pages.{entry_at}
 use Rattle.restore_job.specs.UserDedup.command.Command.{Command}
 
@@ -25,7 +25,7 @@ commit_of shape cloud user path version file =
 
 -- none of the commands takes the version of the user's file out
 abbrev pub AreHarmless : UserId → Tag × Version → List Command → Type 0
-AreHarmless user key list = All (λ command. ¬ Ends user key command) list
+AreHarmless user key list = All (λ command. ¬ TakesVersionOut user key command) list
 
 -- The user's entry is the version's recipe at this cloud, and each of its shares is held under its own SHA-256.
 pub record Keeps (shape : Shape) (cloud : ℕ) (list : List Command) (user : UserId) (path : List ℕ) (version : Version) (file : List ℕ) : Type 0 where
@@ -33,6 +33,6 @@ pub record Keeps (shape : Shape) (cloud : ℕ) (list : List Command) (user : Use
   pub shares : All (λ secret. held_string list (fingerprint (share shape cloud secret)) ≡ Some (share shape cloud secret)) (secrets file)
 
 -- No string of the list has the SHA-256 of a share of the file at this cloud, but for that share itself.
-abbrev pub IsApart : Shape → ℕ → List Command → List ℕ → Type 0
-IsApart shape cloud list file = (string secret : List ℕ) → Contains (flat_map strings_of list) string → Contains (secrets file) secret
+abbrev pub IsWithoutCollision : Shape → ℕ → List Command → List ℕ → Type 0
+IsWithoutCollision shape cloud list file = (string secret : List ℕ) → Contains (flat_map strings_of list) string → Contains (secrets file) secret
     → fingerprint string ≡ fingerprint (share shape cloud secret) → string ≡ share shape cloud secret

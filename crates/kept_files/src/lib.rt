@@ -14,7 +14,7 @@ ghost use Rattle.restore_job.specs.UserDedup.command.Command.{Command};
 ghost use Rattle.restore_job.specs.Restored.{restored_file};
 ghost use Rattle.restore_job.specs.Messages.reply.Reply.TheVariants as replies;
 ghost use Rattle.restore_job.specs.UserDedup.Dedup.{answer_over};
-ghost use Rattle.kept_files.specs.Kept.{Keeps, IsApart, key_of, AreHarmless, commit_of};
+ghost use Rattle.kept_files.specs.Kept.{Keeps, IsWithoutCollision, key_of, AreHarmless, commit_of};
 
 pub use restore_job::{RestoreErr, compare, fetch_version, restore, restore_agreed};
 
@@ -35,7 +35,7 @@ pub fn law_of_keeping()
         → Keeps shape cloud list user path version file → Keeps shape cloud (list ++ more) user path version file }
     ensures committed { (shape : Shape) (cloud : ℕ) (list : List Command) (user : UserId) (path : List ℕ)
         (version : Version) (file : List ℕ)
-        → IsPath path → length file ≤ file_limit → IsApart shape cloud list file
+        → IsPath path → length file ≤ file_limit → IsWithoutCollision shape cloud list file
         → (answer_over shape cloud list (commit_of shape cloud user path version file)).reply ≡ replies.Committed
         → Keeps shape cloud (list
         ++ option_to_list (answer_over shape cloud list (commit_of shape cloud user path version file)).adds)

@@ -9,7 +9,7 @@ use Rattle.upload_job.specs.declared.news.LaneErr.{LaneErr}
 use Rattle.upload_job.specs.declared.news.LaneErr.TheVariants as errors
 use Rattle.upload_job.specs.Upload.{FileVersion, Work, work_of}
 use Rattle.upload_job.specs.Lane.{LaneState, Refused, lane_request, IsAnswer}
-use Rattle.upload_job.specs.Lanes.{LaneView, begun, idle, request_at, Answers, AnswersAt}
+use Rattle.upload_job.specs.Lanes.{LaneView, begun, idle, request_at, AnswersLane, AnswersAt}
 use Rattle.lane_steps.specs.Reached.{IsReachedAlone, BegunAlone, AnsweredAlone, IsOnItsWay, ForAll, ForOne}
 use Rattle.lane_steps.specs.Runs.{lane_at, request_of}
 use Rattle.lane_steps.proofs.Sent.{IsSent}
@@ -18,19 +18,19 @@ use Rattle.lane_steps.proofs.Reaching.{can_bring, is_sent}
 use Rattle.lane_steps.proofs.Works.{Counts, begun_counts, counts_items}
 
 -- a refused lane stays so
-refused_stays : (w : Work) (state now : LaneState) (content : List ℕ) (result : Result LaneNews LaneErr) → state ≡ Refused → Answers (record { work = w; state = state }) content result now → now ≡ Refused
+refused_stays : (w : Work) (state now : LaneState) (content : List ℕ) (result : Result LaneNews LaneErr) → state ≡ Refused → AnswersLane (record { work = w; state = state }) content result now → now ≡ Refused
 refused_stays w state now content (Ok news) is answers = absurd (subst (λ (s : LaneState). IsAnswer w s answers.0) is answers.1.says.answers)
 refused_stays w state now content (Err (errors.Strange kind)) is answers = answers.refused
 refused_stays w state now content (Err errors.NoMemory) is answers = let same : now ≡ state = answers in same ∙ is
 
 -- what holds of each lane of a new job, and stays whatever the replies, holds of a lane that has a request
 module _ (shape : Shape) (P : LaneView → Type 0)
-    (stays : (lane : LaneView) (content : List ℕ) (result : Result LaneNews LaneErr) (state : LaneState) → P lane → Answers lane content result state → P (record { work = lane.work; state = state }))
+    (stays : (lane : LaneView) (content : List ℕ) (result : Result LaneNews LaneErr) (state : LaneState) → P lane → AnswersLane lane content result state → P (record { work = lane.work; state = state }))
     (starts : (v : FileVersion) (cloud : ℕ) → IsPath v.path → length v.file ≤ 67108864 → v.user.0 < 2 ^ 32 → v.number.0 < 2 ^ 64 → P (begun (work_of shape v cloud))) where
   abbrev OrRefused : LaneView → Type 0
   OrRefused lane = P lane ⊎ (lane.state ≡ Refused)
 
-  one_answered : (lane : LaneView) (content : List ℕ) (result : Result LaneNews LaneErr) (state : LaneState) → OrRefused lane → Answers lane content result state → OrRefused (record { work = lane.work; state = state })
+  one_answered : (lane : LaneView) (content : List ℕ) (result : Result LaneNews LaneErr) (state : LaneState) → OrRefused lane → AnswersLane lane content result state → OrRefused (record { work = lane.work; state = state })
   one_answered lane content result state (inl is) answers = inl (stays lane content result state is answers)
   one_answered lane content result state (inr refused) answers = inr (refused_stays lane.work lane.state state content result refused answers)
 
@@ -63,7 +63,7 @@ module _ (shape : Shape) (P : LaneView → Type 0)
   pub asked_alone : (lanes : List LaneView) (i : ℕ) (request : Request) → IsReachedAlone shape lanes → request_at lanes i ≡ Some request → (request_of (lane_at lanes i) ≡ Some request) × P (lane_at lanes i)
   asked_alone lanes i request reached e = asked_is lanes i request (all_are lanes reached) e
 
-lane_stays : (shape : Shape) (lane : LaneView) (content : List ℕ) (result : Result LaneNews LaneErr) (state : LaneState) → IsLane shape lane → Answers lane content result state → IsLane shape (record { work = lane.work; state = state })
+lane_stays : (shape : Shape) (lane : LaneView) (content : List ℕ) (result : Result LaneNews LaneErr) (state : LaneState) → IsLane shape lane → AnswersLane lane content result state → IsLane shape (record { work = lane.work; state = state })
 lane_stays shape lane content result state is answers = record { work = is.work; state = answered shape lane content result state is answers }
 
 lane_starts : (shape : Shape) (v : FileVersion) (cloud : ℕ) → IsPath v.path → length v.file ≤ 67108864 → v.user.0 < 2 ^ 32 → v.number.0 < 2 ^ 64 → IsLane shape (begun (work_of shape v cloud))

@@ -19,7 +19,7 @@ use Rattle.lane_steps.specs.Reached.{IsReached, Answered, IsReachedAlone, Answer
 use Rattle.lane_steps.specs.Runs.{lane_at}
 use Rattle.lane_steps.specs.declared.error.StepErr.{StepErr}
 use Rattle.lane_steps.specs.declared.error.StepErr.TheVariants as errors
-use Rattle.lane_steps.specs.Steps.{Passed, Heard, LostAsk, TakesReply, AsksFor, LaneSteps}
+use Rattle.lane_steps.specs.Steps.{Passed, Heard, LostAsk, TakesReply, AsksInStep, LaneSteps}
 use Rattle.lane_steps.proofs.Telling.{news_given}
 use Rattle.lane_steps.proofs.Views.{answers_here, with_same}
 
@@ -76,7 +76,7 @@ SuitsLane t cloud lane old request = (p q : Peer) (reply : Reply) → t.stands o
 
 pub taken : {L : Type 0} (t : LinkTelling L) (talk : L → ℕ → Talk → Type 0) (cloud : ℕ) (old : L) (views : List LaneView) (request : Request) (bytes : List ℕ) (result : Result LaneNews StepErr) (new : L) (after : List LaneView)
     → IsBytes bytes → Passed t talk cloud old request bytes new → GoesBy t cloud old request bytes new → SuitsLane t cloud (lane_at views cloud) old request
-    → TakesReply views cloud bytes result after → AsksFor t talk cloud old views request result new after
+    → TakesReply views cloud bytes result after → AsksInStep t talk cloud old views request result new after
 taken t talk cloud old views request bytes (Ok told) new after known passed goes suits takes =
     let a = answers_here views cloud bytes (Ok told) after takes in
     let tells = a.1.1 in (
@@ -154,9 +154,9 @@ step_unbegun t talk cloud link views None = (refl, refl)
 step_unbegun t talk cloud link views (Some request) = (inl refl, refl)
 
 pub step_told : {L : Type 0} (t : LinkTelling L) (talk : L → ℕ → Talk → Type 0) (cloud : ℕ) (old : L) (views : List LaneView) (one : Option Request) (request : Request) (told : LaneNews) (new : L) (after : List LaneView)
-    → one ≡ Some request → AsksFor t talk cloud old views request (Ok told) new after → LaneSteps t talk cloud old views one (Ok (Some told)) new after
+    → one ≡ Some request → AsksInStep t talk cloud old views request (Ok told) new after → LaneSteps t talk cloud old views one (Ok (Some told)) new after
 step_told t talk cloud old views one request told new after e asks = subst (λ (o : Option Request). LaneSteps t talk cloud old views o (Ok (Some told)) new after) (sym e) asks
 
 pub step_failed : {L : Type 0} (t : LinkTelling L) (talk : L → ℕ → Talk → Type 0) (cloud : ℕ) (old : L) (views : List LaneView) (one : Option Request) (request : Request) (error : StepErr) (new : L) (after : List LaneView)
-    → one ≡ Some request → AsksFor t talk cloud old views request (Err error) new after → LaneSteps t talk cloud old views one (Err error) new after
+    → one ≡ Some request → AsksInStep t talk cloud old views request (Err error) new after → LaneSteps t talk cloud old views one (Err error) new after
 step_failed t talk cloud old views one request error new after e asks = subst (λ (o : Option Request). LaneSteps t talk cloud old views o (Err error) new after) (sym e) asks

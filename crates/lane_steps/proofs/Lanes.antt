@@ -24,7 +24,7 @@ use Rattle.upload_job.specs.declared.news.LaneErr.{LaneErr}
 use Rattle.upload_job.specs.declared.news.LaneErr.TheVariants as errors
 use Rattle.upload_job.specs.Upload.{Work}
 use Rattle.upload_job.specs.Lane.{LaneState, Asking, Sending, Committing, Done, Refused, onward, unflagged, lane_request, lane_after, past_known, IsAnswer}
-use Rattle.upload_job.specs.Lanes.{LaneView, Answers}
+use Rattle.upload_job.specs.Lanes.{LaneView, AnswersLane}
 use Rattle.lane_steps.proofs.Sent.{IsSent, query_sent, put_sent, commit_sent}
 use Rattle.lane_steps.proofs.Asking.{some_request}
 
@@ -153,7 +153,7 @@ after_can shape w state (replies.Damaged at byte) work can fits answers = tt
 after_can shape w state (replies.Rotten named found) work can fits answers = tt
 after_can shape w state (replies.Malformed at) work can fits answers = tt
 
-pub answered : (shape : Shape) (lane : LaneView) (content : List ℕ) (result : Result LaneNews LaneErr) (state : LaneState) → IsLane shape lane → Answers lane content result state → CanAsk state
+pub answered : (shape : Shape) (lane : LaneView) (content : List ℕ) (result : Result LaneNews LaneErr) (state : LaneState) → IsLane shape lane → AnswersLane lane content result state → CanAsk state
 answered shape lane content (Ok news) state is answers =
     let tells = answers.1 in
     subst CanAsk (sym tells.moves) (after_can shape lane.work lane.state answers.0 is.work is.state tells.says.is.fits tells.says.answers)

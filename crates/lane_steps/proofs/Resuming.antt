@@ -17,7 +17,7 @@ use Rattle.upload_job.specs.declared.news.LaneNews.{LaneNews}
 use Rattle.upload_job.specs.declared.news.LaneNews.TheVariants as news
 use Rattle.upload_job.specs.Lane.{LaneState, Asking, Sending, Committing, Done, onward}
 use Rattle.upload_job.specs.Upload.{FileVersion, Work, work_of}
-use Rattle.upload_job.specs.Lanes.{LaneView, begun, lanes_resumed, entered_at, with_state, Answers, AnswersAt}
+use Rattle.upload_job.specs.Lanes.{LaneView, begun, lanes_resumed, entered_at, with_state, AnswersLane, AnswersAt}
 use Rattle.lane_steps.specs.Reached.{IsReached, Begun, Answered}
 use Rattle.lane_steps.specs.Runs.{lane_at}
 use Rattle.lane_steps.proofs.Reaching.{can_bring}
@@ -25,7 +25,7 @@ use Rattle.lane_steps.proofs.Views.{lane_with, length_with, with_twice, with_sam
 
 -- ---- one answer
 
-answer_at : (views : List LaneView) (i : ℕ) (content : List ℕ) (told : LaneNews) (state : LaneState) → i < length views → Answers (lane_at views i) content (Ok told) state
+answer_at : (views : List LaneView) (i : ℕ) (content : List ℕ) (told : LaneNews) (state : LaneState) → i < length views → AnswersLane (lane_at views i) content (Ok told) state
     → AnswersAt views i content (Ok told) (with_state views i state)
 answer_at [] i content told state lt answers = absurd (omega arith)
 answer_at (lane ∷ views) zero content told state lt answers = (state, answers, refl)
@@ -34,9 +34,9 @@ answer_at (lane ∷ views) (suc i) content told state lt answers = (with_state v
 abbrev view : Work → LaneState → LaneView
 view w state = record { work = w; state = state }
 
-committed : (w : Work) (state : LaneState) → state ≡ Committing → Answers (view w state) (reply_bytes replies.Committed) (Ok news.Committed) Done
+committed : (w : Work) (state : LaneState) → state ≡ Committing → AnswersLane (view w state) (reply_bytes replies.Committed) (Ok news.Committed) Done
 committed w state e =
-    subst (λ (s : LaneState). Answers (view w s) (reply_bytes replies.Committed) (Ok news.Committed) Done) (sym e)
+    subst (λ (s : LaneState). AnswersLane (view w s) (reply_bytes replies.Committed) (Ok news.Committed) Done) (sym e)
     (replies.Committed, record { says = record { is = record { fits = tt; spelled = refl }; answers = tt }; told = refl; moves = refl })
 
 -- all of a batch is known
@@ -60,11 +60,11 @@ are_flags batch are =
     ((subst (λ (n : ℕ). 1 ≤ n) (sym len) are.0.0, subst (λ (n : ℕ). n ≤ 256) (sym len) are.0.1), few_ones batch)
 
 known : (w : Work) (batch : List (List ℕ)) (rest : List (List (List ℕ))) (state : LaneState) → state ≡ Asking batch rest → AreShares batch
-    → Answers (view w state) (reply_bytes (replies.Known (ones batch))) (Ok (news.Known (count_by (λ flag. flag == 1) (ones batch)) (length batch))) (onward rest)
+    → AnswersLane (view w state) (reply_bytes (replies.Known (ones batch))) (Ok (news.Known (count_by (λ flag. flag == 1) (ones batch)) (length batch))) (onward rest)
 known w batch rest state e are =
     let len : length (ones batch) ≡ length batch = long_ones batch in
     let fps : length (map fingerprint batch) ≡ length batch = length-map batch fingerprint in
-    subst (λ (s : LaneState). Answers (view w s) (reply_bytes (replies.Known (ones batch))) (Ok (news.Known (count_by (λ flag. flag == 1) (ones batch)) (length batch))) (onward rest)) (sym e) (
+    subst (λ (s : LaneState). AnswersLane (view w s) (reply_bytes (replies.Known (ones batch))) (Ok (news.Known (count_by (λ flag. flag == 1) (ones batch)) (length batch))) (onward rest)) (sym e) (
       replies.Known (ones batch),
       record {
         says = record { is = record { fits = are_flags batch are; spelled = refl }; answers = len ∙ sym fps };

@@ -3,7 +3,7 @@ use Rattle.std.proofs.Common.{◌≡◌, ℕ, zero, suc, ◌<◌, List, [], ◌�
 use Rattle.upload_job.specs.declared.news.LaneNews.{LaneNews}
 use Rattle.upload_job.specs.declared.news.LaneErr.{LaneErr}
 use Rattle.upload_job.specs.Lane.{LaneState}
-use Rattle.upload_job.specs.Lanes.{LaneView, request_at, with_state, Answers, AnswersAt}
+use Rattle.upload_job.specs.Lanes.{LaneView, request_at, with_state, AnswersLane, AnswersAt}
 use Rattle.lane_steps.specs.Runs.{request_of, lane_at}
 
 pub request_here : (views : List LaneView) (i : ℕ) → request_at views i ≡ request_of (lane_at views i)
@@ -12,7 +12,7 @@ request_here (lane ∷ views) zero = refl
 request_here (lane ∷ views) (suc i) = request_here views i
 
 pub answers_here : (views : List LaneView) (i : ℕ) (content : List ℕ) (result : Result LaneNews LaneErr) (new : List LaneView) → AnswersAt views i content result new
-    → (state : LaneState) × Answers (lane_at views i) content result state × (new ≡ with_state views i state)
+    → (state : LaneState) × AnswersLane (lane_at views i) content result state × (new ≡ with_state views i state)
 answers_here [] i content result new answers = absurd answers
 answers_here (lane ∷ views) zero content result new answers = (answers.0, answers.1, answers.2)
 answers_here (lane ∷ views) (suc i) content result new answers =

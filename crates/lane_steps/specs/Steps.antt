@@ -83,21 +83,23 @@ TakesReply views cloud content (Err errors.NoMemory) after =
 
 -- The lane took the cloud's reply, one that a server which keeps to the rules gives to that request; it tells
 -- this, and the lane moved by it.
-abbrev pub Takes : {L : Type 0} → LinkTelling L → Talks L → ℕ → L
+abbrev pub TakesLaneReply : {L : Type 0} → LinkTelling L → Talks L → ℕ → L
     → List LaneView → Request → LaneNews → L → List LaneView → Type 0
-Takes t talk cloud old views request told new after =
+TakesLaneReply t talk cloud old views request told new after =
     let lane = lane_at views cloud in
     (reply : Reply) × IsAnswer lane.work lane.state reply × (news_of lane.state reply ≡ Some told)
     × Heard t talk cloud old request reply new × (after ≡ with_state views cloud (moved lane reply).state)
 
 -- What the step of a lane that has this request answers, and where link and job are then.
-abbrev pub AsksFor : {L : Type 0} → LinkTelling L → Talks L → ℕ → L
+abbrev pub AsksInStep : {L : Type 0} → LinkTelling L → Talks L → ℕ → L
     → List LaneView → Request → Result LaneNews StepErr → L → List LaneView → Type 0
-AsksFor t talk cloud old views request (Ok told) new after = Takes t talk cloud old views request told new after
-AsksFor t talk cloud old views request (Err errors.Lost) new after = LostAsk t cloud old request new × (after ≡ views)
-AsksFor t talk cloud old views request (Err (errors.Strange kind)) new after =
+AsksInStep t talk cloud old views request
+    (Ok told) new after = TakesLaneReply t talk cloud old views request told new after
+AsksInStep t talk cloud old views request (Err errors.Lost) new after = LostAsk t cloud old request new
+    × (after ≡ views)
+AsksInStep t talk cloud old views request (Err (errors.Strange kind)) new after =
     StrangeAsk t talk cloud (lane_at views cloud) old request kind new × (after ≡ with_state views cloud Refused)
-AsksFor t talk cloud old views request (Err errors.NoMemory) new after =
+AsksInStep t talk cloud old views request (Err errors.NoMemory) new after =
     ((new ≡ old) ⊎ Untaken t talk cloud (lane_at views cloud) old request new) × (after ≡ views)
 
 -- The same of a lane that has this request or none.
@@ -110,14 +112,14 @@ LaneSteps t talk cloud old views None (Err errors.Lost) new after = ⊥
 LaneSteps t talk cloud old views None (Err (errors.Strange kind)) new after = ⊥
 LaneSteps t talk cloud old views (Some request) (Ok None) new after = ⊥
 LaneSteps t talk cloud old views (Some request) (Ok (Some told)) new after =
-    AsksFor t talk cloud old views request (Ok told) new after
+    AsksInStep t talk cloud old views request (Ok told) new after
 LaneSteps t talk cloud old views (Some request) (Err e) new after =
-    AsksFor t talk cloud old views request (Err e) new after
+    AsksInStep t talk cloud old views request (Err e) new after
 
 -- no ask was lost
-abbrev pub IsFound : {A : Type 0} → Result A StepErr → Type 0
-IsFound (Err errors.Lost) = ⊥
-IsFound result = Unit {0}
+abbrev pub IsNothingLost : {A : Type 0} → Result A StepErr → Type 0
+IsNothingLost (Err errors.Lost) = ⊥
+IsNothingLost result = Unit {0}
 
 -- an ask was lost only where the count of losses rose
 abbrev pub LosesBy : {A : Type 0} → Result A StepErr → ℕ → ℕ → Type 0

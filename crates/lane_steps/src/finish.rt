@@ -3,7 +3,7 @@
 ghost use Rattle.std.specs.Prelude.{◌≡◌, ◌<◌, ◌≤◌, length, IsTrue};
 ghost use Rattle.upload_job.specs.UserDedup.Link.{LeavesOthers};
 ghost use Rattle.lane_steps.specs.Reached.{IsReached, IsOnItsWay};
-ghost use Rattle.lane_steps.specs.Steps.{Finishes, IsFound, LosesBy};
+ghost use Rattle.lane_steps.specs.Steps.{Finishes, IsNothingLost, LosesBy};
 
 use crate::StepErr;
 use crate::news::{has_lacked, make_room, stops, tell};
@@ -30,7 +30,7 @@ pub fn finish_any<L: Link>(
     ensures others { LeavesOthers L.tells lane.0 link.old link.new }
     ensures later { L.tells.losses link.old ≤ L.tells.losses link.new }
     ensures lost { LosesBy result (L.tells.losses link.old) (L.tells.losses link.new) }
-    ensures lossless { IsTrue (L.tells.lossless link.old) → IsFound result × IsTrue (L.tells.lossless link.new) }
+    ensures lossless { IsTrue (L.tells.lossless link.old) → IsNothingLost result × IsTrue (L.tells.lossless link.new) }
 {
     let mut lacked = false;
     'requests: loop {
@@ -76,7 +76,7 @@ pub fn finish_lane<L: Link>(
     ensures others { LeavesOthers L.tells lane.0 link.old link.new }
     ensures later { L.tells.losses link.old ≤ L.tells.losses link.new }
     ensures lost { LosesBy result (L.tells.losses link.old) (L.tells.losses link.new) }
-    ensures lossless { IsTrue (L.tells.lossless link.old) → IsFound result × IsTrue (L.tells.lossless link.new) }
+    ensures lossless { IsTrue (L.tells.lossless link.old) → IsNothingLost result × IsTrue (L.tells.lossless link.new) }
 {
     finish_any(link, job, lane, content, reply, told)
 }

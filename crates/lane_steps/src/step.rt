@@ -7,7 +7,7 @@ ghost use Rattle.upload_job.specs.Messages.Requests.{request_bytes};
 ghost use Rattle.upload_job.specs.UserDedup.Link.{LeavesOthers};
 ghost use Rattle.upload_job.specs.Lanes.{request_at};
 ghost use Rattle.lane_steps.specs.Reached.{IsReached, IsOnItsWay};
-ghost use Rattle.lane_steps.specs.Steps.{AsksFor, LaneSteps, IsFound, Takes, TakesReply};
+ghost use Rattle.lane_steps.specs.Steps.{AsksInStep, LaneSteps, IsNothingLost, TakesLaneReply, TakesReply};
 
 use crate::StepErr;
 use grammar::{Bytes, CloudNo, NoMemory};
@@ -38,12 +38,12 @@ fn ask_lane<L: Link>(
     requires way { IsOnItsWay (L.tells.shape link.old) job.old }
     requires asks { (r : Request) × (request_at job.old lane.0 ≡ Some r) × (request.now ≡ request_bytes r) }
     ensures steps { (r : Request) → request_at job.old lane.0 ≡ Some r
-        → AsksFor L.tells L.talk lane.0 link.old job.old r result link.new job.new }
+        → AsksInStep L.tells L.talk lane.0 link.old job.old r result link.new job.new }
     ensures way { IsOnItsWay (L.tells.shape link.old) job.new }
     ensures reached { IsReached (L.tells.shape link.old) job.old → IsReached (L.tells.shape link.old) job.new }
     ensures others { LeavesOthers L.tells lane.0 link.old link.new }
     ensures later { L.tells.losses link.old ≤ L.tells.losses link.new }
-    ensures lossless { IsTrue (L.tells.lossless link.old) → IsFound result × IsTrue (L.tells.lossless link.new) }
+    ensures lossless { IsTrue (L.tells.lossless link.old) → IsNothingLost result × IsTrue (L.tells.lossless link.new) }
 {
     match link.ask(lane, request, reply) {
         Ok(()) => take_reply(job, lane, reply.content()),
@@ -68,7 +68,7 @@ pub(crate) fn step_any<L: Link>(
     ensures reached { IsReached (L.tells.shape link.old) job.old → IsReached (L.tells.shape link.old) job.new }
     ensures others { LeavesOthers L.tells lane.0 link.old link.new }
     ensures later { L.tells.losses link.old ≤ L.tells.losses link.new }
-    ensures lossless { IsTrue (L.tells.lossless link.old) → IsFound result × IsTrue (L.tells.lossless link.new) }
+    ensures lossless { IsTrue (L.tells.lossless link.old) → IsNothingLost result × IsTrue (L.tells.lossless link.new) }
 {
     let more = match job.next(lane, content) {
         Ok(more) => more,
@@ -109,7 +109,7 @@ pub fn step_lane<L: Link>(
     ensures reached { IsReached (L.tells.shape link.old) job.new }
     ensures others { LeavesOthers L.tells lane.0 link.old link.new }
     ensures later { L.tells.losses link.old ≤ L.tells.losses link.new }
-    ensures lossless { IsTrue (L.tells.lossless link.old) → IsFound result × IsTrue (L.tells.lossless link.new) }
+    ensures lossless { IsTrue (L.tells.lossless link.old) → IsNothingLost result × IsTrue (L.tells.lossless link.new) }
 {
     step_any(link, job, lane, content, reply)
 }

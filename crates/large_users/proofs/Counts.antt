@@ -26,7 +26,7 @@ use Rattle.compact_memories.proofs.CloudAreas.Lists.{in_map, from_map}
 use Rattle.compact_memories.proofs.KeptRows.{once_of, entry_gives, key_gives, len_at}
 use Rattle.compact_memories.proofs.Passing.{more_none, more_one}
 use Rattle.large_users.specs.declared.large.Entries.{Entries}
-use Rattle.large_users.specs.Counting.{IsCountOf, recipes_in, IsSeen, IsFound, AreSeen, IfBelow}
+use Rattle.large_users.specs.Counting.{IsCountOf, recipes_in, IsSeen, IsUserFound, AreSeen, IfBelow}
 use Rattle.large_users.specs.Large.{OfEach}
 
 -- ---- one slot more
@@ -152,11 +152,11 @@ module _ {K V : Type 0} (user_in : K → ℕ) (from : ℕ) (slots : List (Option
   seen_begins least s k v lt at = absurd (omega (arith, lt))
 
   pub found_more : (slot : ℕ) (least result : Option ℕ) (key : K) (value : V) (user : ℕ) → slot_of slots slot ≡ Some (key, value) → user_in key ≡ user
-      → IsFound user_in from slots least → (result ≡ least) ⊎ ((result ≡ Some user) × (from ≤ user)) → IsFound user_in from slots result
+      → IsUserFound user_in from slots least → (result ≡ least) ⊎ ((result ≡ Some user) × (from ≤ user)) → IsUserFound user_in from slots result
   found_more slot least result key value user at same found which =
       elim which [
-        | inl is ↦ subst (IsFound user_in from slots) (sym is) found
-        | inr is ↦ subst (IsFound user_in from slots) (sym is.0) (is.1, slot, key, value, at, same)
+        | inl is ↦ subst (IsUserFound user_in from slots) (sym is) found
+        | inr is ↦ subst (IsUserFound user_in from slots) (sym is.0) (is.1, slot, key, value, at, same)
       ]
 
 -- ---- what is said of each slot
@@ -205,7 +205,7 @@ module _ {K V : Type 0} {R : K → K → Ordering} (total : IsTotalOrder R) (exa
       absurd (unseen from least user le below (seen user s.0 k v.0 s.2 (eqb-true (user_in k) user t) s.1))) in
       omega (arith, few)
 
-  pub some_of : (from : ℕ) (least : Option ℕ) → IsFound user_in from slots least → IfSome least (λ (user : ℕ). (from ≤ user) × (1 ≤ keys_of user_in m user))
+  pub some_of : (from : ℕ) (least : Option ℕ) → IsUserFound user_in from slots least → IfSome least (λ (user : ℕ). (from ≤ user) × (1 ≤ keys_of user_in m user))
   some_of from None found = tt
   some_of from (Some user) found =
       let k = found.2 in

@@ -31,9 +31,9 @@ IsSeen from None user = user < from
 IsSeen from (Some least) user = (user < from) ⊎ (least ≤ user)
 
 -- The one that was seen is from the number on, and stands in some slot.
-abbrev pub IsFound : {K V : Type 0} → (K → ℕ) → ℕ → List (Option (K × V)) → Option ℕ → Type 0
-IsFound user_in from slots None = Unit {0}
-IsFound {K} {V} user_in from slots (Some least) = (from ≤ least) × (s : ℕ) × (k : K) × (v : V) × (slot_of slots s ≡ Some (k, v)) × (user_in k ≡ least)
+abbrev pub IsUserFound : {K V : Type 0} → (K → ℕ) → ℕ → List (Option (K × V)) → Option ℕ → Type 0
+IsUserFound user_in from slots None = Unit {0}
+IsUserFound {K} {V} user_in from slots (Some least) = (from ≤ least) × (s : ℕ) × (k : K) × (v : V) × (slot_of slots s ≡ Some (k, v)) × (user_in k ≡ least)
 
 -- In so many slots each user was seen.
 abbrev pub AreSeen : {K V : Type 0} → (K → ℕ) → ℕ → List (Option (K × V)) → ℕ → Option ℕ → Type 0

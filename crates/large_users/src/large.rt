@@ -16,7 +16,7 @@ ghost use Rattle.compact_memories.specs.CloudAreas.FormatOne.{passed_room};
 ghost use Rattle.compact_memories.specs.CloudMemory.Memory.{Memory, Remembers, as_spent};
 ghost use Rattle.compact_memories.specs.CloudMemory.Rooms.{memory_of};
 ghost use Rattle.compact_memories.specs.Tables.{with_table};
-ghost use Rattle.large_users.specs.Counting.{IsCountOf, recipes_in, IsSeen, IsFound, AreSeen, IfBelow, IsFirstFrom, AreNoneBelow};
+ghost use Rattle.large_users.specs.Counting.{IsCountOf, recipes_in, IsSeen, IsUserFound, AreSeen, IfBelow, IsFirstFrom, AreNoneBelow};
 ghost use Rattle.large_users.specs.Large.{full_of, passed_in, IsFirstPassed, IsFirstOf, IsFirstBy, IsCountedBy};
 ghost use Rattle.large_users.specs.Large.{IsOwnerSized, IsEntrySized, OfEach, AreSized};
 
@@ -161,11 +161,11 @@ fn lesser(least: Option<u32>, from: u32, user: u32) -> Option<u32>
 // The lesser of a user and of that in a slot of owners.
 fn with_owner(shares: &ShareIndex, from: u32, least: Option<u32>, slot: u32) -> Option<u32>
     requires seen { AreSeen (λ (k : Owner). k.user) from shares.now.owner_slots slot least }
-    requires found { IsFound (λ (k : Owner). k.user) from shares.now.owner_slots least }
+    requires found { IsUserFound (λ (k : Owner). k.user) from shares.now.owner_slots least }
     requires sized { OfEach IsOwnerSized shares.now.owner_slots slot }
     requires few { slot < 4294967295 }
     ensures seen { AreSeen (λ (k : Owner). k.user) from shares.now.owner_slots (slot + 1) result }
-    ensures found { IsFound (λ (k : Owner). k.user) from shares.now.owner_slots result }
+    ensures found { IsUserFound (λ (k : Owner). k.user) from shares.now.owner_slots result }
     ensures sized { OfEach IsOwnerSized shares.now.owner_slots (slot + 1) }
 {
     match shares.owner_at(slot) {
@@ -177,7 +177,7 @@ fn with_owner(shares: &ShareIndex, from: u32, least: Option<u32>, slot: u32) -> 
 // The least user from this number on that owns something.
 fn least_owner(shares: &ShareIndex, from: u32) -> Option<u32>
     ensures seen { AreSeen (λ (k : Owner). k.user) from shares.now.owner_slots (length shares.now.owner_slots) result }
-    ensures found { IsFound (λ (k : Owner). k.user) from shares.now.owner_slots result }
+    ensures found { IsUserFound (λ (k : Owner). k.user) from shares.now.owner_slots result }
     ensures sized { OfEach IsOwnerSized shares.now.owner_slots (length shares.now.owner_slots) }
     ensures each { IsListed shares.now.owners shares.now.owner_slots }
 {
@@ -192,11 +192,11 @@ fn least_owner(shares: &ShareIndex, from: u32) -> Option<u32>
 // The lesser of a user and of that in a slot of entries.
 fn with_entry(files: &FileIndex, from: u32, least: Option<u32>, slot: u32) -> Option<u32>
     requires seen { AreSeen (λ (k : FileKey). k.user) from files.now.slots slot least }
-    requires found { IsFound (λ (k : FileKey). k.user) from files.now.slots least }
+    requires found { IsUserFound (λ (k : FileKey). k.user) from files.now.slots least }
     requires sized { OfEach IsEntrySized files.now.slots slot }
     requires few { slot < 4294967295 }
     ensures seen { AreSeen (λ (k : FileKey). k.user) from files.now.slots (slot + 1) result }
-    ensures found { IsFound (λ (k : FileKey). k.user) from files.now.slots result }
+    ensures found { IsUserFound (λ (k : FileKey). k.user) from files.now.slots result }
     ensures sized { OfEach IsEntrySized files.now.slots (slot + 1) }
 {
     match files.entry_at(slot) {
@@ -208,7 +208,7 @@ fn with_entry(files: &FileIndex, from: u32, least: Option<u32>, slot: u32) -> Op
 // The least user from this number on that has an entry.
 fn least_with(files: &FileIndex, from: u32) -> Option<u32>
     ensures seen { AreSeen (λ (k : FileKey). k.user) from files.now.slots (length files.now.slots) result }
-    ensures found { IsFound (λ (k : FileKey). k.user) from files.now.slots result }
+    ensures found { IsUserFound (λ (k : FileKey). k.user) from files.now.slots result }
     ensures sized { OfEach IsEntrySized files.now.slots (length files.now.slots) }
     ensures each { IsListed files.now.files files.now.slots }
 {

@@ -24,7 +24,7 @@ use Rattle.user_dedup.proofs.Asked.{asked_law, bad, recipe_within, request_withi
 use Rattle.user_dedup.proofs.Suiting.{suits}
 use Rattle.list_link.specs.declared.answers.ServedReply.{ServedReply}
 use Rattle.list_link.specs.declared.store.ListLink.{ListLink}
-use Rattle.list_link.specs.Serving.{outcome_of, IsAnswer, HasFewBytes}
+use Rattle.list_link.specs.Serving.{outcome_of, IsListAnswer, HasFewBytes}
 use Rattle.list_link.specs.Tells.{list_of, telling, HasTakenCommand}
 
 -- ---- places
@@ -70,12 +70,12 @@ place_fits shape content at known few e = go (request_at content) refl e
 
 -- ---- what is served
 
-served_by : (shape : Shape) (cloud : ℕ) (list : List Command) (read : Result Request ℕ) (s : ServedReply) (r : Request) → IsAnswer shape cloud list read s → read ≡ Ok r
+served_by : (shape : Shape) (cloud : ℕ) (list : List Command) (read : Result Request ℕ) (s : ServedReply) (r : Request) → IsListAnswer shape cloud list read s → read ≡ Ok r
     → outcome_of s ≡ answer_over shape cloud list r
 served_by shape cloud list (Ok q) s r is e = let f : Ok q ≡ good r = e in let same : q ≡ r = cc in subst (λ (x : Request). outcome_of s ≡ answer_over shape cloud list x) same is
 served_by shape cloud list (Err at) s r is e = absurd (let f : bad {A = Request} at ≡ Ok r = e in cc)
 
-refused_by : (shape : Shape) (cloud : ℕ) (list : List Command) (read : Result Request ℕ) (s : ServedReply) (at : ℕ) → IsAnswer shape cloud list read s → read ≡ Err at
+refused_by : (shape : Shape) (cloud : ℕ) (list : List Command) (read : Result Request ℕ) (s : ServedReply) (at : ℕ) → IsListAnswer shape cloud list read s → read ≡ Err at
     → outcome_of s ≡ only (replies.Malformed at)
 refused_by shape cloud list (Ok q) s at is e = absurd (let f : Ok q ≡ bad at = e in cc)
 refused_by shape cloud list (Err p) s at is e = let f : bad {A = Request} p ≡ bad at = e in let same : p ≡ at = cc in subst (λ (x : ℕ). outcome_of s ≡ only (replies.Malformed x)) same is
@@ -163,5 +163,5 @@ module _ (old new : ListLink) (cloud : ℕ) (content reply : List ℕ) (t : HasT
 -- ---- a recipe that is none
 
 pub malformed_answer : (shape : Shape) (cloud : ℕ) (list : List Command) (request : Request) (bytes : List ℕ) (at : ℕ) (s : ServedReply) → recipe_at shape bytes ≡ Err at
-    → outcome_of s ≡ only (replies.Malformed (45 + at)) → IsAnswer shape cloud list (recipe_read request (recipe_at shape bytes)) s
-malformed_answer shape cloud list request bytes at s e is = subst (λ (r : Result Recipe ℕ). IsAnswer shape cloud list (recipe_read request r) s) (sym e) is
+    → outcome_of s ≡ only (replies.Malformed (45 + at)) → IsListAnswer shape cloud list (recipe_read request (recipe_at shape bytes)) s
+malformed_answer shape cloud list request bytes at s e is = subst (λ (r : Result Recipe ℕ). IsListAnswer shape cloud list (recipe_read request r) s) (sym e) is

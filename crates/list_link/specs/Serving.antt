@@ -14,8 +14,8 @@ abbrev pub outcome_of : ServedReply → Outcome
 outcome_of s = record { reply = s.reply; adds = s.adds }
 
 -- the answer to what was read, or Malformed at the place that fails
-abbrev pub IsAnswer : Shape → ℕ → List Command → Result Request ℕ → ServedReply → Type 0
-IsAnswer shape cloud list read s = MatchResult read (λ request. outcome_of s ≡ answer_over shape cloud list request) (λ at. outcome_of s ≡ only (replies.Malformed at))
+abbrev pub IsListAnswer : Shape → ℕ → List Command → Result Request ℕ → ServedReply → Type 0
+IsListAnswer shape cloud list read s = MatchResult read (λ request. outcome_of s ≡ answer_over shape cloud list request) (λ at. outcome_of s ≡ only (replies.Malformed at))
 
 -- the recipe of a Commit isn't longer than the content of a frame
 abbrev pub HasFewBytes : Request → Type 0

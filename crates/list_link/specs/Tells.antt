@@ -8,7 +8,7 @@ use Rattle.user_dedup.specs.Exec.{Peer}
 use Rattle.user_dedup.specs.Link.{LinkTelling}
 use Rattle.list_link.specs.declared.answers.ServedReply.{ServedReply}
 use Rattle.list_link.specs.declared.store.ListLink.{ListLink}
-use Rattle.list_link.specs.Serving.{IsAnswer}
+use Rattle.list_link.specs.Serving.{IsListAnswer}
 
 -- the list of a cloud
 abbrev pub list_of : ListLink → ℕ → List Command
@@ -36,7 +36,7 @@ telling = record {
 -- The content was answered by the list of the cloud, which grew by the command that the answer adds; nothing else changed.
 pub record HasTakenCommand (old new : ListLink) (cloud : ℕ) (content reply : List ℕ) : Type 0 where
   pub served : ServedReply
-  pub answer : IsAnswer old.shape cloud (list_of old cloud) (asked_at old.shape content) served
+  pub answer : IsListAnswer old.shape cloud (list_of old cloud) (asked_at old.shape content) served
   pub written : reply ≡ reply_bytes served.reply
   pub lists : new.lists.items ≡ slice_set old.lists.items cloud (list_of old cloud ++ option_to_list served.adds)
   pub shape : new.shape ≡ old.shape

@@ -14,7 +14,7 @@ ghost use Rattle.user_dedup.specs.Owning.{flags, first_lacking, new_strings, fps
 ghost use Rattle.user_dedup.specs.Pages.{entry_at, page_of};
 ghost use Rattle.user_dedup.specs.Requests.{recipe_read, whole_read};
 ghost use Rattle.user_dedup.specs.Dedup.{only as only_reply, put_outcome, commit_outcome, delete_outcome, recipe_reply, shares_reply};
-ghost use Rattle.list_link.specs.Serving.{outcome_of, IsAnswer, HasFewBytes};
+ghost use Rattle.list_link.specs.Serving.{outcome_of, IsListAnswer, HasFewBytes};
 
 use crate::keys::{entry_of, page};
 use crate::shares::{held_shares, lacking_place, new_shares};
@@ -176,7 +176,7 @@ fn commit_read(
     bytes: &Bytes,
 ) -> Result<ServedReply, NoMemory>
     requires { length bytes.now ≤ frame_limit }
-    ensures { IfOk result (IsAnswer shape cloud list.now
+    ensures { IfOk result (IsListAnswer shape cloud list.now
         (recipe_read (CommitRequest user tag version bytes.now) (recipe_at shape bytes.now))) }
 {
     match Recipe::read(alloc, shape, bytes.as_slice()) {
@@ -201,7 +201,7 @@ pub fn serve(
 ) -> Result<ServedReply, NoMemory>
     requires fits { FitsRequest request.now }
     requires few { HasFewBytes request.now }
-    ensures { IfOk result (IsAnswer shape cloud list.now (whole_read shape (Ok request.now))) }
+    ensures { IfOk result (IsListAnswer shape cloud list.now (whole_read shape (Ok request.now))) }
 {
     match request {
         Request::Hello => Ok(only(Reply::Hello {

@@ -4,7 +4,7 @@ ghost use Rattle.std.specs.Prelude.{◌≤◌, length, IfOk};
 ghost use Rattle.user_dedup.specs.CdBase.shape.Shape.{Shape};
 ghost use Rattle.user_dedup.specs.Frames.Frames.{frame_limit};
 ghost use Rattle.user_dedup.specs.Requests.{asked_at};
-ghost use Rattle.list_link.specs.Serving.{IsAnswer};
+ghost use Rattle.list_link.specs.Serving.{IsListAnswer};
 
 use crate::answers::{ServedReply, only, serve};
 use std::alloc::Global;
@@ -19,7 +19,7 @@ pub fn answered(
     content: &[u8],
 ) -> Result<ServedReply, NoMemory>
     requires { length content.now ≤ frame_limit }
-    ensures { IfOk result (IsAnswer shape cloud list.now (asked_at shape content.now)) }
+    ensures { IfOk result (IsListAnswer shape cloud list.now (asked_at shape content.now)) }
 {
     match Request::read(alloc, content) {
         Ok(request) => serve(alloc, shape, cloud, list, &request),

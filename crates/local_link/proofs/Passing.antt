@@ -30,7 +30,7 @@ use Rattle.share_server.specs.Serving.{GrowsOn, OpensFirst, IsUnopenedReply}
 use Rattle.share_server.specs.CloudAreas.Peers.{StandsForSome, ImagesSince, MayBecome}
 use Rattle.local_link.specs.declared.link.LocalLink.{LocalLink}
 use Rattle.local_link.specs.Tells.{server_at, header_at, rooms_at, full_at, is_delivered, IsPeer, LeavesRest, serving_at, StandsAt, IsOpenWith, IsRemembered, ReadsOpen, ReadsTold, PassesOn, OpensOrShuts, telling}
-use Rattle.share_server.specs.UserDedup.Link.{Exchange, IsReading, exchange_of, AddsNothing, Passes, ReadsFrom, Asks, serves}
+use Rattle.share_server.specs.UserDedup.Link.{Exchange, IsReading, exchange_of, AddsNothing, Passes, ReadsOneOf, Asks, serves}
 use Rattle.share_server.specs.CdBase.Reading.{AreBytes}
 use Rattle.local_link.specs.declared.fate.Fate.{Fate}
 use Rattle.local_link.specs.declared.fate.Fate.TheVariants.{Deliver, LoseReply, LoseRequest}
@@ -114,7 +114,7 @@ shut_behind before after old new r content answer is shut (inr x) = inr (x, λ f
 
 module _ {V : Type 0} (clouds : V → ℕ → Cloud) where
   -- one ask, and what follows
-  read_step : (named : List ℕ) (e : Exchange) (old mid new : LocalLink V) (cloud : ℕ) (p : Peer) → ReadsFrom named e → PassesOn clouds old e mid → cloud < old.servers.shape.n
+  read_step : (named : List ℕ) (e : Exchange) (old mid new : LocalLink V) (cloud : ℕ) (p : Peer) → ReadsOneOf named e → PassesOn clouds old e mid → cloud < old.servers.shape.n
       → IsTrue (clouds old.shelf.now cloud).told → StandsAt clouds old cloud p
       → ((q : Peer) → cloud < mid.servers.shape.n → IsTrue (clouds mid.shelf.now cloud).told → StandsAt clouds mid cloud q
       → ImagesSince (clouds mid.shelf.now cloud) (clouds new.shelf.now cloud) (header_at mid.servers cloud) (MaySettleAs q))
@@ -179,7 +179,7 @@ module _ {V : Type 0} (clouds : V → ℕ → Cloud) where
           (left_alone (clouds old.shelf.now cloud) (clouds mid.shelf.now cloud) (StandsForSome header (MaySettleAs p)) (step.rest.clouds_stay cloud ne) (images_now old.servers cloud (clouds old.shelf.now cloud) p lt told is))
 
   -- each image since then stands for a list that the cloud might have settled as
-  pub read_images : (named : List ℕ) (es : List Exchange) (old new : LocalLink V) (cloud : ℕ) (p : Peer) → Passes (telling clouds) (ReadsFrom named) old es new → cloud < old.servers.shape.n
+  pub read_images : (named : List ℕ) (es : List Exchange) (old new : LocalLink V) (cloud : ℕ) (p : Peer) → Passes (telling clouds) (ReadsOneOf named) old es new → cloud < old.servers.shape.n
       → IsTrue (clouds old.shelf.now cloud).told → StandsAt clouds old cloud p
       → ImagesSince (clouds old.shelf.now cloud) (clouds new.shelf.now cloud) (header_at old.servers cloud) (MaySettleAs p)
   read_images named [] old new cloud p same lt told is =
@@ -189,13 +189,13 @@ module _ {V : Type 0} (clouds : V → ℕ → Cloud) where
       read_step named e old chain.1.0 new cloud p chain.0 chain.1.1 lt told is (λ q below t stands. read_images named es chain.1.0 new cloud q chain.1.2 below t stands)
 
   -- the clouds that aren't named are as they were
-  pub read_others : (named : List ℕ) (es : List Exchange) (old new : LocalLink V) (cloud : ℕ) → Passes (telling clouds) (ReadsFrom named) old es new → (Contains named cloud → ⊥) → clouds new.shelf.now cloud ≡ clouds old.shelf.now cloud
+  pub read_others : (named : List ℕ) (es : List Exchange) (old new : LocalLink V) (cloud : ℕ) → Passes (telling clouds) (ReadsOneOf named) old es new → (Contains named cloud → ⊥) → clouds new.shelf.now cloud ≡ clouds old.shelf.now cloud
   read_others named [] old new cloud same not = ap (λ (l : LocalLink V). clouds l.shelf.now cloud) same
   read_others named (e ∷ es) old new cloud chain not =
       read_others named es chain.1.0 new cloud chain.1.2 not ∙ chain.1.1.rest.clouds_stay cloud (λ same. not (subst (Contains named) (sym same) chain.0.0))
 
   -- it is the same shelf
-  pub read_same : (named : List ℕ) (es : List Exchange) (old new : LocalLink V) → Passes (telling clouds) (ReadsFrom named) old es new → new.shelf.ghost_name ≡ old.shelf.ghost_name
+  pub read_same : (named : List ℕ) (es : List Exchange) (old new : LocalLink V) → Passes (telling clouds) (ReadsOneOf named) old es new → new.shelf.ghost_name ≡ old.shelf.ghost_name
   read_same named [] old new same = ap (λ (l : LocalLink V). l.shelf.ghost_name) same
   read_same named (e ∷ es) old new chain = read_same named es chain.1.0 new chain.1.2 ∙ chain.1.1.same_reference
 

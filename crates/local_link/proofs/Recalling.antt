@@ -10,7 +10,7 @@ use Rattle.share_server.specs.CdEdges.area.Area.TheVariants.{Journal}
 use Rattle.share_server.proofs.CdEdges.Moments.{at_end, joined, started, stayed, weaker}
 use Rattle.share_server.specs.CloudMemory.Memory.{Memory}
 use Rattle.share_server.specs.CloudMemory.Rooms.{memory_of}
-use Rattle.share_server.specs.CommitJournal.Openings.{MayBecome, OnFault}
+use Rattle.share_server.specs.CommitJournal.Openings.{MayBeBegun, OnFault}
 use Rattle.share_server.specs.CommitJournal.errors.OpenErr.{OpenErr}
 use Rattle.share_server.specs.CommitJournal.errors.OpenErr.TheVariants as errors
 use Rattle.share_server.specs.JournalHalves.Beginnings.{IsUnbegun}
@@ -89,13 +89,13 @@ module _ (header : Header) (m : Memory) (old : Cloud) (server : Option Server) (
   }
 
   -- an opening that begins what isn't begun begins nothing here
-  back : (image : Image) → MayBecome old.now header true image → image ≡ reads old.now
+  back : (image : Image) → MayBeBegun old.now header true image → image ≡ reads old.now
   back image (inl left) = is.alone image left
   back image (inr begins) = absurd (is.begun begins.1)
 
   opened_on : {T : Type 0} (new : Cloud) (result : Result T OpenErr) → Spares header true old new result → Along old new
   opened_on new result s = record {
-    since = weaker old new (MayBecome old.now header true) (λ (image : Image). image ≡ reads old.now) s.any_moment back;
+    since = weaker old new (MayBeBegun old.now header true) (λ (image : Image). image ≡ reads old.now) s.any_moment back;
     same = back (reads new.now) s.still_read;
   }
 

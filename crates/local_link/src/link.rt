@@ -15,7 +15,7 @@ ghost use Rattle.share_server.specs.declared.server.Server.{Server};
 ghost use Rattle.local_link.specs.declared.servers.Servers.{Servers};
 ghost use Rattle.share_server.specs.CloudAreas.Peers.{ImagesSince};
 ghost use Rattle.local_link.specs.declared.link.LocalLink.{LocalLink};
-ghost use Rattle.share_server.specs.UserDedup.Link.{AddsNothing, Exchange, IsReading, Passes, ReadsFrom};
+ghost use Rattle.share_server.specs.UserDedup.Link.{AddsNothing, Exchange, IsReading, Passes, ReadsOneOf};
 ghost use Rattle.local_link.specs.Tells.{server_at, header_at, telling, StandsAt, IsOpenWith, IsRemembered, IsSaidBy};
 
 use crate::Fate;
@@ -198,7 +198,7 @@ impl<'a, V: Shelf> LocalLink<'a, V> {
         ensures stays { device.Stays (V.cloud_at self.old.shelf.now cloud.0) (V.cloud_at self.new.shelf.now cloud.0) }
         ensures call { IsCall (V.cloud_at self.old.shelf.now) (V.cloud_at self.new.shelf.now) cloud.0
             (V.faults self.old.shelf.now) (V.faults self.new.shelf.now) }
-        ensures counts { findings.OnFault result
+        ensures counts { findings.OnFindFault result
             (HasFailed (V.cloud_at self.old.shelf.now cloud.0) (V.cloud_at self.new.shelf.now cloud.0)
             (V.faults self.old.shelf.now) (V.faults self.new.shelf.now))
             (KeepsCounts (V.cloud_at self.old.shelf.now cloud.0) (V.cloud_at self.new.shelf.now cloud.0)
@@ -507,7 +507,7 @@ impl<'a, V: Shelf> LocalLink<'a, V> {
 pub fn law_of_readings<V: Shelf>()
     // each image since then stands for a list that the cloud might have settled as
     ensures images { (named : List ℕ) (asks : List Exchange) (old new : LocalLink V) (cloud : ℕ) (p : Peer)
-        → Passes (telling V.cloud_at) (ReadsFrom named) old asks new
+        → Passes (telling V.cloud_at) (ReadsOneOf named) old asks new
         → cloud < old.servers.shape.n → IsTrue (V.cloud_at old.shelf.now cloud).told → StandsAt V.cloud_at old cloud p
         → ImagesSince (V.cloud_at old.shelf.now cloud) (V.cloud_at new.shelf.now cloud)
         (header_at old.servers cloud) (MaySettleAs p) }
@@ -557,11 +557,11 @@ pub fn law_of_readings<V: Shelf>()
         → IsReply content replies.Fault ⊎ IsSaidBy (V.cloud_at old.shelf.now ask.cloud) m request content }
     // the clouds that aren't named are as they were
     ensures others { (named : List ℕ) (asks : List Exchange) (old new : LocalLink V) (cloud : ℕ)
-        → Passes (telling V.cloud_at) (ReadsFrom named) old asks new
+        → Passes (telling V.cloud_at) (ReadsOneOf named) old asks new
         → ¬ Contains named cloud → V.cloud_at new.shelf.now cloud ≡ V.cloud_at old.shelf.now cloud }
     // and it is the same shelf
     ensures same_reference { (named : List ℕ) (asks : List Exchange) (old new : LocalLink V)
-        → Passes (telling V.cloud_at) (ReadsFrom named) old asks new
+        → Passes (telling V.cloud_at) (ReadsOneOf named) old asks new
         → new.shelf.ghost_name ≡ old.shelf.ghost_name }
 {}
 

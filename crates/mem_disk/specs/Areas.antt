@@ -19,8 +19,8 @@ abbrev pub has_place : MemArea → ℕ → ℕ → Bool
 has_place area at len = cond (nat_le (at + len) area.second) (nat_le (at + len) area.room) (cond (nat_le area.second at) (nat_le (at + len) (area.second + area.room)) false)
 
 -- so many bytes fit at the place, and into the log
-abbrev pub Fits : MemArea → ℕ → ℕ → Type 0
-Fits area at len = IsTrue (has_place area at len) × (vec_len area.log + len ≤ area.room)
+abbrev pub FitsArea : MemArea → ℕ → ℕ → Type 0
+FitsArea area at len = IsTrue (has_place area at len) × (vec_len area.log + len ≤ area.room)
 
 -- one of the ranges has the byte at the place
 abbrev pub has_byte : MemArea → ℕ → Bool
@@ -35,8 +35,8 @@ abbrev pub EndsIn : MemArea → ℕ → Type 0
 EndsIn area end = (end ≤ vec_len area.bytes) ⊎ (area.second < end)
 
 -- a place in the first range, or at or behind the second one's
-abbrev pub LiesIn : MemArea → ℕ → Type 0
-LiesIn area place = (place < vec_len area.bytes) ⊎ (area.second ≤ place)
+abbrev pub LiesInRanges : MemArea → ℕ → Type 0
+LiesInRanges area place = (place < vec_len area.bytes) ⊎ (area.second ≤ place)
 
 abbrev pub area_of : MemAreas → Area → MemArea
 area_of areas Journal = areas.journal

@@ -97,7 +97,7 @@ fn is_same(one: Area, other: Area) -> bool
 }
 
 impl MemArea {
-    ghost use Rattle.mem_disk.specs.Areas.{Fits, EndsIn, LiesIn, damaged, held};
+    ghost use Rattle.mem_disk.specs.Areas.{FitsArea, EndsIn, LiesInRanges, damaged, held};
     ghost use Rattle.mem_disk.specs.Crashed.{with_note, ranges_in, left_by};
 
     /// An empty area whose ranges and log have this room each.
@@ -184,7 +184,7 @@ impl MemArea {
 
     /// Whether so many bytes fit at the place, in one of the ranges, and into the log.
     pub fn fits(&self, at: u64, len: usize) -> bool
-        ensures { IsTrue result ↔ Fits self.now at len }
+        ensures { IsTrue result ↔ FitsArea self.now at len }
     {
         let len = len as u64;
         let in_range = if self.is_first(at, len) {
@@ -199,7 +199,7 @@ impl MemArea {
 
     /// Puts the bytes at the place, with zeros in a gap before it.
     pub fn put(&mut self, at: u64, bytes: &[u8])
-        requires { Fits self.old at (length bytes.now) }
+        requires { FitsArea self.old at (length bytes.now) }
         ensures room { self.new.room ≡ self.old.room }
         ensures second { self.new.second ≡ self.old.second }
         ensures held { held self.new ≡ overwritten (held self.old) at bytes.now }
@@ -319,7 +319,7 @@ impl MemArea {
     /// for `whole`.
     pub fn crash(&mut self, area: Area, notes: &[Note], synced: u64, fill: u8, whole: bool)
         requires cut { EndsIn self.old synced }
-        requires covered { (k : ℕ) → IsTrue (is_in (ranges_in area [] notes.now) k) → LiesIn self.old k }
+        requires covered { (k : ℕ) → IsTrue (is_in (ranges_in area [] notes.now) k) → LiesInRanges self.old k }
         ensures held { held self.new ≡ left_by fill whole (ranges_in area [] notes.now) synced (held self.old) }
         ensures room { self.new.room ≡ self.old.room }
         ensures second { self.new.second ≡ self.old.second }

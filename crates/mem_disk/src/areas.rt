@@ -28,7 +28,7 @@ pub struct MemAreas {
 }
 
 impl MemAreas {
-    ghost use Rattle.mem_disk.specs.Areas.{Fits, EndsIn, LiesIn, damaged, area_of, held_of, log_of};
+    ghost use Rattle.mem_disk.specs.Areas.{FitsArea, EndsIn, LiesInRanges, damaged, area_of, held_of, log_of};
     ghost use Rattle.mem_disk.specs.Numbers.{number_of};
     ghost use Rattle.mem_disk.specs.Crashed.{ranges_in, left_by};
 
@@ -69,7 +69,7 @@ impl MemAreas {
 
     /// Puts the bytes at the place of one area, with zeros in a gap before it. The others stay.
     pub fn put(&mut self, area: Area, at: u64, bytes: &[u8])
-        requires { Fits (area_of self.old area) at (length bytes.now) }
+        requires { FitsArea (area_of self.old area) at (length bytes.now) }
         ensures room { (area_of self.new area).room ≡ (area_of self.old area).room }
         ensures held { held_of self.new area ≡ overwritten (held_of self.old area) at bytes.now }
         ensures log { log_of self.new area ≡ log_of self.old area ++ bytes.now }
@@ -115,7 +115,7 @@ impl MemAreas {
     pub fn crash(&mut self, notes: &[Note], synced: PerArea, fill: u8, whole: bool)
         requires cut { (area : Area) → EndsIn (area_of self.old area) (number_of synced area) }
         requires covered { (area : Area) (k : ℕ) → IsTrue (is_in (ranges_in area [] notes.now) k)
-            → LiesIn (area_of self.old area) k }
+            → LiesInRanges (area_of self.old area) k }
         ensures room { (area : Area) → (area_of self.new area).room ≡ (area_of self.old area).room }
         ensures log { (area : Area) → log_of self.new area ≡ log_of self.old area }
         ensures held { (area : Area) → held_of self.new area

@@ -3,7 +3,7 @@
 ghost use Rattle.std.specs.Prelude.{◌≡◌, ◌≢◌, ℕ, ◌+◌, ◌≤◌, ◌<◌, List, [], ◌∷◌, ◌++◌, length, IfOk, IsTrue, vec_len, vec_capacity, cond, slice_set, false};
 ghost use Rattle.cd_edges.specs.declared.area.Area.{Area};
 ghost use Rattle.cd_edges.specs.Disk.{overwritten};
-ghost use Rattle.mem_disk.specs.Areas.{Fits, damaged, area_of, held_of, log_of};
+ghost use Rattle.mem_disk.specs.Areas.{FitsArea, damaged, area_of, held_of, log_of};
 ghost use Rattle.mem_disk.specs.History.{history, all_lie, now_of, nothing, Write, Sync, Empty, Crash};
 ghost use Rattle.mem_disk.specs.Numbers.{number_of};
 ghost use Rattle.mem_disk.specs.Tracks.{IsTracked};
@@ -60,7 +60,7 @@ impl MemDisk {
 
     /// Writes, and notes it.
     pub fn write(&mut self, area: Area, at: u64, bytes: &[u8])
-        requires fits { Fits (area_of self.old.areas area) at (length bytes.now) }
+        requires fits { FitsArea (area_of self.old.areas area) at (length bytes.now) }
         requires note { vec_len self.old.notes < vec_capacity self.old.notes }
         ensures history { history_of self.new ≡ history_of self.old ++ Write area at bytes.now ∷ [] }
         ensures told { self.new.told ≡ self.old.told }

@@ -14,7 +14,7 @@ use Rattle.grammar.specs.CdBase.ids.Version.{Version}
 use Rattle.grammar.specs.Readers.{◌>>=◌}
 use Rattle.grammar.proofs.Laws.{Takes, bind_ok, bind_err, ok_is, takes_both, rest_fits, lawful_given}
 use Rattle.grammar.proofs.FieldLaws.{IsBytes, Anything, LawfulBytes, lawful_bytes}
-use Rattle.message_fields.specs.Keys.{is_above, IsKey, key_bytes, AreKeys, is_from, make_key, key_above_at, key_at, keys_above_at, is_key_count, entries_at, entries_bytes, AreEntries}
+use Rattle.message_fields.specs.Keys.{is_above, IsKey, key_bytes, AreKeys, is_from, make_key, key_above_at, key_at, keys_above_at, is_key_count, entries_at, entries_bytes, AreEntryKeys}
 use Rattle.message_fields.proofs.PartLaws.{lawful_made, lawful_kept, lawful_counted, lawful_u64}
 
 -- a key is above another only where its tag is not below the other's
@@ -95,7 +95,7 @@ lawful_keys last n = record {
   fails = keys_fail last n;
 }
 
-pub lawful_entries : LawfulBytes entries_at entries_bytes AreEntries
+pub lawful_entries : LawfulBytes entries_at entries_bytes AreEntryKeys
 unfolding entries_at
 lawful_entries =
     lawful_counted is_key_count (λ n e. let le = leb-true n 256 e in omega arith) (lawful_keys None)

@@ -1,7 +1,7 @@
 //! Batches of flags.
 
 ghost use Rattle.std.specs.Prelude.{◌≡◌};
-ghost use Rattle.message_fields.specs.Readings.{IsReading};
+ghost use Rattle.message_fields.specs.Readings.{IsReadingSeenBy};
 ghost use Rattle.message_fields.specs.Parts.{byte_as, times, behind};
 ghost use Rattle.message_fields.specs.Flags.{flag_of, flags_at};
 
@@ -10,7 +10,7 @@ use crate::fps::batch_of;
 
 // A byte that is 0 or 1.
 fn one_flag_of(bytes: &[u8]) -> Result<(u8, &[u8]), Left>
-    ensures { IsReading (λ x. (x.0, x.1.now)) result (byte_as flag_of bytes.now) }
+    ensures { IsReadingSeenBy (λ x. (x.0, x.1.now)) result (byte_as flag_of bytes.now) }
 {
     match bytes {
         [] => Err(Left(0)),
@@ -26,7 +26,7 @@ fn one_flag_of(bytes: &[u8]) -> Result<(u8, &[u8]), Left>
 
 // What follows so many flags.
 fn behind_flags(bytes: &[u8], count: usize) -> Result<&[u8], Left>
-    ensures { IsReading (λ rest. rest.now) result (behind (times (byte_as flag_of) count bytes.now)) }
+    ensures { IsReadingSeenBy (λ rest. rest.now) result (behind (times (byte_as flag_of) count bytes.now)) }
 {
     let mut rest = bytes;
     for _i in 0..count {
@@ -39,7 +39,7 @@ fn behind_flags(bytes: &[u8], count: usize) -> Result<&[u8], Left>
 /// A batch of flags: their number and so many bytes, each 0 or 1, and what follows. Another byte is wrong.
 #[tactic(auto, unfolding(crate::specs::Flags::flags_at))]
 pub fn flags_of(bytes: &[u8]) -> Result<(&[u8], &[u8]), Left>
-    ensures { IsReading (λ x. (x.0.now, x.1.now)) result (flags_at bytes.now) }
+    ensures { IsReadingSeenBy (λ x. (x.0.now, x.1.now)) result (flags_at bytes.now) }
 {
     let (count, items) = batch_of(bytes)?;
     let rest = behind_flags(items, count as usize)?;

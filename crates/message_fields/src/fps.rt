@@ -2,7 +2,7 @@
 
 ghost use Rattle.std.specs.Prelude.{◌≡◌, IsTrue, ◌↔◌, length, slice_get};
 ghost use Rattle.std.specs.Int.{w16};
-ghost use Rattle.message_fields.specs.Readings.{IsReading};
+ghost use Rattle.message_fields.specs.Readings.{IsReadingSeenBy};
 ghost use Rattle.grammar.specs.Fields.{number_at, checked};
 ghost use Rattle.message_fields.specs.Fingerprints.{is_batch, fps_in, fps_at};
 
@@ -57,7 +57,7 @@ impl<'a> FpsView<'a> {
 /// The number of a batch's items, in 2 bytes, and what follows. One that is no number from 1 to 256 is wrong at its first
 /// place.
 pub fn batch_of(bytes: &[u8]) -> Result<(u16, &[u8]), Left>
-    ensures { IsReading (λ x. (x.0, x.1.now)) result (checked is_batch (number_at w16) bytes.now) }
+    ensures { IsReadingSeenBy (λ x. (x.0, x.1.now)) result (checked is_batch (number_at w16) bytes.now) }
 {
     let (count, rest) = u16_of(bytes)?;
     if 1 <= count && count as usize <= BATCH_LIMIT {
@@ -70,7 +70,7 @@ pub fn batch_of(bytes: &[u8]) -> Result<(u16, &[u8]), Left>
 /// A batch of fingerprints: their number and so many of 32 bytes, and what follows. Where bytes are lacking the end is wrong.
 #[tactic(auto, unfolding(crate::specs::Fingerprints::fps_at))]
 pub fn fps_of(bytes: &[u8]) -> Result<(FpsView<'_>, &[u8]), Left>
-    ensures { IsReading (λ x. (x.0, x.1.now)) result (fps_at bytes.now) }
+    ensures { IsReadingSeenBy (λ x. (x.0, x.1.now)) result (fps_at bytes.now) }
 {
     let (count, rest) = batch_of(bytes)?;
     let count = count as usize;

@@ -2,7 +2,7 @@
 
 ghost use Rattle.std.specs.Prelude.{◌≡◌, None};
 ghost use Rattle.grammar.specs.Readers.{Gives};
-ghost use Rattle.message_fields.specs.Readings.{IsReading};
+ghost use Rattle.message_fields.specs.Readings.{IsReadingSeenBy};
 ghost use Rattle.message_fields.specs.Keys.{key_at, key_above_at, keys_above_at, entries_at, is_from, is_above, is_key_count};
 ghost use Rattle.std.specs.Int.{w16};
 ghost use Rattle.grammar.specs.Fields.{number_at, checked};
@@ -40,7 +40,7 @@ pub fn key_above_of<'a>(
     bytes: &'a [u8],
     last: &Option<(Tag, Version)>,
 ) -> Result<((Tag, Version), &'a [u8]), Left>
-    ensures { IsReading (λ x. (x.0, x.1.now)) result (key_above_at last.now bytes.now) }
+    ensures { IsReadingSeenBy (λ x. (x.0, x.1.now)) result (key_above_at last.now bytes.now) }
 {
     let (tag, rest) = array_of(bytes)?;
     if !is_tag_from(last, &tag) {
@@ -57,14 +57,14 @@ pub fn key_above_of<'a>(
 
 /// The next key, and what follows. Where bytes are lacking the end is wrong.
 pub fn key_of(bytes: &[u8]) -> Result<((Tag, Version), &[u8]), Left>
-    ensures { IsReading (λ x. (x.0, x.1.now)) result (key_at bytes.now) }
+    ensures { IsReadingSeenBy (λ x. (x.0, x.1.now)) result (key_at bytes.now) }
 {
     key_above_of(bytes, &None)
 }
 
 // The number of keys, in 2 bytes, and what follows. One above 256 is wrong at its first place.
 fn key_count_of(bytes: &[u8]) -> Result<(u16, &[u8]), Left>
-    ensures { IsReading (λ x. (x.0, x.1.now)) result (checked is_key_count (number_at w16) bytes.now) }
+    ensures { IsReadingSeenBy (λ x. (x.0, x.1.now)) result (checked is_key_count (number_at w16) bytes.now) }
 {
     let (count, rest) = u16_of(bytes)?;
     if count as usize <= KEY_LIMIT {

@@ -2,7 +2,7 @@
 
 ghost use Rattle.std.specs.Prelude.{◌≡◌, ◌∷◌, [], length, slice_get, MatchOption, IfSome, option_map};
 ghost use Rattle.std.specs.Int.{w32};
-ghost use Rattle.message_fields.specs.Readings.{IsReading};
+ghost use Rattle.message_fields.specs.Readings.{IsReadingSeenBy};
 ghost use Rattle.grammar.specs.Fields.{number_at, checked};
 ghost use Rattle.message_fields.specs.Parts.{times, behind};
 ghost use Rattle.message_fields.specs.Shares.{is_share_len, IsShare, share_at, shares_at};
@@ -85,7 +85,7 @@ impl<'a> SharesView<'a> {
 
 /// The length of a share, in 4 bytes, and what follows. One that is no number from 1 to 8,208 is wrong at its first place.
 pub fn share_len_of(bytes: &[u8]) -> Result<(u32, &[u8]), Left>
-    ensures { IsReading (λ x. (x.0, x.1.now)) result (checked is_share_len (number_at w32) bytes.now) }
+    ensures { IsReadingSeenBy (λ x. (x.0, x.1.now)) result (checked is_share_len (number_at w32) bytes.now) }
 {
     let (len, rest) = u32_of(bytes)?;
     if 1 <= len && len as usize <= SHARE_LIMIT {
@@ -99,7 +99,7 @@ pub fn share_len_of(bytes: &[u8]) -> Result<(u32, &[u8]), Left>
 /// first place; where bytes are lacking the end is wrong.
 #[tactic(auto, unfolding(crate::specs::Shares::share_at))]
 pub fn share_of(bytes: &[u8]) -> Result<(&[u8], &[u8]), Left>
-    ensures { IsReading (λ x. (x.0.now, x.1.now)) result (share_at bytes.now) }
+    ensures { IsReadingSeenBy (λ x. (x.0.now, x.1.now)) result (share_at bytes.now) }
 {
     let (len, rest) = share_len_of(bytes)?;
     bytes_of(rest, len as usize)
@@ -107,7 +107,7 @@ pub fn share_of(bytes: &[u8]) -> Result<(&[u8], &[u8]), Left>
 
 // What follows so many shares.
 fn behind_shares(bytes: &[u8], count: usize) -> Result<&[u8], Left>
-    ensures { IsReading (λ rest. rest.now) result (behind (times share_at count bytes.now)) }
+    ensures { IsReadingSeenBy (λ rest. rest.now) result (behind (times share_at count bytes.now)) }
 {
     let mut rest = bytes;
     for _i in 0..count {
@@ -120,7 +120,7 @@ fn behind_shares(bytes: &[u8], count: usize) -> Result<&[u8], Left>
 /// A batch of shares: their number and so many shares, and what follows.
 #[tactic(auto, unfolding(crate::specs::Shares::shares_at))]
 pub fn shares_of(bytes: &[u8]) -> Result<(SharesView<'_>, &[u8]), Left>
-    ensures { IsReading (λ x. (x.0, x.1.now)) result (shares_at bytes.now) }
+    ensures { IsReadingSeenBy (λ x. (x.0, x.1.now)) result (shares_at bytes.now) }
 {
     let (count, items) = batch_of(bytes)?;
     let count = count as usize;

@@ -10,7 +10,7 @@ use Rattle.message_fields.proofs.Grammar.FieldLaws.{IsBytes, Anything, LawfulByt
 use Rattle.message_fields.specs.Parts.{byte_as}
 use Rattle.message_fields.specs.Flags.{flags_bytes, AreFlags}
 use Rattle.message_fields.specs.Shares.{shares_bytes, AreShares}
-use Rattle.message_fields.specs.Keys.{entries_bytes, AreEntries}
+use Rattle.message_fields.specs.Keys.{entries_bytes, AreEntryKeys}
 use Rattle.message_fields.proofs.PartLaws.{bytes_tail, lawful_byte, lawful_u16, lawful_u32, lawful_u64, picked}
 use Rattle.message_fields.proofs.ShareLaws.{lawful_shares, lawful_flags}
 use Rattle.message_fields.proofs.KeyLaws.{lawful_entries}
@@ -117,7 +117,7 @@ not_yours_laws : Whole IsBytes {A = ℕ} not_yours_left replies.NotYours (λ n. 
 unfolding not_yours_left
 not_yours_laws = lawful_whole IsBytes Anything tt lawful_u16 replies.NotYours
 
-entries_laws : Whole IsBytes entries_left replies.Entries entries_bytes AreEntries
+entries_laws : Whole IsBytes entries_left replies.Entries entries_bytes AreEntryKeys
 unfolding entries_left
 entries_laws = lawful_whole IsBytes Anything tt lawful_entries replies.Entries
 

@@ -6,7 +6,7 @@ use Rattle.message_fields.specs.CdBase.rooms.Room.TheVariants as rooms
 use Rattle.frames.specs.Frames.{frame_limit}
 use Rattle.message_fields.specs.Shares.{shares_bytes, AreShares}
 use Rattle.message_fields.specs.Flags.{flags_bytes, AreFlags}
-use Rattle.message_fields.specs.Keys.{entries_bytes, AreEntries, key_limit}
+use Rattle.message_fields.specs.Keys.{entries_bytes, AreEntryKeys, key_limit}
 use Rattle.message_fields.specs.Fingerprints.{batch_limit}
 use Rattle.messages.specs.Requests.{AreFew}
 use Rattle.messages.specs.declared.reply.Reply.{Reply}
@@ -74,7 +74,7 @@ FitsReply (replies.Recipe bytes) = 1 ≤ length bytes
 FitsReply replies.Missing = Unit {0}
 FitsReply (replies.Shares shares) = AreShares shares
 FitsReply (replies.NotYours place) = place < 2 ^ 16
-FitsReply (replies.Entries entries) = AreEntries entries
+FitsReply (replies.Entries entries) = AreEntryKeys entries
 FitsReply (replies.Full room used need limit) = Unit {0} × ((used < 2 ^ 64) × ((need < 2 ^ 64) × (limit < 2 ^ 64)))
 FitsReply replies.Fault = Unit {0}
 FitsReply (replies.Damaged at byte) = (at < 2 ^ 64) × (byte < 256)

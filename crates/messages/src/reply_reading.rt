@@ -5,11 +5,11 @@ ghost use Rattle.std.specs.Int.{w16};
 ghost use Rattle.message_fields.specs.Grammar.Readers.{Gives, done_at};
 ghost use Rattle.message_fields.specs.Grammar.Fields.{number_at, checked};
 ghost use Rattle.message_fields.specs.Parts.{byte_as};
-ghost use Rattle.message_fields.specs.Readings.{IsReading};
+ghost use Rattle.message_fields.specs.Readings.{IsReadingSeenBy};
 ghost use Rattle.messages.specs.declared.reply.Reply.{Reply};
 ghost use Rattle.messages.specs.Replies.{IsReply};
 ghost use Rattle.messages.specs.ReplyReading.{format_of, room_of, is_new_count, hello_left, known_left, stored_left, lacking_left, recipe_left, shares_left, not_yours_left, entries_left, full_left, damaged_left, rotten_left, malformed_left, plain_left, reply_left, reply_at, is_of_entries};
-ghost use Rattle.messages.specs.Outcome.{IsRead};
+ghost use Rattle.messages.specs.Outcome.{IsMessageRead};
 ghost use Rattle.messages.specs.ReplyViews.{IsInPlace, IsSmall, IsViewed, seen_reply};
 
 use crate::copies::{bytes_copy, shares_copy};
@@ -22,7 +22,7 @@ use std::alloc::Global;
 
 // The format, which is 1.
 fn format_byte_of(bytes: &[u8]) -> Result<(u8, &[u8]), Left>
-    ensures { IsReading (λ x. (x.0, x.1.now)) result (byte_as format_of bytes.now) }
+    ensures { IsReadingSeenBy (λ x. (x.0, x.1.now)) result (byte_as format_of bytes.now) }
 {
     match bytes {
         [] => Err(Left(0)),
@@ -33,7 +33,7 @@ fn format_byte_of(bytes: &[u8]) -> Result<(u8, &[u8]), Left>
 
 // A room's number, from 1 to 6.
 fn room_byte_of(bytes: &[u8]) -> Result<(Room, &[u8]), Left>
-    ensures { IsReading (λ x. (x.0, x.1.now)) result (byte_as room_of bytes.now) }
+    ensures { IsReadingSeenBy (λ x. (x.0, x.1.now)) result (byte_as room_of bytes.now) }
 {
     match bytes {
         [] => Err(Left(0)),
@@ -49,7 +49,7 @@ fn room_byte_of(bytes: &[u8]) -> Result<(Room, &[u8]), Left>
 
 // A number from 0 to 256.
 fn new_count_of(bytes: &[u8]) -> Result<(u16, &[u8]), Left>
-    ensures { IsReading (λ x. (x.0, x.1.now)) result (checked is_new_count (number_at w16) bytes.now) }
+    ensures { IsReadingSeenBy (λ x. (x.0, x.1.now)) result (checked is_new_count (number_at w16) bytes.now) }
 {
     let (new, rest) = u16_of(bytes)?;
     if new as usize <= BATCH_LIMIT {
@@ -61,7 +61,7 @@ fn new_count_of(bytes: &[u8]) -> Result<(u16, &[u8]), Left>
 
 #[tactic(auto, unfolding(crate::specs::ReplyReading::hello_left))]
 fn hello_of(fields: &[u8]) -> Result<Reply, Left>
-    ensures value { IsReading (λ r. r) result (hello_left fields.now) }
+    ensures value { IsReadingSeenBy (λ r. r) result (hello_left fields.now) }
     ensures small { IfOk result IsSmall }
 {
     let (n, rest) = byte_of(fields)?;
@@ -91,7 +91,7 @@ fn known_of(alloc: Global, fields: &[u8]) -> Result<Reply, Stop>
 
 #[tactic(auto, unfolding(crate::specs::ReplyReading::stored_left))]
 fn stored_of(fields: &[u8]) -> Result<Reply, Left>
-    ensures value { IsReading (λ r. r) result (stored_left fields.now) }
+    ensures value { IsReadingSeenBy (λ r. r) result (stored_left fields.now) }
     ensures small { IfOk result IsSmall }
 {
     let (new, rest) = new_count_of(fields)?;
@@ -101,7 +101,7 @@ fn stored_of(fields: &[u8]) -> Result<Reply, Left>
 
 #[tactic(auto, unfolding(crate::specs::ReplyReading::lacking_left))]
 fn lacking_of(fields: &[u8]) -> Result<Reply, Left>
-    ensures value { IsReading (λ r. r) result (lacking_left fields.now) }
+    ensures value { IsReadingSeenBy (λ r. r) result (lacking_left fields.now) }
     ensures small { IfOk result IsSmall }
 {
     let (place, rest) = u32_of(fields)?;
@@ -111,7 +111,7 @@ fn lacking_of(fields: &[u8]) -> Result<Reply, Left>
 
 #[tactic(auto, unfolding(crate::specs::ReplyReading::recipe_left))]
 fn recipe_of(fields: &[u8]) -> Result<ReplyView<'_>, Left>
-    ensures value { IsReading seen_reply result (recipe_left fields.now) }
+    ensures value { IsReadingSeenBy seen_reply result (recipe_left fields.now) }
     ensures in_place { IfOk result IsInPlace }
 {
     match fields {
@@ -122,7 +122,7 @@ fn recipe_of(fields: &[u8]) -> Result<ReplyView<'_>, Left>
 
 #[tactic(auto, unfolding(crate::specs::ReplyReading::shares_left))]
 fn shares_in(fields: &[u8]) -> Result<ReplyView<'_>, Left>
-    ensures value { IsReading seen_reply result (shares_left fields.now) }
+    ensures value { IsReadingSeenBy seen_reply result (shares_left fields.now) }
     ensures in_place { IfOk result IsInPlace }
 {
     let (shares, rest) = shares_of(fields)?;
@@ -132,7 +132,7 @@ fn shares_in(fields: &[u8]) -> Result<ReplyView<'_>, Left>
 
 #[tactic(auto, unfolding(crate::specs::ReplyReading::not_yours_left))]
 fn not_yours_of(fields: &[u8]) -> Result<Reply, Left>
-    ensures value { IsReading (λ r. r) result (not_yours_left fields.now) }
+    ensures value { IsReadingSeenBy (λ r. r) result (not_yours_left fields.now) }
     ensures small { IfOk result IsSmall }
 {
     let (place, rest) = u16_of(fields)?;
@@ -152,7 +152,7 @@ fn reply_entries_of(alloc: Global, fields: &[u8]) -> Result<Reply, Stop>
 
 #[tactic(auto, unfolding(crate::specs::ReplyReading::full_left))]
 fn full_of(fields: &[u8]) -> Result<Reply, Left>
-    ensures value { IsReading (λ r. r) result (full_left fields.now) }
+    ensures value { IsReadingSeenBy (λ r. r) result (full_left fields.now) }
     ensures small { IfOk result IsSmall }
 {
     let (room, rest) = room_byte_of(fields)?;
@@ -170,7 +170,7 @@ fn full_of(fields: &[u8]) -> Result<Reply, Left>
 
 #[tactic(auto, unfolding(crate::specs::ReplyReading::damaged_left))]
 fn damaged_of(fields: &[u8]) -> Result<Reply, Left>
-    ensures value { IsReading (λ r. r) result (damaged_left fields.now) }
+    ensures value { IsReadingSeenBy (λ r. r) result (damaged_left fields.now) }
     ensures small { IfOk result IsSmall }
 {
     let (at, rest) = u64_of(fields)?;
@@ -181,7 +181,7 @@ fn damaged_of(fields: &[u8]) -> Result<Reply, Left>
 
 #[tactic(auto, unfolding(crate::specs::ReplyReading::rotten_left))]
 fn rotten_of(fields: &[u8]) -> Result<Reply, Left>
-    ensures value { IsReading (λ r. r) result (rotten_left fields.now) }
+    ensures value { IsReadingSeenBy (λ r. r) result (rotten_left fields.now) }
     ensures small { IfOk result IsSmall }
 {
     let (named, rest) = fp_of(fields)?;
@@ -192,7 +192,7 @@ fn rotten_of(fields: &[u8]) -> Result<Reply, Left>
 
 #[tactic(auto, unfolding(crate::specs::ReplyReading::malformed_left))]
 fn malformed_of(fields: &[u8]) -> Result<Reply, Left>
-    ensures value { IsReading (λ r. r) result (malformed_left fields.now) }
+    ensures value { IsReadingSeenBy (λ r. r) result (malformed_left fields.now) }
     ensures small { IfOk result IsSmall }
 {
     let (at, rest) = u32_of(fields)?;
@@ -203,7 +203,7 @@ fn malformed_of(fields: &[u8]) -> Result<Reply, Left>
 // A reply without fields.
 fn bare_of(fields: &[u8], reply: Reply) -> Result<Reply, Left>
     requires { IsSmall reply }
-    ensures value { IsReading (λ r. r) result (done_at reply fields.now) }
+    ensures value { IsReadingSeenBy (λ r. r) result (done_at reply fields.now) }
     ensures small { IfOk result IsSmall }
 {
     ended(fields)?;
@@ -214,7 +214,7 @@ fn bare_of(fields: &[u8], reply: Reply) -> Result<Reply, Left>
 #[tactic(auto, unfolding(crate::specs::ReplyReading::plain_left))]
 fn plain_of(kind: u8, fields: &[u8]) -> Result<Reply, Left>
     requires { length fields.now < 2 ^ 32 }
-    ensures value { IsReading (λ r. r) result (plain_left kind fields.now) }
+    ensures value { IsReadingSeenBy (λ r. r) result (plain_left kind fields.now) }
     ensures small { IfOk result IsSmall }
 {
     match kind {
@@ -301,7 +301,7 @@ impl Reply {
     /// the one before, and else the version.
     pub fn read(alloc: Global, content: &[u8]) -> Result<Reply, MsgErr>
         requires { length content.now < 2 ^ 32 }
-        ensures reads { IsRead result (reply_at content.now) }
+        ensures reads { IsMessageRead result (reply_at content.now) }
         // Want of memory is no answer to content that is none, but to entries, which are read one by one.
         ensures malformed { (at : ℕ) → reply_at content.now ≡ Err at → is_of_entries content.now ≡ false
             → result ≢ Err MsgErr.NoMemory }

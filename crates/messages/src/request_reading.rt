@@ -5,7 +5,7 @@ ghost use Rattle.messages.specs.declared.request.Request.{Request};
 ghost use Rattle.messages.specs.Requests.{IsRequest};
 ghost use Rattle.messages.specs.RequestReading.{request_at};
 ghost use Rattle.messages.specs.Seen.{seen};
-ghost use Rattle.messages.specs.Outcome.{IsRead};
+ghost use Rattle.messages.specs.Outcome.{IsMessageRead};
 
 use crate::copies::{bytes_copy, fps_copy, shares_copy};
 use crate::{MsgErr, Request, RequestView};
@@ -72,7 +72,7 @@ impl Request {
     /// the last field give the place of the first of them.
     pub fn read(alloc: Global, content: &[u8]) -> Result<Request, MsgErr>
         requires { length content.now < 2 ^ 32 }
-        ensures reads { IsRead result (request_at content.now) }
+        ensures reads { IsMessageRead result (request_at content.now) }
         // Want of memory is no answer to content that is none.
         ensures malformed { (at : ℕ) → request_at content.now ≡ Err at → result ≢ Err MsgErr.NoMemory }
         // Content is read as the request that it is the spelling of, and no other content is read.

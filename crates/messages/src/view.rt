@@ -1,7 +1,7 @@
 //! Requests in the bytes that they came in.
 
 ghost use Rattle.std.specs.Prelude.{◌≡◌, ◌<◌, ◌^◌, length, Ok, Err, MatchResult, ◌↔◌};
-ghost use Rattle.message_fields.specs.Readings.{IsReading};
+ghost use Rattle.message_fields.specs.Readings.{IsReadingSeenBy};
 ghost use Rattle.messages.specs.Parts.{after_at};
 ghost use Rattle.messages.specs.declared.request.Request.{Request};
 ghost use Rattle.messages.specs.Requests.{IsRequest};
@@ -61,7 +61,7 @@ pub enum RequestView<'a> {
 // A key or none, behind a flag.
 #[tactic(auto, unfolding(crate::specs::Parts::after_at))]
 fn after_of(bytes: &[u8]) -> Result<(Option<(Tag, Version)>, &[u8]), Left>
-    ensures { IsReading (λ x. (x.0, x.1.now)) result (after_at bytes.now) }
+    ensures { IsReadingSeenBy (λ x. (x.0, x.1.now)) result (after_at bytes.now) }
 {
     match bytes {
         [] => Err(Left(0)),
@@ -76,7 +76,7 @@ fn after_of(bytes: &[u8]) -> Result<(Option<(Tag, Version)>, &[u8]), Left>
 
 #[tactic(auto, unfolding(crate::specs::RequestReading::query_left))]
 fn query_of(fields: &[u8]) -> Result<RequestView<'_>, Left>
-    ensures { IsReading seen result (query_left fields.now) }
+    ensures { IsReadingSeenBy seen result (query_left fields.now) }
 {
     let (user, rest) = user_of(fields)?;
     let (fps, rest) = fps_of(rest)?;
@@ -86,7 +86,7 @@ fn query_of(fields: &[u8]) -> Result<RequestView<'_>, Left>
 
 #[tactic(auto, unfolding(crate::specs::RequestReading::put_left))]
 fn put_of(fields: &[u8]) -> Result<RequestView<'_>, Left>
-    ensures { IsReading seen result (put_left fields.now) }
+    ensures { IsReadingSeenBy seen result (put_left fields.now) }
 {
     let (user, rest) = user_of(fields)?;
     let (shares, rest) = shares_of(rest)?;
@@ -96,7 +96,7 @@ fn put_of(fields: &[u8]) -> Result<RequestView<'_>, Left>
 
 #[tactic(auto, unfolding(crate::specs::RequestReading::commit_left))]
 fn commit_of(fields: &[u8]) -> Result<RequestView<'_>, Left>
-    ensures { IsReading seen result (commit_left fields.now) }
+    ensures { IsReadingSeenBy seen result (commit_left fields.now) }
 {
     let (user, rest) = user_of(fields)?;
     let ((tag, version), recipe) = key_of(rest)?;
@@ -113,7 +113,7 @@ fn commit_of(fields: &[u8]) -> Result<RequestView<'_>, Left>
 
 #[tactic(auto, unfolding(crate::specs::RequestReading::get_recipe_left))]
 fn get_recipe_of(fields: &[u8]) -> Result<RequestView<'_>, Left>
-    ensures { IsReading seen result (get_recipe_left fields.now) }
+    ensures { IsReadingSeenBy seen result (get_recipe_left fields.now) }
 {
     let (user, rest) = user_of(fields)?;
     let ((tag, version), rest) = key_of(rest)?;
@@ -123,7 +123,7 @@ fn get_recipe_of(fields: &[u8]) -> Result<RequestView<'_>, Left>
 
 #[tactic(auto, unfolding(crate::specs::RequestReading::get_shares_left))]
 fn get_shares_of(fields: &[u8]) -> Result<RequestView<'_>, Left>
-    ensures { IsReading seen result (get_shares_left fields.now) }
+    ensures { IsReadingSeenBy seen result (get_shares_left fields.now) }
 {
     let (user, rest) = user_of(fields)?;
     let (fps, rest) = fps_of(rest)?;
@@ -133,7 +133,7 @@ fn get_shares_of(fields: &[u8]) -> Result<RequestView<'_>, Left>
 
 #[tactic(auto, unfolding(crate::specs::RequestReading::list_left))]
 fn list_of(fields: &[u8]) -> Result<RequestView<'_>, Left>
-    ensures { IsReading seen result (list_left fields.now) }
+    ensures { IsReadingSeenBy seen result (list_left fields.now) }
 {
     let (user, rest) = user_of(fields)?;
     let (after, rest) = after_of(rest)?;
@@ -143,7 +143,7 @@ fn list_of(fields: &[u8]) -> Result<RequestView<'_>, Left>
 
 #[tactic(auto, unfolding(crate::specs::RequestReading::delete_left))]
 fn delete_of(fields: &[u8]) -> Result<RequestView<'_>, Left>
-    ensures { IsReading seen result (delete_left fields.now) }
+    ensures { IsReadingSeenBy seen result (delete_left fields.now) }
 {
     let (user, rest) = user_of(fields)?;
     let ((tag, version), rest) = key_of(rest)?;
@@ -154,7 +154,7 @@ fn delete_of(fields: &[u8]) -> Result<RequestView<'_>, Left>
 // No fields.
 #[tactic(auto, unfolding(crate::specs::RequestReading::fields_left))]
 fn hello_of(fields: &[u8]) -> Result<RequestView<'_>, Left>
-    ensures { IsReading seen result (fields_left 1 fields.now) }
+    ensures { IsReadingSeenBy seen result (fields_left 1 fields.now) }
 {
     ended(fields)?;
     Ok(RequestView::Hello)
@@ -162,7 +162,7 @@ fn hello_of(fields: &[u8]) -> Result<RequestView<'_>, Left>
 
 #[tactic(auto, unfolding(crate::specs::RequestReading::fields_left, crate::specs::RequestReading::request_left))]
 fn view_of(content: &[u8]) -> Result<RequestView<'_>, Left>
-    ensures { IsReading seen result (request_left content.now) }
+    ensures { IsReadingSeenBy seen result (request_left content.now) }
 {
     match content {
         [] => Err(Left(0)),

@@ -5,7 +5,7 @@ use Rattle.command_cloud.specs.Opened.{CloudCall}
 use Rattle.command_cloud.proofs.ServeCommand.Completing.{not_risen}
 use Rattle.store_migration.specs.JournalStart.rooms.UserRooms.{UserRooms}
 use Rattle.store_migration.specs.MigrationModel.Migrating.{AreSmallEnough}
-use Rattle.store_migration.specs.Answers.{MigratedAs, OnFault}
+use Rattle.store_migration.specs.Answers.{MigratedAs, OnMigrateFault}
 use Rattle.store_migration.specs.declared.errors.MigrateErr.{MigrateErr}
 use Rattle.store_migration.specs.declared.errors.MigrateErr.TheVariants as why
 use Rattle.store_migration.specs.UserDedup.command.Command.{Command}

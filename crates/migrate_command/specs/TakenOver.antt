@@ -6,7 +6,7 @@ use Rattle.command_cloud.specs.Opened.{CloudCall, CloudFails, IsUnchanged, IsUnf
 use Rattle.store_migration.specs.JournalStart.rooms.UserRooms.{UserRooms}
 use Rattle.store_migration.specs.MigrationModel.Migrating.{IsBetween, MayBeMigrated}
 use Rattle.command_cloud.specs.ServeCommand.Complete.{IsStill}
-use Rattle.store_migration.specs.Answers.{IfAnswered, IfNoMemory, IfRefused, MigratedAs, OnFault}
+use Rattle.store_migration.specs.Answers.{IfAnswered, IfNoMemory, IfRefused, MigratedAs, OnMigrateFault}
 use Rattle.store_migration.specs.Exact.{Migrates}
 use Rattle.store_migration.specs.Left.{IsLeftBy}
 use Rattle.store_migration.specs.declared.errors.MigrateErr.{MigrateErr}
@@ -33,7 +33,7 @@ pub record IsMigrationOf (rooms : UserRooms) (call : CloudCall) (result : Result
   pub synced_first : IsTrue call.old.told → IfAnswered result (BeginsSynced call.old call.new)
   pub left : IsTrue call.old.told → IsLeftBy call.shape call.cloud rooms call.old call.new result
   pub undone : IfNoMemory result (IsUnchanged call)
-  pub counts : OnFault result (CloudFails call) (IsUnfailing call)
+  pub counts : OnMigrateFault result (CloudFails call) (IsUnfailing call)
 
 -- The whole promise: what is written is what came of the migration.
 pub record IsTakenOver (rooms : UserRooms) (status : ℕ) (call : CloudCall) (out : Output) : Type 0 where

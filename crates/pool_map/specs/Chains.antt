@@ -12,9 +12,9 @@ abbrev pub has : ℕ → List ℕ → Bool
 has s slots = list_any (eqb s) slots
 
 -- from h on, each slot names the next, and the last names none
-abbrev pub IsPath : List ℕ → ℕ → List ℕ → Type 0
-IsPath next h [] = length next ≤ h
-IsPath next h (s ∷ slots) = (h ≡ s) × (s < length next) × IsPath next (slice_index_or next s 0) slots
+abbrev pub IsSlotChain : List ℕ → ℕ → List ℕ → Type 0
+IsSlotChain next h [] = length next ≤ h
+IsSlotChain next h (s ∷ slots) = (h ≡ s) × (s < length next) × IsSlotChain next (slice_index_or next s 0) slots
 
 -- no slot comes twice
 abbrev pub IsOnceEach : List ℕ → Type 0
@@ -33,25 +33,25 @@ without s (x ∷ slots) = (if eqb s x then slots else x ∷ without s slots)
 -- the chain from h on has the slot
 pub record IsLinked (next : List ℕ) (h slot : ℕ) : Type 0 where
   pub slots : List ℕ
-  pub path : IsPath next h slots
+  pub path : IsSlotChain next h slots
   pub once : IsOnceEach slots
   pub linked : has slot slots ≡ true
 
 -- the chain from old_h on is the chain from new_h on without the slot
 abbrev pub UnlinksOwn : (old new : List ℕ) (old_h new_h slot : ℕ) → Type 0
-UnlinksOwn old new old_h new_h slot = (xs : List ℕ) → IsPath old old_h xs → IsOnceEach xs → has slot xs ≡ true → IsPath new new_h (without slot xs)
+UnlinksOwn old new old_h new_h slot = (xs : List ℕ) → IsSlotChain old old_h xs → IsOnceEach xs → has slot xs ≡ true → IsSlotChain new new_h (without slot xs)
 
 -- a chain that shares no slot with that from h on is as it was
-abbrev pub KeepsOthers : (old new : List ℕ) (h : ℕ) → Type 0
-KeepsOthers old new h = (own xs : List ℕ) (g : ℕ) → IsPath old h own → IsPath old g xs → ((t : ℕ) → has t own ≡ true → has t xs ≡ false) → IsPath new g xs
+abbrev pub KeepsOtherChains : (old new : List ℕ) (h : ℕ) → Type 0
+KeepsOtherChains old new h = (own xs : List ℕ) (g : ℕ) → IsSlotChain old h own → IsSlotChain old g xs → ((t : ℕ) → has t own ≡ true → has t xs ≡ false) → IsSlotChain new g xs
 
 -- a search along a chain for the slot before this one
 pub record IsSeek (next : List ℕ) (h slot at steps : ℕ) : Type 0 where
   pub left : List ℕ
-  pub path : IsPath next at (at ∷ left)
+  pub path : IsSlotChain next at (at ∷ left)
   pub ahead : has slot left ≡ true
   pub apart : at ≢ slot
-  pub own : (xs : List ℕ) → IsPath next h xs → has at xs ≡ true
+  pub own : (xs : List ℕ) → IsSlotChain next h xs → has at xs ≡ true
   pub first : h ≢ slot
   pub short : length left ≤ steps
 
@@ -59,7 +59,7 @@ module _ {K W : Type 0} where
   -- the chain from h on has just the pairs of the bucket b
   pub record IsChain (word : K → ℕ) (buckets b : ℕ) (cells : List (Content (KeyedValue K W))) (next : List ℕ) (h : ℕ) : Type 0 where
     pub slots : List ℕ
-    pub path : IsPath next h slots
+    pub path : IsSlotChain next h slots
     pub once : IsOnceEach slots
     pub members : (s : ℕ) → has s slots ≡ true → (a : ℕ) × (e : KeyedValue K W) × (slice_index_or cells s Empty ≡ Held a e) × (bucket word buckets e.key ≡ b)
     pub complete : (s a : ℕ) (e : KeyedValue K W) → slice_index_or cells s Empty ≡ Held a e → bucket word buckets e.key ≡ b → has s slots ≡ true
@@ -87,7 +87,7 @@ module _ {K W : Type 0} where
   -- a walk along a chain: what is left, and what is left holds the key if any slot does
   pub record IsWalk (cmp : K → K → Ordering) (cells : List (Content (KeyedValue K W))) (next : List ℕ) (key : K) (at steps : ℕ) : Type 0 where
     pub left : List ℕ
-    pub path : IsPath next at left
+    pub path : IsSlotChain next at left
     pub live : (s : ℕ) → has s left ≡ true → (a : ℕ) × (e : KeyedValue K W) × (slice_index_or cells s Empty ≡ Held a e)
     pub finds : (s a : ℕ) (e : KeyedValue K W) → slice_index_or cells s Empty ≡ Held a e → cmp e.key key ≡ Equal → has s left ≡ true
     pub short : length left ≤ steps

@@ -1,7 +1,7 @@
 // Chains of the slots of a pool, by their keys' words: how a key's slot is found.
 ghost use Rattle.std.specs.Prelude.{◌≡◌, ◌≢◌, ◌<◌, ◌+◌, ◌/◌, ℕ, IfSome, IfNone, IfOk, length, replicate, slice_index, slice_set};
 ghost use Rattle.slot_pool.specs.declared.Content.TheVariants.{Empty};
-ghost use Rattle.pool_map.specs.Chains.{IsHashed, HasKey, LacksKey, bucket, IsLinked, UnlinksOwn, KeepsOthers};
+ghost use Rattle.pool_map.specs.Chains.{IsHashed, HasKey, LacksKey, bucket, IsLinked, UnlinksOwn, KeepsOtherChains};
 
 use super::{Key, KeyedValue};
 use slot_pool::{Pool, Slot};
@@ -118,7 +118,7 @@ fn unlink(heads: &mut [u32], next: &mut [u32], start: usize, slot: u32)
     requires start_in { start < length heads.old }
     requires linked { IsLinked next.old (slice_index heads.old start) slot }
     ensures own { UnlinksOwn next.old next.new (slice_index heads.old start) (slice_index heads.new start) slot }
-    ensures others { KeepsOthers next.old next.new (slice_index heads.old start) }
+    ensures others { KeepsOtherChains next.old next.new (slice_index heads.old start) }
     ensures heads { (b : ℕ) → b ≢ start → slice_index heads.new b ≡ slice_index heads.old b }
 {
     let after = next[slot as usize];

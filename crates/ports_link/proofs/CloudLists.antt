@@ -22,9 +22,9 @@ use Rattle.ports_link.specs.declared.judging.AskedClouds.{AskedClouds}
 use Rattle.ports_link.specs.declared.judging.AskedClouds.TheVariants.{Backup, Restore}
 use Rattle.ports_link.specs.declared.judging.Greeting.{Greeting}
 use Rattle.ports_link.specs.declared.greeting.Greeted.{Greeted}
-use Rattle.ports_link.specs.Dialled.{AreApart}
+use Rattle.ports_link.specs.Dialled.{ArePortsApart}
 use Rattle.ports_link.specs.Greetings.{HasShape, HaveOneShape, IsOfFirst, IsAsAsked, AreAsAsked}
-use Rattle.ports_link.specs.Hellos.{AreGreeted, HasClouds, clouds_of, lines_by, ports_of, AreReached, HaveTalks, hello}
+use Rattle.ports_link.specs.Hellos.{AreGreeted, HasClouds, clouds_of, lines_by, ports_of, AreCloudsReached, HaveTalks, hello}
 use Rattle.ports_link.specs.Meeting.{Meets}
 use Rattle.ports_link.proofs.Chains.{SaidHello, all_asked}
 
@@ -210,7 +210,7 @@ line_port P (line ∷ lines) cloud port (inr later) all = line_port P lines clou
     (ports_of lines) all)
 
 -- no two clouds have one port
-lines_apart : (lines : List (CloudNo × ℕ)) (a b port : ℕ) → AreApart (ports_of lines) → HasLine lines a port
+lines_apart : (lines : List (CloudNo × ℕ)) (a b port : ℕ) → ArePortsApart (ports_of lines) → HasLine lines a port
     → HasLine lines b port → a ≡ b
 lines_apart [] a b port apart one two = absurd one
 lines_apart (line ∷ lines) a b port apart (inl one) (inl two) = sym one.0 ∙ two.0
@@ -318,7 +318,7 @@ greeted_few asked ports gs greeted long as_asked are =
     (few_clouds asked (length ports) [] gs as_asked (omega (arith, long)))
 
 pub are_reached : (asked : AskedClouds) (ports : List ℕ) (gs : List Greeting) (greeted : Greeted) → length gs ≡ length ports
-    → AreAsAsked asked (length ports) [] gs → AreGreeted asked ports gs greeted → AreReached greeted.lines.items
+    → AreAsAsked asked (length ports) [] gs → AreGreeted asked ports gs greeted → AreCloudsReached greeted.lines.items
 are_reached asked ports gs greeted long as_asked are cloud has =
     let r = reached (replicate 256 no_line) greeted.lines.items (length-replicate 256 no_line)
     (greeted_few asked ports gs greeted long as_asked are) cloud has in
@@ -326,7 +326,7 @@ are_reached asked ports gs greeted long as_asked are cloud has =
 
 pub have_talks : (asked : AskedClouds) (ports : List ℕ) (gs : List Greeting) (greeted : Greeted) (u : Telling)
     → length gs ≡ length ports
-    → AreAsAsked asked (length ports) [] gs → AreGreeted asked ports gs greeted → IsTrue u.told → AreApart ports
+    → AreAsAsked asked (length ports) [] gs → AreGreeted asked ports gs greeted → IsTrue u.told → ArePortsApart ports
     → All (SaidHello u) ports
     → HaveTalks u greeted.lines.items
 have_talks asked ports gs greeted u long as_asked are told apart said cloud has =
@@ -338,7 +338,7 @@ have_talks asked ports gs greeted u long as_asked are told apart said cloud has 
       b.contents,
       record {
         told = told;
-        apart = λ a d port at_a at_d. lines_apart greeted.lines.items a d port (subst AreApart (sym are.ports) apart)
+        apart = λ a d port at_a at_d. lines_apart greeted.lines.items a d port (subst ArePortsApart (sym are.ports) apart)
             (has_line greeted.lines.items few a port at_a) (has_line greeted.lines.items few d port at_d);
         port = r.0;
         reached = ap (λ (l : CloudLine). l.port) r.2;

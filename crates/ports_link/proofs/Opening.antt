@@ -5,7 +5,7 @@ use Rattle.std.specs.List.{Contains}
 use Rattle.std.proofs.lemmas.List.Elements.{All-nil, All-cons, All-weaker}
 use Rattle.user_dedup.proofs.Owned.{contains_here, contains_later}
 use Rattle.transcript.specs.CdEdges.Ports.{Telling, HasOpenedPort, OthersStay}
-use Rattle.ports_link.specs.Dialled.{AreNext, AreApart, AreDialled}
+use Rattle.ports_link.specs.Dialled.{AreNext, ArePortsApart, AreDialled}
 
 none_below : (n : ℕ) (ports : List ℕ) → AreNext n ports → All (λ p. n ≤ p) ports
 none_below n [] a = All-nil _
@@ -17,7 +17,7 @@ none_below n (port ∷ ports) a =
 pub not_behind : (n port : ℕ) (ports : List ℕ) → AreNext (suc n) ports → port ≡ n → ¬ Contains ports port
 not_behind n port ports a e c = let above = none_below (suc n) ports a c.0 port c.1 in omega (arith, above, c.2, e)
 
-pub next_apart : (n : ℕ) (ports : List ℕ) → AreNext n ports → AreApart ports
+pub next_apart : (n : ℕ) (ports : List ℕ) → AreNext n ports → ArePortsApart ports
 next_apart n [] a = tt
 next_apart n (port ∷ ports) a = (
   All-weaker (λ p. suc n ≤ p) (λ other. other ≢ port) (λ p l e. omega (arith, l, e, a.0)) ports

@@ -9,9 +9,9 @@ AreNext opened [] = Unit {0}
 AreNext opened (port ∷ ports) = (port ≡ opened) × AreNext (suc opened) ports
 
 -- no two of these ports are one
-abbrev pub AreApart : List ℕ → Type 0
-AreApart [] = Unit {0}
-AreApart (port ∷ ports) = All (λ other. other ≢ port) ports × AreApart ports
+abbrev pub ArePortsApart : List ℕ → Type 0
+ArePortsApart [] = Unit {0}
+ArePortsApart (port ∷ ports) = All (λ other. other ≢ port) ports × ArePortsApart ports
 
 -- These ports were dialled, in order. Every other port is as it was.
 pub record AreDialled (before after : Telling) (ports : List ℕ) : Type 0 where

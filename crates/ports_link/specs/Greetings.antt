@@ -33,16 +33,16 @@ IsOfFirst [] shape = ⊥
 IsOfFirst (first ∷ more) shape = (shape.n ≡ first.n) × (shape.k ≡ first.k)
 
 -- A backup asks all n clouds, each at the address of its number. A restore asks k of them or more, in order.
-abbrev pub HasPlace : AskedClouds → ℕ → List Greeting → Greeting → Type 0
-HasPlace asked.Backup count before g = (g.n ≡ count) × (g.cloud ≡ length before)
-HasPlace asked.Restore count before g = (g.k ≤ count) × All (λ (b : Greeting). b.cloud < g.cloud) before
+abbrev pub HasPlaceBehind : AskedClouds → ℕ → List Greeting → Greeting → Type 0
+HasPlaceBehind asked.Backup count before g = (g.n ≡ count) × (g.cloud ≡ length before)
+HasPlaceBehind asked.Restore count before g = (g.k ≤ count) × All (λ (b : Greeting). b.cloud < g.cloud) before
     × (g.cloud < g.n)
 
 -- The reply of the next of so many addresses is as it has to be, behind these.
 pub record IsAsAsked (asked : AskedClouds) (count : ℕ) (before : List Greeting) (g : Greeting) : Type 0 where
   pub shaped : HasShape g
   pub same : All (λ b. HaveOneShape b g) before
-  pub place : HasPlace asked count before g
+  pub place : HasPlaceBehind asked count before g
 
 -- each is as it has to be behind those before it
 abbrev pub AreAsAsked : AskedClouds → ℕ → List Greeting → List Greeting → Type 0
@@ -57,9 +57,9 @@ first_byte (byte ∷ bytes) = byte
 
 -- The content is not what the next of so many addresses has to reply, behind these, and the refusal has its numbers, or
 -- its first byte.
-abbrev pub IsRefused : AskedClouds → ℕ → List Greeting → List ℕ → Refused → Type 0
-IsRefused asked count before content (refusals.Hello position n k cloud) =
+abbrev pub IsGreetingRefused : AskedClouds → ℕ → List Greeting → List ℕ → Refused → Type 0
+IsGreetingRefused asked count before content (refusals.Hello position n k cloud) =
     (position ≡ length before) × IsHello content (record { n = n; k = k; cloud = cloud })
     × ¬ IsAsAsked asked count before (record { n = n; k = k; cloud = cloud })
-IsRefused asked count before content (refusals.Strange position kind) =
+IsGreetingRefused asked count before content (refusals.Strange position kind) =
     (position ≡ length before) × NoHello content × (kind ≡ first_byte content)

@@ -66,5 +66,5 @@ HaveTalks t lines = (cloud : ℕ) → Contains (clouds_of lines) cloud
     → (coming : List (List ℕ)) × HasTalk t (lines_for lines) cloud (record { asked = hello ∷ []; coming = coming })
 
 -- a link over these lines reaches each of these clouds
-abbrev pub AreReached : List (CloudNo × ℕ) → Type 0
-AreReached lines = (cloud : ℕ) → Contains (clouds_of lines) cloud → IsTrue (has_port (lines_for lines) cloud)
+abbrev pub AreCloudsReached : List (CloudNo × ℕ) → Type 0
+AreCloudsReached lines = (cloud : ℕ) → Contains (clouds_of lines) cloud → IsTrue (has_port (lines_for lines) cloud)

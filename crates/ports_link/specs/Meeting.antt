@@ -3,7 +3,7 @@ use Rattle.std.specs.Prelude.{◌≡◌, ℕ, ◌<◌, IsTrue, List, [], ◌∷�
 use Rattle.transcript.specs.CdEdges.Causes.{Rose}
 use Rattle.transcript.specs.CdEdges.Ports.{Telling, HasOpenedPort, OthersStay}
 use Rattle.ports_link.specs.Dialled.{AreDialled}
-use Rattle.ports_link.specs.Greetings.{IsHello, IsAsAsked, IsRefused}
+use Rattle.ports_link.specs.Greetings.{IsHello, IsAsAsked, IsGreetingRefused}
 use Rattle.ports_link.specs.Hellos.{AreGreeted, Hears}
 use Rattle.ports_link.specs.declared.judging.AskedClouds.{AskedClouds}
 use Rattle.ports_link.specs.declared.judging.Greeting.{Greeting}
@@ -34,7 +34,7 @@ pub record IsUnmet (asked : AskedClouds) (count : ℕ) (before : List Greeting) 
   pub content : List ℕ
   pub hears : IsTrue t.told → Hears opened u port content
   pub told : u.told ≡ t.told
-  pub refused : IsRefused asked count before content why
+  pub refused : IsGreetingRefused asked count before content why
 
 -- It was dialled, and the ports failed in its Hello: no other port changed, and none was opened.
 pub record IsUnheard (count : ℕ) (before : List Greeting) (t : Telling) (port : ℕ) (u : Telling) : Type 0 where

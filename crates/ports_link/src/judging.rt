@@ -2,7 +2,8 @@
 
 ghost use Rattle.std.specs.Prelude.{◌≡◌, ◌↔◌, ◌<◌, ◌≤◌, ◌^◌, length, All, IsTrue, IfOk, IfErr, MatchOption};
 ghost use Rattle.user_dedup.specs.CdBase.Reading.{AreBytes};
-ghost use Rattle.ports_link.specs.Greetings.{IsHello, NoHello, HasShape, HasPlace, HaveOneShape, IsAsAsked, IsRefused};
+ghost use Rattle.ports_link.specs.Greetings.{IsHello, NoHello, HasShape, HasPlaceBehind, HaveOneShape, IsAsAsked};
+ghost use Rattle.ports_link.specs.Greetings.{IsGreetingRefused};
 ghost use Rattle.ports_link.specs.Greetings.{first_byte};
 
 use crate::refused::Refused;
@@ -83,7 +84,7 @@ fn are_below(before: &[Greeting], cloud: u8) -> bool
 
 // Whether the cloud is the one of this address.
 fn has_place(asked: AskedClouds, count: usize, before: &[Greeting], greeting: &Greeting) -> bool
-    ensures { IsTrue result ↔ HasPlace asked count before.now greeting.now }
+    ensures { IsTrue result ↔ HasPlaceBehind asked count before.now greeting.now }
 {
     match asked {
         AskedClouds::Backup => {
@@ -124,7 +125,7 @@ pub fn judge(
     requires { length before.now < 256 }
     ensures hello { IfOk result (λ g. IsHello content.now g) }
     ensures asked { IfOk result (λ g. IsAsAsked asked count before.now g) }
-    ensures refused { IfErr result (λ why. IsRefused asked count before.now content.now why) }
+    ensures refused { IfErr result (λ why. IsGreetingRefused asked count before.now content.now why) }
 {
     let position = before.len() as u8;
     let Some(greeting) = greeting_of(content) else {

@@ -3,7 +3,7 @@
 ghost use Rattle.std.specs.Prelude.{◌≡◌, ◌≤◌, ◌<◌, ◌+◌, [], ℕ, List, length, Ok, Err, IsTrue, IfOk, OnErr, MatchOption};
 ghost use Rattle.std.specs.Prelude.{MatchResult};
 ghost use Rattle.ports_link.specs.Dialled.{AreDialled, OnlyDialled};
-ghost use Rattle.ports_link.specs.Hellos.{AreReached, HaveTalks, hello, ports_of};
+ghost use Rattle.ports_link.specs.Hellos.{AreCloudsReached, HaveTalks, hello, ports_of};
 ghost use Rattle.ports_link.specs.Sending.{SendsOnly};
 ghost use Rattle.ports_link.specs.Meeting.{CountsMeeting, IsMet, Meets, MeetsAll};
 
@@ -150,7 +150,7 @@ pub fn meet_all<P: Ports>(
     ensures meets { MeetsAll asked (length addresses.now) (P.tells ports.old) (P.tells ports.new) result }
     ensures talks { IsTrue (P.tells ports.old).told
         → IfOk result (λ greeted. HaveTalks (P.tells ports.new) greeted.lines.items) }
-    ensures reaches { IfOk result (λ greeted. AreReached greeted.lines.items) }
+    ensures reaches { IfOk result (λ greeted. AreCloudsReached greeted.lines.items) }
     ensures dialled { IsTrue (P.tells ports.old).told
         → IfOk result (λ greeted. AreDialled (P.tells ports.old) (P.tells ports.new) (ports_of greeted.lines.items)) }
     ensures others { IsTrue (P.tells ports.old).told

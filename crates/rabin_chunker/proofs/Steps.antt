@@ -9,7 +9,7 @@ use Rattle.std.proofs.Math.Bool.{or-true}
 use Rattle.std.specs.List.{list_all}
 use Rattle.std.proofs.lemmas.Bool.Decides.{nat_tests}
 use Rattle.rabin_chunker.specs.Cuts.{fingerprint_of, is_end, is_cut, start_at, ends_after, last_end}
-use Rattle.rabin_chunker.specs.Window.{oldest_first, IsRecent, IsNear, Reads}
+use Rattle.rabin_chunker.specs.Window.{oldest_first, IsRecent, IsNear, IsReaderAt}
 use Rattle.rabin_chunker.specs.Walk.{Walked, Arrives}
 use Rattle.rabin_chunker.specs.Rolling.{rolled_by}
 use Rattle.rabin_chunker.proofs.Algebra.{Bytes, fingerprint_lt, rolled}
@@ -216,13 +216,13 @@ ends_after-add file from m (suc n) =
     (append_assoc (ends_after file from m) (ends_after file (from + m) n) (one_end file (from + m + n)))
 
 -- ---- a reader
-pub reads_longer : (file more : List ℕ) (inside next : ℕ) (ring : List ℕ) → Reads file (length file) inside next ring → Reads (file ++ more) (length file) inside next ring
+pub reads_longer : (file more : List ℕ) (inside next : ℕ) (ring : List ℕ) → IsReaderAt file (length file) inside next ring → IsReaderAt (file ++ more) (length file) inside next ring
 reads_longer file more inside next ring h = record {
   begun = ap (λ (s : ℕ). s + inside) (start_at-longer file more (length file) (omega arith)) ∙ h.begun;
   recent = recent_longer file more (length file) inside (oldest_first next ring) (omega arith) (omega (arith, h.begun)) h.recent;
 }
 
-pub reads_skipped : (file : List ℕ) (e n inside next : ℕ) (ring : List ℕ) → inside + n ≤ 2000 → Reads file e inside next ring → Reads file (e + n) (inside + n) next ring
+pub reads_skipped : (file : List ℕ) (e n inside next : ℕ) (ring : List ℕ) → inside + n ≤ 2000 → IsReaderAt file e inside next ring → IsReaderAt file (e + n) (inside + n) next ring
 reads_skipped file e n inside next ring h r =
     let same : start_at file (e + n) ≡ start_at file e = start_at-skip file (start_at file e) e n refl (omega (arith, r.begun)) in
     record {
@@ -230,7 +230,7 @@ reads_skipped file e n inside next ring h r =
       recent = recent_skipped file (e + n) (inside + n) (oldest_first next ring) h;
     }
 
-pub walked_start : (file more : List ℕ) (inside next : ℕ) (ring before : List ℕ) → Reads file (length file) inside next ring
+pub walked_start : (file more : List ℕ) (inside next : ℕ) (ring before : List ℕ) → IsReaderAt file (length file) inside next ring
     → Walked (file ++ more) (length file) 0 inside next ring before before
 walked_start file more inside next ring before h = record {
   reads = rw (add-zero (length file)) (reads_longer file more inside next ring h);
@@ -247,7 +247,7 @@ walked_skipped file from k n inside next ring before now h w =
     }
 
 ring_recent : (file : List ℕ) (e inside next next' b : ℕ) (ring : List ℕ) → length ring ≡ 48 → next < 48 → next' ≡ cond (eqb next 47) 0 (next + 1)
-    → get_or file e 0 ≡ b → Reads file e inside next ring → IsRecent file (e + 1) (inside + 1) (oldest_first next' (set ring next b))
+    → get_or file e 0 ≡ b → IsReaderAt file e inside next ring → IsRecent file (e + 1) (inside + 1) (oldest_first next' (set ring next b))
 ring_recent file e inside next next' b ring hl hn hm hb r =
     let within : next < length ring = omega arith in
     let first : IsRecent file e inside (get_or ring next 0 ∷ younger next ring) = rw (oldest_first-cons next ring within) at r.recent in

@@ -8,7 +8,7 @@ abbrev pub IsUnmarked : List ℕ → ℕ → ℕ → Type 0
 IsUnmarked piece from to = (q : ℕ) → from < q → q < to → (fingerprint_of (slice_range piece (q - 48) q) % 2 ^ 13 == 8191) ≡ false
 
 -- the lanes have the fingerprints before `at`, and 256, 512 and 768 bytes behind it
-pub record AreLanes (piece : List ℕ) (at : ℕ) (lanes : Lanes) : Type 0 where
+pub record AreLanesAt (piece : List ℕ) (at : ℕ) (lanes : Lanes) : Type 0 where
   pub first : lanes.first ≡ fingerprint_of (slice_range piece (at - 48) at)
   pub second : lanes.second ≡ fingerprint_of (slice_range piece (at + 256 - 48) (at + 256))
   pub third : lanes.third ≡ fingerprint_of (slice_range piece (at + 512 - 48) (at + 512))

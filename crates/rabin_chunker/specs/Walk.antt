@@ -1,11 +1,11 @@
 -- A reader on its way through a file.
 use Rattle.std.specs.Prelude.{◌≡◌, ℕ, ◌+◌, true, false, List, [], ◌∷◌, ◌++◌}
 use Rattle.rabin_chunker.specs.Cuts.{ends_after, is_cut}
-use Rattle.rabin_chunker.specs.Window.{Reads}
+use Rattle.rabin_chunker.specs.Window.{IsReaderAt}
 
 -- it has read k bytes from a place on, and the ends that came are appended to those before
 pub record Walked (file : List ℕ) (from k inside next : ℕ) (ring before now : List ℕ) : Type 0 where
-  pub reads : Reads file (from + k) inside next ring
+  pub reads : IsReaderAt file (from + k) inside next ring
   pub ends : now ≡ before ++ ends_after file from k
 
 -- it has read `read` bytes more, among which no secret ended before the last; at the last one ends where the length of the

@@ -11,7 +11,7 @@ unfoldable pub IsRecent : List ℕ → ℕ → ℕ → List ℕ → Type 0
 IsRecent file e inside window = (j : ℕ) → j < 48 → 2048 ≤ inside + j → slice_index window j ≡ slice_index file (e + j - 48)
 
 -- what a reader at e has: `inside` bytes of a secret that has not ended, and their newest in the ring
-pub record Reads (file : List ℕ) (e inside next : ℕ) (ring : List ℕ) : Type 0 where
+pub record IsReaderAt (file : List ℕ) (e inside next : ℕ) (ring : List ℕ) : Type 0 where
   pub begun : start_at file e + inside ≡ e
   pub recent : IsRecent file e inside (oldest_first next ring)
 

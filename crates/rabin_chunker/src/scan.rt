@@ -1,7 +1,7 @@
 //! The search for the next end in the middle of a secret.
 ghost use Rattle.std.specs.Prelude.{◌≡◌, ℕ, ◌+◌, ◌-◌, ◌%◌, ◌^◌, ◌<◌, ◌≤◌, ◌==◌, false, length, slice_range, IfSome};
 ghost use Rattle.rabin_chunker.specs.Cuts.{fingerprint_of};
-ghost use Rattle.rabin_chunker.specs.Lanes.{AreLanes, AreUnmarked, IsUnmarked};
+ghost use Rattle.rabin_chunker.specs.Lanes.{AreLanesAt, AreUnmarked, IsUnmarked};
 
 use crate::tables::{roll, roll_two};
 
@@ -82,7 +82,7 @@ fn lanes_at(piece: &[u8], at: usize, fingerprint: u64) -> Lanes
     requires room { 48 ≤ at }
     requires within { at + 1024 ≤ length piece.now }
     requires kept { fingerprint ≡ fingerprint_of (slice_range piece.now (at - 48) at) }
-    ensures { AreLanes piece.now at result }
+    ensures { AreLanesAt piece.now at result }
 {
     let mut second = 0;
     let mut third = 0;
@@ -107,8 +107,8 @@ fn lanes_at(piece: &[u8], at: usize, fingerprint: u64) -> Lanes
 fn moved(piece: &[u8], at: usize, lanes: Lanes) -> Lanes
     requires room { 48 ≤ at }
     requires within { at + 768 < length piece.now }
-    requires lanes { AreLanes piece.now at lanes }
-    ensures { AreLanes piece.now (at + 1) result }
+    requires lanes { AreLanesAt piece.now at lanes }
+    ensures { AreLanesAt piece.now (at + 1) result }
 {
     let first = roll(lanes.first, piece[at - 48], piece[at]);
     let second = roll(lanes.second, piece[at + 208], piece[at + 256]);

@@ -13,7 +13,7 @@ use Rattle.commit_journal.proofs.CdEdges.Torn.{only}
 use Rattle.commit_journal.specs.declared.errors.OpenErr.{OpenErr}
 use Rattle.commit_journal.specs.declared.errors.OpenErr.TheVariants as errors
 use Rattle.commit_journal.specs.JournalStart.start.Header.{Header}
-use Rattle.commit_journal.specs.Openings.{MayBecome, OnFault}
+use Rattle.commit_journal.specs.Openings.{MayBeBegun, OnFault}
 use Rattle.commit_journal.specs.JournalHalves.Beginnings.{IsUnbegun}
 use Rattle.commit_journal.specs.JournalHalves.Halves.{IsCurrent}
 use Rattle.commit_journal.specs.JournalStart.start.Start.{Start}
@@ -40,18 +40,18 @@ use Rattle.local_link.specs.Tells.{server_at, rooms_at, rooms_of, header_at, Sta
 use Rattle.read_command.specs.declared.end.ReadEnd.{ReadEnd}
 use Rattle.read_command.specs.declared.end.ReadEnd.TheVariants as ends
 use Rattle.read_command.specs.Disks.{IsUnopenedToRead, IsSpared, InItsRooms, NamesRooms, OpensWith, StaysShut, Current, Unbegun, Broken}
-use Rattle.read_command.specs.Opening.{EndsOne, IsRememberedAt, IsFree, Opening, end_by}
+use Rattle.read_command.specs.Opening.{EndsOne, IsRememberedAt, IsFailedOrNoMemory, Opening, end_by}
 
 -- ---- where nothing is begun
 
 -- an image that an opening may leave which begins nothing is one of before
-nothing_begun : (cloud : Cloud) (header : Header) (image : Image) → MayBecome cloud.now header false image → IsImage cloud.now image
+nothing_begun : (cloud : Cloud) (header : Header) (image : Image) → MayBeBegun cloud.now header false image → IsImage cloud.now image
 nothing_begun cloud header image (inl is) = is
 nothing_begun cloud header image (inr begins) = absurd (let never : false ≡ true = begins.0 in cc)
 
 pub spared_by : (header : Header) (old new : Cloud) (result : Result ℕ OpenErr) → Spares header false old new result → IsSpared old new
 spared_by header old new result s = record {
-  any_moment = weaker old new (MayBecome old.now header false) (λ (image : Image). IsImage old.now image) s.any_moment (nothing_begun old header);
+  any_moment = weaker old new (MayBeBegun old.now header false) (λ (image : Image). IsImage old.now image) s.any_moment (nothing_begun old header);
   still_read = nothing_begun old header (reads new.now) s.still_read;
 }
 
@@ -185,7 +185,7 @@ ends_one shape old new before now cloud (errors.Damaged at byte) is counts = (re
 ends_one shape old new before now cloud (errors.OtherStore found asked at) is counts = (asked, at, (refl, is))
 
 -- no other end comes of an opening that answers Ok unless a device failed
-free_by : (cloud : CloudNo) (error : OpenErr) → (let answer : Result ℕ OpenErr = Err error in IsOkOrFault answer) → IsFree (end_by cloud error)
+free_by : (cloud : CloudNo) (error : OpenErr) → (let answer : Result ℕ OpenErr = Err error in IsOkOrFault answer) → IsFailedOrNoMemory (end_by cloud error)
 free_by cloud errors.Fault is = tt
 free_by cloud (errors.NotBegun len) is = absurd is
 free_by cloud (errors.Damaged at byte) is = absurd is
@@ -314,7 +314,7 @@ module _ {V : Type 0} (clouds : V → ℕ → Cloud) where
       }
 
   -- nothing was opened: memory ran out before it, or a device failed
-  pub opening_none : (shape : Shape) (old : Cloud) (new : LocalLink V) (number before now : ℕ) (end : ReadEnd) (came : Result (Unit {0}) ReadEnd) → came ≡ Err end → IsFree end
+  pub opening_none : (shape : Shape) (old : Cloud) (new : LocalLink V) (number before now : ℕ) (end : ReadEnd) (came : Result (Unit {0}) ReadEnd) → came ≡ Err end → IsFailedOrNoMemory end
       → EndsOne shape old (clouds new.shelf.now number) before now number end → Stays old (clouds new.shelf.now number) → (clouds new.shelf.now number).armings ≡ old.armings
       → (IsTrue old.told → IsImage old.now (reads old.now)) → Opening clouds shape old before new now number came
   opening_none shape old new number before now end came is free ends stays armings reads_image =

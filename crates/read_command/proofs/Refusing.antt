@@ -21,7 +21,7 @@ use Rattle.subset_restore.specs.Recipe.recipe.Recipe.{Recipe}
 use Rattle.subset_restore.specs.RestoreJob.Exchanges.{CloudExchange, RecipeSaid, RecipesSaid, AllSaid, OneSaid, Refused, TakenAs, SharesSaid, BatchSaid, AllTaken, OneTaken, OneRefused}
 use Rattle.subset_restore.specs.RestoreJob.Exchanges.{OpensBatch, BatchRun, BatchOpened, BatchUnread, ItemsRun, ItemsDone, ItemsNext, ItemsStop, AgreedRun, NothingAsked, Differ, Compared, RestoreRun, NoRecipes, HasRecipes, with_first}
 use Rattle.subset_restore.specs.RestoreJob.Restored.{Unrestored}
-use Rattle.subset_restore.specs.RestoreJob.Steps.{Compares, NoShares, OpensTo, RecipeRefused, Refuses, SharesFrom, Takes}
+use Rattle.subset_restore.specs.RestoreJob.Steps.{Compares, NoShares, OpensSecretsTo, RecipeRefused, Refuses, SharesFrom, Takes}
 use Rattle.subset_restore.specs.RestoreJob.error.RestoreErr.{RestoreErr}
 use Rattle.subset_restore.specs.RestoreJob.error.RestoreErr.TheVariants as errors
 use Rattle.kept_files.proofs.RestoreJob.Held.{refused}
@@ -44,7 +44,7 @@ pub record IsOfReply (e : RestoreErr) (c : CloudNo) (answer : Reply) : Type 0 wh
   pub shares : (cloud : CloudNo) (read : Result Reply ℕ) (n : ℕ) → Refuses cloud read (NoShares n) e → (c ≡ cloud) × (read ≡ Ok answer)
   pub taken : (shape : Shape) (cloud : CloudNo) (firsts items : List Item) (place n : ℕ) (shares old new : List (List ℕ)) → Takes shape cloud firsts items place n shares old new (Err e) → ⊥
   pub differ : (cloud : ℕ) (recipe : Recipe) (clouds : List ℕ) (others : List Recipe) → Compares cloud recipe clouds others (Err e) → ⊥
-  pub opens : (outcome : Result (List ℕ) Unrestored) (old new : List ℕ) → OpensTo outcome (Err e) old new → ⊥
+  pub opens : (outcome : Result (List ℕ) Unrestored) (old new : List ℕ) → OpensSecretsTo outcome (Err e) old new → ⊥
 
 pub of_missing : (c : CloudNo) → IsOfReply (errors.Missing c) c replies.Missing
 of_missing c = record {

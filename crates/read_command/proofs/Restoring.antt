@@ -17,7 +17,7 @@ use Rattle.cloud_areas.specs.UserDedup.Exec.{Peer, MaySettleAs}
 use Rattle.cloud_areas.specs.UserDedup.Spending.{IsWithin}
 use Rattle.commit_journal.specs.JournalStart.rooms.UserRooms.{UserRooms}
 use Rattle.commit_journal.specs.JournalStart.start.Header.{Header}
-use Rattle.cloud_areas.specs.UserDedup.Link.{IsReading, Passes, ReadsFrom, Talk}
+use Rattle.cloud_areas.specs.UserDedup.Link.{IsReading, Passes, ReadsOneOf, Talk}
 use Rattle.cloud_areas.specs.UserDedup.Link.{Exchange as Asked_one}
 use Rattle.local_link.specs.Messages.Replies.{IsReply}
 use Rattle.local_link.specs.Messages.reply.Reply.TheVariants as replies
@@ -56,7 +56,7 @@ use Rattle.subset_restore.proofs.Elements.{all_of, contains_back, contains_front
 use Rattle.subset_restore.proofs.Going.{any_at, any_none}
 use Rattle.subset_restore.proofs.Files.{same_file}
 use Rattle.subset_restore.proofs.RestoreJob.Wrong.{both_true}
-use Rattle.read_command.specs.Ends.{Outside, RoseBy, Due, due_of, IsNone, HoldsFailed, IsFileDue, IsRefusalDue, IsRefused, GivesAnyway}
+use Rattle.read_command.specs.Ends.{Outside, RoseBy, Due, due_of, IsNoneGiven, HoldsFailed, IsFileDue, IsRefusalDue, IsReadRefused, GivesAnyway}
 use Rattle.read_command.specs.Ends.{IsFaultLine, IsLineOf, CameTo, CameDue, CameOf, SaysOf}
 use Rattle.read_command.proofs.Disks.{OneHeader, rooms_one}
 use Rattle.read_command.proofs.Row.{of_one}
@@ -163,13 +163,13 @@ module _ (c : Outside) (s : Sought) (tries : List Try) (before after : ℕ → P
   abbrev Among : List ℕ → Type 0
   Among subset = (cloud : ℕ) → Contains subset cloud → Contains s.clouds cloud
 
-  none_of : (subset : List ℕ) → Among subset → AnyNone s tries before after subset → IsNone c due subset
+  none_of : (subset : List ℕ) → Among subset → AnyNone s tries before after subset → IsNoneGiven c due subset
   none_of subset among (inl gives) = inl gives
   none_of subset among (inr (cloud, has, inl rose)) =
       inr (cloud, has, rises_too c s.clouds before after counts cloud (among cloud has) rose)
   none_of subset among (inr (cloud, has, inr lost)) = absurd (unlost cloud lost)
 
-  gives_none : (HoldsFailed c s.clouds → ⊥) → (subset : List ℕ) → Among subset → IsNone c due subset
+  gives_none : (HoldsFailed c s.clouds → ⊥) → (subset : List ℕ) → Among subset → IsNoneGiven c due subset
       → GivesNone s after subset
   gives_none free subset among (inl gives) = gives
   gives_none free subset among (inr (cloud, has, rose)) = absurd (free (cloud, among cloud has, rose))
@@ -185,7 +185,7 @@ module _ (c : Outside) (s : Sought) (tries : List Try) (before after : ℕ → P
       → subsets s.shape.k s.clouds ≡ front ++ chosen ∷ rest → outcome_of s after chosen ≡ Ok file
       → All (AnyNone s tries before after) front → IsFileDue c s.clouds due file
   file_due front rest chosen file split given none =
-      let each : (x : List ℕ) → Contains front x → IsNone c due x = λ x has.
+      let each : (x : List ℕ) → Contains front x → IsNoneGiven c due x = λ x has.
       none_of x (front_among front rest chosen split x has) (of_all (AnyNone s tries before after) front x none has) in
       record {
         front = front;
@@ -193,7 +193,7 @@ module _ (c : Outside) (s : Sought) (tries : List Try) (before after : ℕ → P
         rest = rest;
         in_order = split;
         given = given;
-        before = all_of (IsNone c due) front each;
+        before = all_of (IsNoneGiven c due) front each;
         exact = λ free. any_at s after front chosen rest file split
             (λ x has. gives_none free x (front_among front rest chosen split x has) (each x has)) given;
       }
@@ -206,14 +206,14 @@ module _ (c : Outside) (s : Sought) (tries : List Try) (before after : ℕ → P
       → (why : Refusal) → refusal_of e ≡ Some why → IsRefusalDue c s.clouds due (refusal_text why)
   refusal_due first rest e was left split ends none found rose why is =
       let all = subsets s.shape.k s.clouds in
-      let each : (x : List ℕ) → Contains all x → IsNone c due x = λ x has.
+      let each : (x : List ℕ) → Contains all x → IsNoneGiven c due x = λ x has.
       none_of x (subset_among s.shape.k s.clouds x has) (of_all (AnyNone s tries before after) all x none has) in
       let line = line_due c first (outcome_of s after first) e was left before after ends found rose why is in
       record {
         first = first;
         rest = rest;
         in_order = split;
-        none = all_of (IsNone c due) all each;
+        none = all_of (IsNoneGiven c due) all each;
         line = line;
         exact = λ free. of_first free line
             (any_none s after first rest split
@@ -235,7 +235,7 @@ HaveLists c shape named rooms lists = (cloud : ℕ) → Contains named cloud →
 
 -- asks of some clouds are asks that add nothing
 pub reading_chain : {V : Type 0} (clouds : V → ℕ → Cloud) (subset : List ℕ) (es : List Asked_one) (a b : LocalLink V)
-    → Passes (telling clouds) (ReadsFrom subset) a es b → Passes (telling clouds) (λ e. IsReading e.content) a es b
+    → Passes (telling clouds) (ReadsOneOf subset) a es b → Passes (telling clouds) (λ e. IsReading e.content) a es b
 reading_chain clouds subset [] a b chain = chain
 reading_chain clouds subset (e ∷ es) a b chain = (chain.0.1, (chain.1.0, chain.1.1, reading_chain clouds subset es chain.1.0 b chain.1.2))
 
@@ -466,7 +466,7 @@ module _ {V : Type 0} (clouds : V → ℕ → Cloud) (named : List ℕ) (shape :
         never_refused e why is by =
             none_by (telling clouds) talk wanted was mid new (λ x. refusal_of x ≡ Some why → ⊥) (λ want. (let never : None ≡ Some why = want in cc)) (λ x came same. never_came x came) e by is
 
-      pub given_anyway : GivesAnyway around shape user (tag, version) named (IsRefused result)
+      pub given_anyway : GivesAnyway around shape user (tag, version) named (IsReadRefused result)
       given_anyway rooms lists chosen bytes in_order are given free refused =
           never_refused rooms lists chosen bytes in_order are given free refused.0 refused.1 refused.3
           (subst (λ (r : Result (Unit {0}) RestoreErr). AnyEnds (telling clouds) talk wanted mid new was file r) refused.2 restored)

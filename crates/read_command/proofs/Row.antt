@@ -26,7 +26,7 @@ use Rattle.read_command.specs.declared.end.ReadEnd.{ReadEnd}
 use Rattle.read_command.specs.declared.end.ReadEnd.TheVariants as ends
 use Rattle.read_command.specs.Disks.{AreReadable, InItsRooms, IsSpared, IsStoppedAtCloud, KeepsDisks, NamesRooms, OpensWith, StaysShut}
 use Rattle.read_command.proofs.Disks.{images_by, opening_from, spared_still}
-use Rattle.read_command.specs.Opening.{Opening, BecomesOpen, AreOpened, EndsBy, EndsOpening, IsRememberedAt, IsFree}
+use Rattle.read_command.specs.Opening.{Opening, BecomesOpen, AreOpened, EndsByError, EndsOpening, IsRememberedAt, IsFailedOrNoMemory}
 
 -- ---- rising clouds
 
@@ -67,7 +67,7 @@ module _ {V : Type 0} (clouds : V → ℕ → Cloud) where
 -- ---- an end of one opening, among those of all
 
 ends_map : (S T : ℕ → OpenErr → Type 0) (F G : ℕ → Type 0) → ((c : ℕ) (e : OpenErr) → S c e → T c e) → ((c : ℕ) → S c errors.Fault → F c → G c)
-    → (end : ReadEnd) → EndsBy S F end → EndsBy T G end
+    → (end : ReadEnd) → EndsByError S F end → EndsByError T G end
 ends_map S T F G f g (ends.NotBegun cloud len) x = f cloud.0 (errors.NotBegun len) x
 ends_map S T F G f g (ends.Damaged cloud at byte) x = f cloud.0 (errors.Damaged at byte) x
 ends_map S T F G f g (ends.Other cloud found) x = (x.0, x.1, f cloud.0 (errors.OtherStore found x.0 x.1) x.2)
@@ -243,7 +243,7 @@ module _ {V : Type 0} (clouds : V → ℕ → Cloud) where
         (λ c x failed. subst (λ (m : ℕ). HasFailed (clouds old.shelf.now m) (clouds new.shelf.now m) before now) (sym x.0) failed)
         end h.end
 
-    pub free_here : (end : ReadEnd) (rooms : ℕ → UserRooms) (lists : ℕ → List Command) → result ≡ Err end → AreReadable old.servers.shape named (clouds old.shelf.now) rooms lists → IsFree end
+    pub free_here : (end : ReadEnd) (rooms : ℕ → UserRooms) (lists : ℕ → List Command) → result ≡ Err end → AreReadable old.servers.shape named (clouds old.shelf.now) rooms lists → IsFailedOrNoMemory end
     free_here end rooms lists err are =
         let h = subst (Opening clouds old.servers.shape (clouds old.shelf.now number) before new now number) err here in
         h.readable (rooms number) (lists number) (are number (is_named named number more before between old mid so))

@@ -12,7 +12,7 @@ use Rattle.commit_journal.specs.CdEdges.Causes.{Rose}
 use Rattle.commit_journal.specs.CdEdges.Disk.{Cloud, Image, IsImage, LeavesOnly, reads}
 use Rattle.commit_journal.proofs.CdEdges.Moments.{joined, weaker}
 use Rattle.commit_journal.specs.JournalStart.start.Header.{Header}
-use Rattle.cloud_areas.specs.UserDedup.Link.{AddsNothing, IsReading, Passes, ReadsFrom, Talk}
+use Rattle.cloud_areas.specs.UserDedup.Link.{AddsNothing, IsReading, Passes, ReadsOneOf, Talk}
 use Rattle.cloud_areas.specs.UserDedup.Link.{Exchange as Asked_one}
 use Rattle.cloud_areas.proofs.UserDedup.Owned.{contains_here}
 use Rattle.local_link.specs.CloudMemory.Memory.{Memory}
@@ -301,7 +301,7 @@ module _ {V : Type 0} (clouds : V → ℕ → Cloud) (named : List ℕ) (shape :
 
 -- each told cloud is spared by them, as by the openings
 pub spared_on : {V : Type 0} (clouds : V → ℕ → Cloud) (named : List ℕ) (before between : ℕ) (old mid new : LocalLink V) → AreOpened clouds before between old mid named → (asks : List Asked_one)
-    → Passes (telling clouds) (ReadsFrom named) mid asks new → Readings clouds → ((cloud : ℕ) → (Contains named cloud → ⊥) → clouds new.shelf.now cloud ≡ clouds mid.shelf.now cloud)
+    → Passes (telling clouds) (ReadsOneOf named) mid asks new → Readings clouds → ((cloud : ℕ) → (Contains named cloud → ⊥) → clouds new.shelf.now cloud ≡ clouds mid.shelf.now cloud)
     → ((cloud : ℕ) → IsTrue (clouds old.shelf.now cloud).told → IsSpared (clouds old.shelf.now cloud) (clouds mid.shelf.now cloud))
     → (cloud : ℕ) → IsTrue (clouds old.shelf.now cloud).told → IsSpared (clouds old.shelf.now cloud) (clouds new.shelf.now cloud)
 spared_on clouds named before between old mid new opened asks passed law others spared cloud told = by_name (named_or_not named cloud)

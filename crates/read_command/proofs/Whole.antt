@@ -13,10 +13,10 @@ use Rattle.read_command.specs.declared.wanted.Wanted.{Wanted}
 use Rattle.read_command.specs.declared.end.ReadEnd.{ReadEnd}
 use Rattle.read_command.specs.declared.end.ReadEnd.TheVariants as ends
 use Rattle.read_command.specs.Disks.{AreReadable, IsStoppedAtCloud}
-use Rattle.read_command.specs.Opening.{EndsOpening, IsFree}
+use Rattle.read_command.specs.Opening.{EndsOpening, IsFailedOrNoMemory}
 use Rattle.subset_restore.specs.Refusals.{refusal_text}
-use Rattle.read_command.specs.Ends.{Outside, CameDue, Due, IsBrought, IsFileDue, IsRefusalDue, IsRefusalLine, IsText, IsWritten}
-use Rattle.read_command.specs.Ends.{GivesAnyway, Reads, Restored, given_of}
+use Rattle.read_command.specs.Ends.{Outside, CameDue, Due, IsBroughtFile, IsFileDue, IsRefusalDue, IsRefusalLine, IsText, IsReadWritten}
+use Rattle.read_command.specs.Ends.{GivesAnyway, EndsRead, Restored, given_of}
 use Rattle.kept_files.specs.Kept.{key_of}
 
 pub nothing_more : (w : Option (List ℕ)) → Appends w w []
@@ -25,8 +25,8 @@ nothing_more (Some bytes) = sym (append-nil bytes)
 
 -- a whole text that came of a restore
 whole_said : (c : Outside) (r : Wanted) (came : Result (Unit {0}) RestoreErr) (file text : List ℕ) → Restored c r came file → IsText came file text
-    → (let key = key_of r.shape r.path.now r.version in IsBrought c r.shape r.user key r.clouds.now text ⊎ IsRefusalLine c r.shape r.user key r.clouds.now text)
-whole_said c r (Ok u) file text is same = inl (subst (IsBrought c r.shape r.user (key_of r.shape r.path.now r.version) r.clouds.now) (sym same) is.came_to)
+    → (let key = key_of r.shape r.path.now r.version in IsBroughtFile c r.shape r.user key r.clouds.now text ⊎ IsRefusalLine c r.shape r.user key r.clouds.now text)
+whole_said c r (Ok u) file text is same = inl (subst (IsBroughtFile c r.shape r.user (key_of r.shape r.path.now r.version) r.clouds.now) (sym same) is.came_to)
 whole_said c r (Err e) file text is same = inr (e, same.0, same.1, same.2, is.came_to)
 
 whole_due : (c : Outside) (r : Wanted) (came : Result (Unit {0}) RestoreErr) (file text : List ℕ) (due : Due) → CameDue c r.clouds.now due came file
@@ -36,7 +36,7 @@ whole_due c r (Err e) file text due is same = inr (subst (IsRefusalDue c r.cloud
 
 -- what was written of a restore
 pub reads_whole : (c : Outside) (r : Wanted) (came : Result (Unit {0}) RestoreErr) (file : List ℕ) (old new : Option (List ℕ)) (end : ReadEnd)
-    → Restored c r came file → IsWritten came file old new end → Reads c r end old new
+    → Restored c r came file → IsReadWritten came file old new end → EndsRead c r end old new
 reads_whole c r came file old new ends.Done is w =
     let i = subst (λ (x : Result (Unit {0}) RestoreErr). Restored c r x file) w.1 is in
     (file, w.2, (i.opened, i.came_to), λ rooms lists are. i.due rooms lists are)
@@ -57,14 +57,14 @@ reads_whole c r came file old new (ends.ShelfFault cloud) is w = absurd w
 
 -- a choice of readable clouds isn't refused
 pub whole_anyway : (c : Outside) (r : Wanted) (came : Result (Unit {0}) RestoreErr) (file : List ℕ) (old new : Option (List ℕ)) (end : ReadEnd)
-    → Restored c r came file → IsWritten came file old new end → GivesAnyway c r.shape r.user (key_of r.shape r.path.now r.version) r.clouds.now (end ≡ ends.Refused)
+    → Restored c r came file → IsReadWritten came file old new end → GivesAnyway c r.shape r.user (key_of r.shape r.path.now r.version) r.clouds.now (end ≡ ends.Refused)
 whole_anyway c r came file old new end is w rooms lists chosen bytes has are given free same =
-    let refused = subst (λ (x : ReadEnd). IsWritten came file old new x) same w in
+    let refused = subst (λ (x : ReadEnd). IsReadWritten came file old new x) same w in
     is.anyway rooms lists chosen bytes has are given free (refused.0, refused.1, refused.2, refused.3)
 
 -- the openings ended it
 pub reads_stopped : (c : Outside) (r : Wanted) (w : Option (List ℕ)) (end : ReadEnd) → EndsOpening r.shape r.clouds.now c.old c.new c.total_before c.total_after end
-    → ((rooms : ℕ → UserRooms) (lists : ℕ → List Command) → AreReadable r.shape r.clouds.now c.old rooms lists → IsFree end) → Reads c r end w w
+    → ((rooms : ℕ → UserRooms) (lists : ℕ → List Command) → AreReadable r.shape r.clouds.now c.old rooms lists → IsFailedOrNoMemory end) → EndsRead c r end w w
 reads_stopped c r w (ends.NotBegun cloud len) stops free = ([], nothing_more w, (refl, stops), λ rooms lists are. free rooms lists are)
 reads_stopped c r w (ends.Damaged cloud at byte) stops free = ([], nothing_more w, (refl, stops), λ rooms lists are. free rooms lists are)
 reads_stopped c r w (ends.Other cloud found) stops free = ([], nothing_more w, (refl, stops), λ rooms lists are. free rooms lists are)

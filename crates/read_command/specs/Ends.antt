@@ -96,8 +96,8 @@ abbrev pub HoldsFailed : Outside → List ℕ → Type 0
 HoldsFailed c clouds = (cloud : ℕ) × Contains clouds cloud × Rose (c.old cloud).faults (c.new cloud).faults
 
 -- The file doesn't come from this choice: its lists give none, or the count rose of one of its clouds.
-abbrev pub IsNone : Outside → Due → List ℕ → Type 0
-IsNone c due clouds = ((why : Unrestored) × (due.given clouds ≡ Err why)) ⊎ HoldsFailed c clouds
+abbrev pub IsNoneGiven : Outside → Due → List ℕ → Type 0
+IsNoneGiven c due clouds = ((why : Unrestored) × (due.given clouds ≡ Err why)) ⊎ HoldsFailed c clouds
 
 -- The file is what a choice gives, and from each choice in front of it none comes. It is what any k of the named clouds
 -- give where no count of these rose.
@@ -107,7 +107,7 @@ pub record IsFileDue (c : Outside) (named : List ℕ) (due : Due) (file : List �
   pub rest : List (List ℕ)
   pub in_order : due.choices ≡ front ++ chosen ∷ rest
   pub given : due.given chosen ≡ Ok file
-  pub before : All (IsNone c due) front
+  pub before : All (IsNoneGiven c due) front
   pub exact : (HoldsFailed c named → ⊥) → due.whole ≡ Ok file
 
 -- From no choice a file comes. The line is that of the refusal which the first choice gives, or of one of its clouds whose
@@ -116,7 +116,7 @@ pub record IsRefusalDue (c : Outside) (named : List ℕ) (due : Due) (text : Lis
   pub first : List ℕ
   pub rest : List (List ℕ)
   pub in_order : due.choices ≡ first ∷ rest
-  pub none : All (IsNone c due) due.choices
+  pub none : All (IsNoneGiven c due) due.choices
   pub line : IsLineOf (due.given first) text ⊎ IsFaultLine c first text
   pub exact : (HoldsFailed c named → ⊥) → IsLineOf due.whole text
 
@@ -167,7 +167,7 @@ pub record CameOf (c : Outside) (shape : Shape) (user : UserId) (key : Tag × Ve
 
 -- A refusal names no other clouds than the named ones, and is no lost ask. A device failed only where its count rose. It
 -- comes of what the clouds said, and says what the memory has of the cloud that it names.
-pub record IsRefusal (c : Outside) (shape : Shape) (user : UserId) (key : Tag × Version) (named : List ℕ)
+pub record IsRefusalOfNamed (c : Outside) (shape : Shape) (user : UserId) (key : Tag × Version) (named : List ℕ)
     (e : RestoreErr) : Type 0 where
   pub names : Names (Contains named) e
   pub rose : RoseBy c e
@@ -176,7 +176,7 @@ pub record IsRefusal (c : Outside) (shape : Shape) (user : UserId) (key : Tag ×
   pub came : (why : Refusal) → refusal_of e ≡ Some why → CameOf c shape user key named (Err e) []
 
 -- The bytes are what strings open to which the recipes of k of the clouds name, and come of what the clouds said.
-pub record IsBrought (c : Outside) (shape : Shape) (user : UserId) (key : Tag × Version) (named : List ℕ)
+pub record IsBroughtFile (c : Outside) (shape : Shape) (user : UserId) (key : Tag × Version) (named : List ℕ)
     (file : List ℕ) : Type 0 where
   pub chosen : List ℕ
   pub in_order : Contains (subsets shape.k named) chosen
@@ -186,8 +186,8 @@ pub record IsBrought (c : Outside) (shape : Shape) (user : UserId) (key : Tag ×
 -- What a restore came to, whatever is told: the bytes that strings open to which the recipes of k clouds name; or a
 -- refusal.
 abbrev pub CameTo : Outside → Shape → UserId → Tag × Version → List ℕ → Result (Unit {0}) RestoreErr → List ℕ → Type 0
-CameTo c shape user key named (Ok u) file = IsBrought c shape user key named file
-CameTo c shape user key named (Err e) file = IsRefusal c shape user key named e
+CameTo c shape user key named (Ok u) file = IsBroughtFile c shape user key named file
+CameTo c shape user key named (Err e) file = IsRefusalOfNamed c shape user key named e
 
 -- What it came to where this is due.
 abbrev pub CameDue : Outside → List ℕ → Due → Result (Unit {0}) RestoreErr → List ℕ → Type 0
@@ -196,8 +196,8 @@ CameDue c named due (Err e) file =
     (why : Refusal) → refusal_of e ≡ Some why → IsRefusalDue c named due (refusal_text why)
 
 -- it was refused, and not for want of memory
-abbrev pub IsRefused : Result (Unit {0}) RestoreErr → Type 0
-IsRefused came = (e : RestoreErr) × (why : Refusal) × (came ≡ Err e) × (refusal_of e ≡ Some why)
+abbrev pub IsReadRefused : Result (Unit {0}) RestoreErr → Type 0
+IsReadRefused came = (e : RestoreErr) × (why : Refusal) × (came ≡ Err e) × (refusal_of e ≡ Some why)
 
 -- The named clouds were opened, and the version restored from them.
 pub record Restored (c : Outside) (r : Wanted) (came : Result (Unit {0}) RestoreErr) (file : List ℕ) : Type 0 where
@@ -205,7 +205,7 @@ pub record Restored (c : Outside) (r : Wanted) (came : Result (Unit {0}) Restore
   pub came_to : CameTo c r.shape r.user (key_of r.shape r.path.now r.version) r.clouds.now came file
   pub due : (rooms : ℕ → UserRooms) (lists : ℕ → List Command) → AreReadable r.shape r.clouds.now c.old rooms lists
       → CameDue c r.clouds.now (given_of r lists) came file
-  pub anyway : GivesAnyway c r.shape r.user (key_of r.shape r.path.now r.version) r.clouds.now (IsRefused came)
+  pub anyway : GivesAnyway c r.shape r.user (key_of r.shape r.path.now r.version) r.clouds.now (IsReadRefused came)
 
 -- ---- what is written
 
@@ -220,22 +220,22 @@ CountsSink before now ends.SinkFault = Rose before now
 CountsSink before now end = now ≡ before
 
 -- The bytes were written; or the sink failed, and a front of them was written; or memory ran out, and nothing was.
-abbrev pub Writes : Option (List ℕ) → Option (List ℕ) → ℕ → ℕ → List ℕ → Result (Unit {0}) ReadEnd → Type 0
-Writes old new before now bytes (Ok u) = Appends old new bytes × (now ≡ before)
-Writes old new before now bytes (Err ends.SinkFault) =
+abbrev pub WritesBytes : Option (List ℕ) → Option (List ℕ) → ℕ → ℕ → List ℕ → Result (Unit {0}) ReadEnd → Type 0
+WritesBytes old new before now bytes (Ok u) = Appends old new bytes × (now ≡ before)
+WritesBytes old new before now bytes (Err ends.SinkFault) =
     ((front : List ℕ) × (rest : List ℕ) × (bytes ≡ front ++ rest) × Appends old new front) × Rose before now
-Writes old new before now bytes (Err ends.NoMemory) = Appends old new [] × (now ≡ before)
-Writes old new before now bytes (Err end) = ⊥
+WritesBytes old new before now bytes (Err ends.NoMemory) = Appends old new [] × (now ≡ before)
+WritesBytes old new before now bytes (Err end) = ⊥
 
 -- the text that was due is written, a front of it, or nothing
-abbrev pub IsWritten : Result (Unit {0}) RestoreErr → List ℕ → Option (List ℕ) → Option (List ℕ) → ReadEnd → Type 0
-IsWritten came file old new ends.Done = (u : Unit {0}) × (came ≡ Ok u) × Appends old new file
-IsWritten came file old new ends.Refused =
+abbrev pub IsReadWritten : Result (Unit {0}) RestoreErr → List ℕ → Option (List ℕ) → Option (List ℕ) → ReadEnd → Type 0
+IsReadWritten came file old new ends.Done = (u : Unit {0}) × (came ≡ Ok u) × Appends old new file
+IsReadWritten came file old new ends.Refused =
     (e : RestoreErr) × (why : Refusal) × (came ≡ Err e) × (refusal_of e ≡ Some why) × Appends old new (refusal_text why)
-IsWritten came file old new ends.SinkFault = (text : List ℕ) × (front : List ℕ) × (rest : List ℕ)
+IsReadWritten came file old new ends.SinkFault = (text : List ℕ) × (front : List ℕ) × (rest : List ℕ)
     × IsText came file text × (text ≡ front ++ rest) × Appends old new front
-IsWritten came file old new ends.NoMemory = Appends old new []
-IsWritten came file old new end = ⊥
+IsReadWritten came file old new ends.NoMemory = Appends old new []
+IsReadWritten came file old new end = ⊥
 
 -- ---- the whole read
 
@@ -243,38 +243,40 @@ IsWritten came file old new end = ⊥
 abbrev pub IsRefusalLine : Outside → Shape → UserId → Tag × Version → List ℕ → List ℕ → Type 0
 IsRefusalLine c shape user key named text =
     (e : RestoreErr) × (why : Refusal)
-    × (refusal_of e ≡ Some why) × (text ≡ refusal_text why) × IsRefusal c shape user key named e
+    × (refusal_of e ≡ Some why) × (text ≡ refusal_text why) × IsRefusalOfNamed c shape user key named e
 
 -- What is written by the end, whatever is told. Behind the openings it is a file or a refusal, whole; or a front of it,
 -- where the sink failed. Where the openings end, or memory ran out, nothing is written.
-abbrev pub Says : Outside → Shape → UserId → Tag × Version → List ℕ → ReadEnd → List ℕ → Type 0
-Says c shape user key named ends.Done text = AllOpened c shape named × IsBrought c shape user key named text
-Says c shape user key named ends.Refused text = AllOpened c shape named × IsRefusalLine c shape user key named text
-Says c shape user key named ends.SinkFault text = AllOpened c shape named
+abbrev pub IsWrittenByEnd : Outside → Shape → UserId → Tag × Version → List ℕ → ReadEnd → List ℕ → Type 0
+IsWrittenByEnd c shape user key named ends.Done text = AllOpened c shape named
+    × IsBroughtFile c shape user key named text
+IsWrittenByEnd c shape user key named ends.Refused text = AllOpened c shape named
+    × IsRefusalLine c shape user key named text
+IsWrittenByEnd c shape user key named ends.SinkFault text = AllOpened c shape named
     × ((whole : List ℕ) × (rest : List ℕ) × (whole ≡ text ++ rest)
-    × (IsBrought c shape user key named whole ⊎ IsRefusalLine c shape user key named whole))
-Says c shape user key named end text =
+    × (IsBroughtFile c shape user key named whole ⊎ IsRefusalLine c shape user key named whole))
+IsWrittenByEnd c shape user key named end text =
     (text ≡ []) × EndsOpening shape named c.old c.new c.total_before c.total_after end
 
 -- What is written by the end, over clouds of which this is due: the file; its refusal, or that of a cloud whose device
 -- failed; a front of these, where the sink failed. Else a device failed as it was opened, or memory ran out.
-abbrev pub Gives : Outside → List ℕ → Due → ReadEnd → List ℕ → Type 0
-Gives c named due ends.Done text = IsFileDue c named due text
-Gives c named due ends.Refused text = IsRefusalDue c named due text
-Gives c named due ends.SinkFault text = (whole : List ℕ) × (rest : List ℕ) × (whole ≡ text ++ rest)
+abbrev pub WritesWhatIsDue : Outside → List ℕ → Due → ReadEnd → List ℕ → Type 0
+WritesWhatIsDue c named due ends.Done text = IsFileDue c named due text
+WritesWhatIsDue c named due ends.Refused text = IsRefusalDue c named due text
+WritesWhatIsDue c named due ends.SinkFault text = (whole : List ℕ) × (rest : List ℕ) × (whole ≡ text ++ rest)
     × (IsFileDue c named due whole ⊎ IsRefusalDue c named due whole)
-Gives c named due (ends.ShelfFault cloud) text = Contains named cloud.0
-Gives c named due ends.NoMemory text = Unit {0}
-Gives c named due (ends.NotBegun cloud len) text = ⊥
-Gives c named due (ends.Damaged cloud at byte) text = ⊥
-Gives c named due (ends.Other cloud found) text = ⊥
+WritesWhatIsDue c named due (ends.ShelfFault cloud) text = Contains named cloud.0
+WritesWhatIsDue c named due ends.NoMemory text = Unit {0}
+WritesWhatIsDue c named due (ends.NotBegun cloud len) text = ⊥
+WritesWhatIsDue c named due (ends.Damaged cloud at byte) text = ⊥
+WritesWhatIsDue c named due (ends.Other cloud found) text = ⊥
 
 -- A read ended so, over what was written before and what is written now.
-abbrev pub Reads : Outside → Wanted → ReadEnd → Option (List ℕ) → Option (List ℕ) → Type 0
-Reads c r end before now = (text : List ℕ) × Appends before now text
-    × Says c r.shape r.user (key_of r.shape r.path.now r.version) r.clouds.now end text
+abbrev pub EndsRead : Outside → Wanted → ReadEnd → Option (List ℕ) → Option (List ℕ) → Type 0
+EndsRead c r end before now = (text : List ℕ) × Appends before now text
+    × IsWrittenByEnd c r.shape r.user (key_of r.shape r.path.now r.version) r.clouds.now end text
     × ((rooms : ℕ → UserRooms) (lists : ℕ → List Command) → AreReadable r.shape r.clouds.now c.old rooms lists
-    → Gives c r.clouds.now (given_of r lists) end text)
+    → WritesWhatIsDue c r.clouds.now (given_of r lists) end text)
 
 -- The end is that of an opening: no cloud was asked for anything.
 abbrev pub IsOfOpening : ReadEnd → Type 0

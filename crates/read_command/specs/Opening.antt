@@ -32,38 +32,38 @@ end_by cloud (errors.OtherStore found asked at) = ends.Other cloud found
 
 -- The end that an opening's error gives, of which this is said, with this beside it where a device failed; or want of
 -- memory.
-abbrev pub EndsBy : (ℕ → OpenErr → Type 0) → (ℕ → Type 0) → ReadEnd → Type 0
-EndsBy Stops Failed (ends.NotBegun cloud len) = Stops cloud.0 (errors.NotBegun len)
-EndsBy Stops Failed (ends.Damaged cloud at byte) = Stops cloud.0 (errors.Damaged at byte)
-EndsBy Stops Failed (ends.Other cloud found) =
+abbrev pub EndsByError : (ℕ → OpenErr → Type 0) → (ℕ → Type 0) → ReadEnd → Type 0
+EndsByError Stops Failed (ends.NotBegun cloud len) = Stops cloud.0 (errors.NotBegun len)
+EndsByError Stops Failed (ends.Damaged cloud at byte) = Stops cloud.0 (errors.Damaged at byte)
+EndsByError Stops Failed (ends.Other cloud found) =
     (asked : Header) × (at : ℕ) × Stops cloud.0 (errors.OtherStore found asked at)
-EndsBy Stops Failed (ends.ShelfFault cloud) = Stops cloud.0 errors.Fault × Failed cloud.0
-EndsBy Stops Failed ends.NoMemory = Unit {0}
-EndsBy Stops Failed ends.Done = ⊥
-EndsBy Stops Failed ends.Refused = ⊥
-EndsBy Stops Failed ends.SinkFault = ⊥
+EndsByError Stops Failed (ends.ShelfFault cloud) = Stops cloud.0 errors.Fault × Failed cloud.0
+EndsByError Stops Failed ends.NoMemory = Unit {0}
+EndsByError Stops Failed ends.Done = ⊥
+EndsByError Stops Failed ends.Refused = ⊥
+EndsByError Stops Failed ends.SinkFault = ⊥
 
 -- one cloud was to be opened
 abbrev pub EndsOne : Shape → Cloud → Cloud → ℕ → ℕ → ℕ → ReadEnd → Type 0
-EndsOne shape old new before now number end = EndsBy
+EndsOne shape old new before now number end = EndsByError
     (λ cloud error. (cloud ≡ number) × (IsTrue old.told → StaysShut shape number old new error))
     (λ cloud. HasFailed old new before now) end
 
 -- the named clouds were to be opened, in order
 abbrev pub EndsOpening : Shape → List ℕ → (ℕ → Cloud) → (ℕ → Cloud) → ℕ → ℕ → ReadEnd → Type 0
-EndsOpening shape named old new before now end = EndsBy (IsStoppedAtCloud shape named old new)
+EndsOpening shape named old new before now end = EndsByError (IsStoppedAtCloud shape named old new)
     (λ cloud. HasFailed (old cloud) (new cloud) before now) end
 
 -- a device failed, or memory ran out
-abbrev pub IsFree : ReadEnd → Type 0
-IsFree (ends.NotBegun cloud len) = ⊥
-IsFree (ends.Damaged cloud at byte) = ⊥
-IsFree (ends.Other cloud found) = ⊥
-IsFree (ends.ShelfFault cloud) = Unit {0}
-IsFree ends.NoMemory = Unit {0}
-IsFree ends.Done = Unit {0}
-IsFree ends.Refused = Unit {0}
-IsFree ends.SinkFault = Unit {0}
+abbrev pub IsFailedOrNoMemory : ReadEnd → Type 0
+IsFailedOrNoMemory (ends.NotBegun cloud len) = ⊥
+IsFailedOrNoMemory (ends.Damaged cloud at byte) = ⊥
+IsFailedOrNoMemory (ends.Other cloud found) = ⊥
+IsFailedOrNoMemory (ends.ShelfFault cloud) = Unit {0}
+IsFailedOrNoMemory ends.NoMemory = Unit {0}
+IsFailedOrNoMemory ends.Done = Unit {0}
+IsFailedOrNoMemory ends.Refused = Unit {0}
+IsFailedOrNoMemory ends.SinkFault = Unit {0}
 
 -- The cloud's server has this header. What the areas read opens with it, to this memory; a crash leaves nothing else; and
 -- the server has that memory where it is open.
@@ -88,7 +88,7 @@ pub record Opening {V : Type 0} (clouds : V → ℕ → Cloud) (shape : Shape) (
       → OnOk result (StandsAt clouds new cloud (settled_with list (clouds new.shelf.now cloud)))
   pub counts : OnOk result (KeepsCounts old (clouds new.shelf.now cloud) before now)
   pub readable : (rooms : UserRooms) (list : List Command) → IsReadable (header_of shape rooms cloud) old list
-      → IfErr result IsFree
+      → IfErr result IsFailedOrNoMemory
   pub end : IfErr result (EndsOne shape old (clouds new.shelf.now cloud) before now cloud)
   pub spared : IsTrue old.told → IsSpared old (clouds new.shelf.now cloud)
   pub armings : (clouds new.shelf.now cloud).armings ≡ old.armings

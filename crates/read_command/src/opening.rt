@@ -12,7 +12,7 @@ ghost use Rattle.commit_journal.specs.CdBase.Numbers.{numbers_of};
 ghost use Rattle.cloud_areas.specs.UserDedup.command.Command.{Command};
 ghost use Rattle.local_link.specs.Tells.{LeavesRest};
 ghost use Rattle.read_command.specs.Disks.{AreReadable, IsSpared, KeepsDisks, NamesRooms};
-ghost use Rattle.read_command.specs.Opening.{Opening, EndsOpening, IsFree, AreOpened};
+ghost use Rattle.read_command.specs.Opening.{Opening, EndsOpening, IsFailedOrNoMemory, AreOpened};
 
 use crate::ReadEnd;
 use crate::end::end_of;
@@ -124,7 +124,7 @@ pub fn open_clouds<V: Shelf>(
         (V.faults link.old.shelf.now) (V.faults link.new.shelf.now)) }
     ensures readable { (rooms : ℕ → UserRooms) (lists : ℕ → List Command)
         → AreReadable link.old.servers.shape (numbers_of clouds.now) (V.cloud_at link.old.shelf.now) rooms lists
-        → IfErr result IsFree }
+        → IfErr result IsFailedOrNoMemory }
     ensures kept { KeepsDisks link.old.servers.shape (numbers_of clouds.now) (V.cloud_at link.old.shelf.now)
         (V.cloud_at link.new.shelf.now) }
     ensures spared { (cloud : ℕ) → IsTrue (V.cloud_at link.old.shelf.now cloud).told

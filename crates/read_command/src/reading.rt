@@ -7,10 +7,10 @@ ghost use Rattle.commit_journal.specs.CdBase.Limits.{IsPath};
 ghost use Rattle.cloud_areas.specs.UserDedup.command.Command.{Command};
 ghost use Rattle.local_link.specs.declared.fate.Fate.TheVariants.{Deliver};
 ghost use Rattle.read_command.specs.Disks.{AreReadable, IsSpared, KeepsDisks};
-ghost use Rattle.read_command.specs.Opening.{EndsOpening, IsFree};
+ghost use Rattle.read_command.specs.Opening.{EndsOpening, IsFailedOrNoMemory};
 ghost use Rattle.kept_files.specs.Kept.{key_of};
 ghost use Rattle.read_command.specs.declared.end.ReadEnd.TheVariants.{Refused};
-ghost use Rattle.read_command.specs.Ends.{CountsSink, GivesAnyway, Reads, Restored};
+ghost use Rattle.read_command.specs.Ends.{CountsSink, GivesAnyway, EndsRead, Restored};
 
 use crate::opening::open_clouds;
 use crate::writing::write_came;
@@ -49,7 +49,7 @@ fn restore_opened<V: Shelf>(
         → IsSpared (V.cloud_at link.old.shelf.now cloud) (V.cloud_at link.new.shelf.now cloud) }
     ensures free { (rooms : ℕ → UserRooms) (lists : ℕ → List Command)
         → AreReadable wanted.now.shape wanted.now.clouds.now (V.cloud_at link.old.shelf.now) rooms lists
-        → IfErr result IsFree }
+        → IfErr result IsFailedOrNoMemory }
     ensures came { IfOk result (λ came. Restored (record {
       total_before = V.faults link.old.shelf.now;
       total_after = V.faults link.new.shelf.now;
@@ -103,7 +103,7 @@ pub fn read_file<K: Sink, V: Shelf>(
     // What was written belongs to the end. Over named clouds that are told, begun, and stand for lists within their
     // rooms it is the file that any k of these lists give, or their refusal, or the failed device of one of
     // the first k; or a front of these.
-    ensures reads { Reads (record {
+    ensures reads { EndsRead (record {
       total_before = V.faults shelf.old;
       total_after = V.faults shelf.new;
       old = V.cloud_at shelf.old;

@@ -1,7 +1,7 @@
 //! Writing what came of a read.
 
 ghost use Rattle.subset_restore.specs.Refusals.{refusal_text};
-ghost use Rattle.read_command.specs.Ends.{IsWritten, CountsSink, Writes};
+ghost use Rattle.read_command.specs.Ends.{IsReadWritten, CountsSink, WritesBytes};
 
 use crate::ReadEnd;
 use commit_journal::{Bytes, NoMemory, Sink, write_all};
@@ -10,7 +10,7 @@ use subset_restore::{Line, Refusal, RestoreErr, as_refusal, write_line};
 
 // Writes these bytes, or a front of them where the sink fails.
 fn write_text<K: Sink>(sink: &mut K, bytes: &[u8]) -> Result<(), ReadEnd>
-    ensures { Writes (K.written sink.old) (K.written sink.new) (K.faults sink.old) (K.faults sink.new)
+    ensures { WritesBytes (K.written sink.old) (K.written sink.new) (K.faults sink.old) (K.faults sink.new)
         bytes.now result }
 {
     match write_all(sink, bytes) {
@@ -21,7 +21,7 @@ fn write_text<K: Sink>(sink: &mut K, bytes: &[u8]) -> Result<(), ReadEnd>
 
 // Writes the line of a refusal, or a front of it.
 fn write_refusal<K: Sink>(alloc: Global, sink: &mut K, why: Refusal) -> Result<(), ReadEnd>
-    ensures { Writes (K.written sink.old) (K.written sink.new) (K.faults sink.old) (K.faults sink.new)
+    ensures { WritesBytes (K.written sink.old) (K.written sink.new) (K.faults sink.old) (K.faults sink.new)
         (refusal_text why) result }
 {
     let mut text = Bytes::new(alloc);
@@ -38,7 +38,7 @@ pub fn write_came<K: Sink>(
     came: Result<(), RestoreErr>,
     file: &[u8],
 ) -> ReadEnd
-    ensures written { IsWritten came file.now (K.written sink.old) (K.written sink.new) result }
+    ensures written { IsReadWritten came file.now (K.written sink.old) (K.written sink.new) result }
     ensures counts { CountsSink (K.faults sink.old) (K.faults sink.new) result }
 {
     match came {

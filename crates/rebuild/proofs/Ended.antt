@@ -16,7 +16,7 @@ use Rattle.rebuild.specs.declared.error.RebuildErr.TheVariants as errors
 use Rattle.rebuild.specs.declared.skips.Rebuilt.{Rebuilt}
 use Rattle.rebuild.specs.Found.{findings}
 use Rattle.rebuild.specs.Kept.{Refills}
-use Rattle.rebuild.specs.Over.{HasRebuildCause, Leads}
+use Rattle.rebuild.specs.Over.{HasRebuildCause, LeadsWithTarget}
 use Rattle.rebuild.specs.Rebuilding.{Rebuilds, RunsTo, LeavesBut, nothing_yet}
 use Rattle.rebuild.specs.Several.{whole}
 use Rattle.rebuild.proofs.Bringing.{first_in, refills}
@@ -59,11 +59,11 @@ module _ {L : Type 0} (t : LinkTelling L) (talk : L → ℕ → Talk → Type 0)
   -- over all pages
   abbrev pub PagesLead : L → L → Rebuilt → Result (Unit {0}) RebuildErr → Type 0
   PagesLead old new rebuilt result =
-      Leads t talk target from old new result (HasRebuildCause t old shape user target result) (λ turns a at b. RunsTo shape user target (serves t old target) from (whole rebuilt result) turns a at b)
+      LeadsWithTarget t talk target from old new result (HasRebuildCause t old shape user target result) (λ turns a at b. RunsTo shape user target (serves t old target) from (whole rebuilt result) turns a at b)
 
   abbrev pub WholeLeads : L → L → Result Rebuilt RebuildErr → Type 0
   WholeLeads old new result =
-      Leads t talk target from old new result (HasRebuildCause t old shape user target result)
+      LeadsWithTarget t talk target from old new result (HasRebuildCause t old shape user target result)
       (λ turns a at b. RunsTo shape user target (serves t old target) from result turns a at b × Refills shape target from user b result)
 
   pub whole_done : (old new : L) (rebuilt : Rebuilt) → AreChoice shape from → t.shape old ≡ shape → PagesLead old new rebuilt ended → WholeLeads old new (done rebuilt)

@@ -25,8 +25,8 @@ use Rattle.rebuild.specs.declared.error.RebuildErr.TheVariants as errors
 use Rattle.rebuild.specs.Found.{Finding}
 use Rattle.rebuild.specs.Rebuilding.{Progressed, BringsAll, BringsOne, IsFrontOfList, LeavesBut, StopsAs}
 use Rattle.rebuild.specs.Filling.{IsFilledFurther}
-use Rattle.rebuild.specs.Over.{HasAskedToRebuild, Causes, HandsOn, HasRebuildCause, Leads, ReadCaused, TargetAlong, ThenLost, is_lost}
-use Rattle.rebuild.specs.Steps.{IsFound, ReadEnds}
+use Rattle.rebuild.specs.Over.{HasAskedToRebuild, CausesRebuildEnd, HandsOn, HasRebuildCause, LeadsWithTarget, ReadCaused, TargetAlong, ThenLost, is_lost}
+use Rattle.rebuild.specs.Steps.{IsVersionFound, ReadEnds}
 use Rattle.rebuild.specs.Entering.{EntryFound, EntryStops, EntryTold, noted}
 use Rattle.rebuild.specs.Several.{AllFound, KeysBrought, KeysCut, KeysTold, keys_of}
 use Rattle.rebuild.proofs.Cutting.{goes_on, with_first}
@@ -54,10 +54,10 @@ leaves_on from target a b c one two = record {
 }
 
 pub leads_then : {L A B : Type 0} (t : LinkTelling L) (talk : L → ℕ → Talk → Type 0) (target : ℕ) (from : List ℕ) (old mid new : L) (v : A) (r : Result B RebuildErr) (C D E : Along) (R S T : ByTurns)
-    → Leads t talk target from old mid (ok_of v) C R → t.told mid ≡ t.told old → Leads t talk target from mid new r D S
+    → LeadsWithTarget t talk target from old mid (ok_of v) C R → t.told mid ≡ t.told old → LeadsWithTarget t talk target from mid new r D S
     → ((one two : List (LaneTurn Peer)) (a b c : ℕ → Peer) → LeavesBut from target a b → LeavesBut from target b c → C one a b → D two b c → E (one ++ two) a c)
     → ((one two : List (LaneTurn Peer)) (a b : ℕ → Peer) (at : Peer) (c : ℕ → Peer) → LeavesBut from target a b → LeavesBut from target b c → R one a (b target) b → S two b at c → T (one ++ two) a at c)
-    → Leads t talk target from old new r E T
+    → LeadsWithTarget t talk target from old new r E T
 leads_then {L} t talk target from old mid new v r C D E R S T first same second always both these all before peers =
     let x = first these all before peers in
     let y = second these all x.0 x.4 in
@@ -79,8 +79,8 @@ leads_then {L} t talk target from old mid new v r C D E R S T first same second 
 
 -- memory ran out behind it
 pub leads_out : {L A B : Type 0} (t : LinkTelling L) (talk : L → ℕ → Talk → Type 0) (target : ℕ) (from : List ℕ) (old new : L) (v : A) (r : Result B RebuildErr) (C D : Along) (R S : ByTurns)
-    → Leads t talk target from old new (ok_of v) C R → r ≡ Err errors.NoMemory → ((turns : List (LaneTurn Peer)) (a b : ℕ → Peer) → C turns a b → D turns a b)
-    → ((turns : List (LaneTurn Peer)) (a b : ℕ → Peer) → R turns a (b target) b → S turns a (b target) b) → Leads t talk target from old new r D S
+    → LeadsWithTarget t talk target from old new (ok_of v) C R → r ≡ Err errors.NoMemory → ((turns : List (LaneTurn Peer)) (a b : ℕ → Peer) → C turns a b → D turns a b)
+    → ((turns : List (LaneTurn Peer)) (a b : ℕ → Peer) → R turns a (b target) b → S turns a (b target) b) → LeadsWithTarget t talk target from old new r D S
 leads_out {L} {A} {B} t talk target from old new v r C D R S first is always told these all before peers =
     let x = first these all before peers in (
       x.0,
@@ -97,7 +97,7 @@ leads_out {L} {A} {B} t talk target from old new v r C D R S first is always tol
 
 -- nothing was done
 pub leads_still : {L A : Type 0} (t : LinkTelling L) (talk : L → ℕ → Talk → Type 0) (target : ℕ) (from : List ℕ) (link : L) (v : A) (C : Along) (S : ByTurns)
-    → ((a : ℕ → Peer) → C [] a a) → ((a : ℕ → Peer) → S [] a (a target) a) → Leads t talk target from link link (ok_of v) C S
+    → ((a : ℕ → Peer) → C [] a a) → ((a : ℕ → Peer) → S [] a (a target) a) → LeadsWithTarget t talk target from link link (ok_of v) C S
 leads_still t talk target from link v C S always told these all before peers = (
   before,
   [],
@@ -113,7 +113,7 @@ leads_still t talk target from link v C S always told these all before peers = (
 
 -- ---- results
 
-pub causes_as : (A B : Type 0) {L : Type 0} (t : LinkTelling L) (link : L) (target : ℕ) (e : RebuildErr) (a b : ℕ → Peer) → Causes {L = L} {A = A} t link target (Err e) a b → Causes {L = L} {A = B} t link target (Err e) a b
+pub causes_as : (A B : Type 0) {L : Type 0} (t : LinkTelling L) (link : L) (target : ℕ) (e : RebuildErr) (a b : ℕ → Peer) → CausesRebuildEnd {L = L} {A = A} t link target (Err e) a b → CausesRebuildEnd {L = L} {A = B} t link target (Err e) a b
 causes_as A B t link target (errors.FromRestore e) a b x = x
 causes_as A B t link target errors.TargetLost a b x = x
 causes_as A B t link target errors.TargetFault a b x = x
@@ -165,7 +165,7 @@ read_before t old mid (refusals.BadPad secret place byte) a b c same grow y = y
 read_before t old mid refusals.NoMemory a b c same grow y = y
 
 pub causes_before : {L A : Type 0} (t : LinkTelling L) (old mid : L) (target : ℕ) (r : Result A RebuildErr) (a b c : ℕ → Peer) → t.told mid ≡ t.told old → ((x : ℕ) → (a x).faults ≤ (b x).faults)
-    → Causes t mid target r b c → Causes t old target r a c
+    → CausesRebuildEnd t mid target r b c → CausesRebuildEnd t old target r a c
 causes_before t old mid target (Ok v) a b c same grow y = y
 causes_before t old mid target (Err (errors.FromRestore e)) a b c same grow y = read_before t old mid e a b c same grow y
 causes_before t old mid target (Err errors.TargetLost) a b c same grow y = y
@@ -265,18 +265,18 @@ module _ (shape : Shape) (user : UserId) (target : ℕ) (serve : List Command �
   not_target : (x : ℕ) → Contains from x → x ≢ target
   not_target x has same = apart (subst (λ (y : ℕ). Contains from y) same has)
 
-  found_more : (f : Finding) (found : List Finding) (a b c : ℕ → Peer) → LeavesBut from target a b → LeavesBut from target b c → IsFound shape user from f.key f.found a b → AllFound shape user from found b c
+  found_more : (f : Finding) (found : List Finding) (a b c : ℕ → Peer) → LeavesBut from target a b → LeavesBut from target b c → IsVersionFound shape user from f.key f.found a b → AllFound shape user from found b c
       → AllFound shape user from (f ∷ found) a c
   found_more f found a b c one two here all g has =
       elim (contains_cases f found g has) [
-        | inl same ↦ subst (λ (x : Finding). IsFound shape user from x.key x.found a c) same (found_later shape user from f.key f.found a b c (λ x in_from. two.read x (not_target x in_from)) here)
+        | inl same ↦ subst (λ (x : Finding). IsVersionFound shape user from x.key x.found a c) same (found_later shape user from f.key f.found a b c (λ x in_from. two.read x (not_target x in_from)) here)
         | inr later ↦ found_before shape user from g.key g.found a b c (λ x in_from. one.read x (not_target x in_from)) (all g later)
       ]
 
-  found_alone : (f : Finding) (a b : ℕ → Peer) → IsFound shape user from f.key f.found a b → AllFound shape user from (f ∷ []) a b
+  found_alone : (f : Finding) (a b : ℕ → Peer) → IsVersionFound shape user from f.key f.found a b → AllFound shape user from (f ∷ []) a b
   found_alone f a b here g has =
       elim (contains_cases f [] g has) [
-        | inl same ↦ subst (λ (x : Finding). IsFound shape user from x.key x.found a b) same here
+        | inl same ↦ subst (λ (x : Finding). IsVersionFound shape user from x.key x.found a b) same here
         | inr none ↦ absurd (contains_nothing g none)
       ]
 
@@ -359,7 +359,7 @@ module _ (shape : Shape) (user : UserId) (target : ℕ) (serve : List Command �
       (subst (λ (p : Peer). IsFilledFurther shape target serve fs r (a target) [] p) (sym same) (goes_on shape target serve fs r (a target) none)))
 
   cut_found : (key : Tag × Version) (more : List (Tag × Version)) (r : Progressed) (turns : List (LaneTurn Peer)) (a : ℕ → Peer) (at : Peer) (b : ℕ → Peer) (found : Result FileVersion SkipWhy) → r.stop ≡ None
-      → IsFound shape user from key found a b → ((fs : List Finding) → IsFilledFurther shape target serve (finding key found ∷ fs) r (a target) turns at) → KeysCut shape user target serve from (key ∷ more) r turns a at b
+      → IsVersionFound shape user from key found a b → ((fs : List Finding) → IsFilledFurther shape target serve (finding key found ∷ fs) r (a target) turns at) → KeysCut shape user target serve from (key ∷ more) r turns a at b
   cut_found key more r turns a at b found none is goes = cut_ahead (key ∷ more) r turns a at b (finding key found ∷ []) none (record { rest = more; split = refl }) (found_alone (finding key found) a b is) goes
 
   -- memory ran out behind an entry
@@ -372,7 +372,7 @@ module _ (shape : Shape) (user : UserId) (target : ℕ) (serve : List Command �
       (goes_on shape target serve fs (noted key skip r) (b target) (noted_goes key skip r))))
 
   stopped_at : (key : Tag × Version) (more : List (Tag × Version)) (r : Progressed) (e : RebuildErr) (turns : List (LaneTurn Peer)) (a b : ℕ → Peer)
-      → (found : Result FileVersion SkipWhy) × IsFound shape user from key found a b × EntryStops shape target serve key found e (a target) turns (b target)
+      → (found : Result FileVersion SkipWhy) × IsVersionFound shape user from key found a b × EntryStops shape target serve key found e (a target) turns (b target)
       → (last : Progressed) × (said : Reply) × KeysBrought shape user target serve from (key ∷ more) r last turns a b × (last.stop ≡ Some said) × StopsAs said e
   stopped_at key more r e turns a b x =
       let f : Finding = finding key x.0 in
@@ -425,10 +425,10 @@ keys_err e = Err e
 
 module _ {L : Type 0} (t : LinkTelling L) (talk : L → ℕ → Talk → Type 0) (target : ℕ) (from : List ℕ) (shape : Shape) (user : UserId) (apart : Contains from target → ⊥) where
   abbrev pub EntryLeads : L → L → Tag × Version → Result (Option SkipWhy) RebuildErr → Type 0
-  EntryLeads old new key result = Leads t talk target from old new result (HasRebuildCause t old shape user target result) (EntryTold shape user target (serves t old target) from key result)
+  EntryLeads old new key result = LeadsWithTarget t talk target from old new result (HasRebuildCause t old shape user target result) (EntryTold shape user target (serves t old target) from key result)
 
   abbrev pub KeysLeads : (List Command → Request → Outcome) → L → L → List (Tag × Version) → Progressed → Progressed → Result (Unit {0}) RebuildErr → Type 0
-  KeysLeads serve old new keys r next result = Leads t talk target from old new result (HasRebuildCause t old shape user target result) (KeysTold shape user target serve from keys r next result)
+  KeysLeads serve old new keys r next result = LeadsWithTarget t talk target from old new result (HasRebuildCause t old shape user target result) (KeysTold shape user target serve from keys r next result)
 
   pub keys_done : (link : L) (r : Progressed) → KeysLeads (serves t link target) link link [] r r (Ok tt)
   keys_done link r = leads_still t talk target from link (tt {0}) _ _ (λ a. record { caused = tt {0}; said = tt {0}; ended = tt {0}; own = lanes_none shape user target }) (λ a. keys_none shape user target (serves t link target) from apart r a)

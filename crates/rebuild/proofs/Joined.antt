@@ -22,7 +22,7 @@ use Rattle.rebuild.specs.declared.error.RebuildErr.{RebuildErr}
 use Rattle.rebuild.specs.declared.error.RebuildErr.TheVariants as errors
 use Rattle.rebuild.specs.Found.{Finding}
 use Rattle.rebuild.specs.Rebuilding.{Progressed, LeavesBut}
-use Rattle.rebuild.specs.Over.{Leads, Reading, TargetAlong}
+use Rattle.rebuild.specs.Over.{LeadsWithTarget, Reading, TargetAlong}
 use Rattle.rebuild.proofs.Joining.{Along, Between, ByTurns, along_read}
 use Rattle.rebuild.specs.Several.{AllFound, KeysBrought, KeysCut, KeysTold, keys_of}
 use Rattle.rebuild.proofs.Cutting.{brings_then}
@@ -116,10 +116,10 @@ only_cloud cloud from c here has =
     ]
 
 pub page_then : {L B : Type 0} (t : LinkTelling L) (talk : L → ℕ → Talk → Type 0) (target : ℕ) (from : List ℕ) (cloud : ℕ) (old mid new : L) (r : Result B RebuildErr) (A : Between) (D C : Along) (R : Between) (S T : ByTurns)
-    → (Contains from target → ⊥) → Contains from cloud → Reading t from old mid → t.told mid ≡ t.told old → ReadLeads t (cloud ∷ []) old mid A R → Leads t talk target from mid new r D S
+    → (Contains from target → ⊥) → Contains from cloud → Reading t from old mid → t.told mid ≡ t.told old → ReadLeads t (cloud ∷ []) old mid A R → LeadsWithTarget t talk target from mid new r D S
     → ((turns : List (LaneTurn Peer)) (a b c : ℕ → Peer) → AreOnlyAsked (cloud ∷ []) a b → LeavesBut from target b c → A a b → D turns b c → C turns a c)
     → ((turns : List (LaneTurn Peer)) (a b : ℕ → Peer) (at : Peer) (c : ℕ → Peer) → AreOnlyAsked (cloud ∷ []) a b → LeavesBut from target b c → R a b → S turns b at c → T turns a at c)
-    → Leads t talk target from old new r C T
+    → LeadsWithTarget t talk target from old new r C T
 page_then {L} t talk target from cloud old mid new r A D C R S T apart here read same first second always both these all before peers =
     let x = first these (λ c has. all c (contains_later target from c (only_cloud cloud from c here has))) before peers in
     let y = second these all x.0 x.1 in

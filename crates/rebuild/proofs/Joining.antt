@@ -11,7 +11,7 @@ use Rattle.lane_steps.specs.Messages.request.Request.{Request}
 use Rattle.lane_steps.specs.UserDedup.command.Command.{Command}
 use Rattle.lane_steps.specs.UserDedup.Dedup.{Outcome}
 use Rattle.lane_steps.specs.UserDedup.Exec.{Peer, CountsOn}
-use Rattle.lane_steps.specs.UserDedup.Link.{LinkTelling, Exchange, Talk, Passes, ReadsFrom, serves}
+use Rattle.lane_steps.specs.UserDedup.Link.{LinkTelling, Exchange, Talk, Passes, ReadsOneOf, serves}
 use Rattle.lane_steps.specs.UserDedup.Exec.{served}
 use Rattle.lane_steps.proofs.UserDedup.Owned.{contains_here, contains_later, contains_cases, contains_nothing}
 use Rattle.lane_steps.specs.UploadJob.news.LaneNews.{LaneNews}
@@ -21,7 +21,7 @@ use Rattle.lane_steps.specs.UploadJob.Lane.{LaneState}
 use Rattle.lane_steps.specs.Runs.{LaneTurn}
 use Rattle.lane_steps.specs.declared.error.StepErr.{StepErr}
 use Rattle.lane_steps.specs.declared.error.StepErr.TheVariants as step_errors
-use Rattle.lane_steps.specs.Steps.{IsFound as StepFound}
+use Rattle.lane_steps.specs.Steps.{IsNothingLost as StepFound}
 use Rattle.kept_files.specs.RestoreJob.Asking.{AreOnlyAsked, Reads}
 use Rattle.kept_files.specs.RestoreJob.Asking.{Leads as ReadLeads, is_loss}
 use Rattle.kept_files.specs.RestoreJob.Refusals.{Names}
@@ -34,9 +34,9 @@ use Rattle.rebuild.specs.declared.error.RebuildErr.TheVariants as errors
 use Rattle.rebuild.specs.declared.versions.FoundVersion.{FoundVersion as FoundThere}
 use Rattle.rebuild.specs.Rebuilding.{LeavesBut, lane_ended, up_to}
 use Rattle.rebuild.specs.Filling.{BringsTold, BringCaused, BringHolds, EndsBy, OfTarget, LaneEnds, StopsBy, failed_as}
-use Rattle.rebuild.specs.Over.{Reading, TargetAlong, ThenLost, Leads, Causes, HandsOn, HasRebuildCause, ReadCaused, is_lost}
+use Rattle.rebuild.specs.Over.{Reading, TargetAlong, ThenLost, LeadsWithTarget, CausesRebuildEnd, HandsOn, HasRebuildCause, ReadCaused, is_lost}
 use Rattle.rebuild.specs.Turns.{EndsLane, OwnLanes}
-use Rattle.rebuild.specs.Steps.{IsFound, FindsTold, ReadEnds, found_of, skip_as}
+use Rattle.rebuild.specs.Steps.{IsVersionFound, FindsTold, ReadEnds, found_of, skip_as}
 use Rattle.rebuild.specs.Entering.{EntryBrought, EntryFound, EntryStops, EntryTold, entered_as, stopped_as}
 use Rattle.rebuild.proofs.Stable.{SameOn, missing_same, version_same}
 use Rattle.rebuild.proofs.Telling.{lanes_none, said_stopped, reply_stopped}
@@ -84,7 +84,7 @@ reading_on t from old mid new one two = (one.0 ++ two.0, passes_on t from old mi
 none_read : {L : Type 0} (t : LinkTelling L) (from : List ℕ) (old new : L) → Reading t [] old new → Reading t from old new
 none_read {L} t from old new one = (one.0, go old one.0 one.1)
   where
-    go : (at : L) (es : List Exchange) → Passes t (ReadsFrom []) at es new → Passes t (ReadsFrom from) at es new
+    go : (at : L) (es : List Exchange) → Passes t (ReadsOneOf []) at es new → Passes t (ReadsOneOf from) at es new
     go at [] p = p
     go at (e ∷ es) p = absurd (contains_nothing e.cloud p.0.0)
 
@@ -111,10 +111,10 @@ ByTurns = List (LaneTurn Peer) → (ℕ → Peer) → Peer → (ℕ → Peer) �
 
 -- the same way, with another result
 pub leads_as : {L A B : Type 0} (t : LinkTelling L) (talk : L → ℕ → Talk → Type 0) (target : ℕ) (from : List ℕ) (old new : L) (r : Result A RebuildErr) (s : Result B RebuildErr) (C D : Along) (R S : ByTurns)
-    → Leads t talk target from old new r C R → ((last : L) (p q : Peer) → ThenLost t target last p r new q → ThenLost t target last p s new q)
+    → LeadsWithTarget t talk target from old new r C R → ((last : L) (p q : Peer) → ThenLost t target last p r new q → ThenLost t target last p s new q)
     → ((turns : List (LaneTurn Peer)) (a b : ℕ → Peer) → C turns a b → D turns a b)
     → ((turns : List (LaneTurn Peer)) (a : ℕ → Peer) (at : Peer) (b : ℕ → Peer) → R turns a at b → S turns a at b)
-    → Leads t talk target from old new s D S
+    → LeadsWithTarget t talk target from old new s D S
 leads_as t talk target from old new r s C D R S leads then always told these all before peers =
     let x = leads these all before peers in
     (x.0, x.1, x.2, x.3, x.4, x.5, x.6, then x.2 x.3 (x.0 target) x.7, always x.1 before x.0 x.8, λ all_told. told x.1 before x.3 x.0 (x.9 all_told))
@@ -128,10 +128,10 @@ only_target target from c has =
 
 -- the clouds are read, and then the target alone has turns
 pub read_then : {L B : Type 0} (t : LinkTelling L) (talk : L → ℕ → Talk → Type 0) (target : ℕ) (from : List ℕ) (old mid new : L) (r : Result B RebuildErr) (A : Between) (D C : Along) (R : Between) (S T : ByTurns)
-    → (Contains from target → ⊥) → Reading t from old mid → t.told mid ≡ t.told old → ReadLeads t from old mid A R → Leads t talk target [] mid new r D S
+    → (Contains from target → ⊥) → Reading t from old mid → t.told mid ≡ t.told old → ReadLeads t from old mid A R → LeadsWithTarget t talk target [] mid new r D S
     → ((turns : List (LaneTurn Peer)) (a b c : ℕ → Peer) → AreOnlyAsked from a b → LeavesBut [] target b c → A a b → D turns b c → C turns a c)
     → ((turns : List (LaneTurn Peer)) (a b : ℕ → Peer) (at : Peer) (c : ℕ → Peer) → AreOnlyAsked from a b → LeavesBut [] target b c → R a b → S turns b at c → T turns a at c)
-    → Leads t talk target from old new r C T
+    → LeadsWithTarget t talk target from old new r C T
 read_then {L} t talk target from old mid new r A D C R S T apart read same first second always both these all before peers =
     let x = first these (λ c has. all c (contains_later target from c has)) before peers in
     let y = second these (λ c has. all c (only_target target from c has)) x.0 x.1 in
@@ -158,7 +158,7 @@ read_then {L} t talk target from old mid new r A D C R S T apart read same first
 pub read_stops : {L B : Type 0} (t : LinkTelling L) (talk : L → ℕ → Talk → Type 0) (target : ℕ) (from : List ℕ) (old new : L) (r : Result B RebuildErr) (A : Between) (C : Along) (R : Between) (T : ByTurns)
     → (Contains from target → ⊥) → Reading t from old new → ReadLeads t from old new A R → ((p q : Peer) → q ≡ p → ThenLost t target new p r new q)
     → ((a b : ℕ → Peer) → AreOnlyAsked from a b → A a b → C [] a b) → ((a b : ℕ → Peer) → AreOnlyAsked from a b → R a b → T [] a (a target) b)
-    → Leads t talk target from old new r C T
+    → LeadsWithTarget t talk target from old new r C T
 read_stops t talk target from old new r A C R T apart read first then always told these all before peers =
     let x = first these (λ c has. all c (contains_later target from c has)) before peers in
     let still : x.0 target ≡ before target = x.2.others target apart in (
@@ -224,7 +224,7 @@ then_stopped B t target new p q (refusals.BadSecret secret named hash) same = (r
 then_stopped B t target new p q (refusals.BadPad secret at byte) same = (refl, same)
 then_stopped B t target new p q refusals.NoMemory same = (refl, same)
 
-pub stopped_caused : {L : Type 0} (B : Type 0) (t : LinkTelling L) (link : L) (target : ℕ) (e : RestoreErr) (a b : ℕ → Peer) → ReadCaused t link e a b → Causes {L = L} {A = B} t link target (Err (stopped_as e)) a b
+pub stopped_caused : {L : Type 0} (B : Type 0) (t : LinkTelling L) (link : L) (target : ℕ) (e : RestoreErr) (a b : ℕ → Peer) → ReadCaused t link e a b → CausesRebuildEnd {L = L} {A = B} t link target (Err (stopped_as e)) a b
 stopped_caused B t link target (refusals.Missing c) a b x = x
 stopped_caused B t link target (refusals.Lost c) a b x = x
 stopped_caused B t link target (refusals.CloudFault c) a b x = x
@@ -283,7 +283,7 @@ own_hands from (Err (errors.TargetStrange kind)) own = tt
 own_hands from (Err errors.NoMemory) own = tt
 
 pub own_caused : {L B : Type 0} (t : LinkTelling L) (link : L) (target : ℕ) (known : Bool) (r : Result B RebuildErr) (p : Peer) (a c : ℕ → Peer) → known ≡ t.told link target → OfTarget r → p ≡ a target
-    → BringCaused known r p (c target) → Causes t link target r a c
+    → BringCaused known r p (c target) → CausesRebuildEnd t link target r a c
 own_caused t link target known (Ok x) p a c is own same y = tt
 own_caused t link target known (Err (errors.FromRestore e)) p a c is own same y = absurd own
 own_caused t link target known (Err errors.TargetLost) p a c is own same y = tt
@@ -357,7 +357,7 @@ module _ (shape : Shape) (user : UserId) (target : ℕ) (serve : List Command �
   stopped_told (refusals.BadPad secret at byte) a b same x = ((refl, refl, same), x)
   stopped_told refusals.NoMemory a b same x = inl (refl, refl, same)
 
-  found_at : (found : Result FileVersion SkipWhy) (a b c : ℕ → Peer) → ((cloud : ℕ) → Contains from cloud → c cloud ≡ b cloud) → IsFound shape user from key found a b → IsFound shape user from key found a c
+  found_at : (found : Result FileVersion SkipWhy) (a b c : ℕ → Peer) → ((cloud : ℕ) → Contains from cloud → c cloud ≡ b cloud) → IsVersionFound shape user from key found a b → IsVersionFound shape user from key found a c
   found_at found a b c same (inl x) = inl (x.0, x.1, missing_same shape user key (λ cloud. (b cloud).list) (λ cloud. (c cloud).list) from lists ∙ x.2, λ cloud has. subst (λ (p : Peer). Reads (a cloud) p) (sym (same cloud (up_to_in x.0 from cloud has))) (x.3 cloud has))
     where
       lists : SameOn from (λ cloud. (b cloud).list) (λ cloud. (c cloud).list)
@@ -405,7 +405,7 @@ module _ (shape : Shape) (target : ℕ) (serve : List Command → Request → Ou
 
 -- the target isn't asked
 pub skipped_leads : {L : Type 0} (t : LinkTelling L) (talk : L → ℕ → Talk → Type 0) (target : ℕ) (link : L) (known : Bool) (shape : Shape) (user : UserId) (serve : List Command → Request → Outcome) (key : Tag × Version) (why : SkipWhy)
-    → Leads {L = L} {A = Option SkipWhy} t talk target [] link link (Ok (Some why)) (λ turns before after. BringHolds {A = Option SkipWhy} known (OwnLanes shape user target) (EndsLane shape user target) (Ok (Some why)) turns (before target) (after target))
+    → LeadsWithTarget {L = L} {A = Option SkipWhy} t talk target [] link link (Ok (Some why)) (λ turns before after. BringHolds {A = Option SkipWhy} known (OwnLanes shape user target) (EndsLane shape user target) (Ok (Some why)) turns (before target) (after target))
     (λ turns before at after. EntryBrought shape target serve key (Err why) (Ok (Some why)) turns (before target) at (after target))
 skipped_leads t talk target link known shape user serve key why these all before peers = (
   before,

@@ -34,7 +34,7 @@ use Rattle.rebuild.specs.declared.error.RebuildErr.{RebuildErr}
 use Rattle.rebuild.specs.declared.error.RebuildErr.TheVariants as errors
 use Rattle.rebuild.specs.Found.{Finding}
 use Rattle.rebuild.specs.Rebuilding.{Progressed, lane_ended, lane_of, last_said, BringsOne, BringsAll, IsNoLack, StopsAs}
-use Rattle.rebuild.specs.Over.{Leads, TargetAlong, ThenLost}
+use Rattle.rebuild.specs.Over.{LeadsWithTarget, TargetAlong, ThenLost}
 use Rattle.rebuild.specs.Filling.{BringsTold, BringCaused, BringHolds, EndsBy, IsFilledFurther, LaneCut, failed_as, last_of}
 use Rattle.rebuild.specs.Turns.{LaneEnded, LaneGoes, SaidLast}
 use Rattle.rebuild.proofs.Telling.{goes_along, goes_there, reply_always}
@@ -61,7 +61,7 @@ pub record Moved {L A : Type 0} (t : LinkTelling L) (talk : L → ℕ → Talk �
 pub target_leads : {L A : Type 0} (t : LinkTelling L) (talk : L → ℕ → Talk → Type 0) (target : ℕ) (from : List ℕ) (old new : L) (result : Result A RebuildErr)
     (Always : List (LaneTurn Peer) → Peer → Peer → Type 0) (Related : List (LaneTurn Peer) → Peer → Peer → Peer → Type 0) → LeavesOthers t target old new
     → ((p : Peer) → t.stands old target p → Moved t talk target from old new result Always Related p)
-    → Leads t talk target from old new result (λ turns before after. Always turns (before target) (after target)) (λ turns before at after. Related turns (before target) at (after target))
+    → LeadsWithTarget t talk target from old new result (λ turns before after. Always turns (before target) (after target)) (λ turns before at after. Related turns (before target) at (after target))
 target_leads {L} t talk target from old new result Always Related others moves these all before peers =
     let m = moves (before target) (peers target (all target (contains_here target from))) in
     let after : ℕ → Peer = put before target m.end in

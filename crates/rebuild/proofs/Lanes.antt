@@ -23,13 +23,13 @@ use Rattle.lane_steps.specs.UserDedup.Cloud.{fingerprint, user_view}
 use Rattle.lane_steps.specs.UserDedup.Owning.{first_lacking, new_strings}
 use Rattle.lane_steps.specs.UserDedup.Pages.{is_at, entry_at}
 use Rattle.lane_steps.specs.UserDedup.Requests.{fps_of}
-use Rattle.lane_steps.specs.UserDedup.Dedup.{Outcome, FullRoom, Ends, put_outcome, commit_outcome, by_room, unless_full}
+use Rattle.lane_steps.specs.UserDedup.Dedup.{Outcome, FullRoom, TakesVersionOut, put_outcome, commit_outcome, by_room, unless_full}
 use Rattle.lane_steps.specs.UserDedup.Exec.{Peer, Exec, ExecTold, served}
 use Rattle.lane_steps.proofs.UserDedup.Growing.{Each, GrowsBy, IfCommand, grows_same, grows_then, exec_grows, answered_quiet, version_more, AsksNoDelete, IsNoDelete, adds_no_delete, ends_none}
 use Rattle.lane_steps.proofs.UserDedup.Views.{own_adds}
 use Rattle.lane_steps.specs.UploadJob.Upload.{Work}
 use Rattle.lane_steps.specs.UploadJob.Lane.{LaneState, Asking, Sending, Committing, Done, Refused, onward, lane_request, past_known, unflagged}
-use Rattle.rebuild.specs.Standing.{entry_in, HasEntry, HasOther}
+use Rattle.rebuild.specs.Standing.{entry_in, HasEntryWith, HasOther}
 use Rattle.lane_steps.specs.UploadJob.Lane.{lane_after}
 use Rattle.lane_steps.specs.UploadJob.Lanes.{begun}
 use Rattle.lane_steps.specs.Runs.{LaneTurn, Progress, starting, progress_after, LaneRun}
@@ -73,7 +73,7 @@ module _ (shape : Shape) (cloud : ℕ) (full : List Command → Command → Opti
 
 -- ---- what a Commit leaves
 
-no_ends : (user : UserId) (key : Tag × Version) (more : List Command) → Each IsNoDelete more → Each (λ c. ¬ (Ends user key c)) more
+no_ends : (user : UserId) (key : Tag × Version) (more : List Command) → Each IsNoDelete more → Each (λ c. ¬ (TakesVersionOut user key c)) more
 no_ends user key [] each = tt
 no_ends user key (c ∷ more) each = (ends_none user key c each.0, no_ends user key more each.1)
 
@@ -81,7 +81,7 @@ entry_later : (shape : Shape) (old new : List Command) (user : UserId) (key : Ta
 entry_later shape old new user key entry grew h =
     subst (λ (l : List Command). entry_in shape l user key ≡ Some entry) (sym grew.1) (version_more shape old grew.0 user key entry (no_ends user key grew.0 grew.2) h)
 
-pub has_later : (shape : Shape) (old new : List Command) (user : UserId) (key : Tag × Version) (recipe : List ℕ) → GrowsBy IsNoDelete old new → HasEntry shape old user key recipe → HasEntry shape new user key recipe
+pub has_later : (shape : Shape) (old new : List Command) (user : UserId) (key : Tag × Version) (recipe : List ℕ) → GrowsBy IsNoDelete old new → HasEntryWith shape old user key recipe → HasEntryWith shape new user key recipe
 has_later shape old new user key recipe grew h = (h.0, entry_later shape old new user key h.0 grew h.1, h.2)
 
 pub other_later : (shape : Shape) (old new : List Command) (user : UserId) (key : Tag × Version) (recipe : List ℕ) → GrowsBy IsNoDelete old new → HasOther shape old user key recipe → HasOther shape new user key recipe
@@ -116,13 +116,13 @@ other_by false entry recipe d e = λ same. let t = d.1 same in cc
 
 added_by : (shape : Shape) (list : List Command) (user : UserId) (tag : Tag) (version : Version) (recipe : List ℕ) (room : Option FullRoom) → entry_in shape list user (tag, version) ≡ None
     → (by_room (record { reply = replies.Committed; adds = Some (commands.Commit user tag version recipe) }) room).reply ≡ replies.Committed
-    → HasEntry shape (list ++ option_to_list (by_room (record { reply = replies.Committed; adds = Some (commands.Commit user tag version recipe) }) room).adds) user (tag, version) recipe
+    → HasEntryWith shape (list ++ option_to_list (by_room (record { reply = replies.Committed; adds = Some (commands.Commit user tag version recipe) }) room).adds) user (tag, version) recipe
 added_by shape list user tag version recipe None none e = (with_recipe tag version recipe, entry_added shape list user tag version recipe none, refl)
 added_by shape list user tag version recipe (Some full) none e = absurd cc
 
 committed_by : (shape : Shape) (list : List Command) (full : Command → Option FullRoom) (lack : Option ℕ) (entry : Option FileEntry) (user : UserId) (tag : Tag) (version : Version) (recipe : List ℕ)
     → entry_in shape list user (tag, version) ≡ entry → (commit_by full lack entry user tag version recipe).reply ≡ replies.Committed
-    → HasEntry shape (list ++ option_to_list (commit_by full lack entry user tag version recipe).adds) user (tag, version) recipe
+    → HasEntryWith shape (list ++ option_to_list (commit_by full lack entry user tag version recipe).adds) user (tag, version) recipe
 committed_by shape list full (Some place) entry user tag version recipe stands e = absurd cc
 committed_by shape list full None (Some entry) user tag version recipe stands e = (
   entry,
@@ -149,13 +149,13 @@ exists_by shape list full None None user tag version recipe stands e = absurd (n
 -- what a told cloud serves
 module _ (shape : Shape) (cloud : ℕ) (full : List Command → Command → Option FullRoom) where
   committed_leaves : (old new : Peer) (user : UserId) (tag : Tag) (version : Version) (recipe : List ℕ)
-      → Exec shape true (served shape cloud full) old (requests.Commit user tag version recipe) replies.Committed new → HasEntry shape new.list user (tag, version) recipe
+      → Exec shape true (served shape cloud full) old (requests.Commit user tag version recipe) replies.Committed new → HasEntryWith shape new.list user (tag, version) recipe
   committed_leaves old new user tag version recipe x =
       let does : ExecTold (served shape cloud full) old (requests.Commit user tag version recipe) replies.Committed new = x.does in
       elim does [
         | inl a ↦
             let v : View = user_view shape a.before user in
-            subst (λ (l : List Command). HasEntry shape l user (tag, version) recipe) (sym a.list)
+            subst (λ (l : List Command). HasEntryWith shape l user (tag, version) recipe) (sym a.list)
             (committed_by shape a.before (full a.before) (first_lacking v.own (fps_of shape recipe)) (entry_at v.files (tag, version)) user tag version recipe refl (sym a.served))
         | inr f ↦ absurd (let e = f.reply_is in cc)
       ]
@@ -284,7 +284,7 @@ module _ (shape : Shape) (cloud : ℕ) (full : List Command → Command → Opti
 
   -- a Commit that is answered Committed leaves the entry
   committed_ended : (w : Work) (lane : LaneState) (said : Reply) (request : Request) (old new : Peer) → lane_request w lane ≡ Some request → lane ≡ Committing → said ≡ replies.Committed
-      → Exec shape true (served shape cloud full) old request said new → HasEntry shape new.list w.user (w.tag, w.version) w.recipe
+      → Exec shape true (served shape cloud full) old request said new → HasEntryWith shape new.list w.user (w.tag, w.version) w.recipe
   committed_ended w lane said request old new asked at heard does =
       let commit : Some (requests.Commit w.user w.tag w.version w.recipe) ≡ Some request = sym (ap (lane_request w) at) ∙ asked in
       let x : Exec shape true (served shape cloud full) old request replies.Committed new = subst (λ (o : Reply). Exec shape true (served shape cloud full) old request o new) heard does in
@@ -297,7 +297,7 @@ module _ (shape : Shape) (cloud : ℕ) (full : List Command → Command → Opti
 
   -- a lane that is run to Done leaves its entry, and nothing pending that is a Delete, unless it was there from the start
   pub run_done : (p last : Progress) (old new : Peer) (turns : List (LaneTurn Peer)) → LaneRun (Exec shape true (served shape cloud full)) p old turns last new → last.lane.state ≡ Done
-      → (p.lane.state ≡ Done) ⊎ (HasEntry shape new.list p.lane.work.user (p.lane.work.tag, p.lane.work.version) p.lane.work.recipe × IsQuiet new)
+      → (p.lane.state ≡ Done) ⊎ (HasEntryWith shape new.list p.lane.work.user (p.lane.work.tag, p.lane.work.version) p.lane.work.recipe × IsQuiet new)
   run_done p last old new [] run done = inl (sym (ap (λ (q : Progress). q.lane.state) run.1) ∙ done)
   run_done p last old new (t ∷ turns) run done =
       let mid : Peer = run.3.0 in
@@ -331,7 +331,7 @@ begun_not_done w e = goes_on w.batches e
 
 module _ (shape : Shape) (cloud : ℕ) (full : List Command → Command → Option FullRoom) where
   pub lane_done : (w : Work) (last : Progress) (old new : Peer) (turns : List (LaneTurn Peer)) → LaneRun (Exec shape true (served shape cloud full)) (starting (begun w)) old turns last new → last.lane.state ≡ Done
-      → HasEntry shape new.list w.user (w.tag, w.version) w.recipe × IsQuiet new
+      → HasEntryWith shape new.list w.user (w.tag, w.version) w.recipe × IsQuiet new
   lane_done w last old new turns run done =
       elim (run_done shape cloud full (starting (begun w)) last old new turns run done) [
         | inl was ↦ absurd (begun_not_done w was)

@@ -19,7 +19,7 @@ use Rattle.lane_steps.specs.UserDedup.Link.{LinkTelling}
 use Rattle.lane_steps.proofs.UserDedup.Owned.{contains_here, contains_later, contains_cases, contains_nothing}
 use Rattle.lane_steps.specs.UploadJob.Upload.{FileVersion}
 use Rattle.kept_files.specs.RestoreJob.Asking.{MayRead, Reads, AreRead, StoppedAt}
-use Rattle.kept_files.specs.RestoreJob.Brought.{AreSecrets, Appends, first_items}
+use Rattle.kept_files.specs.RestoreJob.Brought.{AreSecrets, AppendsSecrets, first_items}
 use Rattle.kept_files.specs.RestoreJob.Reading.{Ends}
 use Rattle.kept_files.specs.RestoreJob.Refusals.{Names, Caused}
 use Rattle.kept_files.proofs.RestoreJob.Causing.{names_to}
@@ -73,7 +73,7 @@ first_fits : (shape : Shape) (recipes : List Recipe) → All (Fits shape) recipe
 first_fits shape [] fits = omega arith
 first_fits shape (r ∷ recipes) fits = let f = All-head (Fits shape) r recipes fits in let le = leb-true r.file_len 67108864 f.file_len in omega (arith, f.whole)
 
-pub file_fits : (shape : Shape) (clouds : List ℕ) (recipes : List Recipe) (new : List ℕ) → All (Fits shape) recipes → Appends shape clouds recipes [] new → length new ≤ file_limit
+pub file_fits : (shape : Shape) (clouds : List ℕ) (recipes : List Recipe) (new : List ℕ) → All (Fits shape) recipes → AppendsSecrets shape clouds recipes [] new → length new ≤ file_limit
 file_fits shape clouds recipes new fits appends =
     let most = secrets_most shape clouds (first_items recipes) recipes (length (first_items recipes)) appends.0 appends.2 in
     let all = up_to_all (first_items recipes) (length (first_items recipes)) (omega arith) in

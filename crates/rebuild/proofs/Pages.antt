@@ -27,7 +27,7 @@ use Rattle.rebuild.specs.declared.error.RebuildErr.TheVariants as errors
 use Rattle.rebuild.specs.declared.skips.Rebuilt.{Rebuilt}
 use Rattle.rebuild.specs.Entering.{stopped_as}
 use Rattle.rebuild.specs.Found.{first_of, keys_above, keys_in}
-use Rattle.rebuild.specs.Over.{HasAskedToRebuild, BringsOwn, HandsOn, HasRebuildCause, Leads, is_lost}
+use Rattle.rebuild.specs.Over.{HasAskedToRebuild, BringsOwn, HandsOn, HasRebuildCause, LeadsWithTarget, is_lost}
 use Rattle.rebuild.specs.Rebuilding.{IsFrontOfList, LeavesBut, Progressed, RunsTo, nothing_yet}
 use Rattle.rebuild.specs.Several.{KeysBrought, KeysCut, KeysTold, progress_of, whole}
 use Rattle.rebuild.specs.Steps.{PageTold, ReadCauses, ReadEnds}
@@ -335,7 +335,7 @@ ends_wider cloud from refusals.NoMemory a b here y = y
 
 -- The pages so far over a link, and the key above which the next one begins.
 pub record Paged {L : Type 0} (t : LinkTelling L) (talk : L → ℕ → Talk → Type 0) (target : ℕ) (from : List ℕ) (shape : Shape) (user : UserId) (first : ℕ) (old link : L) (above : Option Key) (r : Progressed) : Type 0 where
-  pub leads : Leads t talk target from old link (Ok (tt {0})) (HasRebuildCause {A = Unit {0}} t old shape user target (Ok (tt {0}))) (PagesTold shape user target (serves t old target) from first above r)
+  pub leads : LeadsWithTarget t talk target from old link (Ok (tt {0})) (HasRebuildCause {A = Unit {0}} t old shape user target (Ok (tt {0}))) (PagesTold shape user target (serves t old target) from first above r)
   pub asked : HasAskedToRebuild t target from old link false
   pub lanes : BringsOwn t shape user target from old link
 
@@ -354,7 +354,7 @@ module _ {L : Type 0} (t : LinkTelling L) (talk : L → ℕ → Talk → Type 0)
   }
 
   abbrev pub AllLeads : L → L → Progressed → Result (Unit {0}) RebuildErr → Type 0
-  AllLeads old new next result = Leads t talk target from old new result (HasRebuildCause t old shape user target result) (AllTold shape user target (serves t old target) from cloud.0 next result)
+  AllLeads old new next result = LeadsWithTarget t talk target from old new result (HasRebuildCause t old shape user target result) (AllTold shape user target (serves t old target) from cloud.0 next result)
 
   page_asked : (mid new : L) (loss : Bool) → ReadAsked t (cloud.0 ∷ []) mid new loss → ReadAsked t from mid new loss
   page_asked mid new loss asked = asked_at t cloud.0 from mid new loss here asked
@@ -383,7 +383,7 @@ module _ {L : Type 0} (t : LinkTelling L) (talk : L → ℕ → Talk → Type 0)
       → ReadLeads t (cloud.0 ∷ []) mid read (ReadCauses {A = List Key} t mid (Ok page)) (PageTold shape user cloud above (Ok page)) → KeysLeads t talk target from shape user apart (serves t read target) read new page r next result
       → ((us vs : List (LaneTurn Peer)) (a b : ℕ → Peer) (at : Peer) (c : ℕ → Peer) → LeavesBut from target a b → LeavesBut from target b c → PagesTold shape user target (serves t old target) from cloud.0 above r us a (b target) b
       → PageKeys shape user target (serves t old target) from cloud.0 above page r next result vs b at c → T (us ++ vs) a at c)
-      → Leads t talk target from old new result (HasRebuildCause t old shape user target result) T
+      → LeadsWithTarget t talk target from old new result (HasRebuildCause t old shape user target result) T
   page_leads old mid read new above page r next result T none paged asked leads keys both =
       let wide = page_asked mid read false asked in
       let serve : List Command → Request → Outcome = serves t old target in
@@ -433,7 +433,7 @@ module _ {L : Type 0} (t : LinkTelling L) (talk : L → ℕ → Talk → Type 0)
 
   -- the whole rebuild
   pub all_leads : (old new : L) (rebuilt : Rebuilt) (result : Result (Unit {0}) RebuildErr) → cloud.0 ≡ first_of from → HandsOn from result → AllLeads old new (progress_of rebuilt) result
-      → Leads t talk target from old new result (HasRebuildCause t old shape user target result) (λ turns a at b. RunsTo shape user target (serves t old target) from (whole rebuilt result) turns a at b)
+      → LeadsWithTarget t talk target from old new result (HasRebuildCause t old shape user target result) (λ turns a at b. RunsTo shape user target (serves t old target) from (whole rebuilt result) turns a at b)
   all_leads old new rebuilt result is hands leads these all before peers =
       let x = leads these all before peers in (
         x.0,

@@ -7,7 +7,7 @@ use Rattle.lane_steps.specs.CdBase.ids.UserId.{UserId}
 use Rattle.lane_steps.specs.CdBase.shape.Shape.{Shape}
 use Rattle.lane_steps.specs.Messages.Requests.{request_bytes}
 use Rattle.lane_steps.specs.Messages.request.Request.{Request}
-use Rattle.lane_steps.specs.UserDedup.Link.{LinkTelling, Exchange, LeavesOthers, Passes, ReadsFrom, Talk}
+use Rattle.lane_steps.specs.UserDedup.Link.{LinkTelling, Exchange, LeavesOthers, Passes, ReadsOneOf, Talk}
 use Rattle.lane_steps.proofs.UserDedup.Owned.{contains_here, contains_later, contains_nothing}
 use Rattle.lane_steps.specs.UploadJob.news.LaneNews.{LaneNews}
 use Rattle.lane_steps.specs.UploadJob.Lanes.{LaneView, with_state}
@@ -19,7 +19,7 @@ use Rattle.lane_steps.specs.Steps.{Finishes, Heard, LaneSteps, LosesBy}
 use Rattle.kept_files.specs.RestoreJob.Asking.{HasAskedClouds as Reads}
 use Rattle.kept_files.proofs.RestoreJob.Leading.{rose_on}
 use Rattle.rebuild.specs.Filling.{failed_as}
-use Rattle.rebuild.specs.Over.{HasAskedToRebuild, AsksFor, AsksOwn, BringsOwn, IsOfLane, is_lost}
+use Rattle.rebuild.specs.Over.{HasAskedToRebuild, AsksTargetOrReads, AsksOwn, BringsOwn, IsOfLane, is_lost}
 use Rattle.rebuild.proofs.Joining.{only_target}
 use Rattle.rebuild.proofs.Landing.{along_work, run_along}
 
@@ -50,7 +50,7 @@ asked_none t target from link = record {
 pub asked_on : {L : Type 0} (t : LinkTelling L) (target : ℕ) (from : List ℕ) (old mid new : L) (loss : Bool) → HasAskedToRebuild t target from old mid false → HasAskedToRebuild t target from mid new loss → HasAskedToRebuild t target from old new loss
 asked_on t target from old mid new loss one two = record {
   asks = one.asks ++ two.asks;
-  passed = passes_on t (AsksFor target from) old mid new one.asks two.asks one.passed two.passed;
+  passed = passes_on t (AsksTargetOrReads target from) old mid new one.asks two.asks one.passed two.passed;
   others = λ cloud p out stands. two.others cloud p out (one.others cloud p out stands);
   reaches = two.reaches ∙ one.reaches;
   shape = two.shape ∙ one.shape;
@@ -69,7 +69,7 @@ asked_as t target from old new a b e asked = subst (λ (x : Bool). HasAskedToReb
 pub asked_wider : {L : Type 0} (t : LinkTelling L) (target : ℕ) (from : List ℕ) (old new : L) (loss : Bool) → HasAskedToRebuild t target [] old new loss → HasAskedToRebuild t target from old new loss
 asked_wider t target from old new loss one = record {
   asks = one.asks;
-  passed = passes_as t (AsksFor target []) (AsksFor target from) old new one.asks wider one.passed;
+  passed = passes_as t (AsksTargetOrReads target []) (AsksTargetOrReads target from) old new one.asks wider one.passed;
   others = λ cloud p out stands. one.others cloud p (λ has. out (only_target target from cloud has)) stands;
   reaches = one.reaches;
   shape = one.shape;
@@ -80,7 +80,7 @@ asked_wider t target from old new loss one = record {
   lossless = one.lossless;
 }
   where
-    wider : (e : Exchange) → AsksFor target [] e → AsksFor target from e
+    wider : (e : Exchange) → AsksTargetOrReads target [] e → AsksTargetOrReads target from e
     wider e (inl same) = inl same
     wider e (inr read) = absurd (contains_nothing e.cloud read.0)
 
@@ -88,7 +88,7 @@ asked_wider t target from old new loss one = record {
 pub asked_reads : {L : Type 0} (t : LinkTelling L) (target : ℕ) (from : List ℕ) (old new : L) (loss : Bool) → Reads t from old new loss → HasAskedToRebuild t target from old new loss
 asked_reads t target from old new loss one = record {
   asks = one.asks;
-  passed = passes_as t (ReadsFrom from) (AsksFor target from) old new one.asks (λ e read. inr read) one.passed;
+  passed = passes_as t (ReadsOneOf from) (AsksTargetOrReads target from) old new one.asks (λ e read. inr read) one.passed;
   others = λ cloud p out stands. one.others cloud p (λ has. out (contains_later target from cloud has)) stands;
   reaches = one.reaches;
   shape = one.shape;
@@ -103,7 +103,7 @@ asked_reads t target from old new loss one = record {
 
 module _ {L : Type 0} (t : LinkTelling L) (talk : L → ℕ → Talk → Type 0) (target : ℕ) where
   abbrev TargetAsks : L → L → Type 0
-  TargetAsks old new = (asks : List Exchange) × Passes t (AsksFor target []) old asks new
+  TargetAsks old new = (asks : List Exchange) × Passes t (AsksTargetOrReads target []) old asks new
 
   along_asks : (p last : Progress) (old new : L) (turns : List (LaneTurn L)) → LaneAlong (Heard t talk target) p old turns last new → TargetAsks old new
   along_asks p last old new [] along = ([], along.1)
@@ -132,7 +132,7 @@ module _ {L : Type 0} (t : LinkTelling L) (talk : L → ℕ → Talk → Type 0)
   finished_asks old views before (Err e) new after now f =
       let one = along_asks (starting (lane_at views target)) f.1 old f.3 f.0 f.4 in
       let two = step_asks f.3 (with_state views target f.1.lane.state) (request_of f.1.lane) e new after f.8 in
-      (one.0 ++ two.0, passes_on t (AsksFor target []) old f.3 new one.0 two.0 one.1 two.1)
+      (one.0 ++ two.0, passes_on t (AsksTargetOrReads target []) old f.3 new one.0 two.0 one.1 two.1)
 
   pub asked_lane : (old : L) (views : List LaneView) (before : List LaneNews) (r : Result (Unit {0}) StepErr) (new : L) (after : List LaneView) (now : List LaneNews) (loss : Bool)
       → Finishes t talk target old views before r new after now → LeavesOthers t target old new → t.losses old ≤ t.losses new → (loss ≡ true → Rose (t.losses old) (t.losses new))
@@ -175,7 +175,7 @@ own_wider t shape user target from old new one = (one.0, passes_as t (AsksOwn sh
     wider e (inr read) = absurd (contains_nothing e.cloud read.0)
 
 pub own_reads : {L : Type 0} (t : LinkTelling L) (shape : Shape) (user : UserId) (target : ℕ) (from : List ℕ) (old new : L) (loss : Bool) → Reads t from old new loss → BringsOwn t shape user target from old new
-own_reads t shape user target from old new loss one = (one.asks, passes_as t (ReadsFrom from) (AsksOwn shape user target from) old new one.asks (λ e read. inr read) one.passed)
+own_reads t shape user target from old new loss one = (one.asks, passes_as t (ReadsOneOf from) (AsksOwn shape user target from) old new one.asks (λ e read. inr read) one.passed)
 
 module _ {L : Type 0} (t : LinkTelling L) (talk : L → ℕ → Talk → Type 0) (shape : Shape) (target : ℕ) (v : FileVersion) where
   abbrev Own : L → L → Type 0

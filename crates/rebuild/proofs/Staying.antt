@@ -17,7 +17,7 @@ use Rattle.kept_files.specs.RestoreJob.Restored.{Unrestored, missing, recipe_in}
 use Rattle.kept_files.proofs.RestoreJob.Leading.{counts_on, no_pending, reads_on, settle_along, settled_same}
 use Rattle.rebuild.specs.declared.error.SkipWhy.{SkipWhy}
 use Rattle.rebuild.specs.Rebuilding.{up_to}
-use Rattle.rebuild.specs.Steps.{IsFound}
+use Rattle.rebuild.specs.Steps.{IsVersionFound}
 use Rattle.rebuild.proofs.Joining.{up_to_in}
 use Rattle.rebuild.proofs.Stable.{SameOn, version_same}
 
@@ -80,7 +80,7 @@ module _ (shape : Shape) (user : UserId) (from : List ℕ) (key : Tag × Version
       (λ cloud has. ap (λ (l : List Command). is_none (recipe_in shape l user key)) (same cloud has)) (missing_some _ c e))
 
   -- the clouds are read later
-  pub found_later : (found : Result FileVersion SkipWhy) (a b c : ℕ → Peer) → ((cloud : ℕ) → Contains from cloud → MayRead (b cloud) (c cloud)) → IsFound shape user from key found a b → IsFound shape user from key found a c
+  pub found_later : (found : Result FileVersion SkipWhy) (a b c : ℕ → Peer) → ((cloud : ℕ) → Contains from cloud → MayRead (b cloud) (c cloud)) → IsVersionFound shape user from key found a b → IsVersionFound shape user from key found a c
   found_later found a b c may (inl x) = inl (
     x.0,
     x.1,
@@ -93,6 +93,6 @@ module _ (shape : Shape) (user : UserId) (from : List ℕ) (key : Tag × Version
   )
 
   -- the clouds were read before
-  pub found_before : (found : Result FileVersion SkipWhy) (a b c : ℕ → Peer) → ((cloud : ℕ) → Contains from cloud → MayRead (a cloud) (b cloud)) → IsFound shape user from key found b c → IsFound shape user from key found a c
+  pub found_before : (found : Result FileVersion SkipWhy) (a b c : ℕ → Peer) → ((cloud : ℕ) → Contains from cloud → MayRead (a cloud) (b cloud)) → IsVersionFound shape user from key found b c → IsVersionFound shape user from key found a c
   found_before found a b c may (inl x) = inl (x.0, x.1, x.2, λ cloud has. reads_after (a cloud) (b cloud) (c cloud) (may cloud (up_to_in x.0 from cloud has)) (x.3 cloud has))
   found_before found a b c may (inr x) = inr (x.0, λ cloud has. reads_after (a cloud) (b cloud) (c cloud) (may cloud has) (x.1 cloud has))

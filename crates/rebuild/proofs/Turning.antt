@@ -39,7 +39,7 @@ use Rattle.rebuild.specs.declared.error.RebuildErr.TheVariants as errors
 use Rattle.rebuild.specs.Rebuilding.{Progressed, lane_ended, last_said}
 use Rattle.kept_files.proofs.RestoreJob.Leading.{counts_on}
 use Rattle.rebuild.specs.Over.{TargetAlong}
-use Rattle.rebuild.specs.Filling.{EndsBy, IsThere, StopsBy, last_of}
+use Rattle.rebuild.specs.Filling.{EndsBy, IsVersionThere, StopsBy, last_of}
 use Rattle.rebuild.proofs.Telling.{some_request}
 
 -- ---- which replies a told target gives
@@ -168,7 +168,7 @@ abbrev pub HasEnded : Progress → Type 0
 HasEnded p = IsTrue p.stopped ⊎ (request_of p.lane ≡ None)
 
 abbrev pub BringEnds : Result Bool RebuildErr → LaneState → Reply → Type 0
-BringEnds (Ok there) state said = IsThere there state said
+BringEnds (Ok there) state said = IsVersionThere there state said
 BringEnds (Err e) state said = StopsBy e state said
 
 -- what the rebuild makes of its end

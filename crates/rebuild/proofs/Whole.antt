@@ -29,7 +29,7 @@ use Rattle.rebuild.specs.declared.skips.Rebuilt.{Rebuilt}
 use Rattle.rebuild.specs.Found.{Finding, cloud_no, finding_under, findings, first_of, keys_in, name_judged, name_opened, recipes_differ, unless_skipped, version_named, version_under}
 use Rattle.rebuild.specs.Rebuilding.{Progressed, BringsAll, BringsOne, IsRebuildCut, LeavesBut, ReadStopped, RunsTo, asked_for, asked_under, nothing_yet}
 use Rattle.rebuild.specs.Over.{HandsOn}
-use Rattle.rebuild.specs.Steps.{IsFound, ReadEnds}
+use Rattle.rebuild.specs.Steps.{IsVersionFound, ReadEnds}
 use Rattle.rebuild.specs.Several.{AllFound, KeysCut, KeysTold, keys_of, progress_of, whole}
 use Rattle.rebuild.proofs.Cut.{cut_by, under_in}
 
@@ -56,7 +56,7 @@ module _ (shape : Shape) (user : UserId) (target : ℕ) (serve : List Command �
       let all = map (given_by shape lists user key) from in
       ap (λ (o : Option Unrestored). unless_skipped o (unless_skipped (recipes_differ all) (version_named user key (name_judged shape key (name_opened shape all)) (restored_file shape lists user key from)))) e
 
-  found_under : (f : Finding) (a b : ℕ → Peer) → IsFound shape user from f.key f.found a b → f.found ≡ version_under shape (λ cloud. (b cloud).list) from user f.key
+  found_under : (f : Finding) (a b : ℕ → Peer) → IsVersionFound shape user from f.key f.found a b → f.found ≡ version_under shape (λ cloud. (b cloud).list) from user f.key
   found_under f a b (inl x) = x.1 ∙ sym (missing_found f.key x.0 (λ cloud. (b cloud).list) x.2)
   found_under f a b (inr x) = sym x.0
 
@@ -75,7 +75,7 @@ module _ (shape : Shape) (user : UserId) (target : ℕ) (serve : List Command �
 
   -- ---- which clouds were read
 
-  read_under : (f : Finding) (a b : ℕ → Peer) → IsFound shape user from f.key f.found a b → (cloud : ℕ) → Contains (asked_under from f.found) cloud → Reads (a cloud) (b cloud)
+  read_under : (f : Finding) (a b : ℕ → Peer) → IsVersionFound shape user from f.key f.found a b → (cloud : ℕ) → Contains (asked_under from f.found) cloud → Reads (a cloud) (b cloud)
   read_under f a b (inl x) cloud has = x.3 cloud (subst (λ (o : Result FileVersion SkipWhy). Contains (asked_under from o) cloud) x.1 has)
   read_under f a b (inr x) cloud has = x.1 cloud (under_in from f.found cloud has)
 
@@ -109,7 +109,7 @@ module _ (shape : Shape) (user : UserId) (target : ℕ) (serve : List Command �
   settled_or [] a b all = inr (λ f has. absurd (contains_nothing f has))
   settled_or (f ∷ found) a b all = by_first (all f (contains_here f found)) (settled_or found a b (λ g has. all g (contains_later f found g has)))
     where
-      by_first : IsFound shape user from f.key f.found a b → AllSettled b ⊎ NoVersion found → AllSettled b ⊎ NoVersion (f ∷ found)
+      by_first : IsVersionFound shape user from f.key f.found a b → AllSettled b ⊎ NoVersion found → AllSettled b ⊎ NoVersion (f ∷ found)
       by_first (inr x) rest = inl (λ cloud has. (x.1 cloud has).0.pending)
       by_first (inl x) (inl set) = inl set
       by_first (inl x) (inr none) =

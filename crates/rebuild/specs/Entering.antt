@@ -20,7 +20,7 @@ use Rattle.rebuild.specs.declared.error.RebuildErr.TheVariants as errors
 use Rattle.rebuild.specs.Found.{Finding}
 use Rattle.rebuild.specs.Rebuilding.{Progressed, with_skip, BringsOne, StopsAs}
 use Rattle.rebuild.specs.Filling.{IsFilledFurther}
-use Rattle.rebuild.specs.Steps.{IsFound, ReadEnds}
+use Rattle.rebuild.specs.Steps.{IsVersionFound, ReadEnds}
 
 -- a refusal of a cloud that is read, as an error of the rebuild
 abbrev pub stopped_as : RestoreErr → RebuildErr
@@ -64,7 +64,7 @@ NoTurn turns start at end = (turns ≡ []) × (at ≡ start) × (end ≡ start)
 -- this is found under the key, and so brought
 abbrev pub EntryFound : Shape → UserId → ℕ → (List Command → Request → Outcome) → List ℕ → Tag × Version → Result (Option SkipWhy) RebuildErr → List (LaneTurn Peer) → (ℕ → Peer) → Peer → (ℕ → Peer) → Type 0
 EntryFound shape user target serve from key result turns before at after =
-    (found : Result FileVersion SkipWhy) × IsFound shape user from key found before after
+    (found : Result FileVersion SkipWhy) × IsVersionFound shape user from key found before after
     × EntryBrought shape target serve key found result turns (before target) at (after target)
 
 -- An entry of told clouds. Where a cloud that is read stopped it, or memory ran out before anything was found, the target had no turn.

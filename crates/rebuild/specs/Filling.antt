@@ -75,9 +75,9 @@ pub record LaneEnds (shape : Shape) (target : ℕ) (serve : List Command → Req
   pub ends : Ends last.lane.state said
 
 -- the version is entered, or stands with another recipe
-abbrev pub IsThere : Bool → LaneState → Reply → Type 0
-IsThere true state said = state ≡ Done
-IsThere false state said = (state ≡ Refused) × (said ≡ replies.Exists)
+abbrev pub IsVersionThere : Bool → LaneState → Reply → Type 0
+IsVersionThere true state said = state ≡ Done
+IsVersionThere false state said = (state ≡ Refused) × (said ≡ replies.Exists)
 
 -- the reply stops the rebuild
 abbrev pub StopsBy : RebuildErr → LaneState → Reply → Type 0
@@ -85,7 +85,7 @@ StopsBy e state said = StopsAs said e × ((key : Tag × Version) (r : Progressed
 
 -- a told target was brought this version, from one state on to another, behind which the last ask may have been lost
 abbrev pub BringsTold : Shape → ℕ → (List Command → Request → Outcome) → FileVersion → Result Bool RebuildErr → List (LaneTurn Peer) → Peer → Peer → Peer → Type 0
-BringsTold shape target serve v (Ok there) turns start at end = LaneEnds shape target serve v start turns end (IsThere there)
+BringsTold shape target serve v (Ok there) turns start at end = LaneEnds shape target serve v start turns end (IsVersionThere there)
 BringsTold shape target serve v (Err errors.NoMemory) turns start at end = LaneCut shape target serve v start turns at
 BringsTold shape target serve v (Err errors.TargetLost) turns start at end = LaneCut shape target serve v start turns at
 BringsTold shape target serve v (Err e) turns start at end = LaneEnds shape target serve v start turns end (StopsBy e)

@@ -7,7 +7,7 @@ use Rattle.lane_steps.specs.CdBase.ids.UserId.{UserId}
 use Rattle.lane_steps.specs.CdBase.shape.Shape.{Shape}
 use Rattle.lane_steps.specs.Messages.Requests.{request_bytes}
 use Rattle.lane_steps.specs.Messages.request.Request.{Request}
-use Rattle.lane_steps.specs.UserDedup.Link.{LinkTelling, Exchange, Passes, ReadsFrom, Does, LosesAsk}
+use Rattle.lane_steps.specs.UserDedup.Link.{LinkTelling, Exchange, Passes, ReadsOneOf, Does, LosesAsk}
 use Rattle.lane_steps.specs.UploadJob.Lane.{LaneState}
 use Rattle.lane_steps.specs.UploadJob.Upload.{FileVersion, work_of}
 use Rattle.lane_steps.specs.Runs.{LaneTurn, request_of}
@@ -25,7 +25,7 @@ use Rattle.rebuild.specs.Turns.{EndsLane, OfReply, OwnLanes, SaidLast}
 
 -- the clouds that are read were asked, for what adds nothing
 abbrev pub Reading : {L : Type 0} → LinkTelling L → List ℕ → L → L → Type 0
-Reading t from old new = (asks : List Exchange) × Passes t (ReadsFrom from) old asks new
+Reading t from old new = (asks : List Exchange) × Passes t (ReadsOneOf from) old asks new
 
 -- The link's way, from a state in which the target stands for this peer: the clouds are read, the target has a turn, the clouds are
 -- read again, and so on; and what the target stands for at last.
@@ -44,9 +44,9 @@ ThenLost t target old p result new q = (new ≡ old) × (q ≡ p)
 -- From all peers that some clouds stood for, the target and the clouds that are read among them, they went on to others
 -- that they stand for now. The target had turns, between which the clouds were read, and was then at some state. The turns and the peers
 -- before and after are always so related, and further so, with that state, where the target and the clouds that are read are told.
-abbrev pub Leads : {L A : Type 0} → LinkTelling L → Talks L → ℕ → List ℕ → L → L → Result A RebuildErr
+abbrev pub LeadsWithTarget : {L A : Type 0} → LinkTelling L → Talks L → ℕ → List ℕ → L → L → Result A RebuildErr
     → (List (LaneTurn Peer) → (ℕ → Peer) → (ℕ → Peer) → Type 0) → (List (LaneTurn Peer) → (ℕ → Peer) → Peer → (ℕ → Peer) → Type 0) → Type 0
-Leads {L} t talk target from old new result Always Related =
+LeadsWithTarget {L} t talk target from old new result Always Related =
     (these : ℕ → Bool) → ((cloud : ℕ) → Contains (target ∷ from) cloud → IsTrue (these cloud))
     → (before : ℕ → Peer) → PeersOf t old these before
     → (after : ℕ → Peer) × (turns : List (LaneTurn Peer)) × (last : L) × (at : Peer)
@@ -58,15 +58,15 @@ Leads {L} t talk target from old new result Always Related =
 -- ---- the asks
 
 -- the target was asked, or one of the clouds that are read, for what adds nothing
-abbrev pub AsksFor : ℕ → List ℕ → Exchange → Type 0
-AsksFor target from e = (e.cloud ≡ target) ⊎ ReadsFrom from e
+abbrev pub AsksTargetOrReads : ℕ → List ℕ → Exchange → Type 0
+AsksTargetOrReads target from e = (e.cloud ≡ target) ⊎ ReadsOneOf from e
 
 -- A link after the asks of a rebuild: the other clouds stand for what they stood for, whatever these stand for, and what the
 -- link tells beside its clouds stays. An ask is lost only where the count of losses rose, and never where the link tells that
 -- it loses nothing, which it then tells still.
 pub record HasAskedToRebuild {L : Type 0} (t : LinkTelling L) (target : ℕ) (from : List ℕ) (old new : L) (loss : Bool) : Type 0 where
   pub asks : List Exchange
-  pub passed : Passes t (AsksFor target from) old asks new
+  pub passed : Passes t (AsksTargetOrReads target from) old asks new
   pub others : (cloud : ℕ) (p : Peer) → (Contains (target ∷ from) cloud → ⊥) → t.stands old cloud p → t.stands new cloud p
   pub reaches : t.reaches new ≡ t.reaches old
   pub shape : t.shape new ≡ t.shape old
@@ -89,7 +89,7 @@ IsOfLane shape user target content =
     × (request_of (record { work = work_of shape v target; state = state }) ≡ Some request) × (content ≡ request_bytes request)
 
 abbrev pub AsksOwn : Shape → UserId → ℕ → List ℕ → Exchange → Type 0
-AsksOwn shape user target from e = ((e.cloud ≡ target) × IsOfLane shape user target e.content) ⊎ ReadsFrom from e
+AsksOwn shape user target from e = ((e.cloud ≡ target) × IsOfLane shape user target e.content) ⊎ ReadsOneOf from e
 
 -- The target was asked for nothing but what brings versions of this user, and the clouds that are read for what adds nothing.
 abbrev pub BringsOwn : {L : Type 0} → LinkTelling L → Shape → UserId → ℕ → List ℕ → L → L → Type 0
@@ -127,21 +127,22 @@ ReadCaused t link e before after = Unit {0}
 -- What a result says, told or not: of a cloud that is read as above; the target's count rose where it failed; only one that isn't
 -- told is damaged, rotten or lacking a share; and a target that stands for a peer never answers what no server gives, nor that its
 -- memory ran out.
-abbrev pub Causes : {L A : Type 0} → LinkTelling L → L → ℕ → Result A RebuildErr → (ℕ → Peer) → (ℕ → Peer) → Type 0
-Causes t link target (Err (errors.FromRestore e)) before after = ReadCaused t link e before after
-Causes t link target (Err errors.TargetFault) before after = Rose (before target).faults (after target).faults
-Causes t link target (Err (errors.TargetDamaged at byte)) before after = t.told link target ≡ false
-Causes t link target (Err (errors.TargetRotten named found)) before after = t.told link target ≡ false
-Causes t link target (Err (errors.TargetLacking place)) before after = t.told link target ≡ false
-Causes t link target (Err errors.TargetNoMemory) before after = ⊥
-Causes t link target (Err (errors.TargetStrange kind)) before after = ⊥
-Causes t link target result before after = Unit {0}
+abbrev pub CausesRebuildEnd : {L A : Type 0} → LinkTelling L → L → ℕ → Result A RebuildErr → (ℕ → Peer) → (ℕ → Peer)
+    → Type 0
+CausesRebuildEnd t link target (Err (errors.FromRestore e)) before after = ReadCaused t link e before after
+CausesRebuildEnd t link target (Err errors.TargetFault) before after = Rose (before target).faults (after target).faults
+CausesRebuildEnd t link target (Err (errors.TargetDamaged at byte)) before after = t.told link target ≡ false
+CausesRebuildEnd t link target (Err (errors.TargetRotten named found)) before after = t.told link target ≡ false
+CausesRebuildEnd t link target (Err (errors.TargetLacking place)) before after = t.told link target ≡ false
+CausesRebuildEnd t link target (Err errors.TargetNoMemory) before after = ⊥
+CausesRebuildEnd t link target (Err (errors.TargetStrange kind)) before after = ⊥
+CausesRebuildEnd t link target result before after = Unit {0}
 
 -- What holds, told or not: a result has its cause, and says what the target said last, if that made it, at the end of its lane; and the
 -- target's turns are those of the lanes of some versions of this user, one after another.
 pub record HasRebuildCause {L A : Type 0} (t : LinkTelling L) (link : L) (shape : Shape) (user : UserId) (target : ℕ) (result : Result A RebuildErr)
     (turns : List (LaneTurn Peer)) (before after : ℕ → Peer) : Type 0 where
-  pub caused : Causes t link target result before after
+  pub caused : CausesRebuildEnd t link target result before after
   pub said : SaidLast result turns
   pub ended : OfReply result (EndsLane shape user target turns)
   pub own : OwnLanes shape user target turns

@@ -17,7 +17,7 @@ use Rattle.rebuild.specs.declared.skips.Rebuilt.{Rebuilt}
 use Rattle.rebuild.specs.Found.{Finding}
 use Rattle.rebuild.specs.Rebuilding.{Progressed, BringsAll, IsFrontOfList, StopsAs}
 use Rattle.rebuild.specs.Filling.{IsFilledFurther}
-use Rattle.rebuild.specs.Steps.{IsFound, ReadEnds}
+use Rattle.rebuild.specs.Steps.{IsVersionFound, ReadEnds}
 
 -- how far it has come
 abbrev pub progress_of : Rebuilt → Progressed
@@ -33,7 +33,7 @@ keys_of found = map (λ f. f.key) found
 
 -- each is what is found under its key
 abbrev pub AllFound : Shape → UserId → List ℕ → List Finding → (ℕ → Peer) → (ℕ → Peer) → Type 0
-AllFound shape user from found before after = (f : Finding) → Contains found f → IsFound shape user from f.key f.found before after
+AllFound shape user from found before after = (f : Finding) → Contains found f → IsVersionFound shape user from f.key f.found before after
 
 -- What was found under the first of some keys was brought to the told target, or skipped.
 pub record KeysBrought (shape : Shape) (user : UserId) (target : ℕ) (serve : List Command → Request → Outcome) (from : List ℕ) (keys : List (Tag × Version)) (r last : Progressed) (turns : List (LaneTurn Peer)) (before after : ℕ → Peer) : Type 0 where

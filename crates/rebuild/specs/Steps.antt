@@ -170,12 +170,13 @@ OpensCaused t link shape user key clouds recipes result before after =
     ReadyWhere t link shape user key clouds recipes before → ReadCauses t link result before after
 
 -- This is found under the key by the lists that the clouds have afterwards. All were read, or those up to one that is missing it.
-abbrev pub IsFound : Shape → UserId → List ℕ → Tag × Version → Result FileVersion SkipWhy → (ℕ → Peer) → (ℕ → Peer) → Type 0
-IsFound shape user from key found before after =
+abbrev pub IsVersionFound : Shape → UserId → List ℕ → Tag × Version → Result FileVersion SkipWhy → (ℕ → Peer) → (ℕ → Peer) → Type 0
+IsVersionFound shape user from key found before after =
     ((c : ℕ) × (found ≡ Err (whys.Missing (cloud_no c))) × (missing shape (λ cloud. (after cloud).list) user key from ≡ Some (Restored.Missing c)) × AreRead (up_to c from) before after)
     ⊎ ((version_under shape (λ cloud. (after cloud).list) from user key ≡ found) × AreRead from before after)
 
 -- told clouds were asked for the version
 abbrev pub FindsTold : Shape → UserId → Tag × Version → List ℕ → Result FoundThere RestoreErr → (ℕ → Peer) → (ℕ → Peer) → Type 0
-FindsTold shape user key from (Ok f) before after = IsFound shape user from key (found_of user key f) before after
+FindsTold shape user key from (Ok f) before after = IsVersionFound shape user from key
+    (found_of user key f) before after
 FindsTold shape user key from (Err e) before after = ReadEnds from e before after

@@ -7,7 +7,7 @@ ghost use Rattle.kept_files.specs.ReedSolomon.Dispersal.{AreChoice};
 ghost use Rattle.lane_steps.specs.UserDedup.Link.{serves};
 ghost use Rattle.rebuild.specs.Entering.{EntryBrought, EntryTold, entered_as, stopped_as};
 ghost use Rattle.rebuild.specs.Filling.{BringHolds, OfTarget};
-ghost use Rattle.rebuild.specs.Over.{HasAskedToRebuild, BringsOwn, HandsOn, HasRebuildCause, Leads, is_lost};
+ghost use Rattle.rebuild.specs.Over.{HasAskedToRebuild, BringsOwn, HandsOn, HasRebuildCause, LeadsWithTarget, is_lost};
 ghost use Rattle.rebuild.specs.Steps.{VersionFits, found_of};
 ghost use Rattle.rebuild.specs.Turns.{EndsLane, OwnLanes};
 
@@ -61,7 +61,7 @@ fn bring_found<L: Link>(
     requires reached { IsTrue (L.tells.reaches link.old refill.target.0) }
     requires within { refill.target.0 < refill.shape.n }
     requires fit { VersionFits found.now }
-    ensures brings { (tag : Tag) → Leads L.tells L.talk refill.target.0 [] link.old link.new result
+    ensures brings { (tag : Tag) → LeadsWithTarget L.tells L.talk refill.target.0 [] link.old link.new result
         (λ turns before after. BringHolds (L.tells.told link.old refill.target.0)
         (OwnLanes refill.shape refill.user refill.target.0) (EndsLane refill.shape refill.user refill.target.0) result
         turns (before refill.target.0) (after refill.target.0))
@@ -112,7 +112,7 @@ pub fn rebuild_entry<L: Link>(
     requires choice { AreChoice refill.shape (numbers_of clouds.now) }
     requires within { refill.target.0 < refill.shape.n }
     requires apart { ¬ Contains (numbers_of clouds.now) refill.target.0 }
-    ensures rebuilt { Leads L.tells L.talk refill.target.0 (numbers_of clouds.now) link.old link.new result
+    ensures rebuilt { LeadsWithTarget L.tells L.talk refill.target.0 (numbers_of clouds.now) link.old link.new result
         (HasRebuildCause L.tells link.old refill.shape refill.user refill.target.0 result)
         (EntryTold refill.shape refill.user refill.target.0 (serves L.tells link.old refill.target.0)
         (numbers_of clouds.now) (tag, version) result) }

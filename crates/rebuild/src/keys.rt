@@ -6,7 +6,7 @@ ghost use Rattle.lane_steps.specs.CdBase.Numbers.{numbers_of};
 ghost use Rattle.kept_files.specs.ReedSolomon.Dispersal.{AreChoice};
 ghost use Rattle.lane_steps.specs.UserDedup.Link.{serves};
 ghost use Rattle.rebuild.specs.Entering.{noted};
-ghost use Rattle.rebuild.specs.Over.{HasAskedToRebuild, BringsOwn, HandsOn, HasRebuildCause, Leads, is_lost};
+ghost use Rattle.rebuild.specs.Over.{HasAskedToRebuild, BringsOwn, HandsOn, HasRebuildCause, LeadsWithTarget, is_lost};
 ghost use Rattle.rebuild.specs.Several.{KeysTold, progress_of};
 
 use crate::{LaneBuffers, RebuildErr, Rebuilt, Refill, Skip, SkipWhy, rebuild_entry};
@@ -73,7 +73,7 @@ pub fn rebuild_keys<L: Link>(
     requires choice { AreChoice refill.shape (numbers_of clouds.now) }
     requires within { refill.target.0 < refill.shape.n }
     requires apart { ¬ Contains (numbers_of clouds.now) refill.target.0 }
-    ensures rebuilt { Leads L.tells L.talk refill.target.0 (numbers_of clouds.now) link.old link.new result
+    ensures rebuilt { LeadsWithTarget L.tells L.talk refill.target.0 (numbers_of clouds.now) link.old link.new result
         (HasRebuildCause L.tells link.old refill.shape refill.user refill.target.0 result)
         (KeysTold refill.shape refill.user refill.target.0 (serves L.tells link.old refill.target.0)
         (numbers_of clouds.now) keys.now (progress_of rebuilt.old) (progress_of rebuilt.new) result) }

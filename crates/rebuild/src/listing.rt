@@ -8,7 +8,7 @@ ghost use Rattle.lane_steps.specs.Messages.Requests.{IsRequest};
 ghost use Rattle.lane_steps.specs.Messages.request.Request.{Request};
 ghost use Rattle.lane_steps.specs.Messages.request.Request.TheVariants as requests;
 ghost use Rattle.lane_steps.specs.UserDedup.Link.{Asks, IsReading, LeavesOthers};
-ghost use Rattle.lane_steps.specs.UserDedup.Requests.{IsAsked};
+ghost use Rattle.lane_steps.specs.UserDedup.Requests.{AsksOfStore};
 ghost use Rattle.kept_files.specs.RestoreJob.Asking.{HasAskedClouds, Leads, is_lost};
 ghost use Rattle.kept_files.specs.RestoreJob.Refusals.{Names};
 ghost use Rattle.rebuild.specs.Steps.{PageFrom, PageIs, PageTold, ReadCauses, RefusesPage, skip_as};
@@ -32,7 +32,7 @@ fn ask<L: Link>(
     requires framed { length request.now ≤ frame_limit }
     requires reading { IsReading request.now }
     ensures asked { HasAskedClouds L.tells (cloud.0 ∷ []) link.old link.new (is_lost result) }
-    ensures exec { (r : Request) → IsAsked (L.tells.shape link.old) request.now r
+    ensures exec { (r : Request) → AsksOfStore (L.tells.shape link.old) request.now r
         → Asks L.tells cloud.0 link.old r reply.new result link.new }
     ensures others { LeavesOthers L.tells cloud.0 link.old link.new }
     ensures lost { OnErr result (result ≡ Err (RestoreErr.Lost cloud)) }

@@ -11,7 +11,7 @@ ghost use Rattle.lane_steps.specs.UserDedup.Exec.{Peer};
 ghost use Rattle.lane_steps.specs.UserDedup.Link.{serves};
 ghost use Rattle.rebuild.specs.Found.{first_of as first_in};
 ghost use Rattle.rebuild.specs.Rebuilding.{RunsTo, nothing_yet};
-ghost use Rattle.rebuild.specs.Over.{HasAskedToRebuild, BringsOwn, HandsOn, HasRebuildCause, Leads, is_lost};
+ghost use Rattle.rebuild.specs.Over.{HasAskedToRebuild, BringsOwn, HandsOn, HasRebuildCause, LeadsWithTarget, is_lost};
 ghost use Rattle.rebuild.specs.Kept.{Refills};
 ghost use Rattle.rebuild.specs.Several.{progress_of, whole};
 
@@ -71,7 +71,7 @@ fn rebuild_pages<L: Link>(
     requires within { refill.target.0 < refill.shape.n }
     requires apart { ¬ Contains (numbers_of clouds.now) refill.target.0 }
     requires fresh { progress_of rebuilt.old ≡ nothing_yet }
-    ensures rebuilt { Leads L.tells L.talk refill.target.0 (numbers_of clouds.now) link.old link.new result
+    ensures rebuilt { LeadsWithTarget L.tells L.talk refill.target.0 (numbers_of clouds.now) link.old link.new result
         (HasRebuildCause L.tells link.old refill.shape refill.user refill.target.0 result)
         (λ turns before at after. RunsTo refill.shape refill.user refill.target.0
         (serves L.tells link.old refill.target.0) (numbers_of clouds.now) (whole rebuilt.new result) turns before at
@@ -149,7 +149,7 @@ pub fn rebuild<L: Link>(
     // Over told clouds it finds, brings and ends by their lists; and what an Ok leaves is what was promised. Told or
     // not, only the clouds that are read and the target are asked, the former for what adds nothing, and between the
     // target's turns; and an error has its cause. After want of memory it is the front of one that would go on.
-    ensures rebuilt { Leads L.tells L.talk target.0 from.now link.old link.new result
+    ensures rebuilt { LeadsWithTarget L.tells L.talk target.0 from.now link.old link.new result
         (HasRebuildCause L.tells link.old shape user target.0 result)
         (λ turns before at after.
         RunsTo shape user target.0 (serves L.tells link.old target.0) from.now result turns before at after

@@ -6,7 +6,7 @@ ghost use Rattle.lane_steps.specs.CdBase.Limits.{IsPath};
 ghost use Rattle.lane_steps.specs.Recipe.Spelling.{file_limit};
 ghost use Rattle.lane_steps.specs.UserDedup.Link.{serves};
 ghost use Rattle.rebuild.specs.Filling.{BringHolds, BringsTold, EndsBy, OfTarget, failed_as, last_of};
-ghost use Rattle.rebuild.specs.Over.{HasAskedToRebuild, BringsOwn, Leads, is_lost};
+ghost use Rattle.rebuild.specs.Over.{HasAskedToRebuild, BringsOwn, LeadsWithTarget, is_lost};
 ghost use Rattle.rebuild.specs.Rebuilding.{lane_of};
 ghost use Rattle.rebuild.specs.Turns.{LaneEnded, LaneGoes};
 
@@ -114,7 +114,7 @@ pub fn bring<L: Link>(
     requires path { IsPath path.now }
     requires few { length file.now ≤ file_limit }
     ensures brings { (from : List ℕ) → ¬ Contains from refill.target.0
-        → Leads L.tells L.talk refill.target.0 from link.old link.new result
+        → LeadsWithTarget L.tells L.talk refill.target.0 from link.old link.new result
         (λ turns before after. BringHolds (L.tells.told link.old refill.target.0)
         (LaneGoes (lane_of refill.shape refill.target.0
         (record { user = refill.user; path = path.now; number = version; file = file.now })))

@@ -5,7 +5,7 @@ use Rattle.std.specs.Prelude.{◌==◌}
 use Rattle.std.proofs.lemmas.List.{drop_all}
 use Rattle.std.proofs.lemmas.List.Sums.{sum_by_more_le}
 use Rattle.recipe.specs.declared.items.Item.{Item}
-use Rattle.recipe.specs.Spelling.{is_len, AreItems, total}
+use Rattle.recipe.specs.Spelling.{is_len, AreRecipeItems, total}
 use Rattle.recipe.proofs.Loop.{same_last}
 
 -- the lengths up to one item are no more than all
@@ -17,8 +17,8 @@ too_much items i d left file lt less e = let t = total_front items i d lt in sym
 
 -- all obey the rules exactly where those from a place on do
 pub record SameFrom (items : List Item) (i : ℕ) : Type 0 where
-  pub down : AreItems items → AreItems (drop i items)
-  pub up : AreItems (drop i items) → AreItems items
+  pub down : AreRecipeItems items → AreRecipeItems (drop i items)
+  pub up : AreRecipeItems (drop i items) → AreRecipeItems items
 
 here : (items : List Item) (i : ℕ) (d : Item) → i < length items → drop i items ≡ get_or items i d ∷ drop (i + 1) items
 here items i d lt = rw (add-one, drop-cons items i d lt) refl
@@ -31,16 +31,16 @@ obeys items i d lt same len ok =
     let e = here items i d lt in
     let long : IsTrue (is_len (eqb (length (drop (i + 1) items)) 0) (get_or items i d).secret_len) = subst (λ (b : Bool). is_len b (get_or items i d).secret_len ≡ true) (last_here items i lt) ok in
     record {
-      down = λ all. let h = subst AreItems e (same.down all) in h.1;
-      up = λ rest. same.up (subst AreItems (sym e) ((len, long), rest));
+      down = λ all. let h = subst AreRecipeItems e (same.down all) in h.1;
+      up = λ rest. same.up (subst AreRecipeItems (sym e) ((len, long), rest));
     }
 
-pub breaks : (items : List Item) (i : ℕ) (d : Item) → i < length items → SameFrom items i → is_len (eqb (length items - i) 1) (get_or items i d).secret_len ≡ false → AreItems items → ⊥
+pub breaks : (items : List Item) (i : ℕ) (d : Item) → i < length items → SameFrom items i → is_len (eqb (length items - i) 1) (get_or items i d).secret_len ≡ false → AreRecipeItems items → ⊥
 breaks items i d lt same bad all =
     let e = here items i d lt in
-    let h = subst AreItems e (same.down all) in
+    let h = subst AreRecipeItems e (same.down all) in
     let good : is_len (eqb (length items - i) 1) (get_or items i d).secret_len ≡ true = subst (λ (b : Bool). is_len b (get_or items i d).secret_len ≡ true) (sym (last_here items i lt)) h.0.1 in
     absurd cc
 
-pub none_left : (items : List Item) (i : ℕ) → length items ≤ i → SameFrom items i → AreItems items
-none_left items i le same = same.up (subst AreItems (sym (drop_all i items le)) tt)
+pub none_left : (items : List Item) (i : ℕ) → length items ≤ i → SameFrom items i → AreRecipeItems items
+none_left items i le same = same.up (subst AreRecipeItems (sym (drop_all i items le)) tt)

@@ -14,7 +14,7 @@ use Rattle.grammar.proofs.Laws.{Takes, bind_ok, bind_err, ok_is, takes_both, res
 use Rattle.grammar.proofs.FieldLaws.{IsBytes, Anything, LawfulBytes, test_ok, lawful_bytes, lawful_checked, wide16, wide32, wide64}
 use Rattle.recipe.specs.declared.recipe.Recipe.{Recipe}
 use Rattle.recipe.specs.declared.items.Item.{Item}
-use Rattle.recipe.specs.Spelling.{item, spelling, is_name_len, is_file_len, is_count, is_len, AreItems, total, Fits, IsRecipe}
+use Rattle.recipe.specs.Spelling.{item, spelling, is_name_len, is_file_len, is_count, is_len, AreRecipeItems, total, Fits, IsRecipe}
 use Rattle.recipe.specs.Reading.{make_item, item_at, items_at, file_at, ended, tail_at, recipe_left, placed, recipe_at}
 
 small_name : (n : ℕ) → is_name_len n ≡ true → n < 2 ^ 16
@@ -57,10 +57,10 @@ lawful_item last =
           ];
     }
 
-items_take : (n : ℕ) (bytes : List ℕ) (x : List Item) (rest : List ℕ) → IsBytes bytes → items_at n bytes ≡ Ok (x, rest) → Takes IsBytes bytes (flat_map item x) rest × ((length x ≡ n) × AreItems x)
+items_take : (n : ℕ) (bytes : List ℕ) (x : List Item) (rest : List ℕ) → IsBytes bytes → items_at n bytes ≡ Ok (x, rest) → Takes IsBytes bytes (flat_map item x) rest × ((length x ≡ n) × AreRecipeItems x)
 unfolding items_at
 items_take zero bytes x rest fits e =
-    subst (λ (y : List Item × List ℕ). Takes IsBytes bytes (flat_map item y.0) y.1 × ((length y.0 ≡ 0) × AreItems y.0)) (ok_is ([], bytes) (x, rest) e) (record { parts = refl; known = fits }, (refl, tt))
+    subst (λ (y : List Item × List ℕ). Takes IsBytes bytes (flat_map item y.0) y.1 × ((length y.0 ≡ 0) × AreRecipeItems y.0)) (ok_is ([], bytes) (x, rest) e) (record { parts = refl; known = fits }, (refl, tt))
 items_take (suc n) bytes x rest fits e =
     let a = bind_ok (item_at (eqb n 0) bytes) (λ first. items_at n first.1 >>= λ others. Ok (first.0 ∷ others.0, others.1)) (x, rest) e in
     let b = bind_ok (items_at n a.0.1) (λ others. Ok (a.0.0 ∷ others.0, others.1)) (x, rest) a.2 in
@@ -69,9 +69,9 @@ items_take (suc n) bytes x rest fits e =
     let both = takes_both IsBytes bytes (item a.0.0) a.0.1 (flat_map item b.0.0) b.0.1 first.0 second.0 in
     let last : IsTrue (is_len (eqb (length b.0.0) 0) a.0.0.secret_len) = subst (λ (m : ℕ). IsTrue (is_len (eqb m 0) a.0.0.secret_len)) (sym second.1.0) first.1.1 in
     let made : List Item × List ℕ = (a.0.0 ∷ b.0.0, b.0.1) in
-    subst (λ (y : List Item × List ℕ). Takes IsBytes bytes (flat_map item y.0) y.1 × ((length y.0 ≡ suc n) × AreItems y.0)) (ok_is made (x, rest) b.2) (rw flat_map-cons both, (ap suc second.1.0, ((first.1.0, last), second.1.1)))
+    subst (λ (y : List Item × List ℕ). Takes IsBytes bytes (flat_map item y.0) y.1 × ((length y.0 ≡ suc n) × AreRecipeItems y.0)) (ok_is made (x, rest) b.2) (rw flat_map-cons both, (ap suc second.1.0, ((first.1.0, last), second.1.1)))
 
-items_again : (xs : List Item) (rest : List ℕ) → AreItems xs → items_at (length xs) (flat_map item xs ++ rest) ≡ Ok (xs, rest)
+items_again : (xs : List Item) (rest : List ℕ) → AreRecipeItems xs → items_at (length xs) (flat_map item xs ++ rest) ≡ Ok (xs, rest)
 unfolding items_at
 items_again [] rest fits = refl
 items_again (x ∷ xs) rest fits =
@@ -93,7 +93,7 @@ items_fail (suc n) bytes left fits e =
           ]
     ]
 
-lawful_items : (n : ℕ) → LawfulBytes (items_at n) (λ x. flat_map item x) (λ x. (length x ≡ n) × AreItems x)
+lawful_items : (n : ℕ) → LawfulBytes (items_at n) (λ x. flat_map item x) (λ x. (length x ≡ n) × AreRecipeItems x)
 lawful_items n = record {
   takes = items_take n;
   again = λ x rest h _. ap (λ (m : ℕ). items_at m (flat_map item x ++ rest)) (sym h.0) ∙ items_again x rest h.1;
@@ -105,7 +105,7 @@ abbrev spell_file : ℕ × (ℕ × List Item) → List ℕ
 spell_file x = to_be_bytes w64 x.0 ++ (to_be_bytes w32 x.1.0 ++ flat_map item x.1.1)
 
 abbrev FitsFile : ℕ × (ℕ × List Item) → Type 0
-FitsFile x = IsTrue (is_file_len x.0) × (IsTrue (is_count x.0 x.1.0) × ((length x.1.1 ≡ x.1.0) × AreItems x.1.1))
+FitsFile x = IsTrue (is_file_len x.0) × (IsTrue (is_count x.0 x.1.0) × ((length x.1.1 ≡ x.1.0) × AreRecipeItems x.1.1))
 
 lawful_file : LawfulBytes file_at spell_file FitsFile
 unfolding file_at
@@ -121,7 +121,7 @@ abbrev spell_tail : ℕ × List Item → List ℕ
 spell_tail y = to_be_bytes w64 y.0 ++ (to_be_bytes w32 (length y.1) ++ flat_map item y.1)
 
 abbrev FitsTail : ℕ × List Item → Type 0
-FitsTail y = IsTrue (is_file_len y.0) × (IsTrue (is_count y.0 (length y.1)) × (AreItems y.1 × (total y.1 ≡ y.0)))
+FitsTail y = IsTrue (is_file_len y.0) × (IsTrue (is_count y.0 (length y.1)) × (AreRecipeItems y.1 × (total y.1 ≡ y.0)))
 
 tail_takes : (bytes : List ℕ) (y : ℕ × List Item) → IsBytes bytes → tail_at bytes ≡ Ok y → (bytes ≡ spell_tail y) × FitsTail y
 unfolding tail_at

@@ -13,7 +13,7 @@ use Rattle.grammar.specs.CdBase.shape.Shape.{Shape}
 use Rattle.grammar.proofs.Laws.{ok_is}
 use Rattle.recipe.specs.declared.items.Item.{Item}
 use Rattle.recipe.specs.declared.recipe.Recipe.{Recipe}
-use Rattle.recipe.specs.Spelling.{item, spelling, AreItems, Fits}
+use Rattle.recipe.specs.Spelling.{item, spelling, AreRecipeItems, Fits}
 use Rattle.recipe.specs.Reading.{placed, recipe_at}
 use Rattle.recipe.proofs.Recipes.{recipe_again}
 
@@ -48,7 +48,7 @@ again shape r fits = ap (placed (spelling r)) (recipe_again shape r fits)
 pub one : (shape : Shape) (q r : Recipe) → Fits shape q → Fits shape r → spelling q ≡ spelling r → q ≡ r
 one shape q r fits fits2 e = ok_is q r (sym (again shape q fits) ∙ ap (recipe_at shape) e ∙ again shape r fits2)
 
-length-items : (items : List Item) → AreItems items → length (flat_map item items) ≡ 36 * length items
+length-items : (items : List Item) → AreRecipeItems items → length (flat_map item items) ≡ 36 * length items
 length-items [] h = refl
 length-items (i ∷ is) h =
     ap length (flat_map-cons item i is) ∙ length-append (item i) (flat_map item is)

@@ -17,7 +17,7 @@ items_in zero bytes = []
 items_in (suc n) bytes = first_item bytes ∷ items_in n (drop 36 bytes)
 
 -- all the bytes are the spelling of the recipe, and its items lie in the last of them
-pub record LiesIn (bytes : List ℕ) (count : ℕ) (items : List ℕ) (r : Recipe) : Type 0 where
+pub record LiesInSpelling (bytes : List ℕ) (count : ℕ) (items : List ℕ) (r : Recipe) : Type 0 where
   pub spelled : bytes ≡ spelling r
   pub room : length items ≡ 36 * count
   pub few : count ≤ item_limit

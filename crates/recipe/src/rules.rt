@@ -1,7 +1,7 @@
 //! The rules of recipes, each as a test.
 
 ghost use Rattle.std.specs.Prelude.{◌≡◌, ◌==◌, length, IsTrue, ◌↔◌};
-ghost use Rattle.recipe.specs.Spelling.{is_name_len, is_file_len, is_count, is_len, AreItems, total};
+ghost use Rattle.recipe.specs.Spelling.{is_name_len, is_file_len, is_count, is_len, AreRecipeItems, total};
 
 use crate::Item;
 use grammar::{FILE_LIMIT, SECRET_LIMIT};
@@ -48,7 +48,7 @@ fn is_item_of(last: bool, item: Item) -> bool
 
 /// Each secret has such a length.
 pub fn are_items_of(items: &[Item]) -> bool
-    ensures { IsTrue result ↔ AreItems items.now }
+    ensures { IsTrue result ↔ AreRecipeItems items.now }
 {
     let count = items.len();
     for (place, item) in items.iter().enumerate() {

@@ -3,7 +3,7 @@
 ghost use Rattle.std.specs.Prelude.{◌≡◌, ◌^◌, ◌*◌, ◌<◌, ◌≤◌, ◌↔◌, ℕ, length, slice_get, Ok, Err, IfOk};
 ghost use Rattle.grammar.specs.CdBase.shape.Shape.{Shape};
 ghost use Rattle.recipe.specs.Spelling.{IsRecipe, item_limit, spelling};
-ghost use Rattle.recipe.specs.Reading.{Reads, recipe_left, recipe_at};
+ghost use Rattle.recipe.specs.Reading.{ReadsRecipe, recipe_left, recipe_at};
 ghost use Rattle.recipe.specs.InPlace.{Checks, Finds, first_item, items_in};
 ghost use Rattle.recipe.specs.declared.recipe.Recipe.{Recipe};
 
@@ -26,7 +26,7 @@ pub struct RecipeView<'a> {
 
 impl<'a> Model for RecipeView<'a> {
     ghost use Rattle.recipe.specs.declared.recipe.Recipe.{Recipe};
-    ghost use Rattle.recipe.specs.InPlace.{items_in, LiesIn};
+    ghost use Rattle.recipe.specs.InPlace.{items_in, LiesInSpelling};
 
     ghost Value = { Recipe };
 
@@ -37,7 +37,7 @@ impl<'a> Model for RecipeView<'a> {
       items = items_in v.count v.items.now;
     } };
 
-    ghost invariant = { λ v. LiesIn v.bytes.now v.count v.items.now (record {
+    ghost invariant = { λ v. LiesInSpelling v.bytes.now v.count v.items.now (record {
       name_len = v.name_len;
       name_share = v.name_share.now;
       file_len = v.file_len;
@@ -177,7 +177,7 @@ impl Recipe {
     /// that answers it, at the same place.
     pub fn read(alloc: Global, shape: Shape, bytes: &[u8]) -> Result<Recipe, RecipeErr>
         requires { length bytes.now < 2 ^ 32 }
-        ensures reads { Reads result (recipe_at shape bytes.now) }
+        ensures reads { ReadsRecipe result (recipe_at shape bytes.now) }
         ensures malformed { (at : ℕ) → recipe_at shape bytes.now ≡ Err at → result ≡ Err (RecipeErr.Malformed at) }
         // Bytes are read as the recipe that they are the spelling of, and no other bytes are read.
         ensures grammar { (r : Recipe) → (recipe_at shape bytes.now ≡ Ok r) ↔ IsRecipe shape bytes.now r }

@@ -24,8 +24,8 @@ use Rattle.share_server.specs.CloudStore.Store.{IsOpen}
 use Rattle.share_server.specs.declared.copies.Copies.{Copies}
 use Rattle.share_server.specs.declared.copies.ReclaimErr.{ReclaimErr}
 use Rattle.share_server.specs.declared.copies.ReclaimErr.TheVariants as why
-use Rattle.share_server.specs.Copies.{OnReclaimFault, IfRottenThere, IsDoneOrFault, at_copies, AreLaid, KeepsCopies, KeepsAllBut, copied_so_far}
-use Rattle.reclaim.specs.Inner.{Steps, CopiesAll, AreRight}
+use Rattle.share_server.specs.Copies.{OnReclaimFault, IfRottenThere, IsDoneOrFault, at_copies, AreCopiesLaid, KeepsCopies, KeepsAllBut, copied_so_far}
+use Rattle.reclaim.specs.Inner.{StepsCopying, CopiesAll, AreCopiesRight}
 use Rattle.reclaim.specs.Reclaims.{IsOutOf, KeepsOtherRegion}
 use Rattle.reclaim.proofs.Whole.{more_right, further}
 
@@ -106,7 +106,7 @@ out_of start end b le out = elim out [
 laid_behind : (start end : ℕ) (lens : List ℕ) → end ≡ end_of_laid start lens → start ≤ end
 laid_behind start end lens is = subst (λ (n : ℕ). start ≤ n) (sym is) (laid_grows start lens)
 
-spares_beside : (store : CloudStore) (copies : Copies) (old new : Cloud) → AreLaid store copies → KeepsBeside (at_copies store copies) old new → KeepsOtherRegion (copies_start store) old new
+spares_beside : (store : CloudStore) (copies : Copies) (old new : Cloud) → AreCopiesLaid store copies → KeepsBeside (at_copies store copies) old new → KeepsOtherRegion (copies_start store) old new
 spares_beside store copies old new laid beside = record {
   journal = beside.journal;
   shares = λ b out at. beside.shares b (out_of (copies_start store) copies.shares_end b (laid_behind (copies_start store) copies.shares_end (lens_of (shares_so_far store copies.copying)) laid.shares_end) out) at;
@@ -125,18 +125,18 @@ spares_twice start a b c first second = record {
 -- The steps so far: all but the disk is as it was, and what a later call leaves is what all leave.
 pub record SoFar (first now : CloudStore) (from to : Copies) (before after : ℕ → Cloud) (faults_before faults_after : ℕ) : Type 0 where
   pub opened : IsOpen now
-  pub laid : AreLaid now to
+  pub laid : AreCopiesLaid now to
   pub same : KeepsAllBut first now
   pub kept : (list : List Command) (c : Chain) → KeepsCopies list c first from (before first.header.cloud.0) → KeepsCopies list c now to (after first.header.cloud.0)
   pub moments : (list : List Command) (c : Chain) → KeepsCopies list c first from (before first.header.cloud.0) → (end : Cloud)
       → LeavesOnly (after first.header.cloud.0) end (λ image. StandsFor image first.header list)
       → LeavesOnly (before first.header.cloud.0) end (λ image. StandsFor image first.header list)
   pub spared : IsTrue (before first.header.cloud.0).told → KeepsOtherRegion (copies_start first) (before first.header.cloud.0) (after first.header.cloud.0)
-  pub right : IsTrue (before first.header.cloud.0).told → AreRight first from (reads (before first.header.cloud.0).now) → AreRight first to (reads (after first.header.cloud.0).now)
+  pub right : IsTrue (before first.header.cloud.0).told → AreCopiesRight first from (reads (before first.header.cloud.0).now) → AreCopiesRight first to (reads (after first.header.cloud.0).now)
   pub call : IsCall before after first.header.cloud.0 faults_before faults_after
   pub counts : KeepsCounts (before first.header.cloud.0) (after first.header.cloud.0) faults_before faults_after
 
-pub no_steps : (first : CloudStore) (from : Copies) (clouds : ℕ → Cloud) (faults : ℕ) → IsOpen first → AreLaid first from → SoFar first first from from clouds clouds faults faults
+pub no_steps : (first : CloudStore) (from : Copies) (clouds : ℕ → Cloud) (faults : ℕ) → IsOpen first → AreCopiesLaid first from → SoFar first first from from clouds clouds faults faults
 no_steps first from clouds faults opened laid = record {
   opened = opened;
   laid = laid;
@@ -160,30 +160,30 @@ module _ (Same : Type 0) (first mid new : CloudStore) (from through to : Copies)
   abbrev between : CloudStore
   between = record first { disk = mid.disk }
 
-  step_from : (r : Result Bool ReclaimErr) → Steps Same mid new through to b c f1 f2 r → Steps Same between new through to b c f1 f2 r
-  step_from r = subst (λ (s : CloudStore). Steps Same s new through to b c f1 f2 r) so.same
+  step_from : (r : Result Bool ReclaimErr) → StepsCopying Same mid new through to b c f1 f2 r → StepsCopying Same between new through to b c f1 f2 r
+  step_from r = subst (λ (s : CloudStore). StepsCopying Same s new through to b c f1 f2 r) so.same
 
   kept_between : (list : List Command) (chain : Chain) → KeepsCopies list chain first from (a n) → KeepsCopies list chain between through (b n)
   kept_between list chain is = subst (λ (s : CloudStore). KeepsCopies list chain s through (b n)) so.same (so.kept list chain is)
 
-  all_moments : (r : Result Bool ReclaimErr) → Steps Same between new through to b c f1 f2 r → (list : List Command) (chain : Chain)
+  all_moments : (r : Result Bool ReclaimErr) → StepsCopying Same between new through to b c f1 f2 r → (list : List Command) (chain : Chain)
       → KeepsCopies list chain first from (a n) → LeavesOnly (a n) (c n) (Stands list)
   all_moments r s list chain is = so.moments list chain is (c n) (s.any_moment list chain (kept_between list chain is))
 
-  laid_between : AreLaid between through
-  laid_between = subst (λ (s : CloudStore). AreLaid s through) so.same so.laid
+  laid_between : AreCopiesLaid between through
+  laid_between = subst (λ (s : CloudStore). AreCopiesLaid s through) so.same so.laid
 
   spared_on : IsTrue (a n).told → KeepsBeside (at_copies between through) (b n) (c n) → KeepsOtherRegion (copies_start first) (a n) (c n)
   spared_on told beside = spares_twice (copies_start first) (a n) (b n) (c n) (so.spared told) (spares_beside between through (b n) (c n) laid_between beside)
 
   right_on : IsTrue (a n).told → HasCopied (at_copies between through) through.copying to.copying (reads (b n).now) (reads (c n).now) → KeepsBeside (at_copies between through) (b n) (c n)
-      → AreRight first from (reads (a n).now) → AreRight first to (reads (c n).now)
+      → AreCopiesRight first from (reads (a n).now) → AreCopiesRight first to (reads (c n).now)
   right_on told has beside is =
       let r = more_right between through to (b n) (c n) laid_between has beside (record { shares = (so.right told is).shares; entries = (so.right told is).entries }) in
       record { shares = r.shares; entries = r.entries }
 
   -- one more
-  pub one_more : Steps Same mid new through to b c f1 f2 (Ok true) → SoFar first new from to a c f0 f2
+  pub one_more : StepsCopying Same mid new through to b c f1 f2 (Ok true) → SoFar first new from to a c f0 f2
   one_more step =
       let s = step_from (Ok true) step in
       record {
@@ -199,7 +199,7 @@ module _ (Same : Type 0) (first mid new : CloudStore) (from through to : Copies)
       }
 
   -- nothing was left
-  pub all_done : Steps Same mid new through to b c f1 f2 (Ok false) → CopiesAll first new from to a c f0 f2 (Ok tt)
+  pub all_done : StepsCopying Same mid new through to b c f1 f2 (Ok false) → CopiesAll first new from to a c f0 f2 (Ok tt)
   all_done step =
       let s = step_from (Ok false) step in
       record {
@@ -218,7 +218,7 @@ module _ (Same : Type 0) (first mid new : CloudStore) (from through to : Copies)
       }
 
   -- it was given up
-  pub given_up : (e : ReclaimErr) → Steps Same mid new through to b c f1 f2 (Err e) → CopiesAll first new from to a c f0 f2 (Err e)
+  pub given_up : (e : ReclaimErr) → StepsCopying Same mid new through to b c f1 f2 (Err e) → CopiesAll first new from to a c f0 f2 (Err e)
   given_up e step =
       let s = step_from (Err e) step in
       record {

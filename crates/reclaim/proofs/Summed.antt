@@ -37,7 +37,7 @@ use Rattle.compact_memories.proofs.Weights.{once_map, sum_keys}
 use Rattle.compact_memories.proofs.CloudAreas.Apart.{Apart, are_apart}
 use Rattle.compact_memories.proofs.CloudAreas.Lists.{in_map, from_map}
 use Rattle.compact_memories.proofs.Sums.{fp_live, first_of}
-use Rattle.reclaim.specs.Sums.{SumsOver, entry_of, HasEntry, recipe_len, IsDead, IsSumOf}
+use Rattle.reclaim.specs.Sums.{SumsOver, entry_of, HasEntryUnder, recipe_len, IsDead, IsSumOf}
 
 once_filter : {X : Type 0} (p : X → Bool) (xs : List X) → Once xs → Once (filter p xs)
 once_filter p [] once = tt
@@ -120,7 +120,7 @@ module _ (shape : Shape) (list : List Command) (old : CloudMemory) (r : Remember
   entry_is : (x : FileKey × Entry) → Contains (live_entries old) x → IsSome (entry_of shape list x.0) × (x.1.len ≡ recipe_len shape list x.0)
   entry_is x c = entry_there (entry_of shape list x.0) x.1 (ap (option_map summary) (sym (entry_from x.0 x.1 c)) ∙ by_list x.0)
 
-  entry_to : (key : FileKey) → HasEntry shape list key → Contains (map key_of (live_entries old)) key
+  entry_to : (key : FileKey) → HasEntryUnder shape list key → Contains (map key_of (live_entries old)) key
   entry_to key some = by_get (get old.files.files key) refl
     where
       by_get : (o : Option Entry) → get old.files.files key ≡ o → Contains (map key_of (live_entries old)) key
@@ -129,11 +129,11 @@ module _ (shape : Shape) (list : List Command) (old : CloudMemory) (r : Remember
           let s = l.entries.stands key e is in
           in_map key_of (live_entries old) (key, e) (in_picked (λ (o : Option (FileKey × Entry)). o) refl old.files.slots s.0 (key, e) (key, e) s.2 refl)
 
-  recipes_sum : SumsOver (HasEntry shape list) (recipe_len shape list) (live_sum old).recipes
+  recipes_sum : SumsOver (HasEntryUnder shape list) (recipe_len shape list) (live_sum old).recipes
   recipes_sum = record {
     all = map key_of (live_entries old);
     listed = record {
-      each = λ key. (λ c. let f = from_map key_of (live_entries old) key c in subst (HasEntry shape list) f.2 (entry_is f.0 f.1).0, entry_to key);
+      each = λ key. (λ c. let f = from_map key_of (live_entries old) key c in subst (HasEntryUnder shape list) f.2 (entry_is f.0 f.1).0, entry_to key);
       once = are_apart (map key_of (live_entries old)) keys_once;
     };
     is = sum_alike (λ (x : FileKey × Entry). x.1.len) (λ (x : FileKey × Entry). recipe_len shape list x.0) (live_entries old) (λ x c. (entry_is x c).1)

@@ -23,8 +23,8 @@ use Rattle.share_server.specs.BlobCopy.Copies.{Blob, share_blob, entry_blob, fou
 use Rattle.share_server.specs.BlobCopy.Copying.{AreAllCopied, copies_start, shares_so_far, entries_so_far}
 use Rattle.share_server.specs.CloudStore.store.CloudStore.{CloudStore}
 use Rattle.share_server.specs.declared.copies.Copies.{Copies}
-use Rattle.share_server.specs.Copies.{at_copies, AreLaid}
-use Rattle.reclaim.specs.Inner.{laid_blob, laid_blobs, AreRight}
+use Rattle.share_server.specs.Copies.{at_copies, AreCopiesLaid}
+use Rattle.reclaim.specs.Inner.{laid_blob, laid_blobs, AreCopiesRight}
 use Rattle.blob_audit.specs.AuditBase.Whole.{IsStored, tables_of}
 use Rattle.blob_audit.specs.Reading.{AreStored}
 
@@ -112,7 +112,7 @@ grown_right {X = X} blob old new start end first more all is end_is stays right 
 -- ---- both areas
 
 -- nothing is copied
-pub none_right : (store : CloudStore) (copies : Copies) (areas : Image) → copies.copying.place_slot ≡ 0 → copies.copying.file_slot ≡ 0 → AreRight store copies areas
+pub none_right : (store : CloudStore) (copies : Copies) (areas : Image) → copies.copying.place_slot ≡ 0 → copies.copying.file_slot ≡ 0 → AreCopiesRight store copies areas
 none_right store copies areas places files = record {
   shares = subst (λ (n : ℕ). All (IsRight (areas Shares)) (laid_blobs (copies_start store) (map share_blob (live_in store.memory.shares.owners (take n store.memory.shares.place_slots))))) (sym places)
       (All-nil (IsRight (areas Shares)));
@@ -121,8 +121,8 @@ none_right store copies areas places files = record {
 }
 
 -- a step more
-pub more_right : (store : CloudStore) (from to : Copies) (old new : Cloud) → AreLaid store from → HasCopied (at_copies store from) from.copying to.copying (reads old.now) (reads new.now)
-    → KeepsBeside (at_copies store from) old new → AreRight store from (reads old.now) → AreRight store to (reads new.now)
+pub more_right : (store : CloudStore) (from to : Copies) (old new : Cloud) → AreCopiesLaid store from → HasCopied (at_copies store from) from.copying to.copying (reads old.now) (reads new.now)
+    → KeepsBeside (at_copies store from) old new → AreCopiesRight store from (reads old.now) → AreCopiesRight store to (reads new.now)
 more_right store from to old new laid has beside right = record {
   shares = grown_right share_blob (old.now Shares).read (new.now Shares).read (copies_start store) from.shares_end (shares_so_far store from.copying) has.shares (shares_so_far store to.copying)
       has.shares_more (laid.shares_end ∙ ap (end_of_laid (copies_start store)) (sym (share_lens (shares_so_far store from.copying))))
@@ -136,7 +136,7 @@ stored : (area : List ℕ) (b : Blob) → IsRight area b → IsStored area b.at 
 stored area b right = record { full = right.long; hash = right.hashed }
 
 -- all is copied, and the memory is moved
-pub all_whole : (store : CloudStore) (copies : Copies) (areas : Image) (memory : CloudMemory) → AreAllCopied store copies.copying → AreRight store copies areas
+pub all_whole : (store : CloudStore) (copies : Copies) (areas : Image) (memory : CloudMemory) → AreAllCopied store copies.copying → AreCopiesRight store copies areas
     → IsMoved (other_region store.region) store.memory (memory_of memory) → AreStored areas (tables_of memory)
 all_whole store copies areas memory all right moved = record {
   shares = λ fp place owned got.

@@ -20,7 +20,7 @@ use Rattle.share_server.specs.CloudStore.Store.{IsOpen, ServesSome}
 use Rattle.share_server.specs.Serving.{ServesAs, settled_with}
 use Rattle.share_server.specs.declared.copies.Copies.{Copies}
 use Rattle.share_server.specs.declared.copies.ReclaimErr.{ReclaimErr}
-use Rattle.share_server.specs.Copies.{OnReclaimFault, IfRottenThere, IsDoneOrFault, MatchCopied, at_copies, AreLaid, KeepsCopies, KeepsAllBut, copied_so_far, no_copies}
+use Rattle.share_server.specs.Copies.{OnReclaimFault, IfRottenThere, IsDoneOrFault, MatchCopied, at_copies, AreCopiesLaid, KeepsCopies, KeepsAllBut, copied_so_far, no_copies}
 use Rattle.blob_audit.specs.AuditBase.Whole.{tables_of}
 use Rattle.blob_audit.specs.Reading.{AreStored, IsUnlike}
 use Rattle.reclaim.specs.Reclaims.{KeepsLive, KeepsOtherRegion}
@@ -38,21 +38,21 @@ laid_blobs end [] = []
 laid_blobs end (b ∷ bs) = laid_blob end b ∷ laid_blobs (end_after end b.len) bs
 
 -- The copies so far read right.
-pub record AreRight (store : CloudStore) (copies : Copies) (areas : Image) : Type 0 where
+pub record AreCopiesRight (store : CloudStore) (copies : Copies) (areas : Image) : Type 0 where
   pub shares : All (IsRight (areas Shares)) (laid_blobs (copies_start store) (map share_blob (shares_so_far store copies.copying)))
   pub entries : All (IsRight (areas Recipes)) (laid_blobs (copies_start store) (map entry_blob (entries_so_far store copies.copying)))
 
 -- ---- what the parts do
 
 -- what a step does
-pub record Steps (Same : Type 0) (old new : CloudStore) (from to : Copies) (before after : ℕ → Cloud) (faults_before faults_after : ℕ) (result : Result Bool ReclaimErr) : Type 0 where
+pub record StepsCopying (Same : Type 0) (old new : CloudStore) (from to : Copies) (before after : ℕ → Cloud) (faults_before faults_after : ℕ) (result : Result Bool ReclaimErr) : Type 0 where
   pub any_moment : (list : List Command) (c : Chain) → KeepsCopies list c old from (before old.header.cloud.0)
       → LeavesOnly (before old.header.cloud.0) (after old.header.cloud.0) (λ image. StandsFor image old.header list)
   pub copied : (list : List Command) (c : Chain) → KeepsCopies list c old from (before old.header.cloud.0)
       → OnReclaimFault result (Unit {0}) (KeepsCopies list c new to (after old.header.cloud.0))
   pub answers : (list : List Command) (c : Chain) → KeepsCopies list c old from (before old.header.cloud.0) → IsDoneOrFault result
   pub step : MatchCopied result (copied_so_far old from.copying < copied_so_far old to.copying) (AreAllCopied old to.copying × Same) (to.copying ≡ from.copying)
-  pub laid : OnReclaimFault result (Unit {0}) (AreLaid new to)
+  pub laid : OnReclaimFault result (Unit {0}) (AreCopiesLaid new to)
   pub rotten : IsTrue (before old.header.cloud.0).told → IfRottenThere result (SomeRotten old.memory (reads (after old.header.cloud.0).now))
   pub beside : IsTrue (before old.header.cloud.0).told → OnReclaimFault result (Unit {0}) (KeepsBeside (at_copies old from) (before old.header.cloud.0) (after old.header.cloud.0))
   pub right : IsTrue (before old.header.cloud.0).told
@@ -71,8 +71,8 @@ pub record CopiesAll (old new : CloudStore) (from to : Copies) (before after : �
       → OnOk result (KeepsCopies list c new to (after old.header.cloud.0))
   pub answers : (list : List Command) (c : Chain) → KeepsCopies list c old from (before old.header.cloud.0) → IsDoneOrFault result
   pub all : OnOk result (AreAllCopied new to.copying)
-  pub right : IsTrue (before old.header.cloud.0).told → AreRight old from (reads (before old.header.cloud.0).now) → OnOk result (AreRight old to (reads (after old.header.cloud.0).now))
-  pub laid : OnOk result (AreLaid new to)
+  pub right : IsTrue (before old.header.cloud.0).told → AreCopiesRight old from (reads (before old.header.cloud.0).now) → OnOk result (AreCopiesRight old to (reads (after old.header.cloud.0).now))
+  pub laid : OnOk result (AreCopiesLaid new to)
   pub rotten : IsTrue (before old.header.cloud.0).told → IfRottenThere result (SomeRotten old.memory (reads (after old.header.cloud.0).now))
   pub spared : IsTrue (before old.header.cloud.0).told → OnReclaimFault result (Unit {0}) (KeepsOtherRegion (copies_start old) (before old.header.cloud.0) (after old.header.cloud.0))
   pub same : KeepsAllBut old new

@@ -23,8 +23,8 @@ pub record SumsOver {X : Type 0} (P : X → Type 0) (f : X → ℕ) (sum : ℕ) 
 abbrev pub entry_of : Shape → List Command → FileKey → Option FileEntry
 entry_of shape list key = entry_at (user_view shape list (record { 0 = key.user })).files (record { 0 = key.tag }, record { 0 = key.version })
 
-abbrev pub HasEntry : Shape → List Command → FileKey → Type 0
-HasEntry shape list key = IsSome (entry_of shape list key)
+abbrev pub HasEntryUnder : Shape → List Command → FileKey → Type 0
+HasEntryUnder shape list key = IsSome (entry_of shape list key)
 
 abbrev pub recipe_len : Shape → List Command → FileKey → ℕ
 recipe_len shape list key = length (recipe_or (entry_of shape list key))
@@ -36,5 +36,5 @@ IsDead shape list fp = Contains (map fingerprint (strings_in list)) fp × ¬ (Is
 -- The bytes held under each fingerprint that some user owns, those of each entry's recipe, and how many fingerprints have a string that no user owns.
 pub record IsSumOf (shape : Shape) (list : List Command) (sum : Reclaimed) : Type 0 where
   pub shares : SumsOver (IsAlive shape list) (bytes_held list) sum.shares
-  pub recipes : SumsOver (HasEntry shape list) (recipe_len shape list) sum.recipes
+  pub recipes : SumsOver (HasEntryUnder shape list) (recipe_len shape list) sum.recipes
   pub dropped : SumsOver (IsDead shape list) (λ (fp : Fp). 1) sum.dropped

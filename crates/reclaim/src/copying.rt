@@ -13,7 +13,7 @@ ghost use Rattle.share_server.specs.BlobCopy.CompactMemories.Moved.{IsMoved, oth
 ghost use Rattle.share_server.specs.BlobCopy.Copying.{StandsForKept, copies_start};
 ghost use Rattle.share_server.specs.CloudMemory.Rooms.{memory_of};
 ghost use Rattle.share_server.specs.Copies.{OnReclaimFault, IfRottenThere, IsDoneOrFault, KeepsAllBut};
-ghost use Rattle.share_server.specs.Copies.{no_copies, AreLaid};
+ghost use Rattle.share_server.specs.Copies.{no_copies, AreCopiesLaid};
 ghost use Rattle.share_server.specs.CloudStore.Store.{IsOpen, ServesSome};
 ghost use Rattle.share_server.specs.Serving.{IsServing, number_of, settled_with};
 ghost use Rattle.reclaim.specs.Inner.{CopiesAll, Reclaims};
@@ -25,7 +25,7 @@ use share_server::{ReclaimErr, Reclaimed, Server, Shelf};
 // Copies all that is alive, step by step.
 fn copy_all<V: Shelf>(server: &mut Server, shelf: &mut V) -> Result<(), ReclaimErr>
     requires open { IsOpen server.old.store }
-    requires laid { AreLaid server.old.store server.old.copies }
+    requires laid { AreCopiesLaid server.old.store server.old.copies }
     ensures { CopiesAll server.old.store server.new.store server.old.copies server.new.copies
         (V.cloud_at shelf.old) (V.cloud_at shelf.new) (V.faults shelf.old) (V.faults shelf.new) result }
 {

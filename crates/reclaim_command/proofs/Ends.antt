@@ -19,7 +19,7 @@ use Rattle.command_cloud.specs.Said.{SaysUnopened}
 use Rattle.command_cloud.specs.declared.opening.Unopened.{Unopened as OpeningErr}
 use Rattle.command_cloud.specs.declared.opening.Unopened.TheVariants as unopened
 use Rattle.command_cloud.proofs.Standing.{failed_since, kept_since, stands_still}
-use Rattle.command_cloud.specs.CommitJournal.Openings.{MayBecome}
+use Rattle.command_cloud.specs.CommitJournal.Openings.{MayBeBegun}
 use Rattle.reclaim.specs.JournalStart.rooms.UserRooms.{UserRooms}
 use Rattle.reclaim.specs.JournalStart.start.Header.{Header}
 use Rattle.reclaim.specs.BlobCopy.Copying.{StandsForKept}
@@ -76,7 +76,7 @@ stands_now server header cloud list is serving = subst (λ (h : Header). StandsN
 -- ---- images
 
 -- an opening that begins nothing leaves what a crash might have left
-as_before : (old : Cloud) (header : Header) (image : Image) → MayBecome old.now header false image → IsImage old.now image
+as_before : (old : Cloud) (header : Header) (image : Image) → MayBeBegun old.now header false image → IsImage old.now image
 as_before old header image (inl left) = left
 as_before old header image (inr begun) = absurd (let never : false ≡ true = begun.0 in cc)
 

@@ -83,7 +83,7 @@ first_front (first.Put user items) front kind x rest e =
     ap (λ (k : ℕ). is_later (k ∷ front)) (sym (peeled 1 kind _ (front ++ x ∷ rest) e).0)
 first_front (first.Commit c) front kind x rest e = ap (λ (k : ℕ). is_later (k ∷ front)) (sym (peeled 2 kind _ (front ++ x ∷ rest) e).0)
 
-first_short : (b : first.FirstBody) (front : List ℕ) (x : ℕ) (rest : List ℕ) → first.FitsBody b → first.body_bytes b ≡ front ++ x ∷ rest → body_at front ≡ Err errors.Short
+first_short : (b : first.FirstBody) (front : List ℕ) (x : ℕ) (rest : List ℕ) → first.FitsFirstBody b → first.body_bytes b ≡ front ++ x ∷ rest → body_at front ≡ Err errors.Short
 first_short b [] x rest fits e = none_short
 first_short b (kind ∷ front) x rest fits e =
     first_at (kind ∷ front) (first_front b front kind x rest e) ∙ ap lifted_answer (first_cuts.short b (kind ∷ front) x rest fits e)

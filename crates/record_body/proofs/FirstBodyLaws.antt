@@ -15,7 +15,7 @@ use Rattle.record_body.specs.declared.body.PutItem.{PutItem}
 use Rattle.record_body.specs.declared.body.CommitBody.{CommitBody}
 use Rattle.record_body.specs.declared.body.BodyErr.{BodyErr}
 use Rattle.record_body.specs.declared.body.BodyErr.TheVariants as errors
-use Rattle.record_body.specs.FirstSpelling.{FirstBody, Put, Commit, body_bytes, FitsBody, FitsCommit, IsFirstBody}
+use Rattle.record_body.specs.FirstSpelling.{FirstBody, Put, Commit, body_bytes, FitsFirstBody, FitsCommit, IsFirstBody}
 use Rattle.record_body.specs.FirstReading.{items_at, put_at, is_recipe_len, make_commit, commit_at, fields_at, front_at, judged, body_at}
 use Rattle.record_body.proofs.FirstItemLaws.{lawful_items, items_bytes, AreItems}
 
@@ -28,11 +28,11 @@ all_bytes (b ∷ bytes) all (suc i) = all_bytes bytes (All-tail (λ (x : ℕ). x
 -- ---- the fields of each kind
 
 abbrev Took : ℕ → List ℕ → FirstBody → List ℕ → Type 0
-Took kind bytes b rest = FitsBody b × (kind ∷ bytes ≡ body_bytes b ++ rest)
+Took kind bytes b rest = FitsFirstBody b × (kind ∷ bytes ≡ body_bytes b ++ rest)
 
 -- bytes that a kind's reader takes are its body
 kind_takes : {A : Type 0} {f : List ℕ → Result (A × List ℕ) ℕ} {spell : A → List ℕ} {Fits : A → Type 0} → LawfulBytes f spell Fits
-    → (make : A → FirstBody) (number kind : ℕ) → ((x : A) → Fits x → FitsBody (make x) × (number ∷ spell x ≡ body_bytes (make x)))
+    → (make : A → FirstBody) (number kind : ℕ) → ((x : A) → Fits x → FitsFirstBody (make x) × (number ∷ spell x ≡ body_bytes (make x)))
     → (bytes : List ℕ) (b : FirstBody) (rest : List ℕ) → IsBytes bytes → eqb kind number ≡ true → made make f bytes ≡ Ok (b, rest) → Took kind bytes b rest
 kind_takes {A} {f} {spell} laws make number kind there bytes b rest known is e =
     let a = bind_ok (f bytes) (λ x. Ok (make x.0, x.1)) (b, rest) e in
@@ -69,7 +69,7 @@ commit_laws =
 abbrev pub commit_of : CommitFields → FirstBody
 commit_of x = Commit (make_commit x)
 
-commit_there : (x : CommitFields) → FitsFields x → FitsBody (commit_of x) × (2 ∷ spell_commit x ≡ body_bytes (commit_of x))
+commit_there : (x : CommitFields) → FitsFields x → FitsFirstBody (commit_of x) × (2 ∷ spell_commit x ≡ body_bytes (commit_of x))
 commit_there x fits =
     let some : 1 ≤ x.1.1.1.1.0 = leb-true 1 x.1.1.1.1.0 fits.1.1.1.1.0.1 in
     (record { user = fits.0; tag = fits.1.0; version = fits.1.1.0; from = fits.1.1.1.0; some = some; few = fits.1.1.1.1.0.0; fp = fits.1.1.1.1.1 }, refl)
@@ -94,7 +94,7 @@ fields_take kind bytes b rest known e =
           ]
     ]
 
-pub front_takes : (bytes : List ℕ) (b : FirstBody) (rest : List ℕ) → IsBytes bytes → front_at bytes ≡ Ok (b, rest) → FitsBody b × (bytes ≡ body_bytes b ++ rest)
+pub front_takes : (bytes : List ℕ) (b : FirstBody) (rest : List ℕ) → IsBytes bytes → front_at bytes ≡ Ok (b, rest) → FitsFirstBody b × (bytes ≡ body_bytes b ++ rest)
 unfolding front_at
 front_takes [] b rest known e = absurd cc
 front_takes (kind ∷ bytes) b rest known e = fields_take kind bytes b rest (bytes_tail kind bytes known) e
@@ -103,7 +103,7 @@ front_takes (kind ∷ bytes) b rest known e = fields_take kind bytes b rest (byt
 abbrev pub made_of : {A : Type 0} → (A → FirstBody) → Result (A × List ℕ) ℕ → Result (FirstBody × List ℕ) ℕ
 made_of make r = r >>= λ x. Ok (make x.0, x.1)
 
-pub front_again : (b : FirstBody) (rest : List ℕ) → FitsBody b → front_at (body_bytes b ++ rest) ≡ Ok (b, rest)
+pub front_again : (b : FirstBody) (rest : List ℕ) → FitsFirstBody b → front_at (body_bytes b ++ rest) ≡ Ok (b, rest)
 unfolding front_at fields_at put_at commit_at
 front_again (Put user items) rest fits = ap (made_of make_put) (put_laws.again (user.0, items) rest fits tt)
 front_again (Commit c) rest fits = ap (made_of commit_of) (commit_laws.again (fields_of c) rest (commit_back c fits) tt)
@@ -116,7 +116,7 @@ judged_ok len (Ok (c, x ∷ rest)) b e = absurd cc
 judged_ok len (Err zero) b e = absurd cc
 judged_ok len (Err (suc left)) b e = absurd cc
 
-pub again : (b : FirstBody) → FitsBody b → body_at (body_bytes b) ≡ Ok b
+pub again : (b : FirstBody) → FitsFirstBody b → body_at (body_bytes b) ≡ Ok b
 unfolding body_at
 again b fits = ap (judged (length (body_bytes b))) (ap front_at (sym (append-nil (body_bytes b))) ∙ front_again b [] fits)
 
@@ -126,10 +126,10 @@ read_body b = Ok b
 same_body : (a b : FirstBody) → read_body a ≡ read_body b → a ≡ b
 same_body a b e = cc
 
-pub one : (a b : FirstBody) → FitsBody a → FitsBody b → body_bytes a ≡ body_bytes b → a ≡ b
+pub one : (a b : FirstBody) → FitsFirstBody a → FitsFirstBody b → body_bytes a ≡ body_bytes b → a ≡ b
 one a b fits fits2 e = same_body a b (sym (again a fits) ∙ ap body_at e ∙ again b fits2)
 
-pub extra : (b : FirstBody) (x : ℕ) (rest : List ℕ) → FitsBody b → body_at (body_bytes b ++ x ∷ rest) ≡ Err (errors.Extra (length (body_bytes b)))
+pub extra : (b : FirstBody) (x : ℕ) (rest : List ℕ) → FitsFirstBody b → body_at (body_bytes b ++ x ∷ rest) ≡ Err (errors.Extra (length (body_bytes b)))
 unfolding body_at
 extra b x rest fits =
     let place : length (body_bytes b ++ x ∷ rest) - length (x ∷ rest) ≡ length (body_bytes b) = omega (arith, length-append (body_bytes b) (x ∷ rest)) in

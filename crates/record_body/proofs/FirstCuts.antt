@@ -18,7 +18,7 @@ use Rattle.message_fields.proofs.PartLaws.{lawful_u32, lawful_u64, lawful_kept}
 use Rattle.message_fields.proofs.FpLaws.{batch_to, small_batch}
 use Rattle.message_fields.proofs.ShareLaws.{share_to}
 use Rattle.record_body.specs.declared.body.BodyErr.TheVariants as errors
-use Rattle.record_body.specs.FirstSpelling.{FirstBody, Put, Commit, place_bytes, placed_bytes, item_bytes, body_bytes, FitsPlace, FitsPlaced, FitsItem, FitsBody}
+use Rattle.record_body.specs.FirstSpelling.{FirstBody, Put, Commit, place_bytes, placed_bytes, item_bytes, body_bytes, FitsPlace, FitsPlaced, FitsItem, FitsFirstBody}
 use Rattle.record_body.specs.FirstReading.{place_at, behind_flag, placed_at, item_at, items_at, put_at, is_recipe_len, commit_at, fields_at, front_at, judged, body_at}
 use Rattle.record_body.proofs.FirstItemLaws.{lawful_item, items_bytes, AreItems}
 use Rattle.record_body.proofs.FirstBodyLaws.{make_put, commit_of, fields_of, commit_back, spell_commit, FitsFields, read_commit, made_of}
@@ -134,7 +134,7 @@ cut_commit =
     cut_then lawful_u32 (cut_number wide32 (λ n. n < 2 ^ 32)) (cut_then (lawful_bytes 32) (cut_bytes 32) (cut_then lawful_u64 (cut_number wide64 (λ n. n < 2 ^ 64)) (cut_then lawful_u64 (cut_number wide64 (λ n. n < 2 ^ 64))
     (cut_then (lawful_kept is_recipe_len lawful_u32) (cut_checked is_recipe_len (cut_number wide32 (λ n. (n < 2 ^ 32) × IsTrue (is_recipe_len n)))) (cut_bytes 32)))))
 
-front_cut : (b : FirstBody) (front : List ℕ) (x : ℕ) (rest : List ℕ) → FitsBody b → body_bytes b ≡ front ++ x ∷ rest → front_at front ≡ Err 0
+front_cut : (b : FirstBody) (front : List ℕ) (x : ℕ) (rest : List ℕ) → FitsFirstBody b → body_bytes b ≡ front ++ x ∷ rest → front_at front ≡ Err 0
 unfolding front_at fields_at put_at commit_at
 front_cut (Put user items) [] x rest fits e = refl
 front_cut (Put user items) (kind ∷ front) x rest fits e =
@@ -145,6 +145,6 @@ front_cut (Commit c) (kind ∷ front) x rest fits e =
     let p = peeled 2 kind (spell_commit (fields_of c)) (front ++ x ∷ rest) e in
     ap (λ (k : ℕ). fields_at k front) (sym p.0) ∙ ap (made_of commit_of) (cut_commit.cut (fields_of c) front x rest (commit_back c fits) p.1)
 
-pub short : (b : FirstBody) (front : List ℕ) (x : ℕ) (rest : List ℕ) → FitsBody b → body_bytes b ≡ front ++ x ∷ rest → body_at front ≡ Err errors.Short
+pub short : (b : FirstBody) (front : List ℕ) (x : ℕ) (rest : List ℕ) → FitsFirstBody b → body_bytes b ≡ front ++ x ∷ rest → body_at front ≡ Err errors.Short
 unfolding body_at
 short b front x rest fits e = ap (judged (length front)) (front_cut b front x rest fits e)

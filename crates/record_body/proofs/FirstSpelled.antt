@@ -11,7 +11,7 @@ use Rattle.message_fields.specs.CdBase.place.Place.{Place}
 use Rattle.message_fields.specs.CdBase.ids.UserId.{UserId}
 use Rattle.record_body.specs.declared.body.PutItem.{PutItem}
 use Rattle.record_body.specs.declared.body.CommitBody.{CommitBody}
-use Rattle.record_body.specs.FirstSpelling.{FirstBody, Put, Commit, placed_bytes, item_bytes, put_front, body_bytes, FitsItem, FitsBody, FitsCommit}
+use Rattle.record_body.specs.FirstSpelling.{FirstBody, Put, Commit, placed_bytes, item_bytes, put_front, body_bytes, FitsItem, FitsFirstBody, FitsCommit}
 
 -- ---- lengths
 
@@ -46,7 +46,7 @@ length-commit c fits =
     let tail : List ℕ = to_be_bytes w64 c.version.0 ++ (to_be_bytes w64 c.at ++ (to_be_bytes w32 c.len ++ c.fp.0)) in
     omega (arith, length-append c.tag.0 tail, fits.tag, fits.fp)
 
-pub longest : (b : FirstBody) → FitsBody b → length (body_bytes b) ≤ 11527
+pub longest : (b : FirstBody) → FitsFirstBody b → length (body_bytes b) ≤ 11527
 longest (Put user items) fits = omega (arith, length-put user items fits.1.1, count_by-le-length has_place items, fits.1.0.1)
 longest (Commit c) fits = omega (arith, length-commit c fits)
 

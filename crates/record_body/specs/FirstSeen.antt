@@ -9,6 +9,6 @@ seen (views.Put user items) = Put user items.items
 seen (views.Commit commit) = Commit commit
 
 -- the walk over the items goes over these bytes, from the first item on
-abbrev pub StartsIn : List ℕ → FirstBodyView → Type 0
-StartsIn bytes (views.Put user items) = (items.body ≡ bytes) × (items.at ≡ 7)
-StartsIn bytes (views.Commit commit) = Unit {0}
+abbrev pub FirstWalkStartsIn : List ℕ → FirstBodyView → Type 0
+FirstWalkStartsIn bytes (views.Put user items) = (items.body ≡ bytes) × (items.at ≡ 7)
+FirstWalkStartsIn bytes (views.Commit commit) = Unit {0}

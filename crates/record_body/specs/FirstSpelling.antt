@@ -62,11 +62,11 @@ pub record FitsCommit (c : CommitBody) : Type 0 where
   pub fp : length c.fp.0 ≡ 32
 
 -- each field is in its range, and a Put has 1 to 256 items
-abbrev pub FitsBody : FirstBody → Type 0
-FitsBody (Put user items) = (user.0 < 2 ^ 32) × (IsBatch items × All FitsItem items)
-FitsBody (Commit commit) = FitsCommit commit
+abbrev pub FitsFirstBody : FirstBody → Type 0
+FitsFirstBody (Put user items) = (user.0 < 2 ^ 32) × (IsBatch items × All FitsItem items)
+FitsFirstBody (Commit commit) = FitsCommit commit
 
 -- The bytes are this body: its one spelling, and each field is in its range.
 pub record IsFirstBody (bytes : List ℕ) (b : FirstBody) : Type 0 where
-  pub fits : FitsBody b
+  pub fits : FitsFirstBody b
   pub spelled : bytes ≡ body_bytes b

@@ -70,8 +70,8 @@ pub record FitsSpent (s : SpentBody) : Type 0 where
 
 -- each field is in its range, and a Put and a Kept have 1 to 256 items
 abbrev pub FitsBody : Body → Type 0
-FitsBody (Put user items) = first.FitsBody (first.Put user items)
-FitsBody (Commit commit) = first.FitsBody (first.Commit commit)
+FitsBody (Put user items) = first.FitsFirstBody (first.Put user items)
+FitsBody (Commit commit) = first.FitsFirstBody (first.Commit commit)
 FitsBody (Delete delete) = FitsDelete delete
 FitsBody (Kept items) = IsBatch items × All FitsKept items
 FitsBody (Spent spent) = FitsSpent spent

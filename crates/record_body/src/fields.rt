@@ -1,7 +1,7 @@
 //! Reading the fields of a Delete, a Kept and a Spent, from left to right.
 
 ghost use Rattle.message_fields.specs.Parts.{times, behind};
-ghost use Rattle.message_fields.specs.Readings.{IsReading};
+ghost use Rattle.message_fields.specs.Readings.{IsReadingSeenBy};
 ghost use Rattle.record_body.specs.Reading.{item_at, delete_at, spent_at};
 ghost use Rattle.record_body.specs.Spelling.{Delete, Spent};
 
@@ -12,7 +12,7 @@ use message_fields::{Left, Tag, Version, array_of, fp_of, u32_of, u64_of, user_o
 /// An item of a Kept, and what follows it.
 #[tactic(auto, unfolding(crate::specs::Reading::item_at))]
 pub fn item_of(bytes: &[u8]) -> Result<(KeptItem, &[u8]), Left>
-    ensures { IsReading (λ x. (x.0, x.1.now)) result (item_at bytes.now) }
+    ensures { IsReadingSeenBy (λ x. (x.0, x.1.now)) result (item_at bytes.now) }
 {
     let (fp, rest) = fp_of(bytes)?;
     let (place, rest) = place_of(rest)?;
@@ -21,7 +21,7 @@ pub fn item_of(bytes: &[u8]) -> Result<(KeptItem, &[u8]), Left>
 
 /// What follows so many items.
 pub fn behind_items(bytes: &[u8], count: usize) -> Result<&[u8], Left>
-    ensures { IsReading (λ rest. rest.now) result (behind (times item_at count bytes.now)) }
+    ensures { IsReadingSeenBy (λ rest. rest.now) result (behind (times item_at count bytes.now)) }
 {
     let mut rest = bytes;
     for _i in 0..count {
@@ -34,7 +34,7 @@ pub fn behind_items(bytes: &[u8], count: usize) -> Result<&[u8], Left>
 /// The fields of a Delete, and what follows them.
 #[tactic(auto, unfolding(crate::specs::Reading::delete_at))]
 pub fn delete_of(bytes: &[u8]) -> Result<(DeleteBody, &[u8]), Left>
-    ensures { IsReading (λ x. (Delete x.0, x.1.now)) result (delete_at bytes.now) }
+    ensures { IsReadingSeenBy (λ x. (Delete x.0, x.1.now)) result (delete_at bytes.now) }
 {
     let (user, rest) = user_of(bytes)?;
     let (tag, rest) = array_of(rest)?;
@@ -50,7 +50,7 @@ pub fn delete_of(bytes: &[u8]) -> Result<(DeleteBody, &[u8]), Left>
 /// The fields of a Spent, and what follows them.
 #[tactic(auto, unfolding(crate::specs::Reading::spent_at))]
 pub fn spent_of(bytes: &[u8]) -> Result<(SpentBody, &[u8]), Left>
-    ensures { IsReading (λ x. (Spent x.0, x.1.now)) result (spent_at bytes.now) }
+    ensures { IsReadingSeenBy (λ x. (Spent x.0, x.1.now)) result (spent_at bytes.now) }
 {
     let (user, rest) = user_of(bytes)?;
     let (owners, rest) = u32_of(rest)?;

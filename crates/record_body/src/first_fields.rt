@@ -3,7 +3,7 @@
 ghost use Rattle.std.specs.Int.{w32};
 ghost use Rattle.message_fields.specs.Grammar.Fields.{number_at, checked};
 ghost use Rattle.message_fields.specs.Parts.{times, behind};
-ghost use Rattle.message_fields.specs.Readings.{IsReading};
+ghost use Rattle.message_fields.specs.Readings.{IsReadingSeenBy};
 ghost use Rattle.record_body.specs.FirstReading.{place_at, placed_at, item_at, commit_at, is_recipe_len};
 ghost use Rattle.record_body.specs.FirstSpelling.{Commit};
 
@@ -14,7 +14,7 @@ use message_fields::{
 
 // The length of a recipe, at least 1.
 fn recipe_len_of(bytes: &[u8]) -> Result<(u32, &[u8]), Left>
-    ensures { IsReading (λ x. (x.0, x.1.now)) result (checked is_recipe_len (number_at w32) bytes.now) }
+    ensures { IsReadingSeenBy (λ x. (x.0, x.1.now)) result (checked is_recipe_len (number_at w32) bytes.now) }
 {
     let (len, rest) = u32_of(bytes)?;
     if 1 <= len {
@@ -27,7 +27,7 @@ fn recipe_len_of(bytes: &[u8]) -> Result<(u32, &[u8]), Left>
 /// A place, and what follows it.
 #[tactic(auto, unfolding(crate::specs::FirstReading::place_at))]
 pub fn place_of(bytes: &[u8]) -> Result<(Place, &[u8]), Left>
-    ensures { IsReading (λ x. (x.0, x.1.now)) result (place_at bytes.now) }
+    ensures { IsReadingSeenBy (λ x. (x.0, x.1.now)) result (place_at bytes.now) }
 {
     let (at, rest) = u64_of(bytes)?;
     let (len, rest) = share_len_of(rest)?;
@@ -37,7 +37,7 @@ pub fn place_of(bytes: &[u8]) -> Result<(Place, &[u8]), Left>
 // A flag, and the place behind flag 1.
 #[tactic(auto, unfolding(crate::specs::FirstReading::placed_at))]
 fn placed_of(bytes: &[u8]) -> Result<(Option<Place>, &[u8]), Left>
-    ensures { IsReading (λ x. (x.0, x.1.now)) result (placed_at bytes.now) }
+    ensures { IsReadingSeenBy (λ x. (x.0, x.1.now)) result (placed_at bytes.now) }
 {
     match bytes {
         [] => Err(Left(0)),
@@ -53,7 +53,7 @@ fn placed_of(bytes: &[u8]) -> Result<(Option<Place>, &[u8]), Left>
 /// An item of a Put, and what follows it.
 #[tactic(auto, unfolding(crate::specs::FirstReading::item_at))]
 pub fn item_of(bytes: &[u8]) -> Result<(PutItem, &[u8]), Left>
-    ensures { IsReading (λ x. (x.0, x.1.now)) result (item_at bytes.now) }
+    ensures { IsReadingSeenBy (λ x. (x.0, x.1.now)) result (item_at bytes.now) }
 {
     let (fp, rest) = fp_of(bytes)?;
     let (place, rest) = placed_of(rest)?;
@@ -62,7 +62,7 @@ pub fn item_of(bytes: &[u8]) -> Result<(PutItem, &[u8]), Left>
 
 /// What follows so many items.
 pub fn behind_items(bytes: &[u8], count: usize) -> Result<&[u8], Left>
-    ensures { IsReading (λ rest. rest.now) result (behind (times item_at count bytes.now)) }
+    ensures { IsReadingSeenBy (λ rest. rest.now) result (behind (times item_at count bytes.now)) }
 {
     let mut rest = bytes;
     for _i in 0..count {
@@ -75,7 +75,7 @@ pub fn behind_items(bytes: &[u8], count: usize) -> Result<&[u8], Left>
 /// The fields of a Commit, and what follows them.
 #[tactic(auto, unfolding(crate::specs::FirstReading::commit_at))]
 pub fn commit_of(bytes: &[u8]) -> Result<(CommitBody, &[u8]), Left>
-    ensures { IsReading (λ x. (Commit x.0, x.1.now)) result (commit_at bytes.now) }
+    ensures { IsReadingSeenBy (λ x. (Commit x.0, x.1.now)) result (commit_at bytes.now) }
 {
     let (user, rest) = user_of(bytes)?;
     let (tag, rest) = array_of(rest)?;

@@ -6,7 +6,7 @@ ghost use Rattle.message_fields.specs.CdBase.ids.UserId.{UserId};
 ghost use Rattle.record_body.specs.declared.body.PutItem.{PutItem};
 ghost use Rattle.record_body.specs.declared.body.CommitBody.{CommitBody};
 ghost use Rattle.record_body.specs.declared.body.BodyErr.TheVariants.{Extra, Short};
-ghost use Rattle.record_body.specs.FirstSpelling.{FirstBody, Put, Commit, FitsItem, FitsBody, FitsCommit, IsFirstBody, put_front, item_bytes, body_bytes};
+ghost use Rattle.record_body.specs.FirstSpelling.{FirstBody, Put, Commit, FitsItem, FitsFirstBody, FitsCommit, IsFirstBody, put_front, item_bytes, body_bytes};
 ghost use Rattle.record_body.specs.FirstReading.{body_at};
 
 /// Reading and spelling are inverse.
@@ -15,14 +15,14 @@ pub fn reading_laws()
     ensures exact { (bytes : List ℕ) (b : FirstBody) → All (λ x. x < 256) bytes
         → (body_at bytes ≡ Ok b) ↔ IsFirstBody bytes b }
     // a body is read again
-    ensures again { (b : FirstBody) → FitsBody b → body_at (body_bytes b) ≡ Ok b }
+    ensures again { (b : FirstBody) → FitsFirstBody b → body_at (body_bytes b) ≡ Ok b }
     // no two bodies have one spelling
-    ensures one { (a b : FirstBody) → FitsBody a → FitsBody b → body_bytes a ≡ body_bytes b → a ≡ b }
+    ensures one { (a b : FirstBody) → FitsFirstBody a → FitsFirstBody b → body_bytes a ≡ body_bytes b → a ≡ b }
     // bytes behind a body are refused at the first of them
-    ensures extra { (b : FirstBody) (x : ℕ) (rest : List ℕ) → FitsBody b
+    ensures extra { (b : FirstBody) (x : ℕ) (rest : List ℕ) → FitsFirstBody b
         → body_at (body_bytes b ++ x ∷ rest) ≡ Err (Extra (length (body_bytes b))) }
     // each proper beginning of a body is too short
-    ensures short { (b : FirstBody) (front : List ℕ) (x : ℕ) (rest : List ℕ) → FitsBody b
+    ensures short { (b : FirstBody) (front : List ℕ) (x : ℕ) (rest : List ℕ) → FitsFirstBody b
         → body_bytes b ≡ front ++ x ∷ rest
         → body_at front ≡ Err Short }
 {}
@@ -35,7 +35,7 @@ pub fn length_laws()
         ≡ 7 + 33 * length items + 12 * count_by (λ item. is_some item.place) items }
     ensures commit { (commit : CommitBody) → FitsCommit commit → length (body_bytes (Commit commit)) ≡ 89 }
     // the longest body
-    ensures longest { (b : FirstBody) → FitsBody b → length (body_bytes b) ≤ 11527 }
+    ensures longest { (b : FirstBody) → FitsFirstBody b → length (body_bytes b) ≤ 11527 }
 {}
 
 /// What `RecordBuf` holds after a Put is begun and its items are appended.

@@ -1,10 +1,10 @@
 //! A body of format 1 in the bytes that it came in.
 
 ghost use Rattle.std.specs.Prelude.{◌≡◌, ◌∷◌, ◌↔◌, length, Ok, Err, MatchResult, IfOk, IfErr};
-ghost use Rattle.message_fields.specs.Readings.{IsReading};
+ghost use Rattle.message_fields.specs.Readings.{IsReadingSeenBy};
 ghost use Rattle.record_body.specs.FirstSpelling.{FirstBody, IsFirstBody};
 ghost use Rattle.record_body.specs.FirstReading.{put_at, front_at, body_at, IsPlaced};
-ghost use Rattle.record_body.specs.FirstSeen.{seen, StartsIn};
+ghost use Rattle.record_body.specs.FirstSeen.{seen, FirstWalkStartsIn};
 
 use crate::first_fields::{behind_items, commit_of};
 use crate::{BodyErr, CommitBody, PutItems};
@@ -23,8 +23,8 @@ pub enum FirstBodyView<'a> {
 #[tactic(auto, unfolding(crate::specs::FirstReading::put_at, crate::specs::FirstReading::items_at))]
 fn put_of<'a>(body: &'a [u8], fields: &'a [u8]) -> Result<(FirstBodyView<'a>, &'a [u8]), Left>
     requires { body.now ≡ 1 ∷ fields.now }
-    ensures reads { IsReading (λ x. (seen x.0, x.1.now)) result (put_at fields.now) }
-    ensures starts { IfOk result (λ x. StartsIn body.now x.0) }
+    ensures reads { IsReadingSeenBy (λ x. (seen x.0, x.1.now)) result (put_at fields.now) }
+    ensures starts { IfOk result (λ x. FirstWalkStartsIn body.now x.0) }
 {
     let (user, rest) = user_of(fields)?;
     let (count, items) = batch_of(rest)?;
@@ -37,8 +37,8 @@ fn put_of<'a>(body: &'a [u8], fields: &'a [u8]) -> Result<(FirstBodyView<'a>, &'
 // A body, and what follows it.
 #[tactic(auto, unfolding(crate::specs::FirstReading::fields_at, crate::specs::FirstReading::front_at))]
 fn view_of(body: &[u8]) -> Result<(FirstBodyView<'_>, &[u8]), Left>
-    ensures reads { IsReading (λ x. (seen x.0, x.1.now)) result (front_at body.now) }
-    ensures starts { IfOk result (λ x. StartsIn body.now x.0) }
+    ensures reads { IsReadingSeenBy (λ x. (seen x.0, x.1.now)) result (front_at body.now) }
+    ensures starts { IfOk result (λ x. FirstWalkStartsIn body.now x.0) }
 {
     match body {
         [] => Err(Left(0)),
@@ -62,7 +62,7 @@ impl<'a> FirstBodyView<'a> {
         // The bytes are read as the body that they are the spelling of, and no other bytes are read.
         ensures grammar { (b : FirstBody) → (body_at body.now ≡ Ok b) ↔ IsFirstBody body.now b }
         // The walk over the items goes over these bytes, from the first item on.
-        ensures starts { IfOk result (λ view. StartsIn body.now view) }
+        ensures starts { IfOk result (λ view. FirstWalkStartsIn body.now view) }
         // The place of an error is one of the bytes.
         ensures within { IfErr result (λ e. IsPlaced (length body.now) e) }
     {

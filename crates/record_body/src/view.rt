@@ -1,7 +1,7 @@
 //! A body in the bytes that it came in.
 
 ghost use Rattle.std.specs.Prelude.{◌≡◌, ◌∷◌, ◌↔◌, length, Ok, Err, MatchResult, IfOk, IfErr};
-ghost use Rattle.message_fields.specs.Readings.{IsReading};
+ghost use Rattle.message_fields.specs.Readings.{IsReadingSeenBy};
 ghost use Rattle.record_body.specs.FirstReading as first_reading;
 ghost use Rattle.record_body.specs.FirstReading.{IsPlaced};
 ghost use Rattle.record_body.specs.Spelling.{Body, IsBody};
@@ -41,7 +41,7 @@ fn are_later(body: &[u8]) -> bool
 #[tactic(auto, unfolding(crate::specs::Reading::kept_at, crate::specs::Reading::items_at))]
 fn kept_of<'a>(body: &'a [u8], fields: &'a [u8]) -> Result<(BodyView<'a>, &'a [u8]), Left>
     requires { body.now ≡ 4 ∷ fields.now }
-    ensures reads { IsReading (λ x. (seen x.0, x.1.now)) result (kept_at fields.now) }
+    ensures reads { IsReadingSeenBy (λ x. (seen x.0, x.1.now)) result (kept_at fields.now) }
     ensures starts { IfOk result (λ x. StartsIn body.now x.0) }
 {
     let (count, items) = batch_of(fields)?;
@@ -54,7 +54,7 @@ fn kept_of<'a>(body: &'a [u8], fields: &'a [u8]) -> Result<(BodyView<'a>, &'a [u
 // A Delete, a Kept or a Spent, and what follows it.
 #[tactic(auto, unfolding(crate::specs::Reading::fields_at, crate::specs::Reading::front_at))]
 fn view_of(body: &[u8]) -> Result<(BodyView<'_>, &[u8]), Left>
-    ensures reads { IsReading (λ x. (seen x.0, x.1.now)) result (front_at body.now) }
+    ensures reads { IsReadingSeenBy (λ x. (seen x.0, x.1.now)) result (front_at body.now) }
     ensures starts { IfOk result (λ x. StartsIn body.now x.0) }
 {
     match body {

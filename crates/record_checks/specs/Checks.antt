@@ -172,13 +172,13 @@ IsWhole g m c read = IsNamed g.shape c.fp read × AreOwned m.owners c.user (fps_
 
 -- The recipe's place that a record names, of which the checks want to know what lies there: of a Commit, where neither its place nor its
 -- tag fails, and of a Delete's entry.
-pub data Asks (g : Ground) (inside : Bool) (m : Memory) : Body → Place → Type 0 where
-  ByCommit : (c : CommitBody) → RecipeLies g inside m c → commit_entry m c ≡ None → Asks g inside m (Commit c) (record { at = c.at; len = c.len })
-  ByDelete : (d : DeleteBody) (e : Entry) → delete_entry m d ≡ Some e → e.len ≤ recipe_limit → Asks g inside m (Delete d) (record { at = e.at; len = e.len })
+pub data NamesRecipePlace (g : Ground) (inside : Bool) (m : Memory) : Body → Place → Type 0 where
+  ByCommit : (c : CommitBody) → RecipeLies g inside m c → commit_entry m c ≡ None → NamesRecipePlace g inside m (Commit c) (record { at = c.at; len = c.len })
+  ByDelete : (d : DeleteBody) (e : Entry) → delete_entry m d ≡ Some e → e.len ≤ recipe_limit → NamesRecipePlace g inside m (Delete d) (record { at = e.at; len = e.len })
 
 -- the bytes of a body are such a record's
 abbrev pub AsksFor : Ground → Bool → Memory → List ℕ → Place → Type 0
-AsksFor g inside m body place = (b : Body) × (body_at body ≡ Ok b) × Asks g inside m b place
+AsksFor g inside m body place = (b : Body) × (body_at body ≡ Ok b) × NamesRecipePlace g inside m b place
 
 -- ---- limits
 

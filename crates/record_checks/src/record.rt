@@ -6,7 +6,7 @@ ghost use Rattle.cloud_memory.specs.CdBase.Limits.{recipe_limit};
 ghost use Rattle.cloud_memory.specs.CdBase.place.Place.{Place as Lying};
 ghost use Rattle.cloud_memory.specs.Rooms.{memory_of, HasRooms};
 ghost use Rattle.record_checks.specs.declared.ground.Ground.{Ground as Known};
-ghost use Rattle.record_checks.specs.Checks.{Asks, AsksFor, IsOfCheckpoint};
+ghost use Rattle.record_checks.specs.Checks.{NamesRecipePlace, AsksFor, IsOfCheckpoint};
 ghost use Rattle.cloud_memory.specs.RecordBody.Spelling.{Commit, Delete, IsBody};
 ghost use Rattle.cloud_memory.specs.RecordBody.Seen.{seen, StartsIn};
 ghost use Rattle.record_checks.specs.Steps.{JudgedAs};
@@ -32,8 +32,8 @@ fn commit_place(
     commit: &CommitBody,
 ) -> Option<Place>
     ensures { MatchOption result
-        ((place : Lying) → ¬ (Asks ground.now inside (memory_of memory.now) (Commit commit.now) place))
-        (λ place. Asks ground.now inside (memory_of memory.now) (Commit commit.now) place
+        ((place : Lying) → ¬ (NamesRecipePlace ground.now inside (memory_of memory.now) (Commit commit.now) place))
+        (λ place. NamesRecipePlace ground.now inside (memory_of memory.now) (Commit commit.now) place
         × (place.len ≤ recipe_limit)) }
 {
     match commit_fault(memory, ground, inside, commit) {
@@ -48,8 +48,10 @@ fn commit_place(
 // Where the recipe of a Delete's entry lies.
 fn delete_place(memory: &CloudMemory, delete: &DeleteBody) -> Option<Place>
     ensures { (g : Known) (inside : Bool)
-        → MatchOption result ((place : Lying) → ¬ (Asks g inside (memory_of memory.now) (Delete delete.now) place))
-        (λ place. Asks g inside (memory_of memory.now) (Delete delete.now) place × (place.len ≤ recipe_limit)) }
+        → MatchOption result ((place : Lying)
+        → ¬ (NamesRecipePlace g inside (memory_of memory.now) (Delete delete.now) place))
+        (λ place. NamesRecipePlace g inside (memory_of memory.now) (Delete delete.now) place
+        × (place.len ≤ recipe_limit)) }
 {
     match memory.entry(delete.user, &delete.tag, delete.version) {
         Some(entry) => {
@@ -74,8 +76,9 @@ fn place_of(
     view: BodyView<'_>,
 ) -> Option<Place>
     ensures { MatchOption result
-        ((place : Lying) → ¬ (Asks ground.now inside (memory_of memory.now) (seen view.entry) place))
-        (λ place. Asks ground.now inside (memory_of memory.now) (seen view.entry) place × (place.len ≤ recipe_limit)) }
+        ((place : Lying) → ¬ (NamesRecipePlace ground.now inside (memory_of memory.now) (seen view.entry) place))
+        (λ place. NamesRecipePlace ground.now inside (memory_of memory.now) (seen view.entry) place
+        × (place.len ≤ recipe_limit)) }
 {
     match view {
         BodyView::Put { .. } => None,

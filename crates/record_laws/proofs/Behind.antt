@@ -51,7 +51,7 @@ use Rattle.record_checks.proofs.MemoryProofs.Keys.{owner_in}
 use Rattle.record_checks.proofs.MemoryProofs.Lists.{are_placed, row_here, string_len}
 use Rattle.record_checks.proofs.MemoryProofs.Puts.{ArePlaced, len_at, spent_stays}
 use Rattle.record_checks.specs.declared.ground.Ground.{Ground}
-use Rattle.record_checks.specs.Checks.{Asks, ByCommit, ByDelete, Lies, ShareLies, IsFlagged, AreRight, RecipeLies, IsNamed, IsWhole, PutFits, CommitFits}
+use Rattle.record_checks.specs.Checks.{NamesRecipePlace, ByCommit, ByDelete, Lies, ShareLies, IsFlagged, AreRight, RecipeLies, IsNamed, IsWhole, PutFits, CommitFits}
 use Rattle.record_checks.specs.Judging.{JudgesBody, PutTaken, CommitTaken, Deleted}
 use Rattle.record_laws.specs.Leaving.{bytes_at, entry_bytes, recipe_for, record_left, IsLeft}
 use Rattle.record_laws.proofs.Asked.{lawful}
@@ -62,7 +62,7 @@ use Rattle.record_laws.proofs.Sized.{IsSized, entry_sized, inside_area, HasRoomI
 
 -- nothing is read for a record for which its checks ask for nothing
 abbrev pub ReadsNone : Ground → List ℕ → Bool → Memory → Body → Type 0
-ReadsNone g area inside m body = ((place : Place) → Asks g inside m body place → ⊥) → recipe_for area m body ≡ []
+ReadsNone g area inside m body = ((place : Place) → NamesRecipePlace g inside m body place → ⊥) → recipe_for area m body ≡ []
 
 -- ---- what a memory of a list within its rooms has
 

@@ -31,7 +31,7 @@ use Rattle.record_checks.proofs.CloudAreas.Lists.{in_map, from_map}
 use Rattle.record_checks.proofs.CloudAreas.Placed.{placed_is_sent}
 use Rattle.record_checks.specs.CloudMemory.Memory.{Memory}
 use Rattle.record_checks.specs.CloudMemory.Steps.{begun}
-use Rattle.record_checks.specs.Checks.{IsOfCheckpoint, Asks, AsksFor, ByCommit, ByDelete}
+use Rattle.record_checks.specs.Checks.{IsOfCheckpoint, NamesRecipePlace, AsksFor, ByCommit, ByDelete}
 use Rattle.record_checks.specs.declared.ground.Ground.{Ground}
 use Rattle.record_checks.specs.declared.taking.Taking.{Taking as Noted}
 use Rattle.record_checks.specs.Noting.{noted, IsNoted}
@@ -115,7 +115,7 @@ noted_next at m old new before body fits marks is =
     ap (λ (t : Noted). t.spent) (is body (again body fits)) ∙ noted_marks at (body_bytes body) m old body ∙ ap (λ l. marked l body) marks ∙ sym (marks_next before body)
 
 -- what its checks ask for is its recipe
-pub asked : (area : List ℕ) (g : Ground) (inside : Bool) (m : Memory) (body : Body) (place : Place) → Asks g inside m body place
+pub asked : (area : List ℕ) (g : Ground) (inside : Bool) (m : Memory) (body : Body) (place : Place) → NamesRecipePlace g inside m body place
     → take place.len (drop place.at area) ≡ recipe_for area m body
 asked area g inside m _ _ (ByCommit c lies none) = refl
 asked area g inside m _ _ (ByDelete d e got few) = sym (ap (entry_bytes area) got)
@@ -262,7 +262,7 @@ module _ (header : Header) (image : Image) (list : List Command) (c : Chain) (be
       → Judges g (is_inside c before) (take place.len (drop place.at area)) (marks_of before) m at (body_bytes body) (Ok (front_left header image c (before ++ body ∷ [])))
   there_taken at fits place asks =
       let same : asks.0 ≡ body = some_ok asks.0 body (sym asks.1 ∙ again body fits) in
-      let read = asked area g (is_inside c before) m body place (subst (λ (b : Body). Asks g (is_inside c before) m b place) same asks.2) in
+      let read = asked area g (is_inside c before) m body place (subst (λ (b : Body). NamesRecipePlace g (is_inside c before) m b place) same asks.2) in
       subst (λ (bytes : List ℕ). Judges g (is_inside c before) bytes (marks_of before) m at (body_bytes body) (Ok (front_left header image c (before ++ body ∷ [])))) (sym read)
       (bytes_taken at fits)
 

@@ -36,9 +36,9 @@ use Rattle.script_lines.specs.At.{header_in}
 use Rattle.script_lines.proofs.Going.{header_is}
 use Rattle.replay_core.specs.declared.end.ReplayEnd.{ReplayEnd}
 use Rattle.replay_core.specs.declared.end.ReplayEnd.TheVariants as ends
-use Rattle.replay_core.specs.Endings.{AreSpared, HasReadSome, HasHeader, IsDue}
+use Rattle.replay_core.specs.Endings.{AreSpared, HasReadSome, HasHeaderLine, IsDue}
 use Rattle.replay_core.specs.Replayed.{Replayed, HasReplayed, status_of, ending_of, IsPrinted}
-use Rattle.replay_core.specs.Opening.{AreSame, IsEmpty, IsThere, IsHead, Prepares, PreparesAll, EndsFirst, EndsUnopened, OpensTo}
+use Rattle.replay_core.specs.Opening.{AreSame, IsEmpty, IsThere, IsHead, Prepares, PreparesAll, EndsFirst, EndsUnopened, OpensClouds}
 use Rattle.replay_core.specs.Going.{ReplayStart, call_of, IsReplayReady, HasCome, EndsWriting}
 use Rattle.replay_core.proofs.Clouds.{EmptyStands, all_same, spared_by, spared_same}
 use Rattle.replay_core.proofs.Firsts.{map_told}
@@ -79,7 +79,7 @@ replayed_unopened laws status start s new some told prepares = record {
 -- the promise of such an end, which isn't Done
 unopened_so : (end : ReplayEnd) → Laws → (start : ReplayStart) (s : Setting) (left : Option (List ℕ)) (source sink total : ℕ) (new : ℕ → Cloud) (now : Option (List ℕ))
     → (status_of end ≡ 0 → ⊥) → ((cloud : ℕ) → s.told cloud ≡ (start.old cloud).told) → PreparesAll (header_in s) s.shape start.old new → AreSpared s.shape.n start.old new
-    → HasHeader (call_of start left source sink total new) (unopened_of s start.old)
+    → HasHeaderLine (call_of start left source sink total new) (unopened_of s start.old)
     → IsDue (call_of start left source sink total new) (unopened_of s start.old) (ending_of end)
     → CausedBy (call_of start left source sink total new) (unopened_of s start.old) end
     → IsPrinted end (call_of start left source sink total new) (unopened_of s start.old) start.written now
@@ -158,7 +158,7 @@ module _ (laws : Laws) (start : ReplayStart) (s : Setting) (reader : ReaderState
   read : HasReadSome (call_of start left source sink total new) (unopened_of s start.old)
   read = read_some start.script (λ (script : List ℕ) (place : ScriptPlace). Reaches script s.shape s.rooms [] place) reached
 
-  header : HasHeader (call_of start left source sink total new) (unopened_of s start.old)
+  header : HasHeaderLine (call_of start left source sink total new) (unopened_of s start.old)
   header = header_read (call_of start left source sink total new) (unopened_of s start.old) [] reached
 
   pub ends_unmade : AreSame start.old new → HasReplayed ends.NoMemory (call_of start left source sink total new) start.written now
@@ -248,7 +248,7 @@ module _ {V : Type 0} (clouds : V → ℕ → Cloud) (laws : Laws) (start : Repl
       ends_unmade laws start s reader left source sink total (clouds old.shelf.now) written ready.told ready.read (all_same law (header_in s) s.shape start.old (clouds old.shelf.now) ready.same) ready.written_is ready.sink_is
       ready.same
 
-  module _ (new : LocalLink V) (to : OpensTo clouds old new old.servers.shape.n) where
+  module _ (new : LocalLink V) (to : OpensClouds clouds old new old.servers.shape.n) where
     pub prepares_at : (cloud : ℕ) → cloud < s.shape.n → Prepares (header_in s cloud) (start.old cloud) (clouds new.shelf.now cloud)
     prepares_at cloud lt = prepares_ready (clouds new.shelf.now) cloud lt (to.prepares cloud (below cloud lt))
 

@@ -17,11 +17,11 @@ use Rattle.share_server.specs.CloudOpening.Spared.{IsOkOrFault}
 use Rattle.share_server.specs.CloudAreas.Peers.{StandsForSome}
 use Rattle.share_server.specs.CloudAreas.Standing.{StandsFor}
 use Rattle.share_server.specs.Names.{HasNoJournal}
-use Rattle.share_server.specs.Refusals.{IsDamage}
+use Rattle.share_server.specs.Refusals.{IsNamedDamage}
 use Rattle.replay_core.specs.declared.end.ReplayEnd.{ReplayEnd}
 use Rattle.replay_core.specs.declared.end.ReplayEnd.TheVariants as ends
 use Rattle.replay_core.specs.Endings.{AreEmptyBelow, AreSpared, IsFirstFilled}
-use Rattle.replay_core.specs.Opening.{IsBlank, Prepares, PreparesAll, AreSame, IsEmpty, EndsEmpty, EndsOpening, EndsUnopened, IsEndOf}
+use Rattle.replay_core.specs.Opening.{IsBlank, Prepares, PreparesAll, AreSame, IsEmpty, EndsEmpty, EndsAtOpening, EndsUnopened, IsEndOf}
 
 -- areas that are all empty stand for no commands
 abbrev pub EmptyStands : Type 0
@@ -142,7 +142,7 @@ pub not_told : (told : Bool) → (IsTrue told → ⊥) → told ≡ false
 not_told true never = absurd (never refl)
 not_told false _ = refl
 
-pub damaged_end : (cloud : CloudNo) (error : OpenErr) (at byte : ℕ) → error ≢ errors.Fault → IsDamage error at byte
+pub damaged_end : (cloud : CloudNo) (error : OpenErr) (at byte : ℕ) → error ≢ errors.Fault → IsNamedDamage error at byte
     → IsEndOf cloud error (ends.Damaged cloud at byte)
 damaged_end cloud errors.Fault at byte ne is = absurd (ne refl)
 damaged_end cloud (errors.NotBegun len) at byte ne is = (at, byte, is, refl)
@@ -155,17 +155,17 @@ failed_by error = Err error
 
 pub ends_opening : (cloud : CloudNo) (old new : Cloud) (before now : ℕ) (error : OpenErr) (end : ReplayEnd) → IsEndOf cloud error end
     → OnFault (failed_by error) (HasFailed old new before now) (KeepsCounts old new before now)
-    → (IsTrue old.told → IsOkOrFault (failed_by error)) → EndsOpening cloud.0 old new end
-ends_opening cloud old new before now errors.Fault end e counts may = subst (EndsOpening cloud.0 old new) (sym e) (refl, counts.cloud)
-ends_opening cloud old new before now (errors.NotBegun len) end e counts may = subst (EndsOpening cloud.0 old new) (sym e.3) (refl, not_told old.told may)
-ends_opening cloud old new before now (errors.Damaged place found) end e counts may = subst (EndsOpening cloud.0 old new) (sym e.3) (refl, not_told old.told may)
-ends_opening cloud old new before now (errors.OtherStore found asked start) end e counts may = subst (EndsOpening cloud.0 old new) (sym e.3) (refl, not_told old.told may)
+    → (IsTrue old.told → IsOkOrFault (failed_by error)) → EndsAtOpening cloud.0 old new end
+ends_opening cloud old new before now errors.Fault end e counts may = subst (EndsAtOpening cloud.0 old new) (sym e) (refl, counts.cloud)
+ends_opening cloud old new before now (errors.NotBegun len) end e counts may = subst (EndsAtOpening cloud.0 old new) (sym e.3) (refl, not_told old.told may)
+ends_opening cloud old new before now (errors.Damaged place found) end e counts may = subst (EndsAtOpening cloud.0 old new) (sym e.3) (refl, not_told old.told may)
+ends_opening cloud old new before now (errors.OtherStore found asked start) end e counts may = subst (EndsAtOpening cloud.0 old new) (sym e.3) (refl, not_told old.told may)
 
 -- at one of the clouds
 pub ends_unopened : (shape : Shape) (old mid new : ℕ → Cloud) (number : ℕ) → number < shape.n → mid number ≡ old number
-    → ((cloud : ℕ) → cloud < shape.n → IsEmpty (old cloud)) → (end : ReplayEnd) → EndsOpening number (mid number) (new number) end → EndsUnopened shape old new end
+    → ((cloud : ℕ) → cloud < shape.n → IsEmpty (old cloud)) → (end : ReplayEnd) → EndsAtOpening number (mid number) (new number) end → EndsUnopened shape old new end
 ends_unopened shape old mid new number below same empty end is =
-    by_end end (subst (λ (c : Cloud). EndsOpening number c (new number) end) same is)
+    by_end end (subst (λ (c : Cloud). EndsAtOpening number c (new number) end) same is)
   where
     front : AreEmptyBelow old number
     front other area lt told = empty other (omega (arith, lt, below)) told area
@@ -173,7 +173,7 @@ ends_unopened shape old mid new number below same empty end is =
     all : AreEmptyBelow old shape.n
     all other area lt told = empty other lt told area
 
-    by_end : (end : ReplayEnd) → EndsOpening number (old number) (new number) end → EndsUnopened shape old new end
+    by_end : (end : ReplayEnd) → EndsAtOpening number (old number) (new number) end → EndsUnopened shape old new end
     by_end (ends.ShelfFault cloud) e = subst (λ (n : ℕ). (n < shape.n) × Rose (old n).faults (new n).faults × AreEmptyBelow old n × AreSpared shape.n old new) (sym e.0)
         (below, e.1, front, inl all)
     by_end (ends.Damaged cloud at byte) e = subst (λ (n : ℕ). (n < shape.n) × ((old n).told ≡ false) × AreEmptyBelow old shape.n) (sym e.0) (below, e.1, all)

@@ -25,7 +25,7 @@ use Rattle.script_lines.specs.LocalLink.Calls.{no_commands}
 use Rattle.script_lines.specs.LocalLink.Tells.{server_at, rooms_at, header_at, IsPeer, StandsAt, LeavesRest}
 use Rattle.script_lines.proofs.OfLocalLink.Standing.{peer_moves}
 use Rattle.script_lines.proofs.Going.{rooms_kept}
-use Rattle.replay_core.specs.Opening.{Prepares, PreparesAll, IsEmpty, OpensTo}
+use Rattle.replay_core.specs.Opening.{Prepares, PreparesAll, IsEmpty, OpensClouds}
 use Rattle.replay_core.proofs.Clouds.{EmptyStands, prepares_same, prepares_from}
 
 -- the one list of none
@@ -71,7 +71,7 @@ may_fail_only law within header shape rooms old result empty whole told =
 -- ---- one after another
 
 module _ {V : Type 0} (clouds : V → ℕ → Cloud) (law : EmptyStands) where
-  pub none_opened : (link : LocalLink V) → OpensTo clouds link link 0
+  pub none_opened : (link : LocalLink V) → OpensClouds clouds link link 0
   none_opened link = record {
     shape = refl;
     fate = refl;
@@ -82,7 +82,7 @@ module _ {V : Type 0} (clouds : V → ℕ → Cloud) (law : EmptyStands) where
     servers_wait = λ cloud le. refl;
   }
 
-  module _ (old mid new : LocalLink V) (number : ℕ) (to : OpensTo clouds old mid number) (rest : LeavesRest clouds number mid new) where
+  module _ (old mid new : LocalLink V) (number : ℕ) (to : OpensClouds clouds old mid number) (rest : LeavesRest clouds number mid new) where
     header_waits : (cloud : ℕ) → header_at mid.servers cloud ≡ header_at old.servers cloud
     header_waits cloud = λ i. header_of (to.shape i) (to.rooms cloud i) cloud
 
@@ -103,7 +103,7 @@ module _ {V : Type 0} (clouds : V → ℕ → Cloud) (law : EmptyStands) where
     pub one_opened : Prepares (header_at mid.servers number) (clouds mid.shelf.now number) (clouds new.shelf.now number)
         → StandsAt clouds new number (no_commands (clouds mid.shelf.now number))
         → rooms_at new.servers number ≡ rooms_at mid.servers number → new.fate ≡ mid.fate
-        → OpensTo clouds old new (number + 1)
+        → OpensClouds clouds old new (number + 1)
     one_opened is stands rooms fate = record {
       shape = rest.shape_stays ∙ to.shape;
       fate = fate ∙ to.fate;

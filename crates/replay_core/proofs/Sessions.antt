@@ -12,12 +12,12 @@ use Rattle.share_server.specs.UserDedup.Exec.{Peer, MaySettleAs}
 use Rattle.two_worlds.specs.UploadJob.Lanes.{LaneView}
 use Rattle.script_lines.specs.LocalLink.link.LocalLink.{LocalLink}
 use Rattle.two_worlds.specs.Session.Lines.{ReaderState}
-use Rattle.two_worlds.specs.Session.Spelling.{Fits, IsTyped}
+use Rattle.two_worlds.specs.Session.Spelling.{FitsEvent, IsTyped}
 use Rattle.two_worlds.specs.Session.event.Event.{Event}
 use Rattle.two_worlds.specs.Transcript.line.Line.{Line}
 use Rattle.two_worlds.specs.Transcript.line.Line.TheVariants as lines
 use Rattle.two_worlds.specs.Transcript.Transcript.{line_text}
-use Rattle.two_worlds.specs.Session.Scripts.{jobs_after, jobs_of, AreLines, ScriptPlace, Says, Leads, Reaches}
+use Rattle.two_worlds.specs.Session.Scripts.{jobs_after, jobs_of, AreLines, ScriptPlace, Says, LeadsThrough, Reaches}
 use Rattle.two_worlds.specs.Session.Texts.{text_of}
 use Rattle.script_lines.specs.SessionModel.Vault.{Setting, Vault, opening}
 use Rattle.script_lines.specs.SessionModel.Steps.{Moment, VStep}
@@ -42,7 +42,7 @@ pub turns_more : (s : Setting) (old mid new : Vault) (history : List Answered) (
 turns_more s old mid new [] event answers moments same step = (same, subst (λ (v : Vault). VStep s v event answers moments new) same step, refl)
 turns_more s old mid new (a ∷ history) event answers moments turns step = (turns.0, turns.1, turns_more s a.after mid new history event answers moments turns.2 step)
 
-pub lines_more : (shape : Shape) (jobs : ℕ) (script : List Event) (event : Event) → AreLines shape jobs script → Fits shape (jobs_of jobs script) event → IsTyped event
+pub lines_more : (shape : Shape) (jobs : ℕ) (script : List Event) (event : Event) → AreLines shape jobs script → FitsEvent shape (jobs_of jobs script) event → IsTyped event
     → AreLines shape jobs (script ++ event ∷ [])
 lines_more shape jobs [] event are fits typed = (fits, typed, tt)
 lines_more shape jobs (e ∷ script) event are fits typed = (are.0, are.1, lines_more shape (jobs_after jobs e) script event are.2 fits typed)
@@ -51,8 +51,8 @@ pub jobs_more : (jobs : ℕ) (script : List Event) (event : Event) → jobs_of j
 jobs_more jobs [] event = refl
 jobs_more jobs (e ∷ script) event = jobs_more (jobs_after jobs e) script event
 
-leads_more : (shape : Shape) (place : ScriptPlace) (script : List Event) (mid next : ScriptPlace) (event : Event) → Leads shape place script mid → Says shape mid event next
-    → Leads shape place (script ++ event ∷ []) next
+leads_more : (shape : Shape) (place : ScriptPlace) (script : List Event) (mid next : ScriptPlace) (event : Event) → LeadsThrough shape place script mid → Says shape mid event next
+    → LeadsThrough shape place (script ++ event ∷ []) next
 leads_more shape place [] mid next event same says = (next, subst (λ (p : ScriptPlace). Says shape p event next) same says, refl)
 leads_more shape place (e ∷ script) mid next event leads says = (leads.0, leads.1, leads_more shape leads.0 script mid next event leads.2 says)
 
@@ -155,7 +155,7 @@ module _ {V : Type 0} (clouds : V → ℕ → Cloud) (start : ReplayStart) (s : 
   module _ (new : LocalLink V) (event : Event) (reader_now : ReaderState) (left_now : Option (List ℕ)) (can : CanBe s.shape (length jobs) event)
       (says : SaysNext s.shape (length jobs) reader left (Some event) reader_now left_now) (leaves : KeepsOtherClouds clouds link new) where
     pub lines_on : AreLines s.shape 0 (script_of come.history ++ event ∷ [])
-    lines_on = lines_more s.shape 0 (script_of come.history) event come.are_lines (subst (λ (n : ℕ). Fits s.shape n event) (sym come.uploads) can.fits) can.typed
+    lines_on = lines_more s.shape 0 (script_of come.history) event come.are_lines (subst (λ (n : ℕ). FitsEvent s.shape n event) (sym come.uploads) can.fits) can.typed
 
     pub read_on : IfSome start.script (λ script. (place : ScriptPlace) × Reaches script s.shape s.rooms (script_of come.history ++ event ∷ []) place × IsThere reader_now left_now (jobs_after (length jobs) event) place)
     read_on = map_told start.script (λ (script : List ℕ). (place : ScriptPlace) × Reaches script s.shape s.rooms (script_of come.history) place × IsThere reader left (length jobs) place)

@@ -24,7 +24,7 @@ use Rattle.script_lines.specs.Replacing.{IsShelfFault}
 use Rattle.replay_core.specs.declared.end.ReplayEnd.{ReplayEnd}
 use Rattle.replay_core.specs.declared.end.ReplayEnd.TheVariants as ends
 use Rattle.replay_core.specs.Opening.{IsThere, end_of_script, end_without}
-use Rattle.replay_core.specs.Going.{SaysEvent, EndsReading, WritesFront, EndsSink, EndsWriting, Answers, EndsAnswering, end_of_carry}
+use Rattle.replay_core.specs.Going.{SaysEvent, EndsReading, AppendsFront, EndsSink, EndsWriting, AnswersLine, EndsAnswering, end_of_carry}
 
 -- ---- what is read
 
@@ -111,7 +111,7 @@ ends_there jobs old new left left_now more over told place there =
 pub writes_line : (bytes line : List ℕ) (before now : Option (List ℕ)) (was is : ℕ) (result : Result (Unit {0}) ReplayEnd) → bytes ≡ line
     → IfErr result (EndsSink bytes before now was is) → IfErr result (EndsWriting line before now was is)
 writes_line bytes line before now was is (Ok u) e x = tt
-writes_line bytes line before now was is (Err ends.SinkFault) e x = (subst (λ (l : List ℕ). WritesFront l before now) e x.0, x.1)
+writes_line bytes line before now was is (Err ends.SinkFault) e x = (subst (λ (l : List ℕ). AppendsFront l before now) e x.0, x.1)
 writes_line bytes line before now was is (Err (ends.Done events)) e x = absurd x
 writes_line bytes line before now was is (Err (ends.Script number at found)) e x = absurd x
 writes_line bytes line before now was is (Err ends.SourceFault) e x = absurd x
@@ -123,14 +123,14 @@ writes_line bytes line before now was is (Err ends.NoMemory) e x = absurd x
 module _ {V : Type 0} (clouds : V → ℕ → Cloud) (event : Event) (old : LocalLink V) (jobs : List (List LaneView)) (new : LocalLink V) (jobs_now : List (List LaneView)) where
   -- the text that was written is that of the answers
   pub answers_so : (front text bytes : List ℕ) (OfText : List ℕ → Type 0) → front ≡ [] → bytes ≡ text
-      → CarriesOut clouds event old jobs new jobs_now front text → OfText bytes → Answers clouds event old jobs new jobs_now OfText
+      → CarriesOut clouds event old jobs new jobs_now front text → OfText bytes → AnswersLine clouds event old jobs new jobs_now OfText
   answers_so front text bytes OfText none same does of = λ s v is.
       let d = does s v is in
       (d.0, d.1, subst OfText (same ∙ d.2 ∙ ap (λ (l : List ℕ). l ++ text_of d.0) none) of)
 
   pub answers_on : (front text bytes : List ℕ) (before now : Option (List ℕ)) (result : Result (Unit {0}) ReplayEnd) → front ≡ [] → bytes ≡ text
       → CarriesOut clouds event old jobs new jobs_now front text → OnOk result (Appends before now bytes)
-      → OnOk result (Answers clouds event old jobs new jobs_now (Appends before now))
+      → OnOk result (AnswersLine clouds event old jobs new jobs_now (Appends before now))
   answers_on front text bytes before now (Ok u) none same does of = answers_so front text bytes (Appends before now) none same does of
   answers_on front text bytes before now (Err end) none same does of = tt
 
@@ -139,7 +139,7 @@ module _ {V : Type 0} (clouds : V → ℕ → Cloud) (event : Event) (old : Loca
       → IfErr result (EndsAnswering clouds event old jobs new jobs_now before now was is)
   ends_answering front text bytes before now was is (Ok u) none same does x = tt
   ends_answering front text bytes before now was is (Err ends.SinkFault) none same does x =
-      (answers_so front text bytes (λ (l : List ℕ). WritesFront l before now) none same does x.0, x.1)
+      (answers_so front text bytes (λ (l : List ℕ). AppendsFront l before now) none same does x.0, x.1)
   ends_answering front text bytes before now was is (Err (ends.Done events)) none same does x = absurd x
   ends_answering front text bytes before now was is (Err (ends.Script number at found)) none same does x = absurd x
   ends_answering front text bytes before now was is (Err ends.SourceFault) none same does x = absurd x

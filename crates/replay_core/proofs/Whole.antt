@@ -16,7 +16,7 @@ use Rattle.two_worlds.specs.Session.Lines.{ReaderState}
 use Rattle.two_worlds.specs.Session.Reading.{header_at}
 use Rattle.two_worlds.specs.Session.event.Event.{Event}
 use Rattle.two_worlds.specs.Session.event.Event.TheVariants as kinds
-use Rattle.two_worlds.specs.Session.Spelling.{Fits}
+use Rattle.two_worlds.specs.Session.Spelling.{FitsEvent}
 use Rattle.two_worlds.specs.Transcript.line.Line.TheVariants as lines
 use Rattle.two_worlds.specs.Transcript.Transcript.{line_text}
 use Rattle.two_worlds.specs.Session.Scripts.{jobs_after, ScriptPlace, Begins, Reaches, IsEnd, IsWrong, IsWrongFirst}
@@ -30,10 +30,10 @@ use Rattle.two_worlds.proofs.Two.{two_worlds}
 use Rattle.script_lines.specs.At.{KeepsOtherClouds}
 use Rattle.replay_core.specs.declared.end.ReplayEnd.{ReplayEnd}
 use Rattle.replay_core.specs.declared.end.ReplayEnd.TheVariants as ends
-use Rattle.replay_core.specs.Endings.{ReplayCall, HasReadSome, HasHeader, AreEmptyBelow, AreSpared, IsDue, HasStatusCause}
+use Rattle.replay_core.specs.Endings.{ReplayCall, HasReadSome, HasHeaderLine, AreEmptyBelow, AreSpared, IsDue, HasStatusCause}
 use Rattle.replay_core.specs.Replayed.{ArmsByLines, Replayed, HasReplayed, status_of, ending_of, IsTextCut, IsPrinted}
 use Rattle.replay_core.specs.Opening.{IsThere}
-use Rattle.replay_core.specs.Going.{ReplayStart, call_of, HasCome, SaysNext, CanBe, EndsReading, WritesFront, EndsWriting, Answers, EndsAnswering}
+use Rattle.replay_core.specs.Going.{ReplayStart, call_of, HasCome, SaysNext, CanBe, EndsReading, AppendsFront, EndsWriting, AnswersLine, EndsAnswering}
 use Rattle.replay_core.proofs.Firsts.{map_told}
 use Rattle.replay_core.proofs.Sessions.{Holds, Later, Here, Part, answered, holds_between, holds_cut, holds_answered, come_on, text_more, appends_on}
 
@@ -115,7 +115,7 @@ CausedBy call run ends.SinkFault = Rose call.sink_before call.sink_after
 CausedBy call run ends.NoMemory = Unit {0}
 CausedBy call run end = call.sink_after ≡ call.sink_before
 
-pub cause_of : (end : ReplayEnd) (call : ReplayCall) (run : Session) → HasHeader call run → (IsTrue run.opened → HasReadSome call run)
+pub cause_of : (end : ReplayEnd) (call : ReplayCall) (run : Session) → HasHeaderLine call run → (IsTrue run.opened → HasReadSome call run)
     → (IsTrue run.opened → AreEmptyBelow call.old run.setting.shape.n) → AreSpared run.setting.shape.n call.old call.new
     → IsDue call run (ending_of end) → CausedBy call run end → HasStatusCause (status_of end) call run (ending_of end)
 cause_of (ends.Done events) call run header read began spared due by = record {
@@ -259,7 +259,7 @@ read_some (Some bytes) P x = x
 
 -- the session's header, where its script was read
 pub header_read : (call : ReplayCall) (run : Session) (events : List Event)
-    → IfSome call.script (λ script. (place : ScriptPlace) × Reaches script run.setting.shape run.setting.rooms events place) → HasHeader call run
+    → IfSome call.script (λ script. (place : ScriptPlace) × Reaches script run.setting.shape run.setting.rooms events place) → HasHeaderLine call run
 header_read call run events read =
     map_told call.script (λ (script : List ℕ). (place : ScriptPlace) × Reaches script run.setting.shape run.setting.rooms events place)
     (λ (script : List ℕ). (shape : Shape) (rooms : UserRooms) (place : ScriptPlace) → Begins script shape rooms place → (run.setting.shape ≡ shape) × (run.setting.rooms ≡ rooms))
@@ -275,7 +275,7 @@ abbrev pub done_text : List Answered → List ℕ
 done_text history = line_text (lines.Done (length history))
 
 -- a front of what follows a text
-front_on : (before mid now : Option (List ℕ)) (text bytes : List ℕ) → Appends before mid text → WritesFront bytes mid now
+front_on : (before mid now : Option (List ℕ)) (text bytes : List ℕ) → Appends before mid text → AppendsFront bytes mid now
     → (front : List ℕ) × (more : List ℕ) × (front ++ more ≡ text ++ bytes) × Appends before now front
 front_on before mid now text bytes wrote w = (
   text ++ w.0,
@@ -460,7 +460,7 @@ module _ {V : Type 0} (clouds : V → ℕ → Cloud) (laws : Laws) (start : Repl
         let begun : Option Begun = Some (record { event = event; moments = cut.moments }) in
         let h = holds_cut clouds start s link jobs reader left source written sink events come new event reader_now left_now can says leaves part here cut in
         ends_so laws start s left_now source_now sink_now total (clouds new.shelf.now) image told_new (ends.ShelfFault cloud) now come.history come.at begun cut.last h (λ e. apart 5 0 refl e) (
-          subst (λ (e : Event). Fits s.shape (length jobs) e) x.0.0 can.fits,
+          subst (λ (e : Event). FitsEvent s.shape (length jobs) e) x.0.0 can.fits,
           read_some start.script (λ (script : List ℕ) (place : ScriptPlace). Reaches script s.shape s.rooms (script_of come.history ++ event_of begun) place) h.read,
           fault.rose,
           inr (x.0.0, fault.last_is),
@@ -478,14 +478,14 @@ pub goes_on : {V : Type 0} (clouds : V → ℕ → Cloud) (start : ReplayStart) 
     (left left_now : Option (List ℕ)) (source source_now : ℕ) (written written_now : Option (List ℕ)) (sink sink_now : ℕ) (events : ℕ) (event : Event) → Later → Here
     → HasCome clouds start s link jobs reader left source written sink events → CanBe s.shape (length jobs) event
     → SaysNext s.shape (length jobs) reader left (Some event) reader_now left_now → source_now ≡ source → sink_now ≡ sink
-    → Answers clouds event link jobs new jobs_now (Appends written written_now) → KeepsOtherClouds clouds link new → length jobs_now ≡ jobs_after (length jobs) event
+    → AnswersLine clouds event link jobs new jobs_now (Appends written written_now) → KeepsOtherClouds clouds link new → length jobs_now ≡ jobs_after (length jobs) event
     → HasCome clouds start s new jobs_now reader_now left_now source_now written_now sink_now (events + 1)
 goes_on clouds start s link new jobs jobs_now reader reader_now left left_now source source_now written written_now sink sink_now events event later here come can says same_source same_sink answers leaves count =
     let a = answers s come.at come.is_at in
     come_on clouds start s link jobs reader left source written sink events come new event reader_now left_now can says leaves later here jobs_now a.0 a.1
     source_now written_now sink_now same_source same_sink a.2 count
 
-pub few_after : (shape : Shape) (count : ℕ) (event : Event) → Fits shape count event → count ≤ 1000 → jobs_after count event ≤ 1000
+pub few_after : (shape : Shape) (count : ℕ) (event : Event) → FitsEvent shape count event → count ≤ 1000 → jobs_after count event ≤ 1000
 few_after shape count (kinds.Upload user path version bytes) fits few = let a = fits.allowed in omega arith
 few_after shape count (kinds.Step job lane) fits few = few
 few_after shape count (kinds.Lose job lane) fits few = few

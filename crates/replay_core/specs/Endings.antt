@@ -51,23 +51,24 @@ pub data EndingLine : Type 0 where
   DamagedEnding : (cloud at byte : ℕ) → EndingLine
 
 -- the lines that were carried out are those that the script begins with, and it goes on at this place
-abbrev pub HasRead : ReplayCall → Session → ScriptPlace → Type 0
-HasRead call run place =
+abbrev pub HasReadLines : ReplayCall → Session → ScriptPlace → Type 0
+HasReadLines call run place =
     IfSome call.script (λ script. Reaches script run.setting.shape run.setting.rooms (script_in run) place)
 
 abbrev pub HasReadSome : ReplayCall → Session → Type 0
-HasReadSome call run = (place : ScriptPlace) × HasRead call run place
+HasReadSome call run = (place : ScriptPlace) × HasReadLines call run place
 
 -- the line behind those that were carried out is wrong at this place; before the clouds are opened that is the first
 -- line
-abbrev pub IsWrongAt : ReplayCall → Session → Fault → Type 0
-IsWrongAt call run fault = IfSome call.script (λ script.
+abbrev pub IsLineWrongAt : ReplayCall → Session → Fault → Type 0
+IsLineWrongAt call run fault = IfSome call.script (λ script.
     ((run.opened ≡ false) × IsWrongFirst script fault)
-    ⊎ (IsTrue run.opened × ((place : ScriptPlace) × HasRead call run place × IsWrong run.setting.shape place fault)))
+    ⊎ (IsTrue run.opened × ((place : ScriptPlace) × HasReadLines call run place
+    × IsWrong run.setting.shape place fault)))
 
 -- where the script begins with a first line, that line says the session's shape and rooms
-abbrev pub HasHeader : ReplayCall → Session → Type 0
-HasHeader call run = IfSome call.script (λ script. (shape : Shape) (rooms : UserRooms) (place : ScriptPlace)
+abbrev pub HasHeaderLine : ReplayCall → Session → Type 0
+HasHeaderLine call run = IfSome call.script (λ script. (shape : Shape) (rooms : UserRooms) (place : ScriptPlace)
     → Begins script shape rooms place → (run.setting.shape ≡ shape) × (run.setting.rooms ≡ rooms))
 
 -- A line was begun in which the shelf may fail outside an execution and outside an opening: the replacement of this cloud,
@@ -108,10 +109,10 @@ abbrev pub IsDue : ReplayCall → Session → EndingLine → Type 0
 IsDue call run NoEnding = Unit {0}
 IsDue call run (DoneEnding events) =
     IsTrue run.opened × (run.begun ≡ None) × (events ≡ length run.history)
-    × ((place : ScriptPlace) × HasRead call run place
+    × ((place : ScriptPlace) × HasReadLines call run place
     × IfSome call.script (λ script. IsEnd place × (call.left ≡ Some [])))
 IsDue call run (ScriptEnding line fault) =
-    (run.begun ≡ None) × (line ≡ (if run.opened then length run.history + 2 else 1)) × IsWrongAt call run fault
+    (run.begun ≡ None) × (line ≡ (if run.opened then length run.history + 2 else 1)) × IsLineWrongAt call run fault
 IsDue call run (ShelfEnding cloud) =
     (cloud < run.setting.shape.n) × HasReadSome call run × Rose (run.last cloud).faults (call.new cloud).faults
     × (((run.opened ≡ false) × AreEmptyBelow call.old cloud)
@@ -123,9 +124,9 @@ IsDue call run (DamagedEnding cloud at byte) =
     (run.opened ≡ false) × (cloud < run.setting.shape.n) × HasReadSome call run × ((call.old cloud).told ≡ false)
     × AreEmptyBelow call.old run.setting.shape.n
 
-abbrev pub IsDone : EndingLine → Type 0
-IsDone (DoneEnding events) = Unit {0}
-IsDone line = ⊥
+abbrev pub IsDoneLine : EndingLine → Type 0
+IsDoneLine (DoneEnding events) = Unit {0}
+IsDoneLine line = ⊥
 
 abbrev pub IsOfScript : EndingLine → Type 0
 IsOfScript (ScriptEnding line fault) = Unit {0}
@@ -149,13 +150,13 @@ IsRootless call run line =
 -- The status has its cause. Want of memory, 6, has none.
 pub record HasStatusCause (status : ℕ) (call : ReplayCall) (run : Session) (line : EndingLine) : Type 0 where
   pub known : (status ≤ 7) × (status ≢ 1)
-  pub header : HasHeader call run
+  pub header : HasHeaderLine call run
   pub read : IsTrue run.opened → HasReadSome call run
   pub began : IsTrue run.opened → AreEmptyBelow call.old run.setting.shape.n
   -- where a told cloud isn't empty, nothing was written, whatever the status
   pub spared : AreSpared run.setting.shape.n call.old call.new
   pub due : IsDue call run line
-  pub done : status ≡ 0 → IsDone line
+  pub done : status ≡ 0 → IsDoneLine line
   pub wrong : status ≡ 2 → IsOfScript line
   pub source : status ≡ 3 → (line ≡ NoEnding) × (run.begun ≡ None) × Rose call.source_before call.source_after
   pub sink : status ≡ 4 → Rose call.sink_before call.sink_after

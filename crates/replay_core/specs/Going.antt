@@ -13,7 +13,7 @@ use Rattle.two_worlds.specs.Session.Fault.{Fault}
 use Rattle.two_worlds.specs.Session.Lines.{ReaderState}
 use Rattle.two_worlds.specs.Session.reading.ScriptErr.{ScriptErr}
 use Rattle.two_worlds.specs.Session.reading.ScriptErr.TheVariants as script_errors
-use Rattle.two_worlds.specs.Session.Spelling.{Fits, IsTyped}
+use Rattle.two_worlds.specs.Session.Spelling.{FitsEvent, IsTyped}
 use Rattle.two_worlds.specs.Session.event.Event.{Event}
 use Rattle.two_worlds.specs.Transcript.line.Line.{Line}
 use Rattle.two_worlds.specs.Transcript.line.Line.TheVariants as lines
@@ -23,7 +23,7 @@ use Rattle.script_lines.specs.SessionModel.Vault.{Setting, Vault, opening}
 use Rattle.script_lines.specs.SessionModel.Run.{Answered, Turns, script_of, moments_of, answers_of, IsListIn}
 use Rattle.script_lines.specs.declared.error.CarryErr.{CarryErr}
 use Rattle.script_lines.specs.declared.error.CarryErr.TheVariants as carry_errors
-use Rattle.script_lines.specs.At.{header_in, IsAt}
+use Rattle.script_lines.specs.At.{header_in, IsAtVault}
 use Rattle.script_lines.specs.Does.{Goes, IsCutOff}
 use Rattle.script_lines.specs.Replacing.{IsShelfFault}
 use Rattle.replay_core.specs.declared.end.ReplayEnd.{ReplayEnd}
@@ -81,7 +81,7 @@ pub record HasCome {V : Type 0} (clouds : V → ℕ → Cloud) (start : ReplaySt
   pub told : (cloud : ℕ) → s.told cloud ≡ (start.old cloud).told
   pub began : AreEmptyBelow start.old s.shape.n
   pub count : length history ≡ events
-  pub is_at : IsAt clouds s link jobs at
+  pub is_at : IsAtVault clouds s link jobs at
   pub turns : Turns s (opening start.old) history at
   pub are_lines : AreLines s.shape 0 (script_of history)
   pub uploads : jobs_of 0 (script_of history) ≡ length jobs
@@ -113,7 +113,7 @@ SaysEvent said (Err (script_errors.At at found)) = said ≡ Err (record { at = a
 
 -- the event is in its ranges
 pub record CanBe (shape : Shape) (jobs : ℕ) (event : Event) : Type 0 where
-  pub fits : Fits shape jobs event
+  pub fits : FitsEvent shape jobs event
   pub typed : IsTyped event
 
 -- how a replay ends as it reads a line behind so many
@@ -128,27 +128,27 @@ EndsReading shape jobs events reader left before now end = ⊥
 -- ---- answering it
 
 -- a front of these bytes was written
-abbrev pub WritesFront : List ℕ → Option (List ℕ) → Option (List ℕ) → Type 0
-WritesFront bytes before now = (front : List ℕ) × (more : List ℕ) × (front ++ more ≡ bytes) × Appends before now front
+abbrev pub AppendsFront : List ℕ → Option (List ℕ) → Option (List ℕ) → Type 0
+AppendsFront bytes before now = (front : List ℕ) × (more : List ℕ) × (front ++ more ≡ bytes) × Appends before now front
 
 -- how a replay ends where the sink fails
 abbrev pub EndsSink : List ℕ → Option (List ℕ) → Option (List ℕ) → ℕ → ℕ → ReplayEnd → Type 0
 EndsSink bytes before now faults_before faults_now ends.SinkFault =
-    WritesFront bytes before now × Rose faults_before faults_now
+    AppendsFront bytes before now × Rose faults_before faults_now
 EndsSink bytes before now faults_before faults_now end = ⊥
 
 -- how a replay ends as it writes the line of these bytes
 abbrev pub EndsWriting : List ℕ → Option (List ℕ) → Option (List ℕ) → ℕ → ℕ → ReplayEnd → Type 0
 EndsWriting bytes before now faults_before faults_now ends.SinkFault =
-    WritesFront bytes before now × Rose faults_before faults_now
+    AppendsFront bytes before now × Rose faults_before faults_now
 EndsWriting bytes before now faults_before faults_now ends.NoMemory = now ≡ before
 EndsWriting bytes before now faults_before faults_now end = ⊥
 
 -- the line was carried out, and of the text of its answers this is so
-abbrev pub Answers : {V : Type 0} → (V → ℕ → Cloud) → Event → LocalLink V → List (List LaneView) → LocalLink V
+abbrev pub AnswersLine : {V : Type 0} → (V → ℕ → Cloud) → Event → LocalLink V → List (List LaneView) → LocalLink V
     → List (List LaneView) → (List ℕ → Type 0) → Type 0
-Answers clouds event old jobs new jobs_now OfText =
-    (s : Setting) (v : Vault) → IsAt clouds s old jobs v
+AnswersLine clouds event old jobs new jobs_now OfText =
+    (s : Setting) (v : Vault) → IsAtVault clouds s old jobs v
     → (answers : List Line) × Goes clouds s event old new jobs_now v answers × OfText (text_of answers)
 
 -- the end of a replay whose line was cut by this error
@@ -160,7 +160,8 @@ end_of_carry carry_errors.NoMemory = ends.NoMemory
 abbrev pub EndsAnswering : {V : Type 0} → (V → ℕ → Cloud) → Event → LocalLink V → List (List LaneView) → LocalLink V
     → List (List LaneView) → Option (List ℕ) → Option (List ℕ) → ℕ → ℕ → ReplayEnd → Type 0
 EndsAnswering clouds event old jobs new jobs_now before now faults_before faults_now ends.SinkFault =
-    Answers clouds event old jobs new jobs_now (λ text. WritesFront text before now) × Rose faults_before faults_now
+    AnswersLine clouds event old jobs new jobs_now (λ text. AppendsFront text before now)
+    × Rose faults_before faults_now
 EndsAnswering clouds event old jobs new jobs_now before now faults_before faults_now ends.NoMemory =
     IsCutOff clouds event old jobs new × (now ≡ before)
 EndsAnswering clouds event old jobs new jobs_now before now faults_before faults_now (ends.ShelfFault cloud) =

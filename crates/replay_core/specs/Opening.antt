@@ -21,7 +21,7 @@ use Rattle.two_worlds.specs.Session.lines.LineErr.TheVariants as line_errors
 use Rattle.two_worlds.specs.Session.reading.ScriptErr.{ScriptErr}
 use Rattle.two_worlds.specs.Session.reading.ScriptErr.TheVariants as script_errors
 use Rattle.two_worlds.specs.Session.Scripts.{ScriptPlace, Begins, IsWrongFirst}
-use Rattle.share_server.specs.Refusals.{IsDamage}
+use Rattle.share_server.specs.Refusals.{IsNamedDamage}
 use Rattle.replay_core.specs.declared.end.ReplayEnd.{ReplayEnd}
 use Rattle.replay_core.specs.declared.end.ReplayEnd.TheVariants as ends
 use Rattle.replay_core.specs.Endings.{IsEmptyAt, AreEmptyBefore, AreEmptyBelow, AreSpared, IsFirstFilled}
@@ -109,15 +109,15 @@ EndsEmpty number old new (ends.ShelfFault cloud) =
 EndsEmpty number old new end = ⊥
 
 -- how a replay ends at the first opening of a cloud
-abbrev pub EndsOpening : ℕ → Cloud → Cloud → ReplayEnd → Type 0
-EndsOpening number old new (ends.ShelfFault cloud) = (cloud.0 ≡ number) × Rose old.faults new.faults
-EndsOpening number old new (ends.Damaged cloud at byte) = (cloud.0 ≡ number) × (old.told ≡ false)
-EndsOpening number old new end = ⊥
+abbrev pub EndsAtOpening : ℕ → Cloud → Cloud → ReplayEnd → Type 0
+EndsAtOpening number old new (ends.ShelfFault cloud) = (cloud.0 ≡ number) × Rose old.faults new.faults
+EndsAtOpening number old new (ends.Damaged cloud at byte) = (cloud.0 ≡ number) × (old.told ≡ false)
+EndsAtOpening number old new end = ⊥
 
 -- the end of a replay whose first opening of the cloud ended with this error: damage is named as a restart names it
 abbrev pub IsEndOf : CloudNo → OpenErr → ReplayEnd → Type 0
 IsEndOf cloud open_errors.Fault end = end ≡ ends.ShelfFault cloud
-IsEndOf cloud error end = (at : ℕ) × (byte : ℕ) × IsDamage error at byte × (end ≡ ends.Damaged cloud at byte)
+IsEndOf cloud error end = (at : ℕ) × (byte : ℕ) × IsNamedDamage error at byte × (end ≡ ends.Damaged cloud at byte)
 
 -- how a replay ends before its clouds are opened, behind its first line
 abbrev pub EndsUnopened : Shape → (ℕ → Cloud) → (ℕ → Cloud) → ReplayEnd → Type 0
@@ -133,7 +133,7 @@ EndsUnopened shape old new end = ⊥
 -- ---- the link
 
 -- So many clouds were opened, each of which stands for no commands, and the others wait.
-pub record OpensTo {V : Type 0} (clouds : V → ℕ → Cloud) (old new : LocalLink V) (count : ℕ) : Type 0 where
+pub record OpensClouds {V : Type 0} (clouds : V → ℕ → Cloud) (old new : LocalLink V) (count : ℕ) : Type 0 where
   pub shape : new.servers.shape ≡ old.servers.shape
   pub fate : new.fate ≡ old.fate
   pub rooms : (cloud : ℕ) → rooms_at new.servers cloud ≡ rooms_at old.servers cloud

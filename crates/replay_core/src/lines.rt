@@ -3,13 +3,13 @@
 ghost use Rattle.std.specs.Prelude.{◌≡◌, ◌<◌, ◌≤◌, ◌+◌, ℕ, length, IfOk, IfErr, OnOk, OnErr, IfSome};
 ghost use Rattle.std.specs.Io.KnownBytes.{Appends};
 ghost use Rattle.two_worlds.specs.Session.Lines.{script_limit};
-ghost use Rattle.two_worlds.specs.Session.Spelling.{Fits};
+ghost use Rattle.two_worlds.specs.Session.Spelling.{FitsEvent};
 ghost use Rattle.two_worlds.specs.Session.Reading.{event_at};
 ghost use Rattle.two_worlds.specs.Session.Scripts.{jobs_after};
 ghost use Rattle.script_lines.specs.At.{KeepsOtherClouds};
 ghost use Rattle.script_lines.specs.Jobs.{AreReached};
 ghost use Rattle.replay_core.specs.Opening.{end_of_script, end_without};
-ghost use Rattle.replay_core.specs.Going.{CanBe, SaysNext, SaysEvent, EndsReading, Answers, EndsAnswering, end_of_carry};
+ghost use Rattle.replay_core.specs.Going.{CanBe, SaysNext, SaysEvent, EndsReading, AnswersLine, EndsAnswering, end_of_carry};
 
 use crate::ReplayEnd;
 use crate::writing::write_text;
@@ -105,9 +105,9 @@ pub fn answer_line<K: Sink, V: Shelf>(
     text: &mut Answer,
     sink: &mut K,
 ) -> Result<(), ReplayEnd>
-    requires fits { Fits link.old.servers.shape (length jobs.old) event.now }
+    requires fits { FitsEvent link.old.servers.shape (length jobs.old) event.now }
     requires reached { AreReached link.old.servers.shape jobs.old }
-    ensures answers { OnOk result (Answers V.cloud_at event.now link.old jobs.old link.new jobs.new
+    ensures answers { OnOk result (AnswersLine V.cloud_at event.now link.old jobs.old link.new jobs.new
         (Appends (K.written sink.old) (K.written sink.new))) }
     ensures still { OnOk result (K.faults sink.new ≡ K.faults sink.old) }
     ensures end { IfErr result (EndsAnswering V.cloud_at event.now link.old jobs.old link.new jobs.new

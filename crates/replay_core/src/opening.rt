@@ -9,7 +9,7 @@ ghost use Rattle.two_worlds.specs.Session.Lines.{script_limit};
 ghost use Rattle.script_lines.specs.LocalLink.Calls.{no_commands};
 ghost use Rattle.script_lines.specs.LocalLink.Tells.{rooms_at, header_at, StandsAt, LeavesRest};
 ghost use Rattle.replay_core.specs.Endings.{IsEmptyAt, AreEmptyBefore};
-ghost use Rattle.replay_core.specs.Opening.{before_first, IsHead, EndsFirst, Prepares, PreparesAll, AreSame, IsEmpty, EndsEmpty, EndsOpening, EndsUnopened, OpensTo, SaysHeader, IsEndOf};
+ghost use Rattle.replay_core.specs.Opening.{before_first, IsHead, EndsFirst, Prepares, PreparesAll, AreSame, IsEmpty, EndsEmpty, EndsAtOpening, EndsUnopened, OpensClouds, SaysHeader, IsEndOf};
 
 use crate::ReplayEnd;
 use crate::lines::{end_of_line, end_of_reader};
@@ -126,7 +126,7 @@ fn open_cloud<V: Shelf>(link: &mut LocalLink<'_, V>, cloud: CloudNo) -> Result<(
     ensures rooms { rooms_at link.new.servers cloud.0 ≡ rooms_at link.old.servers cloud.0 }
     ensures fate { link.new.fate ≡ link.old.fate }
     ensures same_reference { link.new.shelf.ghost_name ≡ link.old.shelf.ghost_name }
-    ensures end { IfErr result (EndsOpening cloud.0
+    ensures end { IfErr result (EndsAtOpening cloud.0
         (V.cloud_at link.old.shelf.now cloud.0) (V.cloud_at link.new.shelf.now cloud.0)) }
 {
     law_of_no_commands();
@@ -139,7 +139,7 @@ fn open_cloud<V: Shelf>(link: &mut LocalLink<'_, V>, cloud: CloudNo) -> Result<(
 /// Opens all clouds in order, each of which reads as nothing.
 pub fn open_clouds<V: Shelf>(link: &mut LocalLink<'_, V>) -> Result<(), ReplayEnd>
     requires empty { (cloud : ℕ) → cloud < link.old.servers.shape.n → IsEmpty (V.cloud_at link.old.shelf.now cloud) }
-    ensures opens { OnOk result (OpensTo V.cloud_at link.old link.new link.old.servers.shape.n) }
+    ensures opens { OnOk result (OpensClouds V.cloud_at link.old link.new link.old.servers.shape.n) }
     ensures prepares { OnErr result (PreparesAll (header_at link.old.servers) link.old.servers.shape
         (V.cloud_at link.old.shelf.now) (V.cloud_at link.new.shelf.now)) }
     ensures end { IfErr result (EndsUnopened link.old.servers.shape

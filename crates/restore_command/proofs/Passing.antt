@@ -6,13 +6,13 @@ use Rattle.std.proofs.lemmas.Bool.{cases_eq}
 use Rattle.ports_link.specs.CdEdges.Ports.{Telling}
 use Rattle.ports_link.specs.Messages.ReplyReading.{reply_at, reply_left}
 use Rattle.ports_link.specs.Messages.reply.Reply.{Reply}
-use Rattle.ports_link.specs.UserDedup.Link.{Exchange, IsReading, Passes, ReadsFrom}
+use Rattle.ports_link.specs.UserDedup.Link.{Exchange, IsReading, Passes, ReadsOneOf}
 use Rattle.ports_link.specs.declared.link.PortsLink.{PortsLink}
 use Rattle.ports_link.specs.declared.lines.CloudLine.{CloudLine}
 use Rattle.ports_link.specs.Lines.{AsksOn, Hears, Ends, Deaf, line_of}
 use Rattle.ports_link.specs.Tells.{IsHeard, telling}
 use Rattle.ports_link.proofs.Sending.{sends_none, sends_twice, sends_weaker}
-use Rattle.subset_restore.specs.RestoreJob.Asking.{IsReadable}
+use Rattle.subset_restore.specs.RestoreJob.Asking.{IsReplyReadable}
 use Rattle.restore_command.specs.Calls.{OnlyReads}
 
 -- each of these clouds is reached on one of these ports
@@ -45,7 +45,7 @@ module _ {P : Type 0} (tells : P → Telling) (faults : P → ℕ) where
         → (line_of new.lines.items.items cloud).port ≡ (line_of old.lines.items.items cloud).port
 
   pub kept : (named : List ℕ) (es : List Exchange) (old new : PortsLink P)
-      → Passes (telling tells faults) (ReadsFrom named) old es new → Kept old new
+      → Passes (telling tells faults) (ReadsOneOf named) old es new → Kept old new
   kept named [] old new same = record {
     same_reference = ap (λ (l : PortsLink P). l.ports.ghost_name) same;
     told = ap (λ (l : PortsLink P). (tells l.ports.now).told) same;
@@ -63,7 +63,7 @@ module _ {P : Type 0} (tells : P → Telling) (faults : P → ℕ) where
 
   -- every port but those of the named clouds is as it was
   pub others : (named ports : List ℕ) (es : List Exchange) (old new : PortsLink P)
-      → Passes (telling tells faults) (ReadsFrom named) old es new → IsTrue (tells old.ports.now).told
+      → Passes (telling tells faults) (ReadsOneOf named) old es new → IsTrue (tells old.ports.now).told
       → AreOn old.lines.items.items named ports → (port : ℕ) → (Contains ports port → ⊥)
       → (tells new.ports.now).port port ≡ (tells old.ports.now).port port
   others named ports [] old new same told on port not = ap (λ (l : PortsLink P). (tells l.ports.now).port port) same
@@ -78,7 +78,7 @@ module _ {P : Type 0} (tells : P → Telling) (faults : P → ℕ) where
 
   -- nothing was sent but what adds nothing
   pub sends_along : (named : List ℕ) (es : List Exchange) (old new : PortsLink P)
-      → Passes (telling tells faults) (ReadsFrom named) old es new → IsTrue (tells old.ports.now).told
+      → Passes (telling tells faults) (ReadsOneOf named) old es new → IsTrue (tells old.ports.now).told
       → OnlyReads (tells old.ports.now) (tells new.ports.now)
   sends_along named [] old new same told =
       subst (λ (l : PortsLink P). OnlyReads (tells old.ports.now) (tells l.ports.now)) (sym same)
@@ -93,7 +93,7 @@ module _ {P : Type 0} (tells : P → Telling) (faults : P → ℕ) where
 
   -- a line goes on as it was where each reply of its cloud can be read
   pub open_on : (Unread : ℕ → Type 0) (es : List Exchange) (old new : PortsLink P)
-      → Passes (telling tells faults) (λ e. Unread e.cloud ⊎ IsReadable e) old es new
+      → Passes (telling tells faults) (λ e. Unread e.cloud ⊎ IsReplyReadable e) old es new
       → IsTrue (tells old.ports.now).told → (cloud port : ℕ) → (line_of old.lines.items.items cloud).port ≡ Some port
       → (Unread cloud → ⊥) → (line_of old.lines.items.items cloud).ended ≡ false
       → (line_of new.lines.items.items cloud).ended ≡ false
@@ -119,7 +119,7 @@ module _ {P : Type 0} (tells : P → Telling) (faults : P → ℕ) where
           (line_of old.lines.items.items e.cloud) (line_of chain.1.0.lines.items.items e.cloud) e.content r) came.2 heard)
           came.3 (subst (λ (m : ℕ). (line_of old.lines.items.items m).ended ≡ false) (sym same) live))
         where
-          by_reply : Unread e.cloud ⊎ IsReadable e → (Unread e.cloud → ⊥) → IsReadable e
+          by_reply : Unread e.cloud ⊎ IsReplyReadable e → (Unread e.cloud → ⊥) → IsReplyReadable e
           by_reply (inl unread) none = absurd (none unread)
           by_reply (inr is) none = is
 

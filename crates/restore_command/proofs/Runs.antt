@@ -16,7 +16,7 @@ use Rattle.subset_restore.specs.RestoreJob.Brought.{in_a_row}
 use Rattle.subset_restore.specs.RestoreJob.Exchanges.{CloudExchange, OpenedTo, NoneOpened, OneOpened, OpensBatch, BatchRun, BatchOpened, BatchUnread, ItemsRun, ItemsDone, ItemsNext, ItemsStop}
 use Rattle.subset_restore.specs.RestoreJob.Restored
 use Rattle.subset_restore.specs.RestoreJob.Restored.{Unrestored, item_of, of_secret}
-use Rattle.subset_restore.specs.RestoreJob.Steps.{OpensTo, room_of}
+use Rattle.subset_restore.specs.RestoreJob.Steps.{OpensSecretsTo, room_of}
 use Rattle.subset_restore.specs.RestoreJob.error.RestoreErr.{RestoreErr}
 use Rattle.subset_restore.specs.RestoreJob.error.RestoreErr.TheVariants as errors
 use Rattle.subset_restore.proofs.RestoreJob.Bringing.{opened_is}
@@ -119,7 +119,7 @@ module _ (shape : Shape) (user : UserId) (firsts : List Item) (points : List ℕ
   FailsAt e i strings = ⊥
 
   fails_of : (e : RestoreErr) (i : ℕ) (strings old new : List ℕ)
-      → OpensTo (of_secret i (opened shape (item_of firsts i).secret_len points strings)) (Err e) old new
+      → OpensSecretsTo (of_secret i (opened shape (item_of firsts i).secret_len points strings)) (Err e) old new
       → FailsAt e i strings
   fails_of (errors.BadSecret secret named found) i strings old new h = fails_as i secret
       (opened shape (item_of firsts i).secret_len points strings) (opening.BadSecret named found) h

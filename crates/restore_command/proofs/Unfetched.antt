@@ -13,7 +13,7 @@ use Rattle.subset_restore.specs.Refusals.{refusal_of}
 use Rattle.subset_restore.specs.Transcript.refusal.Refusal.{Refusal}
 use Rattle.restore_command.specs.declared.fetching.FetchErr.{FetchErr}
 use Rattle.restore_command.specs.declared.fetching.FetchErr.TheVariants as errors
-use Rattle.restore_command.specs.Calls.{RestoreCall, Met}
+use Rattle.restore_command.specs.Calls.{RestoreCall, HasMetClouds}
 use Rattle.restore_command.specs.Tried.{CameBy, NotFrom}
 use Rattle.restore_command.specs.Ends.{Fetches, IsErrOf}
 
@@ -45,7 +45,7 @@ is_lost_ask : (e : RestoreErr) → is_loss e ≡ true → e ≢ refused.NoMemory
 is_lost_ask e is same = let never : false ≡ true = subst (λ (x : RestoreErr). is_loss x ≡ true) same is in cc
 
 pub not_fetched : (call : RestoreCall) (greeted : Greeted) (behind : Telling) (e : RestoreErr) (file : List ℕ) (f : FetchErr)
-    → IsErrOf e f → Met call greeted behind → Names (Contains (clouds_of greeted.lines.items)) e
+    → IsErrOf e f → HasMetClouds call greeted behind → Names (Contains (clouds_of greeted.lines.items)) e
     → (is_loss e ≡ true → Rose call.faults_before call.faults_after)
     → (let came : Result (Unit {0}) RestoreErr = Err e in CameBy call greeted behind came file)
     → Fetches call (Err f) file

@@ -24,7 +24,7 @@ use Rattle.subset_restore.specs.Ends.{Sought, AllRefused, OneRestore, WasLost}
 use Rattle.subset_restore.proofs.Choices.{each_is_subset, subset_among}
 use Rattle.subset_restore.proofs.Elements.{contains_end, contains_front, of_all}
 use Rattle.restore_command.specs.Calls.{RestoreCall, ports_of, tag_in}
-use Rattle.restore_command.specs.Tried.{AreRefused, IsFetch, IsRestoreRefused, IsStop, Heard}
+use Rattle.restore_command.specs.Tried.{AreRefused, IsFetch, IsRestoreRefused, IsStop, IfHeard}
 use Rattle.restore_command.proofs.Choosing.{Chosen, choose, cloud_of, line_at, port_of}
 use Rattle.restore_command.proofs.Lines.{AreReachedBy}
 use Rattle.restore_command.proofs.Passing.{AreOn, Kept, kept, open_on, others}
@@ -94,7 +94,7 @@ module _ {L : Type 0} (talk : L → ℕ → Talk → Type 0) (old new : L) (P : 
   abbrev Told : ℕ → Type 0
   Told cloud = (after : Talk) × talk new cloud after
 
-  pub told_on : (e : RestoreErr) → e ≢ errors.NoMemory → Heard e (P e) → LostSaid {A = Unit {0}} talk old new (Err e)
+  pub told_on : (e : RestoreErr) → e ≢ errors.NoMemory → IfHeard e (P e) → LostSaid {A = Unit {0}} talk old new (Err e)
       → (cloud : ℕ) → e ≢ errors.Lost (record { 0 = cloud }) → (before : Talk) → talk old cloud before → Told cloud
   told_on (errors.Missing c) plain heard lost cloud apart before is = spoken (errors.Missing c) heard cloud before is
   told_on (errors.Lost c) plain heard lost cloud apart before is =

@@ -30,8 +30,8 @@ use Rattle.subset_restore.specs.RestoreJob.Steps.{Compares, NamesKind, RecipeRef
 use Rattle.subset_restore.specs.RestoreJob.error.RestoreErr.{RestoreErr}
 use Rattle.subset_restore.specs.RestoreJob.error.RestoreErr.TheVariants as errors
 use Rattle.restore_command.specs.Talks.{with_cloud, sent_in, received_in}
-use Rattle.restore_command.specs.Fetched.{Outline, outline_of, len_at, AskShares, HasAskedForShares, BringsRecipe, IsShare, Gave, Each, NoMore, OneMore, row, string_of, Fetched}
-use Rattle.restore_command.specs.Stopped.{GaveRecipe, RefusedRecipe, EachRecipe, NoRecipe, OneRecipe, RecipesUntil, RecipeThere, RecipeFurther, IsUnasked, IsBatch, RefusedShares, LengthDiffers, HashDiffers, NamesString, WrongShares, EachUntil, There, Further, AllOpen, IsSecretUnopened, NamesSecret, Stopped, AtRecipe, AtComparison, AtShares, AtSecret}
+use Rattle.restore_command.specs.Fetched.{Outline, outline_of, len_at, AskShares, HasAskedForShares, BringsRecipe, IsShareOfSecret, Gave, Each, NoMore, OneMore, row, string_of, Fetched}
+use Rattle.restore_command.specs.Stopped.{GaveRecipe, RefusedRecipe, EachRecipe, NoRecipe, OneRecipe, RecipesUntil, RecipeThere, RecipeFurther, IsUnasked, IsBatchAt, RefusedShares, LengthDiffers, HashDiffers, NamesString, WrongShares, EachUntil, There, Further, AllOpen, IsSecretUnopened, NamesSecret, Stopped, AtRecipe, AtComparison, AtShares, AtSecret}
 use Rattle.restore_command.proofs.Lists.{NoneIs, Apart, apart, with_here, with_other, with_append}
 use Rattle.restore_command.proofs.Items.{GaveFrom, RefusedFrom, LengthAt, HashAt, NamesAt, StopsFrom, SameCount}
 use Rattle.restore_command.proofs.Runs.{OpensTill, FailsAt, BatchAt, ItemsStopped, SharesStop, SecretStop, ItemsCame, items_came}
@@ -246,7 +246,7 @@ module _ (shape : Shape) (user : UserId) (tag : Tag) (version : Version) (reques
     }
 
     share_at : (r : Recipe) (s : List (List ℕ)) (i : ℕ) → IsShareOf shape recipe.items r.items 0 s i
-        → IsShare shape (len_at (outline_of recipe) i) (item_of r.items i).fp (string_of s i)
+        → IsShareOfSecret shape (len_at (outline_of recipe) i) (item_of r.items i).fp (string_of s i)
     share_at r s i h =
         let e : 0 + i ≡ i = omega arith in
         record {
@@ -442,7 +442,7 @@ module _ (shape : Shape) (user : UserId) (tag : Tag) (version : Version) (reques
           )
 
       batch_whole : (m n : ℕ) → BatchAt shape user recipe.items (numbers_of clouds) clouds recipes 0 m n
-          → IsBatch (outline_of recipe) m n
+          → IsBatchAt (outline_of recipe) m n
       batch_whole m n at =
           let some = at.some in
           let e : 0 + m ≡ m = omega arith in

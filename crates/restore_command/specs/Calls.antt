@@ -36,13 +36,13 @@ named_in lines = map (λ (line : CloudNo × ℕ). line.0) lines
 
 -- Each address was dialled, in order, and asked Hello before the next was dialled, and each reply was as asked: they are
 -- as many clouds of a shape as give a file back, or more, and they rise.
-abbrev pub Met : RestoreCall → Greeted → Telling → Type 0
-Met call greeted behind = MeetsAll asked.Restore call.addresses call.before behind (Ok greeted)
+abbrev pub HasMetClouds : RestoreCall → Greeted → Telling → Type 0
+HasMetClouds call greeted behind = MeetsAll asked.Restore call.addresses call.before behind (Ok greeted)
 
 -- On no port anything was sent but frames of requests that add nothing to any list, or pieces of them.
 abbrev pub OnlyReads : Telling → Telling → Type 0
 OnlyReads = SendsOnly IsReading
 
 -- Some ports were dialled, and every other port is as it was.
-abbrev pub OnlyDialled : Telling → Telling → Type 0
-OnlyDialled before after = (dialled : List ℕ) × AreDialled before after dialled
+abbrev pub RestoreDialsOnly : Telling → Telling → Type 0
+RestoreDialsOnly before after = (dialled : List ℕ) × AreDialled before after dialled

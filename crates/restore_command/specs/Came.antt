@@ -14,14 +14,14 @@ use Rattle.ports_link.specs.Hellos.{clouds_of}
 use Rattle.ports_link.specs.Meeting.{MeetsAll}
 use Rattle.ports_link.specs.Refusals.{refused_text}
 use Rattle.subset_restore.specs.Refusals.{refusal_of, refusal_text}
-use Rattle.restore_command.specs.Calls.{RestoreCall, Met}
+use Rattle.restore_command.specs.Calls.{RestoreCall, HasMetClouds}
 use Rattle.restore_command.specs.Tried.{FileFrom, NotFrom}
 
 -- The clouds were met, and the bytes came from k of them.
 pub record FileCame (call : RestoreCall) (bytes : List ℕ) : Type 0 where
   pub greeted : Greeted
   pub behind : Telling
-  pub met : Met call greeted behind
+  pub met : HasMetClouds call greeted behind
   pub came : FileFrom call greeted behind bytes
 
 -- Addresses were dialled, in order, and each asked Hello before the next was dialled, up to the first whose reply isn't
@@ -34,7 +34,7 @@ HelloRefused call why = MeetsAll asked.Restore call.addresses call.before call.a
 pub record FileRefused (call : RestoreCall) (e : RestoreErr) : Type 0 where
   pub greeted : Greeted
   pub behind : Telling
-  pub met : Met call greeted behind
+  pub met : HasMetClouds call greeted behind
   pub unlost : is_loss e ≡ false
   pub named : Names (Contains (clouds_of greeted.lines.items)) e
   pub none : NotFrom call greeted behind e
@@ -52,7 +52,7 @@ DialLost call = MeetsAll asked.Restore call.addresses call.before call.after (Er
 pub record FileLost (call : RestoreCall) : Type 0 where
   pub greeted : Greeted
   pub behind : Telling
-  pub met : Met call greeted behind
+  pub met : HasMetClouds call greeted behind
   pub e : RestoreErr
   pub lost : is_loss e ≡ true
   pub none : NotFrom call greeted behind e
@@ -62,7 +62,7 @@ abbrev pub IsLost : RestoreCall → Type 0
 IsLost call = DialLost call ⊎ (HelloLost call ⊎ FileLost call)
 
 -- the line of a reply to Hello that was refused, or of a refused restore
-abbrev pub IsRefusal : RestoreCall → List ℕ → Type 0
-IsRefusal call text =
+abbrev pub IsRefusalText : RestoreCall → List ℕ → Type 0
+IsRefusalText call text =
     ((why : Refused) × HelloRefused call why × (text ≡ refused_text why))
     ⊎ ((e : RestoreErr) × (why : Refusal) × FileRefused call e × (refusal_of e ≡ Some why) × (text ≡ refusal_text why))

@@ -8,7 +8,7 @@ use Rattle.subset_restore.specs.Refusals.{refusal_of}
 use Rattle.restore_command.specs.declared.fetching.FetchErr.{FetchErr}
 use Rattle.restore_command.specs.declared.fetching.FetchErr.TheVariants as errors
 use Rattle.restore_command.specs.Calls.{RestoreCall}
-use Rattle.restore_command.specs.Came.{FileCame, FileRefused, HelloRefused, IsLost, IsRefusal}
+use Rattle.restore_command.specs.Came.{FileCame, FileRefused, HelloRefused, IsLost, IsRefusalText}
 
 -- ---- writing
 
@@ -32,7 +32,7 @@ pub data HasWrittenBytes (bytes : List ℕ) (due : ℕ) (before after : Option (
 pub data IsFetched (status : ℕ) (call : RestoreCall) (before after : Option (List ℕ)) (faults now : ℕ) : Type 0 where
   Gives : (file : List ℕ) → FileCame call file → HasWrittenBytes file 0 before after faults now status
       → IsFetched status call before after faults now
-  Refuses : (line : List ℕ) → IsRefusal call line → HasWrittenBytes line 8 before after faults now status
+  Refuses : (line : List ℕ) → IsRefusalText call line → HasWrittenBytes line 8 before after faults now status
       → IsFetched status call before after faults now
   Fails : status ≡ 9 → IsLost call → Rose call.faults_before call.faults_after → after ≡ before → now ≡ faults
       → IsFetched status call before after faults now

@@ -80,14 +80,14 @@ abbrev pub string_of : List (List ℕ) → ℕ → List ℕ
 string_of strings i = slice_index_or strings i []
 
 -- The string is as long as a share of a secret of that length, and its SHA-256 is the fingerprint.
-pub record IsShare (shape : Shape) (secret_len : ℕ) (fp : Fp) (string : List ℕ) : Type 0 where
+pub record IsShareOfSecret (shape : Shape) (secret_len : ℕ) (fp : Fp) (string : List ℕ) : Type 0 where
   pub len : length string ≡ share_len_of shape.k secret_len
   pub hash : sha256_of string ≡ fp.0
 
 -- the strings of the first n items are shares of secrets of these lengths
-abbrev pub AreShares : Shape → Outline → Recipe → List (List ℕ) → ℕ → Type 0
-AreShares shape outline recipe strings n =
-    (i : ℕ) → i < n → IsShare shape (len_at outline i) (item_of recipe.items i).fp (string_of strings i)
+abbrev pub AreSharesOfSecrets : Shape → Outline → Recipe → List (List ℕ) → ℕ → Type 0
+AreSharesOfSecrets shape outline recipe strings n =
+    (i : ℕ) → i < n → IsShareOfSecret shape (len_at outline i) (item_of recipe.items i).fp (string_of strings i)
 
 -- A cloud was asked for its recipe and for the shares of the recipe's first n items, in batches, and for nothing else.
 -- It gave a recipe with this outline, and n strings.
@@ -102,7 +102,7 @@ pub record HasCloudGiven (shape : Shape) (user : UserId) (tag : Tag) (version : 
 pub record Gave (shape : Shape) (user : UserId) (tag : Tag) (version : Version) (outline : Outline) (n : ℕ)
     (sent received : List (List ℕ)) (recipe : Recipe) (strings : List (List ℕ)) : Type 0 where
   pub came : HasCloudGiven shape user tag version outline n sent received recipe strings
-  pub shares : AreShares shape outline recipe strings n
+  pub shares : AreSharesOfSecrets shape outline recipe strings n
 
 -- ---- all clouds
 

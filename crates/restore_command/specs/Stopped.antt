@@ -20,7 +20,7 @@ use Rattle.subset_restore.specs.RestoreJob.Restored.{item_of}
 use Rattle.subset_restore.specs.RestoreJob.Steps.{Compares, NamesKind, NoShares, RecipeRefused, Refuses}
 use Rattle.subset_restore.specs.RestoreJob.error.RestoreErr.{RestoreErr}
 use Rattle.subset_restore.specs.RestoreJob.error.RestoreErr.TheVariants as errors
-use Rattle.restore_command.specs.Fetched.{Outline, outline_of, len_at, HasAskedForShares, HasBrought, string_of, AreShares, HasCloudGiven, Gave, Each, row}
+use Rattle.restore_command.specs.Fetched.{Outline, outline_of, len_at, HasAskedForShares, HasBrought, string_of, AreSharesOfSecrets, HasCloudGiven, Gave, Each, row}
 
 -- ---- recipes
 
@@ -61,7 +61,7 @@ IsUnasked sent received = (sent ≡ []) × (received ≡ [])
 -- ---- shares
 
 -- n items from a place on are a batch: they begin behind whole batches of 256, and are 256 or as many as are left.
-pub record IsBatch (outline : Outline) (place n : ℕ) : Type 0 where
+pub record IsBatchAt (outline : Outline) (place n : ℕ) : Type 0 where
   pub batches : ℕ
   pub begins : place ≡ 256 * batches
   pub some : place < length outline.lens
@@ -79,7 +79,7 @@ pub record RefusedShares (shape : Shape) (user : UserId) (tag : Tag) (version : 
   pub brought : HasBrought shape recipe strings heard
   pub agrees : outline_of recipe ≡ outline
   pub count : length strings ≡ place
-  pub shares : AreShares shape outline recipe strings place
+  pub shares : AreSharesOfSecrets shape outline recipe strings place
   pub refuses : Refuses cloud (reply_at reply) (NoShares n) e
   pub kind : let came : Result (List (List ℕ)) RestoreErr = Err e in NamesKind reply came
 
@@ -88,7 +88,7 @@ pub record LengthDiffers (shape : Shape) (outline : Outline) (recipe : Recipe) (
     (place n secret found wanted : ℕ) : Type 0 where
   pub from : place ≤ secret
   pub within : secret < place + n
-  pub front : AreShares shape outline recipe strings secret
+  pub front : AreSharesOfSecrets shape outline recipe strings secret
   pub found_is : found ≡ length (string_of strings secret)
   pub wanted_is : wanted ≡ share_len_of shape.k (len_at outline secret)
   pub differ : found ≢ wanted
@@ -99,7 +99,7 @@ pub record HashDiffers (shape : Shape) (outline : Outline) (recipe : Recipe) (st
     (place n secret : ℕ) (named found : Fp) : Type 0 where
   pub from : place ≤ secret
   pub within : secret < place + n
-  pub front : AreShares shape outline recipe strings secret
+  pub front : AreSharesOfSecrets shape outline recipe strings secret
   pub len : length (string_of strings secret) ≡ share_len_of shape.k (len_at outline secret)
   pub named_is : named.0 ≡ (item_of recipe.items secret).fp.0
   pub found_is : found.0 ≡ sha256_of (string_of strings secret)
@@ -186,14 +186,14 @@ pub data Stopped (shape : Shape) (user : UserId) (tag : Tag) (version : Version)
       → Stopped shape user tag version clouds sent received e
   -- a cloud's reply to a request for shares, or the length or the hash of a string in it
   AtShares : (e : RestoreErr) (outline : Outline) (recipes : List Recipe) (strings : List (List (List ℕ))) (place n : ℕ)
-      → IsBatch outline place n → AllOpen shape outline clouds strings place
+      → IsBatchAt outline place n → AllOpen shape outline clouds strings place
       → EachUntil (λ cloud. Gave shape user tag version outline (place + n) (sent cloud.0) (received cloud.0))
       (WrongShares shape user tag version outline place n e sent received)
       (λ cloud. Gave shape user tag version outline place (sent cloud.0) (received cloud.0)) clouds recipes strings
       → Stopped shape user tag version clouds sent received e
   -- the opening of a secret
   AtSecret : (e : RestoreErr) (outline : Outline) (recipes : List Recipe) (strings : List (List (List ℕ))) (place n : ℕ)
-      → IsBatch outline place n
+      → IsBatchAt outline place n
       → Each (λ cloud. Gave shape user tag version outline (place + n) (sent cloud.0) (received cloud.0)) clouds
       recipes strings
       → NamesSecret shape outline clouds strings place n e

@@ -39,8 +39,8 @@ pub record IsStop (call : RestoreCall) (shape : Shape) (lines : List (CloudNo ×
   pub stopped : Stopped shape call.user (tag_in shape call.path) call.version (named_in lines) sent received e
 
 -- unless an ask was lost
-abbrev pub Heard : RestoreErr → Type 0 → Type 0
-Heard e P = let came : Result (Unit {0}) RestoreErr = Err e in Unlost came P
+abbrev pub IfHeard : RestoreErr → Type 0 → Type 0
+IfHeard e P = let came : Result (Unit {0}) RestoreErr = Err e in Unlost came P
 
 -- A restore from a choice of the clouds was refused: by what was said with these, none of whose lines had ended before;
 -- or since an ask was lost. Every port but theirs is as it was.
@@ -49,7 +49,7 @@ pub record IsRestoreRefused (call : RestoreCall) (greeted : Greeted) (before : T
   pub lines : List (CloudNo × ℕ)
   pub clouds : clouds_of lines ≡ x.subset
   pub among : All (Contains greeted.lines.items) lines
-  pub stopped : Heard x.refusal (IsStop call greeted.shape lines none_ended before after x.refusal)
+  pub stopped : IfHeard x.refusal (IsStop call greeted.shape lines none_ended before after x.refusal)
   pub others : (port : ℕ) → ¬ Contains (ports_of lines) port → after.port port ≡ before.port port
 
 -- one such restore after another
@@ -114,7 +114,7 @@ pub record NotFrom (call : RestoreCall) (greeted : Greeted) (behind : Telling) (
   pub counted : AreCounted call.faults_before tries call.faults_after
   pub refused : IsTrue call.before.told → AreRefused call greeted behind tries call.after
   pub exact : IsTrue call.before.told → length greeted.lines.items ≡ greeted.shape.k
-      → Heard e (IsStop call greeted.shape greeted.lines.items none_ended behind call.after e)
+      → IfHeard e (IsStop call greeted.shape greeted.lines.items none_ended behind call.after e)
 
 -- What a restore from any k of the clouds came to. Nothing is said where memory ran out.
 abbrev pub CameBy : RestoreCall → Greeted → Telling → Result (Unit {0}) RestoreErr → List ℕ → Type 0

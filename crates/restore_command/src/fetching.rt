@@ -2,7 +2,7 @@
 
 ghost use Rattle.std.specs.Prelude.{◌≡◌, ◌≤◌, [], length, IsTrue};
 ghost use Rattle.ports_link.specs.CdBase.Limits.{IsPath};
-ghost use Rattle.restore_command.specs.Calls.{OnlyDialled, OnlyReads};
+ghost use Rattle.restore_command.specs.Calls.{RestoreDialsOnly, OnlyReads};
 ghost use Rattle.restore_command.specs.Ends.{Fetches, IsErrOf};
 
 use crate::greeted::restore_greeted;
@@ -63,7 +63,7 @@ pub fn fetch<P: Ports>(
       faults_before = P.faults ports.old;
       faults_after = P.faults ports.new;
     }) result file.new }
-    ensures others { IsTrue (P.tells ports.old).told → OnlyDialled (P.tells ports.old) (P.tells ports.new) }
+    ensures others { IsTrue (P.tells ports.old).told → RestoreDialsOnly (P.tells ports.old) (P.tells ports.new) }
     ensures sends { IsTrue (P.tells ports.old).told → OnlyReads (P.tells ports.old) (P.tells ports.new) }
     ensures told { (P.tells ports.new).told ≡ (P.tells ports.old).told }
     ensures later { P.faults ports.old ≤ P.faults ports.new }

@@ -6,7 +6,7 @@ ghost use Rattle.std.specs.List.Sorted.{IsStrictlyIncreasing};
 ghost use Rattle.ports_link.specs.CdBase.Limits.{IsPath};
 ghost use Rattle.ports_link.specs.CdEdges.Causes.{Rose};
 ghost use Rattle.ports_link.specs.declared.judging.AskedClouds.TheVariants as asked;
-ghost use Rattle.ports_link.specs.Hellos.{AreReached, HasClouds, HaveTalks, clouds_of};
+ghost use Rattle.ports_link.specs.Hellos.{AreCloudsReached, HasClouds, HaveTalks, clouds_of};
 ghost use Rattle.subset_restore.specs.RestoreJob.Asking.{is_lost};
 ghost use Rattle.subset_restore.specs.RestoreJob.Refusals.{Names};
 ghost use Rattle.restore_command.specs.Calls.{OnlyReads, RestoreCall, ports_of};
@@ -59,7 +59,7 @@ pub fn restore_greeted<P: Ports>(
 ) -> Result<(), RestoreErr>
     requires path { IsPath path.now }
     requires clouds { HasClouds asked.Restore greeted.now }
-    requires reached { AreReached greeted.now.lines.items }
+    requires reached { AreCloudsReached greeted.now.lines.items }
     requires empty { file.old ≡ [] }
     ensures named { IfErr result (Names (Contains (clouds_of greeted.now.lines.items))) }
     ensures lost { is_lost result ≡ true → Rose (P.faults ports.old) (P.faults ports.new) }

@@ -2,7 +2,7 @@
 
 ghost use Rattle.std.specs.Prelude.{◌≡◌, ◌≤◌, ◌⊎◌, length, IsTrue};
 ghost use Rattle.ports_link.specs.CdBase.Limits.{IsPath};
-ghost use Rattle.restore_command.specs.Calls.{OnlyDialled, OnlyReads};
+ghost use Rattle.restore_command.specs.Calls.{RestoreDialsOnly, OnlyReads};
 ghost use Rattle.restore_command.specs.Ends.{IsFetched};
 
 use crate::fetching::{FetchErr, fetch};
@@ -60,7 +60,7 @@ pub fn restore<K: Sink, P: Ports>(
     }) (K.written sink.old) (K.written sink.new) (K.faults sink.old) (K.faults sink.new) }
 
     // Every port but those that were dialled is as it was.
-    ensures others { IsTrue (P.tells ports.old).told → OnlyDialled (P.tells ports.old) (P.tells ports.new) }
+    ensures others { IsTrue (P.tells ports.old).told → RestoreDialsOnly (P.tells ports.old) (P.tells ports.new) }
 
     // Nothing but Hellos and requests that add nothing was sent, or pieces of them, whatever came, want of memory too.
     ensures sends { IsTrue (P.tells ports.old).told → OnlyReads (P.tells ports.old) (P.tells ports.new) }

@@ -12,7 +12,7 @@ use Rattle.user_dedup.specs.CdBase.shape.Shape.{Shape}
 use Rattle.user_dedup.specs.CdBase.Lengths.{share_len_of}
 use Rattle.caont_rs.specs.declared.opening.RecoverErr.{RecoverErr}
 use Rattle.caont_rs.specs.declared.opening.RecoverErr.TheVariants as opening
-use Rattle.user_dedup.specs.Recipe.Spelling.{Fits, AreItems, is_len}
+use Rattle.user_dedup.specs.Recipe.Spelling.{Fits, AreRecipeItems, is_len}
 use Rattle.user_dedup.specs.Recipe.items.Item.{Item}
 use Rattle.user_dedup.specs.Recipe.recipe.Recipe.{Recipe}
 use Rattle.user_dedup.specs.Cloud.{held_string}
@@ -24,7 +24,7 @@ use Rattle.restore_job.specs.Reading.{Ends, Restores}
 use Rattle.restore_job.specs.Refusals.{Names, Shows}
 use Rattle.restore_job.specs.Restored
 use Rattle.restore_job.specs.Restored.{Unrestored, Given, item_of, string_at, or_else, difference, of_secret, secret_opened, wrong_string, wrong_strings, recipe_in, no_recipe, given_by, missing, unless, joined, behind, differing, wrong_length, secrets_opened, batch_opened, batches_opened, batch_count, items_opened, agreed, restored_file}
-use Rattle.restore_job.specs.Steps.{AreItemsAt, AgreedShown, BatchTold, BatchCaused, BatchShown, RecipesCaused, RecipesShown, SameLens, OpensTo, Compares, Ready, RecipesTold, recipes_in, givens, room_of}
+use Rattle.restore_job.specs.Steps.{AreItemsAt, AgreedShown, BatchTold, BatchCaused, BatchShown, RecipesCaused, RecipesShown, SameLens, OpensSecretsTo, Compares, Ready, RecipesTold, recipes_in, givens, room_of}
 use Rattle.restore_job.specs.declared.error.RestoreErr.{RestoreErr}
 use Rattle.restore_job.specs.declared.error.RestoreErr.TheVariants as errors
 use Rattle.restore_job.proofs.Causing.{caused_by_none, caused_on, causes_on, ready_on, compared_caused}
@@ -50,7 +50,7 @@ recipes_given (c ∷ clouds) (r ∷ recipes) a e = let more = recipes_given clou
 
 -- ---- a batch
 
-ends_of : (outcome : Result (List ℕ) Unrestored) (clouds : List ℕ) (res : Result (Unit {0}) RestoreErr) (old new : List ℕ) (a b : ℕ → Peer) → OpensTo outcome res old new → Ends outcome clouds res old new a b
+ends_of : (outcome : Result (List ℕ) Unrestored) (clouds : List ℕ) (res : Result (Unit {0}) RestoreErr) (old new : List ℕ) (a b : ℕ → Peer) → OpensSecretsTo outcome res old new → Ends outcome clouds res old new a b
 ends_of outcome clouds (Ok u) old new a b opens = opens
 ends_of outcome clouds (Err (errors.BadSecret secret named found)) old new a b opens = opens
 ends_of outcome clouds (Err (errors.BadPad secret at byte)) old new a b opens = opens
@@ -91,7 +91,7 @@ refused_batch t shape user key clouds firsts recipes place n old new rooms fille
 pub opened_batch : {L : Type 0} (t : LinkTelling L) (shape : Shape) (user : UserId) (key : Tag × Version) (clouds points : List ℕ) (firsts : List Item) (recipes : List Recipe) (place n : ℕ) (old new : L) (rooms filled : List (List ℕ)) (out out' : List ℕ) (res : Result (Unit {0}) RestoreErr)
     → points ≡ clouds → length clouds ≡ length recipes → ((j : ℕ) → j < n → room_of rooms j ≡ [])
     → Leads t clouds old new (BatchShown t old shape user key clouds firsts recipes (Ok tt)) (λ a b. Ready shape user key clouds recipes a → BatchTold shape clouds firsts (givens a clouds recipes) place n (Ok tt) rooms filled a b)
-    → ((all : List Given) → points ≡ map (λ given. given.cloud) all → ((j : ℕ) → j < n → room_of filled j ≡ flat_map (λ given. string_at given (place + j)) all) → OpensTo (secrets_opened shape firsts all place n) res out out')
+    → ((all : List Given) → points ≡ map (λ given. given.cloud) all → ((j : ℕ) → j < n → room_of filled j ≡ flat_map (λ given. string_at given (place + j)) all) → OpensSecretsTo (secrets_opened shape firsts all place n) res out out')
     → IfErr res (Names (λ c. ⊥))
     → Leads t clouds old new (BatchShown t old shape user key clouds firsts recipes res) (λ a b. Ready shape user key clouds recipes a → Ends (batch_opened shape firsts (givens a clouds recipes) place n) clouds res out out' a b)
 opened_batch t shape user key clouds points firsts recipes place n old new rooms filled out out' res are pairs empty told opens alone =
@@ -514,7 +514,7 @@ cut_back shape user key clouds e out between cut a b r = record { ends = go e r.
 
 -- ---- recipes that keep the rules
 
-pub fits_items : (items : List Item) → AreItems items → AreItemsAt items
+pub fits_items : (items : List Item) → AreRecipeItems items → AreItemsAt items
 fits_items [] are i lt = absurd (omega arith)
 fits_items (x ∷ items) are zero lt = record { some = least (length items == 0) are.0.1; few = most (length items == 0) are.0.1; fp = are.0.0 }
   where

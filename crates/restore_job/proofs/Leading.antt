@@ -6,7 +6,7 @@ use Rattle.std.proofs.lemmas.Bool.{cases_eq, ne_eqb}
 use Rattle.user_dedup.specs.CdEdges.Causes.{Rose}
 use Rattle.user_dedup.specs.declared.command.Command.{Command}
 use Rattle.user_dedup.specs.Exec.{Peer, MaySettleAs, Settles, KeepsPeer, CountsOn}
-use Rattle.user_dedup.specs.Link.{LinkTelling, LeavesOthers, Exchange, Passes, IsReading, ReadsFrom}
+use Rattle.user_dedup.specs.Link.{LinkTelling, LeavesOthers, Exchange, Passes, IsReading, ReadsOneOf}
 use Rattle.user_dedup.proofs.Owned.{contains_here, contains_cases, contains_nothing}
 use Rattle.restore_job.specs.Asking.{PeersOf, TellsAll, Reads, MayRead, ReadFails, AreOnlyAsked, Leads, HasAskedClouds, among}
 
@@ -199,11 +199,11 @@ leads_whole t clouds old new A R first these all before peers =
 -- ---- what the link tells beside its clouds
 
 -- so many asks, and then so many more
-pub passes_on : {L : Type 0} (t : LinkTelling L) (clouds : List ℕ) (old mid new : L) (es fs : List Exchange) → Passes t (ReadsFrom clouds) old es mid → Passes t (ReadsFrom clouds) mid fs new → Passes t (ReadsFrom clouds) old (es ++ fs) new
-passes_on t clouds old mid new [] fs one two = subst (λ x. Passes t (ReadsFrom clouds) x fs new) one two
+pub passes_on : {L : Type 0} (t : LinkTelling L) (clouds : List ℕ) (old mid new : L) (es fs : List Exchange) → Passes t (ReadsOneOf clouds) old es mid → Passes t (ReadsOneOf clouds) mid fs new → Passes t (ReadsOneOf clouds) old (es ++ fs) new
+passes_on t clouds old mid new [] fs one two = subst (λ x. Passes t (ReadsOneOf clouds) x fs new) one two
 passes_on t clouds old mid new (e ∷ es) fs one two = (one.0, (one.1.0, one.1.1, passes_on t clouds one.1.0 mid new es fs one.1.2 two))
 
-passes_in : {L : Type 0} (t : LinkTelling L) (few clouds : List ℕ) (old new : L) (es : List Exchange) → ((x : ℕ) → Contains few x → Contains clouds x) → Passes t (ReadsFrom few) old es new → Passes t (ReadsFrom clouds) old es new
+passes_in : {L : Type 0} (t : LinkTelling L) (few clouds : List ℕ) (old new : L) (es : List Exchange) → ((x : ℕ) → Contains few x → Contains clouds x) → Passes t (ReadsOneOf few) old es new → Passes t (ReadsOneOf clouds) old es new
 passes_in t few clouds old new [] all one = one
 passes_in t few clouds old new (e ∷ es) all one = ((all e.cloud one.0.0, one.0.1), (one.1.0, one.1.1, passes_in t few clouds one.1.0 new es all one.1.2))
 

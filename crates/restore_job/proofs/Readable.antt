@@ -7,20 +7,20 @@ use Rattle.user_dedup.specs.Messages.reply.Reply.TheVariants as replies
 use Rattle.user_dedup.specs.Recipe.recipe.Recipe.{Recipe}
 use Rattle.user_dedup.specs.Link.{Exchange, LinkTelling, Passes}
 use Rattle.user_dedup.specs.Messages.ReplyReading.{reply_at}
-use Rattle.restore_job.specs.Asking.{IsReadable, IsUnread, Readable, UnreadIn}
+use Rattle.restore_job.specs.Asking.{IsReplyReadable, IsUnread, Readable, UnreadIn}
 use Rattle.restore_job.specs.Steps.{NoRecipe, NoShares, RecipeFrom, Refuses, SharesFrom}
 use Rattle.restore_job.specs.declared.error.RestoreErr.{RestoreErr}
 use Rattle.restore_job.specs.declared.error.RestoreErr.TheVariants as errors
 
 -- a readable reply, where the content that came is one
 came : (cloud : ℕ) (request content : List ℕ) (answer : Reply) → reply_at content ≡ Ok answer
-    → IsReadable (record { cloud = cloud; content = request; reply = Some content })
+    → IsReplyReadable (record { cloud = cloud; content = request; reply = Some content })
 came cloud request content answer is = (content, answer, refl, is)
 
 -- what a refusal says of the reply by which it came
 refused : (cloud : CloudNo) (request content : List ℕ) (IsStrange : Reply → Type 0) (e : RestoreErr)
     → Refuses cloud (reply_at content) IsStrange e
-    → IsUnread e cloud.0 ⊎ IsReadable (record { cloud = cloud.0; content = request; reply = Some content })
+    → IsUnread e cloud.0 ⊎ IsReplyReadable (record { cloud = cloud.0; content = request; reply = Some content })
 refused cloud request content IsStrange (errors.Missing c) is = absurd is
 refused cloud request content IsStrange (errors.Lost c) is = absurd is
 refused cloud request content IsStrange (errors.CloudFault c) is =
@@ -42,7 +42,7 @@ refused cloud request content IsStrange errors.NoMemory is = inl tt
 
 recipe_came : (shape : Shape) (cloud : CloudNo) (request content : List ℕ) (result : Result Recipe RestoreErr)
     → RecipeFrom shape cloud (reply_at content) result
-    → UnreadIn result cloud.0 ⊎ IsReadable (record { cloud = cloud.0; content = request; reply = Some content })
+    → UnreadIn result cloud.0 ⊎ IsReplyReadable (record { cloud = cloud.0; content = request; reply = Some content })
 recipe_came shape cloud request content (Ok recipe) from =
     inr (came cloud.0 request content (replies.Recipe from.0) from.1)
 recipe_came shape cloud request content (Err (errors.Missing c)) from =
@@ -71,7 +71,7 @@ module _ {L : Type 0} (t : LinkTelling L) (old new : L) (cloud : CloudNo) (reque
   abbrev brought : Exchange
   brought = record { cloud = cloud.0; content = request; reply = Some content }
 
-  once : {A : Type 0} (e : Exchange) (result : Result A RestoreErr) → UnreadIn result e.cloud ⊎ IsReadable e
+  once : {A : Type 0} (e : Exchange) (result : Result A RestoreErr) → UnreadIn result e.cloud ⊎ IsReplyReadable e
       → t.passes old e new → Readable t old new result
   once e result is passes = (e ∷ [], (is, (new, passes, refl)))
 
@@ -115,8 +115,8 @@ module _ {L : Type 0} (t : LinkTelling L) where
   none_asked_to link e = ([], refl)
 
   -- asks whose replies all can be read, and more
-  along : (Is : Exchange → Type 0) (old mid new : L) → ((e : Exchange) → IsReadable e → Is e)
-      → (es : List Exchange) → Passes t (λ e. ⊥ ⊎ IsReadable e) old es mid
+  along : (Is : Exchange → Type 0) (old mid new : L) → ((e : Exchange) → IsReplyReadable e → Is e)
+      → (es : List Exchange) → Passes t (λ e. ⊥ ⊎ IsReplyReadable e) old es mid
       → ((fs : List Exchange) × Passes t Is mid fs new) → (fs : List Exchange) × Passes t Is old fs new
   along Is old mid new weaker [] same two =
       (two.0, subst (λ (l : L). Passes t Is l two.0 new) same two.1)
@@ -124,18 +124,18 @@ module _ {L : Type 0} (t : LinkTelling L) where
       let more = along Is chain.1.0 mid new weaker es chain.1.2 two in
       (e ∷ more.0, (of_one e chain.0, (chain.1.0, chain.1.1, more.1)))
     where
-      of_one : (e : Exchange) → ⊥ ⊎ IsReadable e → Is e
+      of_one : (e : Exchange) → ⊥ ⊎ IsReplyReadable e → Is e
       of_one e (inl none) = absurd none
       of_one e (inr is) = weaker e is
 
   pub readable_on : (old mid new : L) → AllReadable old mid → AllReadable mid new → AllReadable old new
   readable_on old mid new one two =
-      along (λ e. ⊥ ⊎ IsReadable e) old mid new (λ e is. inr is) one.0 one.1 two
+      along (λ e. ⊥ ⊎ IsReplyReadable e) old mid new (λ e is. inr is) one.0 one.1 two
 
   pub readable_stop : (old mid new : L) (e : RestoreErr) → AllReadable old mid → ReadableTo mid new e
       → ReadableTo old new e
   readable_stop old mid new e one two =
-      along (λ x. IsUnread e x.cloud ⊎ IsReadable x) old mid new (λ x is. inr is) one.0 one.1 two
+      along (λ x. IsUnread e x.cloud ⊎ IsReplyReadable x) old mid new (λ x is. inr is) one.0 one.1 two
 
   -- an error behind them
   pub readable_end : (old new : L) (e : RestoreErr) → AllReadable old new → ReadableTo old new e

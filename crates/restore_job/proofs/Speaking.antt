@@ -2,11 +2,11 @@
 use Rattle.std.proofs.Common.{◌≡◌, ℕ, ◌+◌, ◌-◌, ◌<◌, ◌≤◌, min, length, Bool, true, false, List, [], ◌∷◌, ◌++◌, Some, Result, Ok, Err, cond, append_assoc, append-nil, refl, sym, ap, subst, subst₂}
 use Rattle.std.specs.Prelude.{◌==◌}
 use Rattle.std.proofs.lemmas.Bool.{eqb-true, eqb-false}
-use Rattle.user_dedup.specs.Link.{IsReading, LinkTelling, Talk, said, Says, SaysNothingElse}
+use Rattle.user_dedup.specs.Link.{IsReading, LinkTelling, Talk, said, TakesFirstReply, SaysNothingElse}
 use Rattle.user_dedup.specs.Recipe.recipe.Recipe.{Recipe}
 use Rattle.caont_rs.specs.Opening.{opened}
 use Rattle.restore_job.specs.Restored.{item_of, of_secret}
-use Rattle.restore_job.specs.Steps.{OpensTo, room_of}
+use Rattle.restore_job.specs.Steps.{OpensSecretsTo, room_of}
 use Rattle.restore_job.specs.declared.error.RestoreErr.{RestoreErr}
 use Rattle.restore_job.specs.declared.error.RestoreErr.TheVariants as errors
 use Rattle.restore_job.specs.Exchanges.{CloudExchange, behind_one, behind_all, AreReplies, HasSpoken, Exchanged, PassesAll, Unlost, RecipeSaid, RecipesSaid, AllSaid, OneSaid, Refused, SharesSaid, BatchSaid, AllTaken, OneTaken, OneRefused, BatchRun, ItemsRun, ItemsDone, ItemsNext, ItemsStop, with_first, with_front}
@@ -36,7 +36,7 @@ module _ {L : Type 0} (talk : L → ℕ → Talk → Type 0) where
       )
 
   -- an ask that was answered
-  pub spoken_one : (E : Type 0) (old new : L) (cloud : ℕ) (request reply : List ℕ) → Says {E = E} talk cloud old request reply (Ok tt) new → SaysNothingElse talk cloud old new
+  pub spoken_one : (E : Type 0) (old new : L) (cloud : ℕ) (request reply : List ℕ) → TakesFirstReply {E = E} talk cloud old request reply (Ok tt) new → SaysNothingElse talk cloud old new
       → HasSpoken talk old new (record { cloud = cloud; request = request; reply = reply } ∷ [])
   spoken_one E old new cloud request reply says else other before is = go (cloud == other) refl
     where
@@ -100,7 +100,7 @@ module _ {L : Type 0} (t : LinkTelling L) (talk : L → ℕ → Talk → Type 0)
   pub exchanged_twice : (a b c : L) (one two : List CloudExchange) → Exchanged t talk a b one → Exchanged t talk b c two → Exchanged t talk a c (one ++ two)
   exchanged_twice a b c one two first second = (spoken_twice talk a b c one two first.0 second.0, passed_twice a b c one two first.1 second.1)
 
-  pub exchanged_one : (E : Type 0) (old new : L) (cloud : ℕ) (request reply : List ℕ) → Says {E = E} talk cloud old request reply (Ok tt) new → SaysNothingElse talk cloud old new
+  pub exchanged_one : (E : Type 0) (old new : L) (cloud : ℕ) (request reply : List ℕ) → TakesFirstReply {E = E} talk cloud old request reply (Ok tt) new → SaysNothingElse talk cloud old new
       → IsReading request → t.passes old (record { cloud = cloud; content = request; reply = Some reply }) new
       → Exchanged t talk old new (record { cloud = cloud; request = request; reply = reply } ∷ [])
   exchanged_one E old new cloud request reply says else reading passes = (spoken_one talk E old new cloud request reply says else, (reading, (new, passes, refl)))
@@ -230,10 +230,10 @@ module _ {L : Type 0} (t : LinkTelling L) (talk : L → ℕ → Talk → Type 0)
 
 -- what stands in a room is opened
 pub opens_here : (shape : Shape) (points : List ℕ) (firsts : List Item) (rooms : List (List ℕ)) (place j : ℕ) (shares : List ℕ) (result : Result (Unit {0}) RestoreErr) (old new : List ℕ) → shares ≡ room_of rooms j
-    → OpensTo (of_secret (place + j) (opened shape (item_of firsts (place + j)).secret_len points shares)) result old new
-    → OpensTo (of_secret (place + j) (opened shape (item_of firsts (place + j)).secret_len points (room_of rooms j))) result old new
+    → OpensSecretsTo (of_secret (place + j) (opened shape (item_of firsts (place + j)).secret_len points shares)) result old new
+    → OpensSecretsTo (of_secret (place + j) (opened shape (item_of firsts (place + j)).secret_len points (room_of rooms j))) result old new
 opens_here shape points firsts rooms place j shares result old new e opens =
-    subst (λ (l : List ℕ). OpensTo (of_secret (place + j) (opened shape (item_of firsts (place + j)).secret_len points l)) result old new) e opens
+    subst (λ (l : List ℕ). OpensSecretsTo (of_secret (place + j) (opened shape (item_of firsts (place + j)).secret_len points l)) result old new) e opens
 
 -- ---- batches
 

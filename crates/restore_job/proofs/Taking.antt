@@ -21,7 +21,7 @@ use Rattle.restore_job.specs.Restored.{Unrestored, Given, no_item, item_of, item
 use Rattle.caont_rs.specs.Opening.{opened}
 use Rattle.caont_rs.specs.declared.opening.RecoverErr.TheVariants as opening
 use Rattle.restore_job.specs.Restored
-use Rattle.restore_job.specs.Steps.{AreItemsAt, IsShareOf, WithStrings, OpensTo, Grows, room_of}
+use Rattle.restore_job.specs.Steps.{AreItemsAt, IsShareOf, WithStrings, OpensSecretsTo, Grows, room_of}
 use Rattle.restore_job.specs.declared.error.RestoreErr.{RestoreErr}
 use Rattle.restore_job.specs.declared.error.RestoreErr.TheVariants as errors
 
@@ -81,20 +81,20 @@ pub opening_is : (due rest other : Result (List ℕ) Unrestored) (old new : List
 opening_is due rest other old new e o = subst (λ (r : Result (List ℕ) Unrestored). Opening due r old new) e o
 
 -- one part more was opened
-pub opening_more : (due next rest : Result (List ℕ) Unrestored) (old mid new : List ℕ) → Opening due (behind next rest) old mid → OpensTo next (Ok tt) mid new → Opening due rest old new
+pub opening_more : (due next rest : Result (List ℕ) Unrestored) (old mid new : List ℕ) → Opening due (behind next rest) old mid → OpensSecretsTo next (Ok tt) mid new → Opening due rest old new
 opening_more due next rest old mid new o opens = record {
   done = o.done ++ opens.0;
   appended = opens.1 ∙ ap (λ (l : List ℕ). l ++ opens.0) o.appended ∙ append_assoc old o.done opens.0;
   left = o.left ∙ ap (λ (r : Result (List ℕ) Unrestored). joined o.done (behind r rest)) opens.2 ∙ joined_on o.done opens.0 rest;
 }
 
-pub opening_stops : (due next rest : Result (List ℕ) Unrestored) (e : RestoreErr) (old mid new : List ℕ) → Opening due (behind next rest) old mid → OpensTo next (Err e) mid new → OpensTo due (Err e) old new
+pub opening_stops : (due next rest : Result (List ℕ) Unrestored) (e : RestoreErr) (old mid new : List ℕ) → Opening due (behind next rest) old mid → OpensSecretsTo next (Err e) mid new → OpensSecretsTo due (Err e) old new
 opening_stops due next rest e old mid new o opens = go e opens
   where
     refuses : (why : Unrestored) → next ≡ Err why → due ≡ Err why
     refuses why is = o.left ∙ ap (λ (r : Result (List ℕ) Unrestored). joined o.done (behind r rest)) is
 
-    go : (e : RestoreErr) → OpensTo next (Err e) mid new → OpensTo due (Err e) old new
+    go : (e : RestoreErr) → OpensSecretsTo next (Err e) mid new → OpensSecretsTo due (Err e) old new
     go (errors.BadSecret secret named found) opens = refuses (Restored.NotOpened secret (opening.BadSecret named found)) opens
     go (errors.BadPad secret at byte) opens = refuses (Restored.NotOpened secret (opening.BadPad at byte)) opens
     go errors.NoMemory opens = tt
@@ -109,7 +109,7 @@ opening_stops due next rest e old mid new o opens = go e opens
     go (errors.ShareLength c secret found wanted) opens = absurd opens
     go (errors.BadShare c secret named found) opens = absurd opens
 
-pub opening_all : (due : Result (List ℕ) Unrestored) (old new : List ℕ) → Opening due (Ok []) old new → OpensTo due (Ok tt) old new
+pub opening_all : (due : Result (List ℕ) Unrestored) (old new : List ℕ) → Opening due (Ok []) old new → OpensSecretsTo due (Ok tt) old new
 opening_all due old new o = (o.done, o.appended, o.left ∙ ap Ok (append-nil o.done))
 
 -- the next secret, and those behind it

@@ -5,7 +5,7 @@ use Rattle.user_dedup.specs.CdEdges.Causes.{Rose}
 use Rattle.user_dedup.specs.Messages.ReplyReading.{reply_at}
 use Rattle.user_dedup.specs.Messages.reply.Reply.{Reply}
 use Rattle.user_dedup.specs.Exec.{Peer, Settles, KeepsPeer, CountsOn}
-use Rattle.user_dedup.specs.Link.{LinkTelling, Exchange, Passes, ReadsFrom}
+use Rattle.user_dedup.specs.Link.{LinkTelling, Exchange, Passes, ReadsOneOf}
 use Rattle.restore_job.specs.declared.error.RestoreErr.{RestoreErr}
 use Rattle.restore_job.specs.declared.error.RestoreErr.TheVariants as errors
 
@@ -84,7 +84,7 @@ is_lost (Err e) = is_loss e
 -- clouds stays. An ask is lost only where the count of losses rose, and never where the link tells that it loses nothing, which it then tells still.
 pub record HasAskedClouds {L : Type 0} (t : LinkTelling L) (clouds : List ℕ) (old new : L) (loss : Bool) : Type 0 where
   pub asks : List Exchange
-  pub passed : Passes t (ReadsFrom clouds) old asks new
+  pub passed : Passes t (ReadsOneOf clouds) old asks new
   pub others : (cloud : ℕ) (p : Peer) → (Contains clouds cloud → ⊥) → t.stands old cloud p → t.stands new cloud p
   pub reaches : t.reaches new ≡ t.reaches old
   pub shape : t.shape new ≡ t.shape old
@@ -95,8 +95,8 @@ pub record HasAskedClouds {L : Type 0} (t : LinkTelling L) (clouds : List ℕ) (
   pub lossless : IsTrue (t.lossless old) → (loss ≡ false) × IsTrue (t.lossless new)
 
 -- a reply came, and it is one that can be read
-abbrev pub IsReadable : Exchange → Type 0
-IsReadable e = (content : List ℕ) × (answer : Reply) × (e.reply ≡ Some content) × (reply_at content ≡ Ok answer)
+abbrev pub IsReplyReadable : Exchange → Type 0
+IsReplyReadable e = (content : List ℕ) × (answer : Reply) × (e.reply ≡ Some content) × (reply_at content ≡ Ok answer)
 
 -- The refusal says of this cloud that its reply was lost, or strange. Where memory ran out it may be any.
 abbrev pub IsUnread : RestoreErr → ℕ → Type 0
@@ -111,4 +111,5 @@ UnreadIn (Err e) cloud = IsUnread e cloud
 
 -- Asks were made, and each brought a reply that can be read, but of the cloud whose reply the result calls lost or strange.
 abbrev pub Readable : {L A : Type 0} → LinkTelling L → L → L → Result A RestoreErr → Type 0
-Readable t old new result = (asks : List Exchange) × Passes t (λ e. UnreadIn result e.cloud ⊎ IsReadable e) old asks new
+Readable t old new result = (asks : List Exchange)
+    × Passes t (λ e. UnreadIn result e.cloud ⊎ IsReplyReadable e) old asks new

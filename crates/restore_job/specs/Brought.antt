@@ -9,11 +9,12 @@ use Rattle.user_dedup.specs.Recipe.recipe.Recipe.{Recipe}
 use Rattle.restore_job.specs.Restored.{item_of, difference}
 
 -- for each recipe, in order, a string with the fingerprint of its item i
-abbrev pub AreShares : List Recipe → ℕ → List (List ℕ) → Type 0
-AreShares [] i [] = Unit {0}
-AreShares [] i (s ∷ strings) = ⊥
-AreShares (r ∷ recipes) i [] = ⊥
-AreShares (r ∷ recipes) i (s ∷ strings) = (sha256_of s ≡ (item_of r.items i).fp.0) × AreShares recipes i strings
+abbrev pub AreStringsOfItem : List Recipe → ℕ → List (List ℕ) → Type 0
+AreStringsOfItem [] i [] = Unit {0}
+AreStringsOfItem [] i (s ∷ strings) = ⊥
+AreStringsOfItem (r ∷ recipes) i [] = ⊥
+AreStringsOfItem (r ∷ recipes) i (s ∷ strings) = (sha256_of s ≡ (item_of r.items i).fp.0)
+    × AreStringsOfItem recipes i strings
 
 -- strings, one behind the other
 abbrev pub in_a_row : List (List ℕ) → List ℕ
@@ -22,12 +23,13 @@ in_a_row (s ∷ strings) = s ++ in_a_row strings
 
 -- a room has such strings more
 abbrev pub HasShares : List Recipe → ℕ → List ℕ → List ℕ → Type 0
-HasShares recipes i old new = (strings : List (List ℕ)) × AreShares recipes i strings × (new ≡ old ++ in_a_row strings)
+HasShares recipes i old new = (strings : List (List ℕ)) × AreStringsOfItem recipes i strings
+    × (new ≡ old ++ in_a_row strings)
 
 -- secret i is what such strings open to
 pub record IsSecret (shape : Shape) (clouds : List ℕ) (firsts : List Item) (recipes : List Recipe) (i : ℕ) (secret : List ℕ) : Type 0 where
   pub strings : List (List ℕ)
-  pub shares : AreShares recipes i strings
+  pub shares : AreStringsOfItem recipes i strings
   pub opens : opened shape (item_of firsts i).secret_len clouds (in_a_row strings) ≡ Ok secret
 
 -- the first so many secrets, one behind the other
@@ -52,8 +54,8 @@ Agree [] = Unit {0}
 Agree (r ∷ recipes) = All (λ other. difference r other ≡ None) recipes
 
 -- all secrets were appended
-abbrev pub Appends : Shape → List ℕ → List Recipe → List ℕ → List ℕ → Type 0
-Appends shape clouds recipes old new =
+abbrev pub AppendsSecrets : Shape → List ℕ → List Recipe → List ℕ → List ℕ → Type 0
+AppendsSecrets shape clouds recipes old new =
     (file : List ℕ) × (new ≡ old ++ file) × AreSecrets shape clouds (first_items recipes) recipes (length (first_items recipes)) file
 
 -- The appended bytes are the secrets, one behind the other, of recipes that agree: one of the shape for each cloud.
@@ -62,4 +64,4 @@ pub record Brought (shape : Shape) (clouds old new : List ℕ) : Type 0 where
   pub count : length recipes ≡ length clouds
   pub fits : All (Fits shape) recipes
   pub agree : Agree recipes
-  pub appends : Appends shape clouds recipes old new
+  pub appends : AppendsSecrets shape clouds recipes old new

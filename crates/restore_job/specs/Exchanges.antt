@@ -13,7 +13,7 @@ use Rattle.user_dedup.specs.Recipe.recipe.Recipe.{Recipe}
 use Rattle.user_dedup.specs.Link.{IsReading, LinkTelling, Passes, Talk, first_reply, said}
 use Rattle.user_dedup.specs.Link.{Exchange as Passed}
 use Rattle.user_dedup.specs.CdBase.Reading.{AreBytes}
-use Rattle.restore_job.specs.Steps.{RecipeFrom, SharesFrom, NamesKind, Takes, OpensTo, Compares, room_of}
+use Rattle.restore_job.specs.Steps.{RecipeFrom, SharesFrom, NamesKind, Takes, OpensSecretsTo, Compares, room_of}
 use Rattle.user_dedup.specs.CdBase.Numbers.{numbers_of}
 use Rattle.user_dedup.specs.CdBase.ids.Tag.{Tag}
 use Rattle.user_dedup.specs.CdBase.ids.Version.{Version}
@@ -136,7 +136,7 @@ pub data BatchSaid (shape : Shape) (user : UserId) (firsts : List Item) (place n
 pub data OpenedTo (shape : Shape) (points : List ℕ) (firsts : List Item) (rooms : List (List ℕ)) (place : ℕ) : ℕ → List ℕ → List ℕ → Type 0 where
   NoneOpened : (out : List ℕ) → OpenedTo shape points firsts rooms place 0 out out
   OneOpened : (j : ℕ) (old mid new : List ℕ) → OpenedTo shape points firsts rooms place j old mid
-      → OpensTo (of_secret (place + j) (opened shape (item_of firsts (place + j)).secret_len points (room_of rooms j))) (Ok tt) mid new
+      → OpensSecretsTo (of_secret (place + j) (opened shape (item_of firsts (place + j)).secret_len points (room_of rooms j))) (Ok tt) mid new
       → OpenedTo shape points firsts rooms place (j + 1) old new
 
 -- a room's secret doesn't open, and those in front of it were appended
@@ -145,7 +145,7 @@ pub record StopsAt (shape : Shape) (points : List ℕ) (firsts : List Item) (roo
   pub within : j < n
   pub mid : List ℕ
   pub front : OpenedTo shape points firsts rooms place j old mid
-  pub stops : OpensTo (of_secret (place + j) (opened shape (item_of firsts (place + j)).secret_len points (room_of rooms j))) (Err e) mid new
+  pub stops : OpensSecretsTo (of_secret (place + j) (opened shape (item_of firsts (place + j)).secret_len points (room_of rooms j))) (Err e) mid new
 
 abbrev pub OpensBatch : Shape → List ℕ → List Item → List (List ℕ) → ℕ → ℕ → List ℕ → List ℕ → Result (Unit {0}) RestoreErr → Type 0
 OpensBatch shape points firsts rooms place n old new (Ok u) = OpenedTo shape points firsts rooms place n old new

@@ -256,12 +256,12 @@ BatchTold shape clouds firsts all place n (Err e) rooms filled before after = �
 -- ---- secrets
 
 -- the secrets of a batch were opened as this outcome says
-abbrev pub OpensTo : Result (List ℕ) Unrestored → Result (Unit {0}) RestoreErr → List ℕ → List ℕ → Type 0
-OpensTo outcome (Ok u) old new = (file : List ℕ) × (new ≡ old ++ file) × (outcome ≡ Ok file)
-OpensTo outcome (Err (errors.BadSecret secret named found)) old new = outcome ≡ Err (Restored.NotOpened secret (opening.BadSecret named found))
-OpensTo outcome (Err (errors.BadPad secret at byte)) old new = outcome ≡ Err (Restored.NotOpened secret (opening.BadPad at byte))
-OpensTo outcome (Err errors.NoMemory) old new = Unit {0}
-OpensTo outcome (Err e) old new = ⊥
+abbrev pub OpensSecretsTo : Result (List ℕ) Unrestored → Result (Unit {0}) RestoreErr → List ℕ → List ℕ → Type 0
+OpensSecretsTo outcome (Ok u) old new = (file : List ℕ) × (new ≡ old ++ file) × (outcome ≡ Ok file)
+OpensSecretsTo outcome (Err (errors.BadSecret secret named found)) old new = outcome ≡ Err (Restored.NotOpened secret (opening.BadSecret named found))
+OpensSecretsTo outcome (Err (errors.BadPad secret at byte)) old new = outcome ≡ Err (Restored.NotOpened secret (opening.BadPad at byte))
+OpensSecretsTo outcome (Err errors.NoMemory) old new = Unit {0}
+OpensSecretsTo outcome (Err e) old new = ⊥
 
 -- a list, and maybe more behind it
 abbrev pub Grows : List ℕ → List ℕ → Type 0
@@ -277,10 +277,11 @@ abbrev pub AreItemsAt : List Item → Type 0
 AreItemsAt items = (i : ℕ) → i < length items → IsItem (item_of items i)
 
 -- what looking at one string says
-abbrev pub Checks : Shape → CloudNo → ℕ → ℕ → List ℕ → List ℕ → Result (Unit {0}) RestoreErr → Type 0
-Checks shape cloud secret len fp string (Ok u) = (length string ≡ share_len_of shape.k len) × (sha256_of string ≡ fp)
-Checks shape cloud secret len fp string (Err (errors.ShareLength c s found wanted)) =
+abbrev pub ChecksString : Shape → CloudNo → ℕ → ℕ → List ℕ → List ℕ → Result (Unit {0}) RestoreErr → Type 0
+ChecksString shape cloud secret len fp string (Ok u) = (length string ≡ share_len_of shape.k len)
+    × (sha256_of string ≡ fp)
+ChecksString shape cloud secret len fp string (Err (errors.ShareLength c s found wanted)) =
     (c ≡ cloud) × (s ≡ secret) × (found ≡ length string) × (wanted ≡ share_len_of shape.k len) × (found ≢ wanted)
-Checks shape cloud secret len fp string (Err (errors.BadShare c s named found)) =
+ChecksString shape cloud secret len fp string (Err (errors.BadShare c s named found)) =
     (c ≡ cloud) × (s ≡ secret) × (named.0 ≡ fp) × (found.0 ≡ sha256_of string) × (found.0 ≢ named.0) × (length string ≡ share_len_of shape.k len)
-Checks shape cloud secret len fp string (Err e) = ⊥
+ChecksString shape cloud secret len fp string (Err e) = ⊥

@@ -16,7 +16,7 @@ ghost use Rattle.user_dedup.specs.Recipe.Spelling.{Fits, item_limit};
 ghost use Rattle.sha2.specs.Sha256.{sha256 as sha256_of};
 ghost use Rattle.user_dedup.specs.Link.{Asks, LeavesOthers, IsReading, exchange_of};
 ghost use Rattle.user_dedup.specs.Owning.{fps_in};
-ghost use Rattle.user_dedup.specs.Requests.{IsAsked};
+ghost use Rattle.user_dedup.specs.Requests.{AsksOfStore};
 ghost use Rattle.restore_job.specs.Asking.{HasAskedClouds, LeadsAny, Readable, among, is_lost};
 ghost use Rattle.restore_job.specs.Brought.{HasShares};
 ghost use Rattle.restore_job.specs.Refusals.{Names};
@@ -50,7 +50,7 @@ fn ask<L: Link>(
     requires framed { length request.now ≤ frame_limit }
     requires reading { IsReading request.now }
     ensures asked { HasAskedClouds L.tells (cloud.0 ∷ []) link.old link.new (is_lost result) }
-    ensures exec { (r : Request) → IsAsked (L.tells.shape link.old) request.now r
+    ensures exec { (r : Request) → AsksOfStore (L.tells.shape link.old) request.now r
         → Asks L.tells cloud.0 link.old r reply.new result link.new }
     ensures others { LeavesOthers L.tells cloud.0 link.old link.new }
     ensures lost { OnErr result (result ≡ Err (RestoreErr.Lost cloud)) }

@@ -12,7 +12,7 @@ ghost use Rattle.restore_job.specs.Brought.{Extends, HasShares};
 ghost use Rattle.restore_job.specs.Exchanges.{OpensBatch};
 ghost use Rattle.restore_job.specs.Refusals.{Names};
 ghost use Rattle.restore_job.specs.Restored.{Given, item_of, of_secret, secrets_opened, string_at};
-ghost use Rattle.restore_job.specs.Steps.{AreItemsAt, Grows, OpensTo, room_of};
+ghost use Rattle.restore_job.specs.Steps.{AreItemsAt, Grows, OpensSecretsTo, room_of};
 
 use crate::RestoreErr;
 use crate::rooms::SecretRooms;
@@ -32,7 +32,8 @@ fn open_secret(
     requires few { secret_len ≤ secret_limit }
     requires choice { AreChoice shape points.now }
     requires whole { length shares.now ≡ shape.k * share_len_of shape.k secret_len }
-    ensures opens { OpensTo (of_secret secret (opened shape secret_len points.now shares.now)) result out.old out.new }
+    ensures opens { OpensSecretsTo
+        (of_secret secret (opened shape secret_len points.now shares.now)) result out.old out.new }
     ensures grows { Grows out.old out.new }
     ensures alone { IfErr result (Names (λ c. ⊥)) }
     ensures found { is_lost result ≡ false }
@@ -68,7 +69,7 @@ pub fn open_batch(
         → length (room_of rooms.now j) ≡ shape.k * share_len_of shape.k (item_of firsts.now (place + j)).secret_len }
     ensures opens { (all : List Given) → points.now ≡ map (λ given. given.cloud) all
         → ((j : ℕ) → j < count → room_of rooms.now j ≡ flat_map (λ given. string_at given (place + j)) all)
-        → OpensTo (secrets_opened shape firsts.now all place count) result out.old out.new }
+        → OpensSecretsTo (secrets_opened shape firsts.now all place count) result out.old out.new }
     ensures opened { OpensBatch shape points.now firsts.now rooms.now place count out.old out.new result }
     ensures brought { (recipes : List Recipe)
         → ((j : ℕ) → j < count → HasShares recipes (place + j) [] (room_of rooms.now j))

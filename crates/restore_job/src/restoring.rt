@@ -14,7 +14,7 @@ ghost use Rattle.user_dedup.specs.Recipe.Spelling.{Fits};
 ghost use Rattle.caont_rs.specs.ReedSolomon.Dispersal.{AreChoice};
 ghost use Rattle.restore_job.specs.Asking.{HasAskedClouds, Leads, LeadsAny, Readable, among, is_lost};
 ghost use Rattle.restore_job.specs.Reading.{Ends, Restores};
-ghost use Rattle.restore_job.specs.Brought.{Agree, Appends, Brought};
+ghost use Rattle.restore_job.specs.Brought.{Agree, AppendsSecrets, Brought};
 ghost use Rattle.restore_job.specs.Exchanges.{AgreedRun, CloudExchange, Exchanged, LostSaid, RestorePassed, RestoreRun, RestoreSaid, Unlost};
 ghost use Rattle.restore_job.specs.Refusals.{CausesAmong, Names, Shows};
 ghost use Rattle.restore_job.specs.Restored.{agreed};
@@ -95,7 +95,7 @@ pub fn restore_agreed<L: Link>(
         (numbers_of clouds.now) result out.old out.new before after) }
     ensures named { IfErr result (Names (Contains (numbers_of clouds.now))) }
     ensures brought { OnOk result (Agree recipes.now
-        × Appends shape (numbers_of clouds.now) recipes.now out.old out.new) }
+        × AppendsSecrets shape (numbers_of clouds.now) recipes.now out.old out.new) }
     ensures grows { Grows out.old out.new }
     ensures said { Unlost result ((log : List CloudExchange) × Exchanged L.tells L.talk link.old link.new log
         × AgreedRun shape user clouds.now recipes.now log out.old out.new result) }

@@ -5,7 +5,7 @@ ghost use Rattle.user_dedup.specs.CdBase.Limits.{secret_limit};
 ghost use Rattle.user_dedup.specs.MessageFields.Fingerprints.{batch_limit};
 ghost use Rattle.user_dedup.specs.MessageFields.Shares.{share_limit};
 ghost use Rattle.sha2.specs.Sha256.{sha256 as sha256_of};
-ghost use Rattle.restore_job.specs.Steps.{AreItemsAt, Checks, IsItem, Takes};
+ghost use Rattle.restore_job.specs.Steps.{AreItemsAt, ChecksString, IsItem, Takes};
 
 use crate::RestoreErr;
 use crate::rooms::SecretRooms;
@@ -27,7 +27,7 @@ fn check_share(
     requires some { 1 ≤ secret_len }
     requires few { secret_len ≤ secret_limit }
     requires short { length share.now ≤ share_limit }
-    ensures { Checks shape cloud secret secret_len named.0 share.now result }
+    ensures { ChecksString shape cloud secret secret_len named.0 share.now result }
 {
     let found = share.len() as u32;
     let wanted = share_len(shape, secret_len);

@@ -20,7 +20,7 @@ use Rattle.session_model.specs.UploadJob.Lanes.{LaneView, with_state}
 use Rattle.session_jobs.specs.LaneSteps.Runs.{LaneTurn, Progress, starting, request_of, progress_after, LaneRun, LaneAlong, Tell, lane_at}
 use Rattle.session_jobs.specs.LaneSteps.error.StepErr.{StepErr}
 use Rattle.session_jobs.specs.LaneSteps.error.StepErr.TheVariants as step_errors
-use Rattle.session_jobs.specs.LaneSteps.Steps.{Heard, Untaken, LaneSteps, Finishes, IsFound}
+use Rattle.session_jobs.specs.LaneSteps.Steps.{Heard, Untaken, LaneSteps, Finishes, IsNothingLost}
 use Rattle.session_model.specs.LocalLink.link.LocalLink.{LocalLink}
 use Rattle.session_model.specs.LocalLink.Tells.{telling}
 use Rattle.session_model.specs.Session.Spelling.{IsJob}
@@ -33,8 +33,8 @@ use Rattle.session_model.specs.Run.{IsListIn}
 use Rattle.session_model.specs.Headline.{IsPartOf}
 use Rattle.session_model.specs.Cut.{FinishCut}
 use Rattle.session_model.specs.Session.Texts.{text_of}
-use Rattle.script_lines.specs.At.{LinkAt, IsAt, KeepsOtherClouds, header_in}
-use Rattle.script_lines.specs.Does.{Images, Does, IsLineCut}
+use Rattle.script_lines.specs.At.{LinkAt, IsAtVault, KeepsOtherClouds, header_in}
+use Rattle.script_lines.specs.Does.{Images, DoesLine, IsLineCut}
 use Rattle.script_lines.specs.Jobs.{job_lanes, with_job}
 use Rattle.script_lines.specs.Stepping.{stored_if}
 use Rattle.script_lines.specs.Finishing.{lane_lines, IsBrought, Finished, FinishedPart}
@@ -162,7 +162,7 @@ module _ {V : Type 0} (clouds : V → ℕ → Cloud) (s : Setting) (job : ℕ) w
       late c list (inl settles) = inl settles
       late c list (inr x) = inr (x.0, Contains-append_right before behind x.0 x.1, x.2)
 
-  pub finished_none : (old : LocalLink V) (jobs : List (List LaneView)) (v : Vault) (before : List ℕ) → IsAt clouds s old jobs v → Finished clouds s job [] old old jobs v before before
+  pub finished_none : (old : LocalLink V) (jobs : List (List LaneView)) (v : Vault) (before : List ℕ) → IsAtVault clouds s old jobs v → Finished clouds s job [] old old jobs v before before
   finished_none old jobs v before is = record {
     answers = [];
     moments = [];
@@ -237,8 +237,8 @@ tell_more Does p old (here ∷ turns) at mid told t next along tell news =
     (tell.0, tell.1 ++ next ∷ [], tell.2, tell_more Does (progress_after p here.reply) along.3.0 turns at mid tell.1 t next along.3.2 tell.3 news, ap (λ (l : List LaneNews). l ++ next ∷ []) tell.4)
 
 module _ {V : Type 0} (clouds : V → ℕ → Cloud) (talk : LocalLink V → ℕ → Talk → Type 0) (s : Setting) (job cloud : ℕ) where
-  pub one_finished : (old new : LocalLink V) (jobs : List (List LaneView)) (v : Vault) (came : Result (Unit {0}) StepErr) (after : List LaneView) (now : List LaneNews) (stored : Bool) (before text : List ℕ) → IsAt clouds s old jobs v → cloud < s.shape.n
-      → Finishes (telling clouds) talk cloud old (lanes_of v.jobs job) [] came new after now → IsFound came → IsBrought came → stored ≡ (not (all_done (lanes_of v.jobs job)) && all_done after)
+  pub one_finished : (old new : LocalLink V) (jobs : List (List LaneView)) (v : Vault) (came : Result (Unit {0}) StepErr) (after : List LaneView) (now : List LaneNews) (stored : Bool) (before text : List ℕ) → IsAtVault clouds s old jobs v → cloud < s.shape.n
+      → Finishes (telling clouds) talk cloud old (lanes_of v.jobs job) [] came new after now → IsNothingLost came → IsBrought came → stored ≡ (not (all_done (lanes_of v.jobs job)) && all_done after)
       → text ≡ before ++ text_of (lane_lines job cloud came now stored) → Finished clouds s job (cloud ∷ []) old new (with_job jobs job after) v before text
   one_finished old new jobs v (Ok u) after now stored before text is lt f found brought e said =
       let views = lanes_of v.jobs job in
@@ -282,8 +282,8 @@ module _ {V : Type 0} (clouds : V → ℕ → Cloud) (talk : LocalLink V → ℕ
       strange (Some r) views mid peers link steps = steps.0.unheard (peers cloud) (link.stands cloud lt)
 
   -- want of memory cut it, here or behind it
-  pub one_cut : (old new : LocalLink V) (jobs : List (List LaneView)) (v : Vault) (came : Result (Unit {0}) StepErr) (after : List LaneView) (now : List LaneNews) → IsAt clouds s old jobs v → cloud < s.shape.n → cloud < length (lanes_of v.jobs job)
-      → Finishes (telling clouds) talk cloud old (lanes_of v.jobs job) [] came new after now → IsFound came → FinishedPart clouds s job (cloud ∷ []) old new v
+  pub one_cut : (old new : LocalLink V) (jobs : List (List LaneView)) (v : Vault) (came : Result (Unit {0}) StepErr) (after : List LaneView) (now : List LaneNews) → IsAtVault clouds s old jobs v → cloud < s.shape.n → cloud < length (lanes_of v.jobs job)
+      → Finishes (telling clouds) talk cloud old (lanes_of v.jobs job) [] came new after now → IsNothingLost came → FinishedPart clouds s job (cloud ∷ []) old new v
   one_cut old new jobs v (Ok u) after now is lt has f found =
       let stored = not (all_done (lanes_of v.jobs job)) && all_done after in
       let text = text_of (lane_lines job cloud (Ok u) now stored) in
@@ -352,8 +352,8 @@ module _ {V : Type 0} (clouds : V → ℕ → Cloud) (talk : LocalLink V → ℕ
 -- ---- a lane of a job by its number
 
 module _ {V : Type 0} (clouds : V → ℕ → Cloud) (talk : LocalLink V → ℕ → Talk → Type 0) (s : Setting) (job cloud : ℕ) where
-  pub lane_finished : (old new : LocalLink V) (jobs later : List (List LaneView)) (v : Vault) (came : Result (Unit {0}) StepErr) (after : List LaneView) (told : List LaneNews) (before now stored : Bool) (was text : List ℕ) → IsAt clouds s old jobs v → cloud < s.shape.n
-      → IsJob (length jobs) job → later ≡ with_job jobs job after → Finishes (telling clouds) talk cloud old (job_lanes jobs job) [] came new after told → IsFound came → IsBrought came
+  pub lane_finished : (old new : LocalLink V) (jobs later : List (List LaneView)) (v : Vault) (came : Result (Unit {0}) StepErr) (after : List LaneView) (told : List LaneNews) (before now stored : Bool) (was text : List ℕ) → IsAtVault clouds s old jobs v → cloud < s.shape.n
+      → IsJob (length jobs) job → later ≡ with_job jobs job after → Finishes (telling clouds) talk cloud old (job_lanes jobs job) [] came new after told → IsNothingLost came → IsBrought came
       → before ≡ all_done (job_lanes jobs job) → now ≡ all_done (job_lanes later job) → stored ≡ (not before && now) → text ≡ was ++ text_of (lane_lines job cloud came told stored)
       → Finished clouds s job (cloud ∷ []) old new later v was text
   lane_finished old new jobs later v came after told before now stored was text is lt number put f found brought seen is_now e said =
@@ -365,8 +365,8 @@ module _ {V : Type 0} (clouds : V → ℕ → Cloud) (talk : LocalLink V → ℕ
       views : lanes_of v.jobs job ≡ job_lanes jobs job
       views = views_are v.jobs jobs job is.jobs_are
 
-  pub lane_cut : (old new : LocalLink V) (jobs : List (List LaneView)) (v : Vault) (came : Result (Unit {0}) StepErr) (after : List LaneView) (told : List LaneNews) → IsAt clouds s old jobs v → cloud < s.shape.n
-      → cloud < length (job_lanes jobs job) → Finishes (telling clouds) talk cloud old (job_lanes jobs job) [] came new after told → IsFound came → FinishedPart clouds s job (cloud ∷ []) old new v
+  pub lane_cut : (old new : LocalLink V) (jobs : List (List LaneView)) (v : Vault) (came : Result (Unit {0}) StepErr) (after : List LaneView) (told : List LaneNews) → IsAtVault clouds s old jobs v → cloud < s.shape.n
+      → cloud < length (job_lanes jobs job) → Finishes (telling clouds) talk cloud old (job_lanes jobs job) [] came new after told → IsNothingLost came → FinishedPart clouds s job (cloud ∷ []) old new v
   lane_cut old new jobs v came after told is lt has f found =
       one_cut clouds talk s job cloud old new jobs v came after told is lt (subst (λ (views : List LaneView). cloud < length views) (sym views) has)
       (subst (λ (views : List LaneView). Finishes (telling clouds) talk cloud old views [] came new after told) (sym views) f) found
@@ -400,7 +400,7 @@ range_at lane n lt =
 
 module _ {V : Type 0} (clouds : V → ℕ → Cloud) (s : Setting) (job : ℕ) where
   pub finish_goes : (old new : LocalLink V) (jobs : List (List LaneView)) (v : Vault) (before between text : List ℕ) (stored : Bool) → Finished clouds s job (range_with_len 0 s.shape.n) old new jobs v before between
-      → stored ≡ all_done (job_lanes jobs job) → text ≡ between ++ text_of (lines.End job stored ∷ []) → Does clouds s (events.Finish job) old new jobs v before text
+      → stored ≡ all_done (job_lanes jobs job) → text ≡ between ++ text_of (lines.End job stored ∷ []) → DoesLine clouds s (events.Finish job) old new jobs v before text
   finish_goes old new jobs v before between text stored f e said =
       let views = views_are f.after.jobs jobs job f.is_at.jobs_are in (
         f.answers ++ lines.End job stored ∷ [],

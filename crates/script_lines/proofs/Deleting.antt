@@ -37,7 +37,7 @@ use Rattle.session_model.specs.Transcript.line.Line.{Line}
 use Rattle.session_model.specs.Transcript.line.Line.TheVariants as lines
 use Rattle.session_model.specs.Vault.{Setting, Vault, HasVaultExecuted}
 use Rattle.session_model.specs.Steps.{IsDeleteLine}
-use Rattle.script_lines.specs.At.{IsAt, KeepsOtherClouds}
+use Rattle.script_lines.specs.At.{IsAtVault, KeepsOtherClouds}
 use Rattle.script_lines.specs.Does.{Images, Goes, IsLineCut}
 use Rattle.script_lines.proofs.Going.{before_exec, moves, executes, images_executed, leaves_rest, cut_behind}
 
@@ -106,12 +106,12 @@ module _ {V : Type 0} (clouds : V → ℕ → Cloud) where
       pub left : Peer
       pub reply : Reply
       pub exec : HasVaultExecuted s cloud.0 v.peers (asks s.shape) reply (put v.peers cloud.0 left)
-      pub is_at : IsAt clouds s new jobs (record { peers = put v.peers cloud.0 left; jobs = v.jobs })
+      pub is_at : IsAtVault clouds s new jobs (record { peers = put v.peers cloud.0 left; jobs = v.jobs })
       pub images : Images clouds s old new (before_exec v.peers cloud.0 (asks s.shape) reply ∷ []) (put v.peers cloud.0 left)
       pub reads : IsReply bytes reply
       pub said : Said cloud reply
 
-    heard : (old new : LocalLink V) (jobs : List (List LaneView)) (v : Vault) (content bytes : List ℕ) (u : Unit {0}) → IsAt clouds s old jobs v → cloud.0 < old.servers.shape.n
+    heard : (old new : LocalLink V) (jobs : List (List LaneView)) (v : Vault) (content bytes : List ℕ) (u : Unit {0}) → IsAtVault clouds s old jobs v → cloud.0 < old.servers.shape.n
         → IsRequest content (asks old.servers.shape) → PassesOn clouds old (record { cloud = cloud.0; content = content; reply = Some bytes }) new → LeavesOthers (telling clouds) cloud.0 old new
         → ((r : Request) → asked_at old.servers.shape content ≡ Ok r → Asks {E = Lost} (telling clouds) cloud.0 old r bytes (Ok u) new) → Deletes old new jobs v bytes
     heard old new jobs v content bytes u is below request passes others executed =
@@ -133,7 +133,7 @@ module _ {V : Type 0} (clouds : V → ℕ → Cloud) where
         }
 
     -- the link loses nothing
-    pub deletes : (old new : LocalLink V) (jobs : List (List LaneView)) (v : Vault) (content bytes : List ℕ) (result : Result (Unit {0}) Lost) → IsAt clouds s old jobs v → cloud.0 < old.servers.shape.n
+    pub deletes : (old new : LocalLink V) (jobs : List (List LaneView)) (v : Vault) (content bytes : List ℕ) (result : Result (Unit {0}) Lost) → IsAtVault clouds s old jobs v → cloud.0 < old.servers.shape.n
         → IsRequest content (asks old.servers.shape) → (telling clouds).passes old (exchange_of cloud.0 content result bytes) new → LeavesOthers (telling clouds) cloud.0 old new
         → ((r : Request) → asked_at old.servers.shape content ≡ Ok r → Asks {E = Lost} (telling clouds) cloud.0 old r bytes result new)
         → (IsTrue (is_delivered old.fate) → IsOk result × IsTrue (is_delivered new.fate)) → Deletes old new jobs v bytes

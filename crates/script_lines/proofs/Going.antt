@@ -29,7 +29,7 @@ use Rattle.session_model.specs.Vault.{Setting, Vault, HasVaultExecuted, served_a
 use Rattle.session_model.specs.Steps.{Moment, VStep}
 use Rattle.session_model.specs.Run.{IsListIn}
 use Rattle.session_model.specs.Headline.{IsPartOf}
-use Rattle.script_lines.specs.At.{header_in, LinkAt, IsAt, KeepsOtherClouds}
+use Rattle.script_lines.specs.At.{header_in, LinkAt, IsAtVault, KeepsOtherClouds}
 use Rattle.script_lines.specs.Does.{Images, Goes, IsLeftByCut, IsLineCut}
 
 -- ---- clouds by number, one of which goes on
@@ -212,7 +212,7 @@ module _ {V : Type 0} (clouds : V → ℕ → Cloud) (s : Setting) where
   }
 
   -- nothing of it was
-  pub cut_before : (event : Event) (old new : LocalLink V) (jobs : List (List LaneView)) (v : Vault) → IsAt clouds s old jobs v → new ≡ old
+  pub cut_before : (event : Event) (old new : LocalLink V) (jobs : List (List LaneView)) (v : Vault) → IsAtVault clouds s old jobs v → new ≡ old
       → IsPartOf s v (record { event = event; moments = [] }) v.peers → IsLineCut clouds s event old new v
   cut_before event old new jobs v is same part = record {
     moments = [];

@@ -14,7 +14,7 @@ use Rattle.session_model.specs.UploadJob.Lanes.{LaneView, with_state, request_at
 use Rattle.session_jobs.specs.LaneSteps.Runs.{moved, lane_at}
 use Rattle.session_jobs.specs.LaneSteps.error.StepErr.{StepErr}
 use Rattle.session_jobs.specs.LaneSteps.error.StepErr.TheVariants as step_errors
-use Rattle.session_jobs.specs.LaneSteps.Steps.{Heard, Untaken, LaneSteps, IsFound}
+use Rattle.session_jobs.specs.LaneSteps.Steps.{Heard, Untaken, LaneSteps, IsNothingLost}
 use Rattle.session_model.specs.LocalLink.link.LocalLink.{LocalLink}
 use Rattle.session_model.specs.LocalLink.Tells.{telling}
 use Rattle.session_model.specs.Session.Spelling.{IsJob}
@@ -27,7 +27,7 @@ use Rattle.session_model.specs.Headline.{IsPartOf}
 use Rattle.session_model.specs.Session.Texts.{text_of}
 use Rattle.session_model.proofs.Parts.{put}
 use Rattle.script_lines.specs.declared.error.CarryErr.{CarryErr}
-use Rattle.script_lines.specs.At.{LinkAt, IsAt, KeepsOtherClouds}
+use Rattle.script_lines.specs.At.{LinkAt, IsAtVault, KeepsOtherClouds}
 use Rattle.script_lines.specs.Does.{Images, Goes, IsLineCut}
 use Rattle.script_lines.specs.Jobs.{job_lanes, with_job}
 use Rattle.script_lines.specs.Stepping.{stored_if, step_lines, IsTold}
@@ -97,7 +97,7 @@ module _ {V : Type 0} (clouds : V → ℕ → Cloud) (talk : LocalLink V → ℕ
   pub record LaneGoes (asks : Option Request) (old new : LocalLink V) (jobs : List (List LaneView)) (v : Vault) (answers : List Line) : Type 0 where
     pub moments : List Moment
     pub after : Vault
-    pub is_at : IsAt clouds s new jobs after
+    pub is_at : IsAtVault clouds s new jobs after
     pub step : LaneStep s job cloud asks v answers moments after
     pub images : Images clouds s old new moments after.peers
 
@@ -107,7 +107,7 @@ module _ {V : Type 0} (clouds : V → ℕ → Cloud) (talk : LocalLink V → ℕ
   LaneCame asks old new jobs v came stored = LaneGoes asks old new jobs v (step_lines job cloud came stored)
 
   -- the vault behind a request that the lane took
-  went : (old new : LocalLink V) (jobs : List (List LaneView)) (v : Vault) (request : Request) (reply : Reply) (told : LaneNews) (after : List LaneView) (answers : List Line) → IsAt clouds s old jobs v → cloud < s.shape.n
+  went : (old new : LocalLink V) (jobs : List (List LaneView)) (v : Vault) (request : Request) (reply : Reply) (told : LaneNews) (after : List LaneView) (answers : List Line) → IsAtVault clouds s old jobs v → cloud < s.shape.n
       → Heard (telling clouds) talk cloud old request reply new → news_of (lane_at (lanes_of v.jobs job) cloud).state reply ≡ Some told
       → after ≡ with_state (lanes_of v.jobs job) cloud (moved (lane_at (lanes_of v.jobs job) cloud) reply).state
       → answers ≡ step_line job cloud told ∷ stored_line job (lanes_of v.jobs job) after
@@ -122,8 +122,8 @@ module _ {V : Type 0} (clouds : V → ℕ → Cloud) (talk : LocalLink V → ℕ
         images = step.images (put v.peers cloud step.left);
       }
 
-  pub came_to : (asks : Option Request) (old new : LocalLink V) (jobs : List (List LaneView)) (v : Vault) (came : Result (Option LaneNews) StepErr) (after : List LaneView) (stored : Bool) → IsAt clouds s old jobs v → cloud < s.shape.n
-      → LaneSteps (telling clouds) talk cloud old (lanes_of v.jobs job) asks came new after → IsFound came
+  pub came_to : (asks : Option Request) (old new : LocalLink V) (jobs : List (List LaneView)) (v : Vault) (came : Result (Option LaneNews) StepErr) (after : List LaneView) (stored : Bool) → IsAtVault clouds s old jobs v → cloud < s.shape.n
+      → LaneSteps (telling clouds) talk cloud old (lanes_of v.jobs job) asks came new after → IsNothingLost came
       → stored ≡ (not (all_done (lanes_of v.jobs job)) && all_done after)
       → LaneCame asks old new (with_job jobs job after) v came stored
   came_to None old new jobs v (Ok None) after stored is lt steps found e = record {
@@ -168,7 +168,7 @@ module _ {V : Type 0} (clouds : V → ℕ → Cloud) (talk : LocalLink V → ℕ
   step_goes old new jobs v (Err (step_errors.Strange kind)) stored is g = record { moments = g.moments; after = g.after; is_at = g.is_at; step = g.step; images = g.images }
   step_goes old new jobs v (Err step_errors.NoMemory) stored is g = absurd is
 
-  pub step_cut : (old new : LocalLink V) (jobs before : List (List LaneView)) (v : Vault) (came : Result (Option LaneNews) StepErr) (stored : Bool) → IsAt clouds s old before v
+  pub step_cut : (old new : LocalLink V) (jobs before : List (List LaneView)) (v : Vault) (came : Result (Option LaneNews) StepErr) (stored : Bool) → IsAtVault clouds s old before v
       → IsPartOf s v (record { event = events.Step job (cloud_no cloud); moments = [] }) v.peers
       → LaneCame (request_at (lanes_of v.jobs job) cloud) old new jobs v came stored
       → IsLineCut clouds s (events.Step job (cloud_no cloud)) old new v
@@ -183,8 +183,8 @@ module _ {V : Type 0} (clouds : V → ℕ → Cloud) (talk : LocalLink V → ℕ
       cut_behind clouds s (events.Step job (cloud_no cloud)) old new x.1 v x.0 (record { moments = x.2.moments; after = x.2.after; is_at = x.2.is_at; step = x.2.step; images = x.2.images })
 
   -- the step of a job by its number
-  pub step_came : (old new : LocalLink V) (jobs later : List (List LaneView)) (v : Vault) (came : Result (Option LaneNews) StepErr) (after : List LaneView) (before now stored : Bool) → IsAt clouds s old jobs v → cloud < s.shape.n
-      → IsJob (length jobs) job → later ≡ with_job jobs job after → LaneSteps (telling clouds) talk cloud old (job_lanes jobs job) (request_at (job_lanes jobs job) cloud) came new after → IsFound came
+  pub step_came : (old new : LocalLink V) (jobs later : List (List LaneView)) (v : Vault) (came : Result (Option LaneNews) StepErr) (after : List LaneView) (before now stored : Bool) → IsAtVault clouds s old jobs v → cloud < s.shape.n
+      → IsJob (length jobs) job → later ≡ with_job jobs job after → LaneSteps (telling clouds) talk cloud old (job_lanes jobs job) (request_at (job_lanes jobs job) cloud) came new after → IsNothingLost came
       → before ≡ all_done (job_lanes jobs job) → now ≡ all_done (job_lanes later job) → stored ≡ (not before && now) → LaneCame (request_at (lanes_of v.jobs job) cloud) old new later v came stored
   step_came old new jobs later v came after before now stored is lt number put steps found was is_now e =
       subst (λ (l : List (List LaneView)). LaneCame (request_at (lanes_of v.jobs job) cloud) old new l v came stored) (sym put)

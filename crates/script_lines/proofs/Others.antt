@@ -23,7 +23,7 @@ use Rattle.session_model.specs.UserDedup.command.Command.{Command}
 use Rattle.session_model.specs.UserDedup.Dedup.{FullRoom}
 use Rattle.session_model.specs.UserDedup.Requests.{asked_at}
 use Rattle.session_model.specs.UserDedup.Exec.{Peer, MaySettleAs, KeepsPeer, CountsOn}
-use Rattle.session_model.specs.UserDedup.Link.{LeavesOthers, Talk, ReadsFrom}
+use Rattle.session_model.specs.UserDedup.Link.{LeavesOthers, Talk, ReadsOneOf}
 use Rattle.session_model.specs.CloudAreas.Peers.{StandsForSome, ImagesNow, ImagesSince}
 use Rattle.session_model.specs.RestoreJob.Asking.{PeersOf, AreOnlyAsked, Leads, HasAskedClouds, is_lost, TellsAll}
 use Rattle.session_model.specs.RestoreJob.Refusals.{Names, Causes}
@@ -51,24 +51,24 @@ use Rattle.session_model.specs.Transcript.line.Line.{Line}
 use Rattle.session_model.specs.Transcript.line.Line.TheVariants as lines
 use Rattle.session_model.specs.Transcript.news.News.TheVariants as news
 use Rattle.session_model.specs.Vault.{Setting, JobState, Vault, new_job, lanes_of}
-use Rattle.session_model.specs.Steps.{Moment, quiet, cloud_no, version_of, lose_lines, DropStep, IsGetLine, Gets, told_so, IsRestartLine, RestartStep, ReopensUntold, IsFault}
+use Rattle.session_model.specs.Steps.{Moment, quiet, cloud_no, version_of, lose_lines, DropStep, IsGetLine, Gets, told_so, IsRestartLine, RestartStep, ReopensUntold, IsOpeningFault}
 use Rattle.session_model.specs.Run.{IsListIn}
 use Rattle.session_model.specs.Headline.{IsPartOf}
 use Rattle.session_model.specs.Session.Texts.{text_of}
-use Rattle.script_lines.specs.At.{LinkAt, IsAt, KeepsOtherClouds, header_in}
+use Rattle.script_lines.specs.At.{LinkAt, IsAtVault, KeepsOtherClouds, header_in}
 use Rattle.script_lines.specs.Does.{Images, Goes, IsLineCut}
 use Rattle.script_lines.specs.Jobs.{job_lanes}
 use Rattle.script_lines.specs.Dropping.{IsReplyDropped, Drops}
 use Rattle.script_lines.proofs.Getting.{GetsIf, got_by}
 use Rattle.script_lines.proofs.Walking.{views_are}
-use Rattle.session_model.specs.ShareServer.Refusals.{IsDamage}
-use Rattle.script_lines.specs.Stepping.{IsOpening}
+use Rattle.session_model.specs.ShareServer.Refusals.{IsNamedDamage}
+use Rattle.script_lines.specs.Stepping.{IsOpeningLine}
 use Rattle.script_lines.proofs.Going.{before_exec, now_by, moves, executes, listed, images_weaker, images_still, images_one, images_executed, header_is, asks_rooms}
 
 -- ---- a new job
 
 module _ {V : Type 0} (clouds : V → ℕ → Cloud) (s : Setting) where
-  pub upload_goes : (link : LocalLink V) (jobs : List (List LaneView)) (v : Vault) (user : UserId) (path : List ℕ) (version : Version) (bytes : List ℕ) (lanes : List LaneView) (number : ℕ) → IsAt clouds s link jobs v
+  pub upload_goes : (link : LocalLink V) (jobs : List (List LaneView)) (v : Vault) (user : UserId) (path : List ℕ) (version : Version) (bytes : List ℕ) (lanes : List LaneView) (number : ℕ) → IsAtVault clouds s link jobs v
       → lanes ≡ lanes_begun link.servers.shape (version_of user path version bytes) → number ≡ length jobs + 1
       → Goes clouds s (events.Upload user path version bytes) link link (jobs ++ lanes ∷ []) v (lines.Job number ∷ [])
   upload_goes link jobs v user path version bytes lanes number is made counted = record {
@@ -85,7 +85,7 @@ module _ {V : Type 0} (clouds : V → ℕ → Cloud) (s : Setting) where
   }
 
   -- the job that was made is the last of those that there are now
-  pub upload_came : (link : LocalLink V) (jobs later : List (List LaneView)) (v : Vault) (user : UserId) (path : List ℕ) (version : Version) (bytes : List ℕ) (lanes : List LaneView) (number : ℕ) (shape : Shape) → IsAt clouds s link jobs v
+  pub upload_came : (link : LocalLink V) (jobs later : List (List LaneView)) (v : Vault) (user : UserId) (path : List ℕ) (version : Version) (bytes : List ℕ) (lanes : List LaneView) (number : ℕ) (shape : Shape) → IsAtVault clouds s link jobs v
       → shape ≡ link.servers.shape → lanes ≡ lanes_begun shape (version_of user path version bytes) → later ≡ jobs ++ lanes ∷ [] → number ≡ length later
       → Goes clouds s (events.Upload user path version bytes) link link later v (lines.Job number ∷ [])
   upload_came link jobs later v user path version bytes lanes number shape is same made put counted =
@@ -101,7 +101,7 @@ lost_text job cloud None more before now was text asked lost done = done asked.0
 lost_text job cloud (Some request) more before now was text asked lost done = lost asked.0
 
 module _ {V : Type 0} (clouds : V → ℕ → Cloud) (s : Setting) (job cloud : ℕ) where
-  pub lose_goes : (link : LocalLink V) (jobs : List (List LaneView)) (v : Vault) → IsAt clouds s link jobs v
+  pub lose_goes : (link : LocalLink V) (jobs : List (List LaneView)) (v : Vault) → IsAtVault clouds s link jobs v
       → Goes clouds s (events.Lose job (cloud_no cloud)) link link jobs v (lose_lines job cloud (request_at (lanes_of v.jobs job) cloud))
   lose_goes link jobs v is = record {
     moments = quiet v.peers;
@@ -114,11 +114,11 @@ module _ {V : Type 0} (clouds : V → ℕ → Cloud) (s : Setting) (job cloud : 
   pub record DropGoes (asks : Option Request) (old new : LocalLink V) (jobs : List (List LaneView)) (v : Vault) : Type 0 where
     pub moments : List Moment
     pub after : Vault
-    pub is_at : IsAt clouds s new jobs after
+    pub is_at : IsAtVault clouds s new jobs after
     pub step : DropStep s job cloud asks v (lose_lines job cloud asks) moments after
     pub images : Images clouds s old new moments after.peers
 
-  drop_lane : (asks : Option Request) (more : Bool) (before content : List ℕ) (old new : LocalLink V) (jobs : List (List LaneView)) (v : Vault) → IsAt clouds s old jobs v → cloud < s.shape.n → IsAsked asks more before content
+  drop_lane : (asks : Option Request) (more : Bool) (before content : List ℕ) (old new : LocalLink V) (jobs : List (List LaneView)) (v : Vault) → IsAtVault clouds s old jobs v → cloud < s.shape.n → IsAsked asks more before content
       → ((r : Request) → asks ≡ Some r → asked_at old.servers.shape (request_bytes r) ≡ Ok r) → Drops clouds cloud more content old new → DropGoes asks old new jobs v
   drop_lane None more before content old new jobs v is lt asked reads drops =
       let same : new ≡ old = subst (λ (b : Bool). Drops clouds cloud b content old new) asked.0 drops in
@@ -141,7 +141,7 @@ module _ {V : Type 0} (clouds : V → ℕ → Cloud) (s : Setting) (job cloud : 
         images = images_executed clouds s old new v.peers cloud r went.1 (put v.peers cloud went.0) is.link_at x.rest (λ told. x.images r (v.peers cloud) read told (is.link_at.stands cloud lt));
       }
 
-  pub drop_goes : (more : Bool) (before content : List ℕ) (old new : LocalLink V) (jobs : List (List LaneView)) (v : Vault) → IsAt clouds s old jobs v → cloud < s.shape.n
+  pub drop_goes : (more : Bool) (before content : List ℕ) (old new : LocalLink V) (jobs : List (List LaneView)) (v : Vault) → IsAtVault clouds s old jobs v → cloud < s.shape.n
       → IsAsked (request_at (lanes_of v.jobs job) cloud) more before content
       → ((r : Request) → request_at (lanes_of v.jobs job) cloud ≡ Some r → asked_at old.servers.shape (request_bytes r) ≡ Ok r) → Drops clouds cloud more content old new
       → Goes clouds s (events.Drop job (cloud_no cloud)) old new jobs v (lose_lines job cloud (request_at (lanes_of v.jobs job) cloud))
@@ -149,7 +149,7 @@ module _ {V : Type 0} (clouds : V → ℕ → Cloud) (s : Setting) (job cloud : 
       let g = drop_lane (request_at (lanes_of v.jobs job) cloud) more before content old new jobs v is lt asked reads drops in
       record { moments = g.moments; after = g.after; is_at = g.is_at; step = g.step; images = g.images }
 
-  pub drop_came : (more : Bool) (before content slice : List ℕ) (old new : LocalLink V) (jobs later : List (List LaneView)) (v : Vault) → IsAt clouds s old jobs v → cloud < s.shape.n
+  pub drop_came : (more : Bool) (before content slice : List ℕ) (old new : LocalLink V) (jobs later : List (List LaneView)) (v : Vault) → IsAtVault clouds s old jobs v → cloud < s.shape.n
       → IsReached old.servers.shape (job_lanes jobs job) → IsAsked (request_at (job_lanes jobs job) cloud) more before content → slice ≡ content
       → ((shape : Shape) (lanes : List LaneView) (i : ℕ) (request : Request) → IsReached shape lanes → request_at lanes i ≡ Some request → asked_at shape (request_bytes request) ≡ Ok request)
       → Drops clouds cloud more slice old new → later ≡ jobs → Goes clouds s (events.Drop job (cloud_no cloud)) old new later v (lose_lines job cloud (request_at (lanes_of v.jobs job) cloud))
@@ -172,7 +172,7 @@ module _ {V : Type 0} (clouds : V → ℕ → Cloud) (s : Setting) where
   pub arm_goes : (old new : LocalLink V) (cloud : CloudNo) (calls keep : ℕ) (jobs : List (List LaneView)) (v : Vault) → cloud.0 < old.servers.shape.n
       → Arms (clouds old.shelf.now cloud.0) (clouds new.shelf.now cloud.0) calls keep
       → ((p : Peer) → StandsAt clouds old cloud.0 p → (q : Peer) × StandsAt clouds new cloud.0 q × Armed p q)
-      → LeavesOthers (telling clouds) cloud.0 old new → LeavesRest clouds cloud.0 old new → new.servers ≡ old.servers → new.fate ≡ old.fate → IsAt clouds s old jobs v
+      → LeavesOthers (telling clouds) cloud.0 old new → LeavesRest clouds cloud.0 old new → new.servers ≡ old.servers → new.fate ≡ old.fate → IsAtVault clouds s old jobs v
       → Goes clouds s (events.Arm cloud calls keep) old new jobs v (lines.Armed cloud ∷ [])
   arm_goes old new cloud calls keep jobs v below arms armed others rest servers fate is =
       let lt : cloud.0 < s.shape.n = subst (λ (sh : Shape). cloud.0 < sh.n) is.link_at.shape below in
@@ -231,7 +231,7 @@ settles_in held (Some command) list (zero, lt, same) = inl (sym same)
 settles_in held (Some command) list (suc zero, lt, same) = inr (sym same)
 settles_in held (Some command) list (suc (suc k), lt, same) = absurd (let l : suc (suc k) < 2 = lt in omega arith)
 
-on_opening : (cloud : ℕ) (result : Result ℕ OpenErr) (line : Line) → IsOpening cloud result line → IsRestartLine cloud result line
+on_opening : (cloud : ℕ) (result : Result ℕ OpenErr) (line : Line) → IsOpeningLine cloud result line → IsRestartLine cloud result line
 on_opening cloud (Ok commands) line is = is
 on_opening cloud (Err errors.Fault) line is = is
 on_opening cloud (Err (errors.NotBegun len)) line is = (is.0, is.1, is.2)
@@ -239,14 +239,14 @@ on_opening cloud (Err (errors.Damaged at byte)) line is = (is.0, is.1, is.2)
 on_opening cloud (Err (errors.OtherStore found asked place)) line is = (is.0, is.1, is.2)
 
 -- the line of an opening that failed otherwise
-pub damaged_line : (cloud : ℕ) (error : OpenErr) (at byte : ℕ) → (error ≡ errors.Fault → ⊥) → IsDamage error at byte → IsOpening cloud (Err error) (lines.Damaged (cloud_no cloud) at byte)
+pub damaged_line : (cloud : ℕ) (error : OpenErr) (at byte : ℕ) → (error ≡ errors.Fault → ⊥) → IsNamedDamage error at byte → IsOpeningLine cloud (Err error) (lines.Damaged (cloud_no cloud) at byte)
 damaged_line cloud errors.Fault at byte other is = absurd (other refl)
 damaged_line cloud (errors.NotBegun len) at byte other is = (at, byte, refl, is)
 damaged_line cloud (errors.Damaged place found) at byte other is = (at, byte, refl, is)
 damaged_line cloud (errors.OtherStore found asked place) at byte other is = (at, byte, refl, is)
 
 -- a fault comes only where the count rose
-fault_rose : (result : Result ℕ OpenErr) (p q : Peer) (old new : Cloud) (before now : ℕ) → OnFault result (HasFailed old new before now) (KeepsCounts old new before now) → p.faults ≡ old.faults → q.faults ≡ new.faults → IsFault result → Rose p.faults q.faults
+fault_rose : (result : Result ℕ OpenErr) (p q : Peer) (old new : Cloud) (before now : ℕ) → OnFault result (HasFailed old new before now) (KeepsCounts old new before now) → p.faults ≡ old.faults → q.faults ≡ new.faults → IsOpeningFault result → Rose p.faults q.faults
 fault_rose (Err errors.Fault) p q old new before now counts e f is = subst (λ (n : ℕ). Rose n q.faults) (sym e) (subst (λ (n : ℕ). Rose old.faults n) (sym f) counts.cloud)
 fault_rose (Ok commands) p q old new before now counts e f is = absurd is
 fault_rose (Err (errors.NotBegun len)) p q old new before now counts e f is = absurd is
@@ -263,7 +263,7 @@ module _ {V : Type 0} (clouds : V → ℕ → Cloud) (s : Setting) (old new : Lo
         → ImagesSince (clouds old.shelf.now cloud) (clouds new.shelf.now cloud) (header_at old.servers cloud) (Contains lists)
     pub rooms : rooms_at new.servers cloud ≡ rooms_at old.servers cloud
 
-  opens_to : (before now : ℕ) (peers : ℕ → Peer) → Opened before now → LinkAt clouds s old peers → cloud < s.shape.n → (line : Line) → IsOpening cloud result line
+  opens_to : (before now : ℕ) (peers : ℕ → Peer) → Opened before now → LinkAt clouds s old peers → cloud < s.shape.n → (line : Line) → IsOpeningLine cloud result line
       → (q : Peer) × StandsAt clouds new cloud q × RestartStep s cloud line (peers cloud) q
   opens_to before now peers o is lt line said = by_told (s.told cloud) refl
     where
@@ -287,7 +287,7 @@ module _ {V : Type 0} (clouds : V → ℕ → Cloud) (s : Setting) (old new : Lo
           )
 
   pub restart_goes : (before now : ℕ) (jobs : List (List LaneView)) (v : Vault) (line : Line) → Opened before now → LeavesOthers (telling clouds) cloud old new → LeavesRest clouds cloud old new → new.fate ≡ old.fate
-      → IsOpening cloud result line → IsAt clouds s old jobs v → cloud < old.servers.shape.n → Goes clouds s (events.Restart (cloud_no cloud)) old new jobs v (line ∷ [])
+      → IsOpeningLine cloud result line → IsAtVault clouds s old jobs v → cloud < old.servers.shape.n → Goes clouds s (events.Restart (cloud_no cloud)) old new jobs v (line ∷ [])
   restart_goes before now jobs v line o others rest fate said is below =
       let lt : cloud < s.shape.n = subst (λ (sh : Shape). cloud < sh.n) is.link_at.shape below in
       let went = opens_to before now v.peers o is.link_at lt line said in
@@ -421,7 +421,7 @@ module _ {V : Type 0} (clouds : V → ℕ → Cloud) (s : Setting) (old new : Lo
             link_at = record {
               shape = r.asked.shape ∙ is.shape;
               told = λ c. ap (λ (f : ℕ → Bool). f c) r.asked.told ∙ is.told c;
-              rooms = λ c lt. asks_rooms clouds (ReadsFrom named) r.asked.asks old new r.asked.passed c ∙ is.rooms c lt;
+              rooms = λ c lt. asks_rooms clouds (ReadsOneOf named) r.asked.asks old new r.asked.passed c ∙ is.rooms c lt;
               fate = still_delivers new.fate kept.1;
               stands = λ c lt. went.1 c (lt-ltb c old.servers.shape.n (subst (λ (sh : Shape). c < sh.n) (sym is.shape) lt));
             };

@@ -43,9 +43,9 @@ use Rattle.session_model.proofs.Parts as parts
 use Rattle.script_lines.specs.declared.listing.Listing.{Listing}
 use Rattle.script_lines.specs.declared.listing.NoPage.{NoPage}
 use Rattle.script_lines.specs.declared.listing.NoPage.TheVariants as no_pages
-use Rattle.script_lines.specs.At.{LinkAt, IsAt}
+use Rattle.script_lines.specs.At.{LinkAt, IsAtVault}
 use Rattle.script_lines.specs.Does.{Images, Goes, IsLineCut, CarriesOut, IsCutOff}
-use Rattle.script_lines.specs.Paging.{IsListReply, TakesPage, HasAddedPage, PageAsked, PageTurns, TurnsBy, Listed, Lists, SaysNoPage}
+use Rattle.script_lines.specs.Paging.{IsListReply, TakesPage, HasAddedPage, PageAsked, PageTurns, ListsByReply, Listed, ListsEntries, SaysNoPage}
 use Rattle.script_lines.proofs.Going.{moves, executes, images_executed, images_still, left_at, cut_behind}
 use Rattle.script_lines.proofs.Lines.{text_join}
 use Rattle.script_lines.proofs.Bringing.{images_later}
@@ -209,7 +209,7 @@ module _ {V : Type 0} (clouds : V → ℕ → Cloud) (s : Setting) (user : UserI
 
   -- ---- what a listing does to a vault
 
-  pub list_goes : (old new : LocalLink V) (jobs : List (List LaneView)) (v : Vault) (listed : Result (List (Tag × Version)) Refusal) → IsAt clouds s old jobs v → Listed clouds s user cloud old new v.peers listed
+  pub list_goes : (old new : LocalLink V) (jobs : List (List LaneView)) (v : Vault) (listed : Result (List (Tag × Version)) Refusal) → IsAtVault clouds s old jobs v → Listed clouds s user cloud old new v.peers listed
       → Goes clouds s (events.List user (cloud_no cloud)) old new jobs v (list_lines user cloud listed)
   list_goes old new jobs v listed is l = record {
     moments = map (moment_of cloud) l.turns;
@@ -248,7 +248,7 @@ module _ {V : Type 0} (clouds : V → ℕ → Cloud) (s : Setting) (user : UserI
       }
 
   -- cut behind a reply
-  pub cut_replied : (old mid new : LocalLink V) (jobs : List (List LaneView)) (v : Vault) (above : Option (Tag × Version)) (p : Pages old mid v.peers above) (IsSo : Reply → Type 0) → IsAt clouds s old jobs v
+  pub cut_replied : (old mid new : LocalLink V) (jobs : List (List LaneView)) (v : Vault) (above : Option (Tag × Version)) (p : Pages old mid v.peers above) (IsSo : Reply → Type 0) → IsAtVault clouds s old jobs v
       → PageAsked clouds s user cloud above mid new p.at IsSo → IsLineCut clouds s (events.List user (cloud_no cloud)) old new v
   cut_replied old mid new jobs v above p IsSo is a = elim a.kind [
     | inl x ↦ elim (cases_eq (length x.0) key_limit) [
@@ -290,46 +290,46 @@ module _ {V : Type 0} (clouds : V → ℕ → Cloud) (s : Setting) (user : UserI
     lines_on : (page : List (Tag × Version)) (after : Listing) → HasAddedPage before page after → after.lines ≡ text_of (map entry_line (h.pages.entries ++ page))
     lines_on page after adds = adds.lines ∙ ap (λ (l : List ℕ). l ++ text_of (map entry_line page)) h.lines_are ∙ lines_both h.pages.entries page
 
-    pub listed_more : (after : Listing) → PageAsked clouds s user cloud before.above mid new h.pages.at (TurnsBy cloud before after (Ok true)) → HasListed old new peers after
+    pub listed_more : (after : Listing) → PageAsked clouds s user cloud before.above mid new h.pages.at (ListsByReply cloud before after (Ok true)) → HasListed old new peers after
     unfolding pages_more
     listed_more after asked =
-        let a = asked_here (TurnsBy cloud before after (Ok true)) asked in
+        let a = asked_here (ListsByReply cloud before after (Ok true)) asked in
         let page = a.so.0 in
         let adds = a.so.4 in
         record {
           above = slice_get page (length page - 1);
           above_is = adds.above;
-          pages = pages_more old mid new peers h.above h.pages (TurnsBy cloud before after (Ok true)) a page a.so.1 (eqb-true (length page) key_limit (sym a.so.3));
+          pages = pages_more old mid new peers h.above h.pages (ListsByReply cloud before after (Ok true)) a page a.so.1 (eqb-true (length page) key_limit (sym a.so.3));
           count_is = count_on page after adds;
           lines_are = lines_on page after adds;
         }
 
-    pub listed_done : (after : Listing) → PageAsked clouds s user cloud before.above mid new h.pages.at (TurnsBy cloud before after (Ok false))
+    pub listed_done : (after : Listing) → PageAsked clouds s user cloud before.above mid new h.pages.at (ListsByReply cloud before after (Ok false))
         → (entries : List (Tag × Version)) × Listed clouds s user cloud old new peers (Ok entries) × (after.count ≡ length entries) × (after.lines ≡ text_of (map entry_line entries))
     listed_done after asked =
-        let a = asked_here (TurnsBy cloud before after (Ok false)) asked in
+        let a = asked_here (ListsByReply cloud before after (Ok false)) asked in
         let page = a.so.0 in
         let adds = a.so.4 in
         let le : length page ≤ key_limit = a.so.2 in
         let ne : length page ≡ key_limit → ⊥ = eqb-false (length page) key_limit (sym a.so.3) in (
           h.pages.entries ++ page,
-          pages_end old mid new peers h.above h.pages (TurnsBy cloud before after (Ok false)) a (Ok page) (ends_last cloud a.reply page a.so.1 (omega (arith, le, ne))),
+          pages_end old mid new peers h.above h.pages (ListsByReply cloud before after (Ok false)) a (Ok page) (ends_last cloud a.reply page a.so.1 (omega (arith, le, ne))),
           count_on page after adds,
           lines_on page after adds,
         )
 
-    pub listed_refused : (after : Listing) (why : Refusal) → PageAsked clouds s user cloud before.above mid new h.pages.at (TurnsBy cloud before after (Err (no_pages.Refused why)))
+    pub listed_refused : (after : Listing) (why : Refusal) → PageAsked clouds s user cloud before.above mid new h.pages.at (ListsByReply cloud before after (Err (no_pages.Refused why)))
         → Listed clouds s user cloud old new peers (Err why)
     listed_refused after why asked =
-        let a = asked_here (TurnsBy cloud before after (Err (no_pages.Refused why))) asked in
-        refused_end old mid new peers h.above h.pages (TurnsBy cloud before after (Err (no_pages.Refused why))) a why a.so
+        let a = asked_here (ListsByReply cloud before after (Err (no_pages.Refused why))) asked in
+        refused_end old mid new peers h.above h.pages (ListsByReply cloud before after (Err (no_pages.Refused why))) a why a.so
 
-  pub listed_cut : (old mid new : LocalLink V) (jobs : List (List LaneView)) (v : Vault) (before after : Listing) → IsAt clouds s old jobs v → (h : HasListed old mid v.peers before)
-      → (new ≡ mid) ⊎ PageAsked clouds s user cloud before.above mid new h.pages.at (TurnsBy cloud before after (Err no_pages.NoMemory)) → IsLineCut clouds s (events.List user (cloud_no cloud)) old new v
+  pub listed_cut : (old mid new : LocalLink V) (jobs : List (List LaneView)) (v : Vault) (before after : Listing) → IsAtVault clouds s old jobs v → (h : HasListed old mid v.peers before)
+      → (new ≡ mid) ⊎ PageAsked clouds s user cloud before.above mid new h.pages.at (ListsByReply cloud before after (Err no_pages.NoMemory)) → IsLineCut clouds s (events.List user (cloud_no cloud)) old new v
   listed_cut old mid new jobs v before after is h (inl same) =
       subst (λ (l : LocalLink V). IsLineCut clouds s (events.List user (cloud_no cloud)) old l v) (sym same) (cut_between old mid v h.above h.pages)
   listed_cut old mid new jobs v before after is h (inr asked) =
-      cut_replied old mid new jobs v h.above h.pages (TurnsBy cloud before after (Err no_pages.NoMemory)) is (asked_here old mid new v.peers before h (TurnsBy cloud before after (Err no_pages.NoMemory)) asked)
+      cut_replied old mid new jobs v h.above h.pages (ListsByReply cloud before after (Err no_pages.NoMemory)) is (asked_here old mid new v.peers before h (ListsByReply cloud before after (Err no_pages.NoMemory)) asked)
 
   -- ---- what a page that came makes of a listing
 
@@ -348,41 +348,41 @@ module _ {V : Type 0} (clouds : V → ℕ → Cloud) (s : Setting) (user : UserI
   module _ (old new : LocalLink V) (peers : ℕ → Peer) (before : Listing) where
     -- no page came
     pub turns_err : (after : Listing) (why : NoPage) → ((no_page why ≡ no_page no_pages.NoMemory) × (new ≡ old)) ⊎ PageAsked clouds s user cloud before.above old new peers (λ reply. TakesPage cloud reply (no_page why))
-        → ((no_turn why ≡ no_turn no_pages.NoMemory) × (new ≡ old)) ⊎ PageAsked clouds s user cloud before.above old new peers (TurnsBy cloud before after (no_turn why))
+        → ((no_turn why ≡ no_turn no_pages.NoMemory) × (new ≡ old)) ⊎ PageAsked clouds s user cloud before.above old new peers (ListsByReply cloud before after (no_turn why))
     turns_err after (no_pages.Refused w) (inl x) = absurd (let e : no_page (no_pages.Refused w) ≡ no_page no_pages.NoMemory = x.0 in cc)
-    turns_err after (no_pages.Refused w) (inr a) = inr (with_so before.above old new peers (λ reply. TakesPage cloud reply (no_page (no_pages.Refused w))) (TurnsBy cloud before after (no_turn (no_pages.Refused w))) (λ reply so. so) a)
+    turns_err after (no_pages.Refused w) (inr a) = inr (with_so before.above old new peers (λ reply. TakesPage cloud reply (no_page (no_pages.Refused w))) (ListsByReply cloud before after (no_turn (no_pages.Refused w))) (λ reply so. so) a)
     turns_err after no_pages.NoMemory (inl x) = inl (refl, x.1)
-    turns_err after no_pages.NoMemory (inr a) = inr (with_so before.above old new peers (λ reply. TakesPage cloud reply (no_page no_pages.NoMemory)) (TurnsBy cloud before after (no_turn no_pages.NoMemory)) (λ reply so. tt) a)
+    turns_err after no_pages.NoMemory (inr a) = inr (with_so before.above old new peers (λ reply. TakesPage cloud reply (no_page no_pages.NoMemory)) (ListsByReply cloud before after (no_turn no_pages.NoMemory)) (λ reply so. tt) a)
 
     -- a page was taken
     pub turns_page : (after : Listing) (page : List (Tag × Version)) (more : Bool) → length page ≤ key_limit → more ≡ (length page == key_limit) → HasAddedPage before page after
         → ((a_page page ≡ no_page no_pages.NoMemory) × (new ≡ old)) ⊎ PageAsked clouds s user cloud before.above old new peers (λ reply. TakesPage cloud reply (a_page page))
-        → ((a_turn more ≡ no_turn no_pages.NoMemory) × (new ≡ old)) ⊎ PageAsked clouds s user cloud before.above old new peers (TurnsBy cloud before after (a_turn more))
+        → ((a_turn more ≡ no_turn no_pages.NoMemory) × (new ≡ old)) ⊎ PageAsked clouds s user cloud before.above old new peers (ListsByReply cloud before after (a_turn more))
     turns_page after page more few is adds (inl x) = absurd (let e : a_page page ≡ no_page no_pages.NoMemory = x.0 in cc)
     turns_page after page more few is adds (inr a) =
-        inr (with_so before.above old new peers (λ reply. TakesPage cloud reply (a_page page)) (TurnsBy cloud before after (a_turn more)) (λ reply so. (page, so, few, is, adds)) a)
+        inr (with_so before.above old new peers (λ reply. TakesPage cloud reply (a_page page)) (ListsByReply cloud before after (a_turn more)) (λ reply so. (page, so, few, is, adds)) a)
 
     -- a page came, and there was no memory for it
     pub turns_none : (after : Listing) (page : List (Tag × Version)) → ((a_page page ≡ no_page no_pages.NoMemory) × (new ≡ old)) ⊎ PageAsked clouds s user cloud before.above old new peers (λ reply. TakesPage cloud reply (a_page page))
-        → ((no_turn no_pages.NoMemory ≡ no_turn no_pages.NoMemory) × (new ≡ old)) ⊎ PageAsked clouds s user cloud before.above old new peers (TurnsBy cloud before after (no_turn no_pages.NoMemory))
+        → ((no_turn no_pages.NoMemory ≡ no_turn no_pages.NoMemory) × (new ≡ old)) ⊎ PageAsked clouds s user cloud before.above old new peers (ListsByReply cloud before after (no_turn no_pages.NoMemory))
     turns_none after page (inl x) = inl (refl, x.1)
-    turns_none after page (inr a) = inr (with_so before.above old new peers (λ reply. TakesPage cloud reply (a_page page)) (TurnsBy cloud before after (no_turn no_pages.NoMemory)) (λ reply so. tt) a)
+    turns_none after page (inr a) = inr (with_so before.above old new peers (λ reply. TakesPage cloud reply (a_page page)) (ListsByReply cloud before after (no_turn no_pages.NoMemory)) (λ reply so. tt) a)
 
   -- behind a full page, and behind the last one
   module _ (old mid new : LocalLink V) (peers : ℕ → Peer) (before after : Listing) (h : HasListed old mid peers before) where
-    pub listed_on : (more : Bool) → more ≡ true → ((a_turn more ≡ no_turn no_pages.NoMemory) × (new ≡ mid)) ⊎ PageAsked clouds s user cloud before.above mid new h.pages.at (TurnsBy cloud before after (a_turn more)) → HasListed old new peers after
+    pub listed_on : (more : Bool) → more ≡ true → ((a_turn more ≡ no_turn no_pages.NoMemory) × (new ≡ mid)) ⊎ PageAsked clouds s user cloud before.above mid new h.pages.at (ListsByReply cloud before after (a_turn more)) → HasListed old new peers after
     listed_on more is (inl x) = absurd (let e : a_turn more ≡ no_turn no_pages.NoMemory = x.0 in cc)
-    listed_on more is (inr a) = listed_more old mid new peers before h after (subst (λ (b : Bool). PageAsked clouds s user cloud before.above mid new h.pages.at (TurnsBy cloud before after (a_turn b))) is a)
+    listed_on more is (inr a) = listed_more old mid new peers before h after (subst (λ (b : Bool). PageAsked clouds s user cloud before.above mid new h.pages.at (ListsByReply cloud before after (a_turn b))) is a)
 
-    pub listed_last : (more : Bool) → more ≡ false → ((a_turn more ≡ no_turn no_pages.NoMemory) × (new ≡ mid)) ⊎ PageAsked clouds s user cloud before.above mid new h.pages.at (TurnsBy cloud before after (a_turn more))
+    pub listed_last : (more : Bool) → more ≡ false → ((a_turn more ≡ no_turn no_pages.NoMemory) × (new ≡ mid)) ⊎ PageAsked clouds s user cloud before.above mid new h.pages.at (ListsByReply cloud before after (a_turn more))
         → (entries : List (Tag × Version)) × Listed clouds s user cloud old new peers (Ok entries) × (after.count ≡ length entries) × (after.lines ≡ text_of (map entry_line entries))
     listed_last more is (inl x) = absurd (let e : a_turn more ≡ no_turn no_pages.NoMemory = x.0 in cc)
-    listed_last more is (inr a) = listed_done old mid new peers before h after (subst (λ (b : Bool). PageAsked clouds s user cloud before.above mid new h.pages.at (TurnsBy cloud before after (a_turn b))) is a)
+    listed_last more is (inr a) = listed_done old mid new peers before h after (subst (λ (b : Bool). PageAsked clouds s user cloud before.above mid new h.pages.at (ListsByReply cloud before after (a_turn b))) is a)
 
 -- where the listing comes to no end, or to a refusal
 pub lists_err : {V : Type 0} (clouds : V → ℕ → Cloud) (user : UserId) (cloud : ℕ) (old mid new : LocalLink V) (jobs : List (List LaneView)) (before after : Listing) (why : NoPage)
     → ((s : Setting) (peers : ℕ → Peer) → LinkAt clouds s old peers → HasListed clouds s user cloud old mid peers before)
-    → PageTurns clouds user cloud mid before new after (Err why) → Lists clouds user cloud old jobs new (Err why)
+    → PageTurns clouds user cloud mid before new after (Err why) → ListsEntries clouds user cloud old jobs new (Err why)
 lists_err clouds user cloud old mid new jobs before after (no_pages.Refused w) has turns = λ s v is.
     let h = has s v.peers is.link_at in
     elim (turns s h.pages.at h.pages.link_at) [
@@ -406,13 +406,13 @@ list_text user cloud entries count lines_of was text count_is lines_are said =
     ∙ ap (λ (n : ℕ). was ++ text_of (lines.Entries user cloud n ∷ map entry_line entries)) count_is
 
 -- a listing that came to no end
-pub no_page_does : {V : Type 0} (clouds : V → ℕ → Cloud) (user : UserId) (cloud : CloudNo) (old new : LocalLink V) (jobs : List (List LaneView)) (was text : List ℕ) (why : NoPage) → Lists clouds user cloud.0 old jobs new (Err why)
+pub no_page_does : {V : Type 0} (clouds : V → ℕ → Cloud) (user : UserId) (cloud : CloudNo) (old new : LocalLink V) (jobs : List (List LaneView)) (was text : List ℕ) (why : NoPage) → ListsEntries clouds user cloud.0 old jobs new (Err why)
     → SaysNoPage why was text → CarriesOut clouds (events.List user cloud) old jobs new jobs was text
 no_page_does clouds user cloud old new jobs was text (no_pages.Refused w) lists said = λ s v is.
     (lines.Refused w ∷ [], list_goes clouds s user cloud.0 old new jobs v (Err w) is (lists s v is), said)
 no_page_does clouds user cloud old new jobs was text no_pages.NoMemory lists said = absurd said
 
-pub no_page_cut : {V : Type 0} (clouds : V → ℕ → Cloud) (user : UserId) (cloud : CloudNo) (old new : LocalLink V) (jobs : List (List LaneView)) (why : NoPage) → Lists clouds user cloud.0 old jobs new (Err why)
+pub no_page_cut : {V : Type 0} (clouds : V → ℕ → Cloud) (user : UserId) (cloud : CloudNo) (old new : LocalLink V) (jobs : List (List LaneView)) (why : NoPage) → ListsEntries clouds user cloud.0 old jobs new (Err why)
     → IsCutOff clouds (events.List user cloud) old jobs new
 no_page_cut clouds user cloud old new jobs (no_pages.Refused w) lists = λ s v is.
     cut_behind clouds s (events.List user cloud) old new jobs v (lines.Refused w ∷ []) (list_goes clouds s user cloud.0 old new jobs v (Err w) is (lists s v is))

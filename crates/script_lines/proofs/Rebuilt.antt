@@ -27,7 +27,7 @@ use Rattle.session_model.specs.Rebuild.error.RebuildErr.{RebuildErr}
 use Rattle.session_model.specs.Rebuild.error.RebuildErr.TheVariants as errors
 use Rattle.session_model.specs.Rebuild.skips.Rebuilt.{Rebuilt}
 use Rattle.session_model.specs.Rebuild.Rebuilding.{LeavesBut, RunsTo, IsRebuildCut}
-use Rattle.session_model.specs.Rebuild.Over.{HasAskedToRebuild, Causes, HandsOn, HasRebuildCause, Leads, TargetAlong, ThenLost, is_lost, AsksFor}
+use Rattle.session_model.specs.Rebuild.Over.{HasAskedToRebuild, CausesRebuildEnd, HandsOn, HasRebuildCause, LeadsWithTarget, TargetAlong, ThenLost, is_lost, AsksTargetOrReads}
 use Rattle.session_model.specs.Rebuild.Turns.{EndsLane, OfReply, OwnLanes, SaidLast}
 use Rattle.session_model.specs.Rebuild.Kept.{Refills}
 use Rattle.session_model.specs.Session.Spelling.{AreClouds}
@@ -121,7 +121,7 @@ module _ (old : ℕ → Peer) (target : ℕ) where
 module _ {V : Type 0} (clouds : V → ℕ → Cloud) (talk : LocalLink V → ℕ → Talk → Type 0) (old new : LocalLink V) (user : UserId) (target : CloudNo) (from : List ℕ) (result : Result Rebuilt RebuildErr) where
   -- what becomes of the clouds, of which some are told
   abbrev pub Brings : Shape → Type 0
-  Brings shape = Leads (telling clouds) talk target.0 from old new result
+  Brings shape = LeadsWithTarget (telling clouds) talk target.0 from old new result
       (HasRebuildCause (telling clouds) old shape user target.0 result)
       (λ turns before at after.
       RunsTo shape user target.0 (serves (telling clouds) old target.0) from result turns before at after
@@ -165,7 +165,7 @@ module _ {V : Type 0} (clouds : V → ℕ → Cloud) (talk : LocalLink V → ℕ
       pub stands : (c : ℕ) → c < s.shape.n → StandsAt clouds new c (after c)
       pub leaves : LeavesBut from target.0 v.peers after
       pub along : TargetAlong (telling clouds) talk target.0 from old (v.peers target.0) turns new (after target.0)
-      pub caused : Causes (telling clouds) old target.0 result v.peers after
+      pub caused : CausesRebuildEnd (telling clouds) old target.0 result v.peers after
       pub said : SaidLast result turns
       pub ended : OfReply result (EndsLane s.shape user target.0 turns)
       pub own : OwnLanes s.shape user target.0 turns
@@ -230,10 +230,10 @@ module _ {V : Type 0} (clouds : V → ℕ → Cloud) (talk : LocalLink V → ℕ
 
     -- ---- carried out
 
-    known_told : (before after : ℕ → Peer) → Causes (telling clouds) old target.0 result before after → Causes (told_so s.shape) s.told target.0 result before after
+    known_told : (before after : ℕ → Peer) → CausesRebuildEnd (telling clouds) old target.0 result before after → CausesRebuildEnd (told_so s.shape) s.told target.0 result before after
     known_told before after causes = by_result result causes
       where
-        by_result : (r : Result Rebuilt RebuildErr) → Causes (telling clouds) old target.0 r before after → Causes (told_so s.shape) s.told target.0 r before after
+        by_result : (r : Result Rebuilt RebuildErr) → CausesRebuildEnd (telling clouds) old target.0 r before after → CausesRebuildEnd (told_so s.shape) s.told target.0 r before after
         by_result (Ok rebuilt) x = tt
         by_result (Err (errors.FromRestore (restore_errors.Missing c))) x = tt
         by_result (Err (errors.FromRestore (restore_errors.Lost c))) x = tt
@@ -269,7 +269,7 @@ module _ {V : Type 0} (clouds : V → ℕ → Cloud) (talk : LocalLink V → ℕ
             link_at = record {
               shape = came.asked.shape ∙ is.shape;
               told = λ c. ap (λ (f : ℕ → Bool). f c) came.asked.told ∙ is.told c;
-              rooms = λ c lt. asks_rooms clouds (AsksFor target.0 from) came.asked.asks old new came.asked.passed c ∙ is.rooms c lt;
+              rooms = λ c lt. asks_rooms clouds (AsksTargetOrReads target.0 from) came.asked.asks old new came.asked.passed c ∙ is.rooms c lt;
               fate = still_delivers new.fate kept.1;
               stands = w.stands;
             };
@@ -336,7 +336,7 @@ module _ {V : Type 0} (clouds : V → ℕ → Cloud) (talk : LocalLink V → ℕ
         link_by w = record {
           shape = came.asked.shape ∙ is.shape;
           told = λ c. ap (λ (f : ℕ → Bool). f c) came.asked.told ∙ is.told c;
-          rooms = λ c lt. asks_rooms clouds (AsksFor target.0 from) came.asked.asks old new came.asked.passed c ∙ is.rooms c lt;
+          rooms = λ c lt. asks_rooms clouds (AsksTargetOrReads target.0 from) came.asked.asks old new came.asked.passed c ∙ is.rooms c lt;
           fate = still_delivers new.fate kept.1;
           stands = w.stands;
         }

@@ -37,7 +37,7 @@ use Rattle.session_model.specs.Vault.{Setting, Vault}
 use Rattle.session_model.specs.Steps.{Moment, quiet, cloud_no, IsReplaceLine, ReplaceStep}
 use Rattle.session_model.specs.Run.{IsListIn}
 use Rattle.session_model.specs.Headline.{IsPartOf}
-use Rattle.script_lines.specs.At.{LinkAt, IsAt, header_in}
+use Rattle.script_lines.specs.At.{LinkAt, IsAtVault, header_in}
 use Rattle.script_lines.specs.Does.{Goes}
 use Rattle.script_lines.specs.Replacing.{IsNewStore, FailsFresh}
 use Rattle.script_lines.proofs.Going.{now_by, moves, listed, images_weaker, images_one, header_is}
@@ -214,7 +214,7 @@ module _ {V : Type 0} (clouds : V → ℕ → Cloud) (s : Setting) (old mid new 
               let settled : MaySettleAs mid_of.0 list = subst (λ (p : Peer). MaySettleAs p list) (put_here v.peers cloud mid_of.0) settles in
               subst (λ (l : List Command). Contains ([] ∷ []) l) (sym (only_none mid_of.0 mid_of.2.0 mid_of.2.1 list settled)) (contains_here [] [])
 
-      pub replace_goes : (jobs : List (List LaneView)) → IsAt clouds s old jobs v → Goes clouds s (events.Replace (cloud_no cloud)) old new jobs v (line ∷ [])
+      pub replace_goes : (jobs : List (List LaneView)) → IsAtVault clouds s old jobs v → Goes clouds s (events.Replace (cloud_no cloud)) old new jobs v (line ∷ [])
       replace_goes jobs at = record {
         moments = quiet v.peers;
         after = record { peers = peers_new; jobs = v.jobs };

@@ -12,7 +12,7 @@ use Rattle.deletions.specs.Messages.Replies.{IsReply}
 use Rattle.session_model.specs.UserDedup.command.Command.{Command}
 use Rattle.session_model.specs.UserDedup.Dedup.{FullRoom, Outcome}
 use Rattle.session_model.specs.UserDedup.Exec.{Peer, MaySettleAs, KeepsPeer, CountsOn, Settles, Exec, served}
-use Rattle.session_model.specs.UserDedup.Link.{Exchange, Talk, Passes, ReadsFrom, Does, LosesAsk}
+use Rattle.session_model.specs.UserDedup.Link.{Exchange, Talk, Passes, ReadsOneOf, Does, LosesAsk}
 use Rattle.session_model.specs.UserDedup.Requests.{asked_at}
 use Rattle.session_model.proofs.UserDedup.Asked.{asked_law}
 use Rattle.session_model.proofs.UserDedup.Owned.{contains_here, contains_later}
@@ -26,7 +26,7 @@ use Rattle.session_model.proofs.OfLocalLink.Standing.{peer_moves}
 use Rattle.session_model.specs.RestoreJob.Asking.{MayRead}
 use Rattle.session_model.specs.RestoreJob.error.RestoreErr.TheVariants as restore_errors
 use Rattle.session_model.proofs.RestoreJob.Held.{lost_moves}
-use Rattle.session_model.specs.Rebuild.Over.{TargetAlong, AsksFor}
+use Rattle.session_model.specs.Rebuild.Over.{TargetAlong, AsksTargetOrReads}
 use Rattle.session_model.specs.Vault.{Setting, served_at, ExecutesAll}
 use Rattle.session_model.proofs.Growing.{stays_in, settles_in}
 use Rattle.script_lines.specs.At.{KeepsOtherClouds, header_in}
@@ -51,7 +51,7 @@ module _ {V : Type 0} (clouds : V → ℕ → Cloud) where
       (leaves_join clouds old chain.1.0 new (leaves_rest clouds old chain.1.0 e.cloud chain.1.1.reached chain.1.1.rest) rest.0, rest.1 ∙ chain.1.1.same_reference)
 
   -- the cloud that was read
-  read_on : (from : List ℕ) (e : Exchange) (old mid : LocalLink V) (p : Peer) → ReadsFrom from e → PassesOn clouds old e mid → StandsAt clouds old e.cloud p → (q : Peer) × StandsAt clouds mid e.cloud q × MayRead p q
+  read_on : (from : List ℕ) (e : Exchange) (old mid : LocalLink V) (p : Peer) → ReadsOneOf from e → PassesOn clouds old e mid → StandsAt clouds old e.cloud p → (q : Peer) × StandsAt clouds mid e.cloud q × MayRead p q
   read_on from e old mid p reads step stands =
       let r : Request = reads.1.0 in
       let asked : asked_at old.servers.shape e.content ≡ Ok r = (asked_law old.servers.shape e.content r step.bytes).1 (record { asked = reads.1.1; recipe = has_recipe old.servers.shape r reads.1.2 }) in
@@ -69,7 +69,7 @@ module _ {V : Type 0} (clouds : V → ℕ → Cloud) where
 
   module _ (target : ℕ) (from : List ℕ) where
     -- each image since then of a cloud that is read, or not asked
-    pub asks_images : (asks : List Exchange) (old new : LocalLink V) (c : ℕ) (p : Peer) → c ≢ target → Passes (telling clouds) (AsksFor target from) old asks new → c < old.servers.shape.n
+    pub asks_images : (asks : List Exchange) (old new : LocalLink V) (c : ℕ) (p : Peer) → c ≢ target → Passes (telling clouds) (AsksTargetOrReads target from) old asks new → c < old.servers.shape.n
         → IsTrue (clouds old.shelf.now c).told → StandsAt clouds old c p → ImagesSince (clouds old.shelf.now c) (clouds new.shelf.now c) (header_at old.servers c) (MaySettleAs p)
     asks_images [] old new c p ne same lt told is = read_images clouds [] [] old new c p same lt told is
     asks_images (e ∷ es) old new c p ne chain lt told is =
@@ -96,7 +96,7 @@ module _ {V : Type 0} (clouds : V → ℕ → Cloud) where
             (peer_moves old.servers.shape c (clouds old.shelf.now c) (clouds mid.shelf.now c) (server_at old.servers c) (server_at mid.servers c) p here (step.rest.servers_stay c other) is) in
             subst (λ (d : Cloud). ImagesSince d (clouds new.shelf.now c) (header_at old.servers c) (MaySettleAs p)) here (at_old p (rest p stands))
 
-        read : c ≡ e.cloud → ReadsFrom from e → ((q : Peer) → StandsAt clouds mid c q → ImagesSince (clouds mid.shelf.now c) (clouds new.shelf.now c) (header_at mid.servers c) (MaySettleAs q))
+        read : c ≡ e.cloud → ReadsOneOf from e → ((q : Peer) → StandsAt clouds mid c q → ImagesSince (clouds mid.shelf.now c) (clouds new.shelf.now c) (header_at mid.servers c) (MaySettleAs q))
             → ImagesSince (clouds old.shelf.now c) (clouds new.shelf.now c) (header_at old.servers c) (MaySettleAs p)
         read same reads rest =
             let went = subst (λ (n : ℕ). StandsAt clouds old n p → (q : Peer) × StandsAt clouds mid n q × MayRead p q) (sym same) (read_on from e old mid p reads step) is in
@@ -106,7 +106,7 @@ module _ {V : Type 0} (clouds : V → ℕ → Cloud) where
             (weaker (clouds mid.shelf.now c) (clouds new.shelf.now c) (StandsForSome (header_at old.servers c) (MaySettleAs went.0)) (StandsForSome (header_at old.servers c) (MaySettleAs p)) since
             (λ image some. (some.0, may_in p went.0 went.2 some.0 some.1, some.2)))
 
-        by_cloud : (c ≡ e.cloud) ⊎ (c ≢ e.cloud) → AsksFor target from e → ((q : Peer) → StandsAt clouds mid c q → ImagesSince (clouds mid.shelf.now c) (clouds new.shelf.now c) (header_at mid.servers c) (MaySettleAs q))
+        by_cloud : (c ≡ e.cloud) ⊎ (c ≢ e.cloud) → AsksTargetOrReads target from e → ((q : Peer) → StandsAt clouds mid c q → ImagesSince (clouds mid.shelf.now c) (clouds new.shelf.now c) (header_at mid.servers c) (MaySettleAs q))
             → ImagesSince (clouds old.shelf.now c) (clouds new.shelf.now c) (header_at old.servers c) (MaySettleAs p)
         by_cloud (inr other) asks rest = alone other rest
         by_cloud (inl same) (inl at_target) rest = absurd (ne (same ∙ at_target))
@@ -121,7 +121,7 @@ module _ {V : Type 0} (clouds : V → ℕ → Cloud) (talk : LocalLink V → ℕ
     pub told : (clouds link.shelf.now target).told ≡ s.told target
     pub rooms : rooms_at link.servers target ≡ s.rooms
 
-  read_at : (asks : List Exchange) (old new : LocalLink V) → Passes (telling clouds) (ReadsFrom from) old asks new → TargetAt old → TargetAt new
+  read_at : (asks : List Exchange) (old new : LocalLink V) → Passes (telling clouds) (ReadsOneOf from) old asks new → TargetAt old → TargetAt new
   read_at [] old new same at = subst TargetAt (sym same) at
   read_at (e ∷ es) old new chain at =
       let step = chain.1.1 in
@@ -160,7 +160,7 @@ module _ {V : Type 0} (clouds : V → ℕ → Cloud) (talk : LocalLink V → ℕ
     abbrev Since : LocalLink V → LocalLink V → (List Command → Type 0) → Type 0
     Since old new P = ImagesSince (clouds old.shelf.now target) (clouds new.shelf.now target) (header_in s target) P
 
-    read_since : (asks : List Exchange) (old new : LocalLink V) (p : Peer) → Passes (telling clouds) (ReadsFrom from) old asks new → TargetAt old → StandsAt clouds old target p → Since old new (MaySettleAs p)
+    read_since : (asks : List Exchange) (old new : LocalLink V) (p : Peer) → Passes (telling clouds) (ReadsOneOf from) old asks new → TargetAt old → StandsAt clouds old target p → Since old new (MaySettleAs p)
     read_since asks old new p passes at stands =
         subst (λ (h : Header). ImagesSince (clouds old.shelf.now target) (clouds new.shelf.now target) h (MaySettleAs p)) (header_is old.servers s target at.shape at.rooms)
         (read_images clouds from asks old new target p passes (subst (λ (sh : Shape). target < sh.n) (sym at.shape) lt) (at.told ∙ told) stands)

@@ -25,7 +25,8 @@ pub record LinkAt {V : Type 0} (clouds : V → ℕ → Cloud) (s : Setting) (lin
   pub stands : (cloud : ℕ) → cloud < s.shape.n → StandsAt clouds link cloud (peers cloud)
 
 -- So at the vault's clouds, and the jobs are the vault's.
-pub record IsAt {V : Type 0} (clouds : V → ℕ → Cloud) (s : Setting) (link : LocalLink V) (jobs : List (List LaneView))
+pub record IsAtVault {V : Type 0} (clouds : V → ℕ → Cloud) (s : Setting) (link : LocalLink V)
+    (jobs : List (List LaneView))
     (v : Vault) : Type 0 where
   pub link_at : LinkAt clouds s link v.peers
   pub jobs_are : map (λ (j : JobState). j.lanes) v.jobs ≡ jobs

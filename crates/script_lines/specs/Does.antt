@@ -12,7 +12,7 @@ use Rattle.session_model.specs.Steps.{Moment, VStep}
 use Rattle.session_model.specs.Run.{IsListIn}
 use Rattle.session_model.specs.Headline.{IsPartOf}
 use Rattle.session_model.specs.Session.Texts.{text_of}
-use Rattle.script_lines.specs.At.{IsAt, header_in}
+use Rattle.script_lines.specs.At.{IsAtVault, header_in}
 
 -- Each image of a told cloud since then stands for a list that the cloud had at one of these moments, or has now.
 abbrev pub Images : {V : Type 0} → (V → ℕ → Cloud) → Setting → LocalLink V → LocalLink V → List Moment → (ℕ → Peer)
@@ -28,14 +28,15 @@ pub record Goes {V : Type 0} (clouds : V → ℕ → Cloud) (s : Setting) (event
     (jobs : List (List LaneView)) (v : Vault) (answers : List Line) : Type 0 where
   pub moments : List Moment
   pub after : Vault
-  pub is_at : IsAt clouds s new jobs after
+  pub is_at : IsAtVault clouds s new jobs after
   pub step : VStep s v event answers moments after
   pub images : Images clouds s old new moments after.peers
 
 -- The line was carried out, and the text of its answers stands behind what was there.
-abbrev pub Does : {V : Type 0} → (V → ℕ → Cloud) → Setting → Event → LocalLink V → LocalLink V → List (List LaneView)
+abbrev pub DoesLine : {V : Type 0} → (V → ℕ → Cloud) → Setting → Event → LocalLink V → LocalLink V
+    → List (List LaneView)
     → Vault → List ℕ → List ℕ → Type 0
-Does clouds s event old new jobs v before text =
+DoesLine clouds s event old new jobs v before text =
     (answers : List Line) × Goes clouds s event old new jobs v answers × (text ≡ before ++ text_of answers)
 
 -- What a cut leaves: no count of a cloud is above the link's, its armings are the link's, and each image of a told cloud
@@ -61,9 +62,10 @@ pub record IsLineCut {V : Type 0} (clouds : V → ℕ → Cloud) (s : Setting) (
 abbrev pub CarriesOut : {V : Type 0} → (V → ℕ → Cloud) → Event → LocalLink V → List (List LaneView)
     → LocalLink V → List (List LaneView) → List ℕ → List ℕ → Type 0
 CarriesOut clouds event old old_jobs new new_jobs before text =
-    (s : Setting) (v : Vault) → IsAt clouds s old old_jobs v → Does clouds s event old new new_jobs v before text
+    (s : Setting) (v : Vault) → IsAtVault clouds s old old_jobs v
+    → DoesLine clouds s event old new new_jobs v before text
 
 -- Of each of those: want of memory cut it.
 abbrev pub IsCutOff : {V : Type 0} → (V → ℕ → Cloud) → Event → LocalLink V → List (List LaneView) → LocalLink V → Type 0
 IsCutOff clouds event old old_jobs new =
-    (s : Setting) (v : Vault) → IsAt clouds s old old_jobs v → IsLineCut clouds s event old new v
+    (s : Setting) (v : Vault) → IsAtVault clouds s old old_jobs v → IsLineCut clouds s event old new v

@@ -14,7 +14,7 @@ use Rattle.session_model.specs.Vault.{Setting, Vault}
 use Rattle.session_model.specs.Steps.{Moment, cloud_no, step_line, FinishLanes}
 use Rattle.session_model.specs.Cut.{FinishCut}
 use Rattle.session_model.specs.Session.Texts.{text_of}
-use Rattle.script_lines.specs.At.{IsAt}
+use Rattle.script_lines.specs.At.{IsAtVault}
 use Rattle.script_lines.specs.Does.{Images, IsLeftByCut}
 use Rattle.script_lines.specs.Stepping.{stored_if}
 
@@ -39,7 +39,7 @@ pub record Finished {V : Type 0} (clouds : V → ℕ → Cloud) (s : Setting) (j
   pub moments : List Moment
   pub after : Vault
   pub lanes_run : FinishLanes s job lanes v answers moments after
-  pub is_at : IsAt clouds s new jobs after
+  pub is_at : IsAtVault clouds s new jobs after
   pub text_is : text ≡ before ++ text_of answers
   pub images : Images clouds s old new moments after.peers
 
@@ -56,10 +56,10 @@ pub record FinishedPart {V : Type 0} (clouds : V → ℕ → Cloud) (s : Setting
 abbrev pub FinishesLanes : {V : Type 0} → (V → ℕ → Cloud) → ℕ → (Setting → List ℕ) → LocalLink V
     → List (List LaneView) → LocalLink V → List (List LaneView) → List ℕ → List ℕ → Type 0
 FinishesLanes clouds job lanes old old_jobs new new_jobs before text =
-    (s : Setting) (v : Vault) → IsAt clouds s old old_jobs v
+    (s : Setting) (v : Vault) → IsAtVault clouds s old old_jobs v
     → Finished clouds s job (lanes s) old new new_jobs v before text
 
 abbrev pub CutsLanes : {V : Type 0} → (V → ℕ → Cloud) → ℕ → (Setting → List ℕ) → LocalLink V → List (List LaneView)
     → LocalLink V → Type 0
 CutsLanes clouds job lanes old old_jobs new =
-    (s : Setting) (v : Vault) → IsAt clouds s old old_jobs v → FinishedPart clouds s job (lanes s) old new v
+    (s : Setting) (v : Vault) → IsAtVault clouds s old old_jobs v → FinishedPart clouds s job (lanes s) old new v

@@ -21,7 +21,7 @@ use Rattle.session_model.specs.Session.Texts.{text_of}
 use Rattle.script_lines.specs.declared.listing.Listing.{Listing}
 use Rattle.script_lines.specs.declared.listing.NoPage.{NoPage}
 use Rattle.script_lines.specs.declared.listing.NoPage.TheVariants as no_pages
-use Rattle.script_lines.specs.At.{LinkAt, IsAt}
+use Rattle.script_lines.specs.At.{LinkAt, IsAtVault}
 use Rattle.script_lines.specs.Does.{Images, IsCutOff}
 
 -- one of the replies that a server gives to the request for a page
@@ -67,19 +67,19 @@ PageComes clouds user cloud above old new came =
     ⊎ PageAsked clouds s user cloud above old new peers (λ reply. TakesPage cloud reply came)
 
 -- what a listing came to by a reply: a page more, and whether it is full
-abbrev pub TurnsBy : ℕ → Listing → Listing → Result Bool NoPage → Reply → Type 0
-TurnsBy cloud before after (Ok more) reply =
+abbrev pub ListsByReply : ℕ → Listing → Listing → Result Bool NoPage → Reply → Type 0
+ListsByReply cloud before after (Ok more) reply =
     (page : List (Tag × Version)) × (reply ≡ replies.Entries page) × (length page ≤ key_limit)
     × (more ≡ (length page == key_limit)) × HasAddedPage before page after
-TurnsBy cloud before after (Err (no_pages.Refused why)) reply = list_refusal cloud reply ≡ Some why
-TurnsBy cloud before after (Err no_pages.NoMemory) reply = Unit {0}
+ListsByReply cloud before after (Err (no_pages.Refused why)) reply = list_refusal cloud reply ≡ Some why
+ListsByReply cloud before after (Err no_pages.NoMemory) reply = Unit {0}
 
 abbrev pub PageTurns : {V : Type 0} → (V → ℕ → Cloud) → UserId → ℕ → LocalLink V → Listing → LocalLink V → Listing
     → Result Bool NoPage → Type 0
 PageTurns clouds user cloud old before new after came =
     (s : Setting) (peers : ℕ → Peer) → LinkAt clouds s old peers
     → ((came ≡ Err no_pages.NoMemory) × (new ≡ old))
-    ⊎ PageAsked clouds s user cloud before.above old new peers (TurnsBy cloud before after came)
+    ⊎ PageAsked clouds s user cloud before.above old new peers (ListsByReply cloud before after came)
 
 -- The listing went on to its end, or to a refusal.
 pub record Listed {V : Type 0} (clouds : V → ℕ → Cloud) (s : Setting) (user : UserId) (cloud : ℕ)
@@ -91,15 +91,15 @@ pub record Listed {V : Type 0} (clouds : V → ℕ → Cloud) (s : Setting) (use
   pub images : Images clouds s old new (map (moment_of cloud) turns) after
 
 -- Of each setting and vault at which link and jobs are: all entries were listed, or the listing was refused, or cut.
-abbrev pub Lists : {V : Type 0} → (V → ℕ → Cloud) → UserId → ℕ → LocalLink V → List (List LaneView) → LocalLink V
+abbrev pub ListsEntries : {V : Type 0} → (V → ℕ → Cloud) → UserId → ℕ → LocalLink V → List (List LaneView) → LocalLink V
     → Result Listing NoPage → Type 0
-Lists clouds user cloud old jobs new (Ok listing) =
-    (s : Setting) (v : Vault) → IsAt clouds s old jobs v
+ListsEntries clouds user cloud old jobs new (Ok listing) =
+    (s : Setting) (v : Vault) → IsAtVault clouds s old jobs v
     → (entries : List (Tag × Version)) × Listed clouds s user cloud old new v.peers (Ok entries)
     × (listing.count ≡ length entries) × (listing.lines ≡ text_of (map entry_line entries))
-Lists clouds user cloud old jobs new (Err (no_pages.Refused why)) =
-    (s : Setting) (v : Vault) → IsAt clouds s old jobs v → Listed clouds s user cloud old new v.peers (Err why)
-Lists clouds user cloud old jobs new (Err no_pages.NoMemory) =
+ListsEntries clouds user cloud old jobs new (Err (no_pages.Refused why)) =
+    (s : Setting) (v : Vault) → IsAtVault clouds s old jobs v → Listed clouds s user cloud old new v.peers (Err why)
+ListsEntries clouds user cloud old jobs new (Err no_pages.NoMemory) =
     IsCutOff clouds (events.List user (cloud_no cloud)) old jobs new
 
 -- the text of the refusal stands behind what was there; a want of memory has no line

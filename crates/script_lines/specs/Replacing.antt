@@ -14,14 +14,14 @@ use Rattle.session_model.specs.Vault.{Setting, Vault}
 use Rattle.session_model.specs.Steps.{cloud_no}
 use Rattle.script_lines.specs.declared.error.CarryErr.{CarryErr}
 use Rattle.script_lines.specs.declared.error.CarryErr.TheVariants as carry_errors
-use Rattle.script_lines.specs.At.{IsAt}
+use Rattle.script_lines.specs.At.{IsAtVault}
 use Rattle.script_lines.specs.Does.{IsLineCut}
-use Rattle.script_lines.specs.Stepping.{IsOpening}
+use Rattle.script_lines.specs.Stepping.{IsOpeningLine}
 
 -- the line of a new store whose first opening ended so: where it didn't begin the store, that of an opening
 abbrev pub IsNewStore : ℕ → Result ℕ OpenErr → Line → Type 0
 IsNewStore cloud (Ok commands) line = line ≡ lines.Replaced (cloud_no cloud)
-IsNewStore cloud (Err error) line = IsOpening cloud (Err error) line
+IsNewStore cloud (Err error) line = IsOpeningLine cloud (Err error) line
 
 -- The cloud's areas couldn't be made empty: all clouds are as they were, but that its count rose.
 pub record FailsFresh {V : Type 0} (clouds : V → ℕ → Cloud) (s : Setting) (event : Event) (cloud : CloudNo)
@@ -36,5 +36,5 @@ abbrev pub IsShelfFault : {V : Type 0} → (V → ℕ → Cloud) → Event → L
     → CarryErr → Type 0
 IsShelfFault clouds event old old_jobs new (carry_errors.ShelfFault cloud) =
     (event ≡ events.Replace cloud)
-    × ((s : Setting) (v : Vault) → IsAt clouds s old old_jobs v → FailsFresh clouds s event cloud old new v)
+    × ((s : Setting) (v : Vault) → IsAtVault clouds s old old_jobs v → FailsFresh clouds s event cloud old new v)
 IsShelfFault clouds event old old_jobs new carry_errors.NoMemory = Unit {0}

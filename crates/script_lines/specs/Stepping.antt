@@ -2,7 +2,7 @@
 use Rattle.std.specs.Prelude.{◌≡◌, ℕ, Bool, List, [], ◌∷◌, Option, Some, None, Result, Ok, Err, if◌then◌else◌}
 use Rattle.session_model.specs.CommitJournal.errors.OpenErr.{OpenErr}
 use Rattle.session_model.specs.CommitJournal.errors.OpenErr.TheVariants as errors
-use Rattle.session_model.specs.ShareServer.Refusals.{IsDamage}
+use Rattle.session_model.specs.ShareServer.Refusals.{IsNamedDamage}
 use Rattle.session_model.specs.UploadJob.news.LaneNews.{LaneNews}
 use Rattle.session_jobs.specs.LaneSteps.error.StepErr.{StepErr}
 use Rattle.session_jobs.specs.LaneSteps.error.StepErr.TheVariants as step_errors
@@ -30,8 +30,8 @@ IsTold (Err step_errors.NoMemory) = ⊥
 IsTold came = Unit {0}
 
 -- the line of an opening that ended so
-abbrev pub IsOpening : ℕ → Result ℕ OpenErr → Line → Type 0
-IsOpening cloud (Ok commands) line = line ≡ lines.Restarted (cloud_no cloud) commands
-IsOpening cloud (Err errors.Fault) line = line ≡ lines.Fault (cloud_no cloud)
-IsOpening cloud (Err error) line =
-    (at : ℕ) × (byte : ℕ) × (line ≡ lines.Damaged (cloud_no cloud) at byte) × IsDamage error at byte
+abbrev pub IsOpeningLine : ℕ → Result ℕ OpenErr → Line → Type 0
+IsOpeningLine cloud (Ok commands) line = line ≡ lines.Restarted (cloud_no cloud) commands
+IsOpeningLine cloud (Err errors.Fault) line = line ≡ lines.Fault (cloud_no cloud)
+IsOpeningLine cloud (Err error) line =
+    (at : ℕ) × (byte : ℕ) × (line ≡ lines.Damaged (cloud_no cloud) at byte) × IsNamedDamage error at byte

@@ -1,7 +1,7 @@
 //! A line of a script, carried out.
 
 ghost use Rattle.std.specs.Prelude.{◌≡◌, ◌↔◌, length, Err, IsOk, IfErr, OnOk, OnErr};
-ghost use Rattle.session_model.specs.Session.Spelling.{Fits};
+ghost use Rattle.session_model.specs.Session.Spelling.{FitsEvent};
 ghost use Rattle.session_model.specs.Session.Scripts.{jobs_after};
 ghost use Rattle.script_lines.specs.At.{KeepsOtherClouds};
 ghost use Rattle.script_lines.specs.Does.{CarriesOut, IsCutOff};
@@ -71,7 +71,7 @@ pub fn carry_out<V: Shelf>(
     buffers: &mut Buffers,
     text: &mut Answer,
 ) -> Result<(), CarryErr>
-    requires fits { Fits link.old.servers.shape (length jobs.old) event.now }
+    requires fits { FitsEvent link.old.servers.shape (length jobs.old) event.now }
     requires reached { AreReached link.old.servers.shape jobs.old }
 
     ensures does { OnOk result (CarriesOut V.cloud_at event.now link.old jobs.old

@@ -2,7 +2,7 @@
 
 ghost use Rattle.std.specs.Prelude.{◌≡◌, ◌≤◌, ◌<◌, ◌^◌, ◌++◌, ◌==◌, [], ◌∷◌, length, map, IsTrue, IfOk, OnOk, OnErr};
 ghost use Rattle.deletions.specs.Frames.Frames.{frame_limit};
-ghost use Rattle.session_model.specs.MessageFields.Keys.{AreEntries, key_limit};
+ghost use Rattle.session_model.specs.MessageFields.Keys.{AreEntryKeys, key_limit};
 ghost use Rattle.deletions.specs.Messages.reply.Reply.{Reply};
 ghost use Rattle.deletions.specs.Messages.request.Request.TheVariants as requests;
 ghost use Rattle.deletions.specs.Messages.Replies.{IsReply};
@@ -13,7 +13,7 @@ ghost use Rattle.session_model.specs.Steps.{entry_line as line_of_entry};
 ghost use Rattle.session_model.specs.Session.Texts.{text_of};
 ghost use Rattle.script_lines.specs.At.{KeepsOtherClouds};
 ghost use Rattle.script_lines.specs.Does.{CarriesOut, IsCutOff};
-ghost use Rattle.script_lines.specs.Paging.{IsListReply, RefusesAs, TakesPage, HasAddedPage, PageComes, PageTurns, Lists, SaysNoPage};
+ghost use Rattle.script_lines.specs.Paging.{IsListReply, RefusesAs, TakesPage, HasAddedPage, PageComes, PageTurns, ListsEntries, SaysNoPage};
 
 use crate::Jobs;
 use crate::news::put_line;
@@ -88,7 +88,7 @@ fn page_in(alloc: Global, cloud: CloudNo, content: &[u8]) -> Result<Entries, NoP
     requires { length content.now < 2 ^ 32 }
     ensures takes { (reply : Reply) → IsReply content.now reply → IsListReply cloud.0 reply
         → TakesPage cloud.0 reply result }
-    ensures few { IfOk result AreEntries }
+    ensures few { IfOk result AreEntryKeys }
 {
     let kind = kind_of(content);
     match Reply::read(alloc, content) {
@@ -128,7 +128,7 @@ fn ask_page<V: Shelf>(
 ) -> Result<Entries, NoPage>
     requires below { cloud.0 < link.old.servers.shape.n }
     ensures comes { PageComes V.cloud_at user cloud.0 above link.old link.new result }
-    ensures few { IfOk result AreEntries }
+    ensures few { IfOk result AreEntryKeys }
     ensures leaves { KeepsOtherClouds V.cloud_at link.old link.new }
     ensures same_reference { link.new.shelf.ghost_name ≡ link.old.shelf.ghost_name }
 {
@@ -230,7 +230,7 @@ fn list_pages<V: Shelf>(
     reply: &mut ReplyBuf,
 ) -> Result<Listing, NoPage>
     requires below { cloud.0 < link.old.servers.shape.n }
-    ensures lists { Lists V.cloud_at user cloud.0 link.old jobs.now link.new result }
+    ensures lists { ListsEntries V.cloud_at user cloud.0 link.old jobs.now link.new result }
     ensures leaves { KeepsOtherClouds V.cloud_at link.old link.new }
     ensures same_reference { link.new.shelf.ghost_name ≡ link.old.shelf.ghost_name }
 {

@@ -5,7 +5,7 @@ ghost use Rattle.session_model.specs.Session.event.Event.TheVariants as events;
 ghost use Rattle.script_lines.specs.At.{KeepsOtherClouds};
 ghost use Rattle.script_lines.specs.Does.{CarriesOut, IsCutOff};
 ghost use Rattle.script_lines.specs.Replacing.{IsNewStore, IsShelfFault};
-ghost use Rattle.script_lines.specs.Stepping.{IsOpening};
+ghost use Rattle.script_lines.specs.Stepping.{IsOpeningLine};
 ghost use Rattle.session_model.specs.ShareServer.Serving.{an_error};
 
 use crate::news::put_line;
@@ -35,7 +35,7 @@ pub fn arm_line<V: Shelf>(
 
 // The line of an opening that ended with this error.
 fn error_line(cloud: CloudNo, error: OpenErr) -> Line
-    ensures { IsOpening cloud.0 (an_error error) result }
+    ensures { IsOpeningLine cloud.0 (an_error error) result }
 {
     match error {
         OpenErr::Fault => Line::Fault { cloud },
@@ -48,7 +48,7 @@ fn error_line(cloud: CloudNo, error: OpenErr) -> Line
 
 // The line of an opening that ended so.
 fn opening_line(cloud: CloudNo, opened: Result<u64, OpenErr>) -> Line
-    ensures { IsOpening cloud.0 opened result }
+    ensures { IsOpeningLine cloud.0 opened result }
 {
     match opened {
         Ok(commands) => Line::Restarted { cloud, commands },

@@ -9,7 +9,7 @@ use Rattle.serve_command.specs.declared.served.Served.{Served}
 use Rattle.serve_command.specs.Connection.{EndsWithCause}
 use Rattle.serve_command.specs.Lines.{ready_text, connection_text, serving_text}
 use Rattle.serve_command.specs.Served.{ServeOutput, output_of, IsTextWhole, IsSinkCut, IsLeftOut}
-use Rattle.serve_command.specs.Steps.{ServingMoment, HasServedConnection, HasServedConnections, Writes, ServesAll, moment_of, status_by}
+use Rattle.serve_command.specs.Steps.{ServingMoment, HasServedConnection, HasServedConnections, WritesLine, ServesAll, moment_of, status_by}
 use Rattle.share_server.specs.declared.server.Server.{Server}
 use Rattle.serve_command.specs.declared.stop.ServingStop.{ServingStop}
 use Rattle.serve_command.specs.declared.stop.ServingStop.TheVariants as stops
@@ -41,7 +41,7 @@ went_listened header server clouds shelf_faults tells heard before count same st
 -- a line that isn't written whole
 stopped_in : (stop : ServingStop) (a b c : Option (List ℕ)) (m n o : ℕ) (front line : List ℕ)
     → IsTextWhole (output_of a b m n) front
-    → Writes line (output_of b c n o) (Err stop)
+    → WritesLine line (output_of b c n o) (Err stop)
     → IsSinkCut (status_by (Err stop)) (output_of a c m o) front line ⊎ IsLeftOut (status_by (Err stop))
     (output_of a c m o) front
 stopped_in stops.SinkFault a b c m n o front line whole writes = inl (cut_more a b c m n o front line whole writes)
@@ -74,7 +74,7 @@ module _ (header : Header) (old now : ServingMoment) (address : List ℕ) (total
 
   -- the first line isn't written
   pub unready : (stop : ServingStop) (a b c : Option (List ℕ)) (m n o count : ℕ) → HasServedConnections header old now before [] count
-      → IsTextWhole (output_of a b m n) [] → Writes (ready_text address) (output_of b c n o) (Err stop)
+      → IsTextWhole (output_of a b m n) [] → WritesLine (ready_text address) (output_of b c n o) (Err stop)
       → ServesAll (status_by (Err stop)) header old now address total (output_of a c m o) before count
   unready stop a b c m n o count went whole writes = record {
     all = [];
@@ -121,7 +121,7 @@ module _ (header : Header) (old now : ServingMoment) (address : List ℕ) (total
 
     -- its line isn't
     pub unwritten : (stop : ServingStop) → number < total
-        → Writes (connection_text (number + 1) ended) (output_of b c n o) (Err stop)
+        → WritesLine (connection_text (number + 1) ended) (output_of b c n o) (Err stop)
         → ServesAll (status_by (Err stop)) header old new address total (output_of a c m o) before after
     unwritten stop few writes =
         let within : length (along.all ++ ended ∷ []) ≤ total = omega (arith, many) in record {

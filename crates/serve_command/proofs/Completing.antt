@@ -23,8 +23,8 @@ use Rattle.share_server.proofs.Openings.{NoneStands}
 use Rattle.share_server.specs.CloudAreas.Standing.{StandsFor}
 use Rattle.share_server.specs.Serving.{an_error}
 use Rattle.serve_command.specs.Serving.{RepliesOne}
-use Rattle.serve_command.specs.Complete.{IsStill, HasList, IsNew, IsServeUnhindered}
-use Rattle.serve_command.specs.Served.{ServeCall, old_cloud, own_header, IsOpeningRefused, HasRooms, IsUnreadable, IsUnfound, IsUnopenedToServe, IsOpenedToServe, Ends, IsServed}
+use Rattle.serve_command.specs.Complete.{IsStill, HasListWithinRooms, IsStoreUnbegun, IsServeUnhindered}
+use Rattle.serve_command.specs.Served.{ServeCall, old_cloud, own_header, IsOpeningRefused, HasJournalRooms, IsUnreadable, IsUnfound, IsUnopenedToServe, IsOpenedToServe, HasServingEnded, IsServed}
 use Rattle.serve_command.specs.Served.{IsUnopenedOrServed}
 use Rattle.serve_command.proofs.Running.{run_later}
 
@@ -57,7 +57,7 @@ not_damaged image header list at byte stands damage = elim stands.1 [
 ]
 
 module _ (none : NoneStands) (one : OneHeader) where
-  has_in : (call : ServeCall) (rooms : UserRooms) → HasList call ⊎ IsNew call → HasRooms ((old_cloud call).now Journal).read rooms
+  has_in : (call : ServeCall) (rooms : UserRooms) → HasListWithinRooms call ⊎ IsStoreUnbegun call → HasJournalRooms ((old_cloud call).now Journal).read rooms
       → HasIn call rooms
   has_in call rooms holds (inl unbegun) = (
     [],
@@ -94,7 +94,7 @@ module _ (none : NoneStands) (one : OneHeader) where
   not_refused call rooms (errors.OtherStore found asked at) refuses may still = may
 
   ends_well : (rooms : UserRooms) (status : ℕ) (call : ServeCall) (is : IsOpenedToServe rooms status call) → IsServeUnhindered call
-      → Ends status call.address call.count call.out is.all is.after call.ports_after → (status ≡ 0) ⊎ (status ≡ 6)
+      → HasServingEnded status call.address call.count call.out is.all is.after call.ports_after → (status ≡ 0) ⊎ (status ≡ 6)
   ends_well rooms status call is well (inl done) = inl done.status_is
   ends_well rooms status call is well (inr (inl stopped)) =
       ⊎_elim (λ cut. absurd (not_risen _ _ well.sink cut.sink)) (λ left. inr left.status_is) stopped.ends

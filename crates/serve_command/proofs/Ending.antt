@@ -7,7 +7,7 @@ use Rattle.share_server.specs.CdEdges.Ports.{Telling, Receives}
 use Rattle.serve_command.specs.declared.served.ConnectionStop.{ConnectionStop}
 use Rattle.serve_command.specs.declared.served.ConnectionStop.TheVariants as stops
 use Rattle.serve_command.specs.declared.served.Served.TheVariants as ends
-use Rattle.serve_command.specs.Connection.{None, HasPassedBytes, Serves}
+use Rattle.serve_command.specs.Connection.{None, HasPassedBytes, ServesConnection}
 use Rattle.serve_command.specs.Framing.{IsAlongFrames, Broken, Stops, ended_with, stopped_by}
 use Rattle.serve_command.proofs.PassingOn.{passed_none, then_received}
 
@@ -73,7 +73,7 @@ module _ {S : Type 0} (step : S → List ℕ → List ℕ → S → Type 0) wher
   -- the stream ended
   pub ends_at_end : (start now : Telling) (port : ℕ) (first last : S) (standing : List ℕ) (received : ℕ) → received < 2 ^ 40 → (IsTrue start.told → (now.port port).to_come ≡ [])
       → (IsFrame standing → ⊥) → (IsRefused standing → ⊥) → IsAlongFrames step start now port first last standing [] received
-      → Serves step start now port first last (ended_with (length standing))
+      → ServesConnection step start now port first last (ended_with (length standing))
   ends_at_end start now port first last [] received few over ready lawful along = record {
     requests = along.requests;
     replies = along.replies;
@@ -109,7 +109,7 @@ module _ {S : Type 0} (step : S → List ℕ → List ℕ → S → Type 0) wher
 
   -- as many bytes came as may come
   pub ends_spent : (start now : Telling) (port : ℕ) (first last : S) (standing : List ℕ) (received : ℕ) → received ≡ 2 ^ 40
-      → (IsFrame standing → ⊥) → (IsRefused standing → ⊥) → IsAlongFrames step start now port first last standing [] received → Serves step start now port first last ends.Spent
+      → (IsFrame standing → ⊥) → (IsRefused standing → ⊥) → IsAlongFrames step start now port first last standing [] received → ServesConnection step start now port first last ends.Spent
   ends_spent start now port first last standing received all ready lawful along = record {
     requests = along.requests;
     replies = along.replies;
@@ -123,7 +123,7 @@ module _ {S : Type 0} (step : S → List ℕ → List ℕ → S → Type 0) wher
   }
 
   -- it was stopped
-  pub ends_by_stop : (start now : Telling) (port : ℕ) (first last : S) (stop : ConnectionStop) → Stops step start now port first last stop → Serves step start now port first last (stopped_by stop)
+  pub ends_by_stop : (start now : Telling) (port : ℕ) (first last : S) (stop : ConnectionStop) → Stops step start now port first last stop → ServesConnection step start now port first last (stopped_by stop)
   ends_by_stop start now port first last (stops.BadLength found) by = record {
     requests = by.requests;
     replies = by.replies;

@@ -10,8 +10,8 @@ use Rattle.share_server.specs.JournalStart.Ranges.{AreRooms}
 use Rattle.share_server.specs.CommitJournal.errors.OpenErr.{OpenErr}
 use Rattle.share_server.specs.CommitJournal.errors.OpenErr.TheVariants as errors
 use Rattle.share_server.specs.Serving.{an_error}
-use Rattle.serve_command.specs.Served.{ServeCall, old_cloud, HasRooms, IsUnreadable, IsUnfound, IsUnmade, IsUnopenedOrServed, IsInRooms, IsServed}
-use Rattle.serve_command.specs.Steps.{IsClosedUnopened, Counts, IsUnmadeOrServed}
+use Rattle.serve_command.specs.Served.{ServeCall, old_cloud, HasJournalRooms, IsUnreadable, IsUnfound, IsUnmade, IsUnopenedOrServed, IsInRooms, IsServed}
+use Rattle.serve_command.specs.Steps.{IsClosedUnopened, CountsRoomSearch, IsUnmadeOrServed}
 use Rattle.serve_command.proofs.Openings.{reported_by}
 
 -- A call that changes nothing of its cloud's areas and no count leaves all clouds as they were.
@@ -46,7 +46,7 @@ behind rooms status call old total same still served =
 
 -- the rooms were found
 pub in_rooms : (rooms : UserRooms) (status : ℕ) (call : ServeCall) → AreRooms rooms
-    → (IsTrue (old_cloud call).told → HasRooms ((old_cloud call).now Journal).read rooms)
+    → (IsTrue (old_cloud call).told → HasJournalRooms ((old_cloud call).now Journal).read rooms)
     → IsUnmadeOrServed rooms status call → IsServed status call
 in_rooms rooms status call allowed found (inl unmade) = inl unmade
 in_rooms rooms status call allowed found (inr served) =
@@ -57,8 +57,8 @@ abbrev pub no_rooms : OpenErr → Result UserRooms OpenErr
 no_rooms error = Err error
 
 -- the counts by an error are those of an opening that ends with it
-counts_by : (old new : Cloud) (before now : ℕ) (error : OpenErr) → Counts old new before now (no_rooms error)
-    → Counts old new before now (an_error error)
+counts_by : (old new : Cloud) (before now : ℕ) (error : OpenErr) → CountsRoomSearch old new before now (no_rooms error)
+    → CountsRoomSearch old new before now (an_error error)
 counts_by old new before now errors.Fault counts = counts
 counts_by old new before now (errors.NotBegun len) counts = counts
 counts_by old new before now (errors.Damaged at byte) counts = counts
@@ -67,7 +67,7 @@ counts_by old new before now (errors.OtherStore found asked at) counts = counts
 -- they weren't
 pub not_found : (call : ServeCall) (error : OpenErr) (status : ℕ) → IsUnreadable (old_cloud call) error
     → Stays (old_cloud call) (call.new call.cloud.0)
-    → Counts (old_cloud call) (call.new call.cloud.0) call.total_before call.total_after (no_rooms error)
+    → CountsRoomSearch (old_cloud call) (call.new call.cloud.0) call.total_before call.total_after (no_rooms error)
     → IsClosedUnopened call.cloud error call.out status → call.tells_after ≡ call.tells_before
     → call.ports_after ≡ call.ports_before → IsServed status call
 not_found call error status unreadable stays counts closes tells ports = inr (inl (record {

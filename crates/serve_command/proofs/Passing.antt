@@ -4,7 +4,7 @@ use Rattle.std.proofs.Common.{ap, ◌∙◌, subst, arith, length-append}
 use Rattle.share_server.specs.CdEdges.Ports.{Port, Telling, HasOpenedPort}
 use Rattle.serve_command.specs.declared.served.Served.{Served}
 use Rattle.serve_command.specs.Connection as connections
-use Rattle.serve_command.specs.Connection.{EndsBy, HasPassedBytes, Serves}
+use Rattle.serve_command.specs.Connection.{EndsConnection, HasPassedBytes, ServesConnection}
 use Rattle.serve_command.specs.Runs.{Connection, HasConnectionBytes, HaveBytes, HavePassed}
 use Rattle.serve_command.specs.Steps.{OneServed, PassesNext}
 
@@ -22,7 +22,7 @@ passes old mid new port ended requests replies opens has =
     let at_port : HasConnectionBytes (old.port port) (new.port port) (of_end ended requests replies) = record {
       came = has.came;
       came_is = sym opens.to_come ∙ p.came_is;
-      ends = subst (λ (w : List ℕ). EndsBy ended has.came requests replies w (new.port port).to_come) (sym went)
+      ends = subst (λ (w : List ℕ). EndsConnection ended has.came requests replies w (new.port port).to_come) (sym went)
           has.ends;
     } in record {
       opened = omega (arith, p.opened, opens.opened);
@@ -34,7 +34,7 @@ passes old mid new port ended requests replies opens has =
 -- a port was opened, and its connection served
 pub one_served : {S : Type 0} (step : S → List ℕ → List ℕ → S → Type 0) (old mid new : Telling) (port : ℕ)
     (first last : S) (ended : Served)
-    → (IsTrue old.told → HasOpenedPort old mid port) → mid.told ≡ old.told → Serves step mid new port first last ended
+    → (IsTrue old.told → HasOpenedPort old mid port) → mid.told ≡ old.told → ServesConnection step mid new port first last ended
     → OneServed step old new first last ended
 one_served step old mid new port first last ended opens told serves = record {
   requests = serves.requests;

@@ -3,7 +3,7 @@ use Rattle.std.proofs.Common.{◌≡◌, ℕ, ◌-◌, List, take, drop, take-ap
 use Rattle.std.proofs.lemmas.List.Concat.{flat_map-append}
 use Rattle.std.proofs.Math.Seq.{take-length}
 use Rattle.ports_link.specs.Frames.Frames.{IsContent, IsFrameOf, IsFrame, IsRefused, frame, stream, length_in}
-use Rattle.ports_link.specs.Frames.Steps.{Took, Dropped, Takes, Refuses}
+use Rattle.ports_link.specs.Frames.Steps.{Took, Dropped, TakesPiece, RefusesLength}
 use Rattle.ports_link.proofs.Frames.FrameLaws.{length_in-append}
 use Rattle.ports_link.proofs.Frames.StreamLaws.{all_shown}
 use Rattle.share_server.specs.CdEdges.Ports.{Telling, Sent, SentPart, Received}
@@ -85,7 +85,7 @@ broken step start a b port first before after standing pending request reply rec
 
 -- bytes were pushed into the framer
 pub took : {S : Type 0} (step : S → List ℕ → List ℕ → S → Type 0) (start now : Telling) (port : ℕ) (first last : S) (old piece : List ℕ) (count : ℕ) (new : List ℕ) (received : ℕ)
-    → Takes old piece count new → IsAlongFrames step start now port first last old piece received → IsAlongFrames step start now port first last new (drop count piece) received
+    → TakesPiece old piece count new → IsAlongFrames step start now port first last old piece received → IsAlongFrames step start now port first last new (drop count piece) received
 took step start now port first last old piece count new received takes along = record {
   requests = along.requests;
   replies = along.replies;
@@ -98,20 +98,20 @@ took step start now port first last old piece count new received takes along = r
 }
 
 -- some bytes are always pushed
-pub some_taken : (old piece : List ℕ) (count : ℕ) (new : List ℕ) → (IsFrame old → ⊥) → (length piece ≡ 0 → ⊥) → Takes old piece count new → count ≡ 0 → ⊥
+pub some_taken : (old piece : List ℕ) (count : ℕ) (new : List ℕ) → (IsFrame old → ⊥) → (length piece ≡ 0 → ⊥) → TakesPiece old piece count new → count ≡ 0 → ⊥
 some_taken old piece count new none some takes zero = elim takes.to_the_end [
   | inl all ↦ some (sym all ∙ zero)
   | inr framed ↦ none (subst IsFrame (takes.taken ∙ ap (λ (n : ℕ). old ++ take n piece) zero ∙ append-nil old) framed)
 ]
 
 -- where no frame stands, all was pushed
-pub all_taken : (old piece : List ℕ) (count : ℕ) (new : List ℕ) → (IsFrame new → ⊥) → Takes old piece count new → new ≡ old ++ piece
+pub all_taken : (old piece : List ℕ) (count : ℕ) (new : List ℕ) → (IsFrame new → ⊥) → TakesPiece old piece count new → new ≡ old ++ piece
 all_taken old piece count new none takes = elim takes.to_the_end [
   | inl all ↦ takes.taken ∙ ap (λ (n : ℕ). old ++ take n piece) all ∙ ap (λ (l : List ℕ). old ++ l) (take-length piece)
   | inr framed ↦ absurd (none framed)
 ]
 
-pub still_lawful : (old piece : List ℕ) (count : ℕ) (new : List ℕ) → (IsFrame new → ⊥) → Takes old piece count new → IsRefused new → ⊥
+pub still_lawful : (old piece : List ℕ) (count : ℕ) (new : List ℕ) → (IsFrame new → ⊥) → TakesPiece old piece count new → IsRefused new → ⊥
 still_lawful old piece count new none takes wrong = takes.lawful (subst IsRefused (all_taken old piece count new none takes) wrong)
 
 pub none_refused : IsRefused [] → ⊥
@@ -119,7 +119,7 @@ none_refused wrong = omega (arith, wrong.known)
 
 -- a length was refused
 pub refused : {S : Type 0} (step : S → List ℕ → List ℕ → S → Type 0) (start now : Telling) (port : ℕ) (first last : S) (old piece : List ℕ) (found : ℕ) (new : List ℕ) (received : ℕ)
-    → Refuses old piece found new → IsAlongFrames step start now port first last old piece received → IsLengthRefused step start now port first last found
+    → RefusesLength old piece found new → IsAlongFrames step start now port first last old piece received → IsLengthRefused step start now port first last found
 refused step start now port first last old piece found new received refuses along =
     let n = 4 - length old in
     let whole : old ++ piece ≡ new ++ drop n piece =

@@ -8,7 +8,7 @@ use Rattle.share_server.specs.Messages.reply.Reply.TheVariants as replies
 use Rattle.share_server.specs.Messages.Replies.{reply_bytes}
 use Rattle.share_server.specs.UserDedup.Requests.{asked_at}
 use Rattle.share_server.specs.CloudStore.store.CloudStore.{CloudStore}
-use Rattle.share_server.specs.Serving.{Answered}
+use Rattle.share_server.specs.Serving.{IsAnsweredContent}
 use Rattle.serve_command.specs.Serving.{HeldStore, RepliesOne, RepliesTo, held_of}
 
 -- each reply has its kind in front
@@ -47,7 +47,7 @@ module _ (before after : HeldStore) (content reply : List ℕ) where
 
 -- each reply has some bytes
 pub some_content : (shape : Shape) (content reply : List ℕ) (store : CloudStore) (old new : Cloud) (before now : ℕ)
-    → ((r : Request) → asked_at shape content ≡ Ok r → Answered shape r store old new before now reply)
+    → ((r : Request) → asked_at shape content ≡ Ok r → IsAnsweredContent shape r store old new before now reply)
     → ((at : ℕ) → asked_at shape content ≡ Err at → reply ≡ reply_bytes (replies.Malformed at)) → 1 ≤ length reply
 some_content shape content reply store old new before now answered malformed = by_read (asked_at shape content) refl
   where

@@ -12,7 +12,7 @@ use Rattle.share_server.specs.CloudAreas.Peers as peers
 use Rattle.share_server.specs.Serving.{IsServing, number_of}
 use Rattle.share_server.specs.declared.server.Server.{Server}
 use Rattle.serve_command.specs.declared.served.Served.{Served}
-use Rattle.serve_command.specs.Connection.{Responds, Serves}
+use Rattle.serve_command.specs.Connection.{Responds, ServesConnection}
 use Rattle.serve_command.proofs.Carrying.{carried, mapped}
 use Rattle.serve_command.specs.Serving.{HasAnsweredContent, HeldStore, ServingPlace, RepliesOne, ServesOne, Standing, held_of, standing}
 
@@ -149,9 +149,9 @@ module _ {S : Type 0} (place : S → ServingPlace) where
   abbrev Step : S → List ℕ → List ℕ → S → Type 0
   Step before content reply after = HasAnsweredContent (place before) (place after) content reply
 
-  module _ (old new : Telling) (port : ℕ) (first last : S) (ended : Served) (serves : Serves Step old new port first last ended) where
+  module _ (old new : Telling) (port : ℕ) (first last : S) (ended : Served) (serves : ServesConnection Step old new port first last ended) where
     -- the same bytes, by another row with these requests and replies
-    by_row : {T : Type 0} (does : T → List ℕ → List ℕ → T → Type 0) (t u : T) → Responds does t serves.requests serves.replies u → Serves does old new port t u ended
+    by_row : {T : Type 0} (does : T → List ℕ → List ℕ → T → Type 0) (t u : T) → Responds does t serves.requests serves.replies u → ServesConnection does old new port t u ended
     by_row does t u run = record { requests = serves.requests; replies = serves.replies; responds = run; bytes = serves.bytes }
 
     row : Since (place first) (place last) × Responds RepliesOne (held_in (place first) (place first)) serves.requests serves.replies (held_in (place first) (place last))
@@ -162,12 +162,12 @@ module _ {S : Type 0} (place : S → ServingPlace) where
     pub was_called : Since (place first) (place last)
     was_called = row.0
 
-    pub was_replied : Serves RepliesOne old new port (held_in (place first) (place first)) (held_in (place first) (place last)) ended
+    pub was_replied : ServesConnection RepliesOne old new port (held_in (place first) (place first)) (held_in (place first) (place last)) ended
     was_replied = by_row RepliesOne (held_in (place first) (place first)) (held_in (place first) (place last)) row.1
 
     pub was_served : (p : Peer) → IsTrue (cloud_in (place first) (place first)).told → IsServing (place first).server (cloud_in (place first) (place first)) p
         → (q : Peer) × IsServing (place last).server (cloud_in (place first) (place last)) q
-        × Serves (ServesOne (place first).server.store.header) old new port (standing p (cloud_in (place first) (place first))) (standing q (cloud_in (place first) (place last))) ended
+        × ServesConnection (ServesOne (place first).server.store.header) old new port (standing p (cloud_in (place first) (place first))) (standing q (cloud_in (place first) (place last))) ended
     was_served p told serving =
         let start = standing p (cloud_in (place first) (place first)) in
         let does = ServesOne (place first).server.store.header in
@@ -182,6 +182,6 @@ module _ {S : Type 0} (place : S → ServingPlace) where
         (record { since = since_none (place first); told = told; serving = serving; cloud = refl }) serves.responds in (
           ends.left.peer,
           ends.stands.serving,
-          subst (λ (c : Cloud). Serves does old new port start (standing ends.left.peer c) ended) ends.stands.cloud
+          subst (λ (c : Cloud). ServesConnection does old new port start (standing ends.left.peer c) ended) ends.stands.cloud
               (by_row does start ends.left ends.run),
         )

@@ -14,18 +14,18 @@ abbrev pub IsStill : ℕ → ℕ → Type 0
 IsStill before now = (now ≡ before) × (before < 2 ^ 64 - 1)
 
 -- the areas stand for a list within rooms of theirs
-abbrev pub HasList : ServeCall → Type 0
-HasList call = (rooms : UserRooms) × (list : List Command) × StandsFor (reads (old_cloud call).now) (own_header rooms call) list
+abbrev pub HasListWithinRooms : ServeCall → Type 0
+HasListWithinRooms call = (rooms : UserRooms) × (list : List Command) × StandsFor (reads (old_cloud call).now) (own_header rooms call) list
     × IsWithin call.shape rooms list
 
 -- the store isn't begun
-abbrev pub IsNew : ServeCall → Type 0
-IsNew call = HasNoJournal (reads (old_cloud call).now)
+abbrev pub IsStoreUnbegun : ServeCall → Type 0
+IsStoreUnbegun call = HasNoJournal (reads (old_cloud call).now)
 
 -- Nothing fails in the call.
 pub record IsServeUnhindered (call : ServeCall) : Type 0 where
   pub told : IsTrue (old_cloud call).told
-  pub holds : HasList call ⊎ IsNew call
+  pub holds : HasListWithinRooms call ⊎ IsStoreUnbegun call
   pub cloud : IsStill (old_cloud call).faults (new_cloud call).faults
   pub sink : IsStill call.out.faults_before call.out.faults_after
   pub ports : IsStill call.ports_before call.ports_after

@@ -43,16 +43,16 @@ SentFront replies went = (went ≡ stream replies) ⊎ SentInPart replies went
 
 -- What the bytes that came, the requests among them, their replies and the bytes that were sent say of the end of a connection. `to_come`
 -- is what is still to come on its port.
-abbrev pub EndsBy : Served → List ℕ → List (List ℕ) → List (List ℕ) → List ℕ → List ℕ → Type 0
-EndsBy ends.End came requests replies went to_come = (came ≡ stream requests) × (went ≡ stream replies) × (to_come ≡ []) × (length came < greatest)
-EndsBy (ends.Cut got) came requests replies went to_come =
+abbrev pub EndsConnection : Served → List ℕ → List (List ℕ) → List (List ℕ) → List ℕ → List ℕ → Type 0
+EndsConnection ends.End came requests replies went to_come = (came ≡ stream requests) × (went ≡ stream replies) × (to_come ≡ []) × (length came < greatest)
+EndsConnection (ends.Cut got) came requests replies went to_come =
     (rest : List ℕ) × (came ≡ stream requests ++ rest) × (went ≡ stream replies) × (to_come ≡ []) × (length came < greatest)
     × (got ≡ length rest) × (got ≢ 0) × IsUnframed rest × (IsRefused rest → ⊥)
-EndsBy (ends.BadLength found) came requests replies went to_come =
+EndsConnection (ends.BadLength found) came requests replies went to_come =
     (rest : List ℕ) × (came ≡ stream requests ++ rest) × (went ≡ stream replies) × IsRefused rest × (found ≡ length_in rest)
-EndsBy ends.Spent came requests replies went to_come =
+EndsConnection ends.Spent came requests replies went to_come =
     (rest : List ℕ) × (came ≡ stream requests ++ rest) × (went ≡ stream replies) × (length came ≡ greatest) × IsUnframed rest × (IsRefused rest → ⊥)
-EndsBy ends.Failed came requests replies went to_come =
+EndsConnection ends.Failed came requests replies went to_come =
     (rest : List ℕ) × (came ≡ stream requests ++ rest) × SentFront replies went
 
 -- the bytes that came and went on a port
@@ -60,10 +60,10 @@ pub record HasBytes (old new : Telling) (port : ℕ) (requests replies : List (L
   pub came : List ℕ
   pub went : List ℕ
   pub passed : HasPassedBytes old new port came went
-  pub ends : EndsBy result came requests replies went (new.port port).to_come
+  pub ends : EndsConnection result came requests replies went (new.port port).to_come
 
 -- A connection on a port, served from one state of a responder to another. Where the ports tell their bytes, they are as its end says.
-pub record Serves {S : Type 0} (step : S → List ℕ → List ℕ → S → Type 0) (old new : Telling) (port : ℕ) (first last : S) (result : Served) : Type 0 where
+pub record ServesConnection {S : Type 0} (step : S → List ℕ → List ℕ → S → Type 0) (old new : Telling) (port : ℕ) (first last : S) (result : Served) : Type 0 where
   pub requests : List (List ℕ)
   pub replies : List (List ℕ)
   pub responds : Responds step first requests replies last

@@ -2,7 +2,7 @@
 use Rattle.std.specs.Prelude.{◌≡◌, ◌⊎◌, ℕ, ◌+◌, ◌<◌, ◌≤◌, List, [], ◌∷◌, ◌++◌, length, map, IsTrue}
 use Rattle.share_server.specs.CdEdges.Ports.{Port, Telling}
 use Rattle.serve_command.specs.declared.served.Served.{Served}
-use Rattle.serve_command.specs.Connection.{Responds, EndsBy, EndsWithCause}
+use Rattle.serve_command.specs.Connection.{Responds, EndsConnection, EndsWithCause}
 
 -- a connection: how it ended, the contents that were answered, and their replies
 pub record Connection : Type 0 where
@@ -27,7 +27,7 @@ pub data Runs {S : Type 0} (step : S → List ℕ → List ℕ → S → Type 0)
 pub record HasConnectionBytes (old now : Port) (connection : Connection) : Type 0 where
   pub came : List ℕ
   pub came_is : old.to_come ≡ came ++ now.to_come
-  pub ends : EndsBy connection.ended came connection.requests connection.replies now.sent now.to_come
+  pub ends : EndsConnection connection.ended came connection.requests connection.replies now.sent now.to_come
 
 -- The connections have the ports from this number on.
 abbrev pub HaveBytes : Telling → Telling → ℕ → List Connection → Type 0

@@ -164,7 +164,8 @@ IsLastLine address all front line =
     × (line ≡ connection_text (length all) last))
 
 -- As many connections as were asked for were served, and all lines are written.
-pub record IsDone (status : ℕ) (address : List ℕ) (count : ℕ) (out : ServeOutput) (all : List Served) (after now : ℕ)
+pub record IsServingDone (status : ℕ) (address : List ℕ) (count : ℕ) (out : ServeOutput) (all : List Served)
+    (after now : ℕ)
     : Type 0 where
   pub status_is : status ≡ 0
   pub many : length all ≡ count
@@ -172,7 +173,8 @@ pub record IsDone (status : ℕ) (address : List ℕ) (count : ℕ) (out : Serve
   pub ports : now ≡ after
 
 -- The line that was due wasn't written whole, and nothing was done behind it.
-pub record IsStopped (status : ℕ) (address : List ℕ) (count : ℕ) (out : ServeOutput) (all : List Served) (after now : ℕ)
+pub record IsServingStopped (status : ℕ) (address : List ℕ) (count : ℕ) (out : ServeOutput) (all : List Served)
+    (after now : ℕ)
     : Type 0 where
   pub few : length all ≤ count
   pub front : List ℕ
@@ -193,9 +195,10 @@ pub record IsConnectionRefused (status : ℕ) (address : List ℕ) (count : ℕ)
 
 -- How the serving ended behind these connections, the last of which left this count of the ports' faults: by what was
 -- written, and by the count now.
-abbrev pub Ends : ℕ → List ℕ → ℕ → ServeOutput → List Served → ℕ → ℕ → Type 0
-Ends status address count out all after now = IsDone status address count out all after now
-    ⊎ (IsStopped status address count out all after now ⊎ IsConnectionRefused status address count out all after now)
+abbrev pub HasServingEnded : ℕ → List ℕ → ℕ → ServeOutput → List Served → ℕ → ℕ → Type 0
+HasServingEnded status address count out all after now = IsServingDone status address count out all after now
+    ⊎ (IsServingStopped status address count out all after now
+    ⊎ IsConnectionRefused status address count out all after now)
 
 -- What the opening left, of an open server: no count rose. Over a told cloud its memory is what the bytes of the areas
 -- came to, record by record; its journal was read to its end; they are spared; and each image since stands for one of the lists that the images stood
@@ -242,7 +245,7 @@ pub record IsOpenedToServe (rooms : UserRooms) (status : ℕ) (call : ServeCall)
   pub served : IsTrue (old_cloud call).told → (list : List Command)
       → StandsFor (reads (old_cloud call).now) (own_header rooms call) list
       → IsWithin call.shape rooms list → HasServed rooms call opened.cloud all after list
-  pub ends : Ends status call.address call.count call.out all after call.ports_after
+  pub ends : HasServingEnded status call.address call.count call.out all after call.ports_after
   pub told : call.tells_after.told ≡ call.tells_before.told
 
 abbrev pub IsUnopenedOrServed : UserRooms → ℕ → ServeCall → Type 0
@@ -252,8 +255,8 @@ IsUnopenedOrServed rooms status call = IsUnopenedToServe rooms status call ⊎ I
 
 -- The rooms that a journal of these bytes has: those of its current half's start, and the usual ones where no half is
 -- begun.
-abbrev pub HasRooms : List ℕ → UserRooms → Type 0
-HasRooms journal rooms = (IsUnbegun journal × (rooms ≡ usual_rooms))
+abbrev pub HasJournalRooms : List ℕ → UserRooms → Type 0
+HasJournalRooms journal rooms = (IsUnbegun journal × (rooms ≡ usual_rooms))
     ⊎ ((half : ℕ) × (start : Start) × IsCurrent journal half start × (rooms ≡ start.header.rooms))
 
 -- Why a cloud's rooms aren't found: a read failed, or the starts of its journal's halves are damaged.
@@ -277,7 +280,7 @@ pub record IsUnfound (status : ℕ) (call : ServeCall) : Type 0 where
 pub record IsInRooms (status : ℕ) (call : ServeCall) : Type 0 where
   pub rooms : UserRooms
   pub allowed : AreRooms rooms
-  pub found : IsTrue (old_cloud call).told → HasRooms ((old_cloud call).now Journal).read rooms
+  pub found : IsTrue (old_cloud call).told → HasJournalRooms ((old_cloud call).now Journal).read rooms
   pub served : IsUnopenedOrServed rooms status call
 
 -- The whole promise.

@@ -20,7 +20,7 @@ use Rattle.share_server.specs.CloudStore.store.CloudStore.{CloudStore}
 use Rattle.share_server.specs.CloudStore.Store.{IsOpen, ServesSome}
 use Rattle.share_server.specs.ServerCommands.Leaving.{IsFound, LeavesAll}
 use Rattle.share_server.specs.Serving.{IsServing, ExecutesAs, number_of, server_serves}
-use Rattle.share_server.specs.Serving.{Answered, ChangesBehind, EntersBy, GrowsOn, OpensFirst, IsUnopenedReply, RottenLeaves}
+use Rattle.share_server.specs.Serving.{IsAnsweredContent, ChangesBehind, EntersBy, GrowsOn, OpensFirst, IsUnopenedReply, RottenLeaves}
 use Rattle.share_server.specs.declared.server.Server.{Server}
 use Rattle.share_server.specs.ServerRequests.Asking.{IsForMemory}
 use Rattle.share_server.specs.ServerRequests.Hashed.{IsHashed}
@@ -74,7 +74,7 @@ pub record RepliesTo (before after : HeldStore) (request : Request) (reply : Lis
   pub told : after.cloud.told ≡ before.cloud.told
   -- It is a reply that some server gives, and never that memory ran out. Fault comes only where the cloud's count rose and
   -- that in all, and closes the server; with any other reply no count rose.
-  pub answered : Answered before.store.header.shape request after.store before.cloud after.cloud
+  pub answered : IsAnsweredContent before.store.header.shape request after.store before.cloud after.cloud
       before.total after.total reply
   -- Behind it the server is open, but for Fault and the error of an opening. An open server never answers Damaged, and behind
   -- Damaged it is closed.

@@ -15,7 +15,7 @@ use Rattle.share_server.specs.Serving.{IsServing}
 use Rattle.share_server.specs.declared.server.Server.{Server}
 use Rattle.serve_command.specs.Runs.{Connection, HasConnectionBytes, ServeRun}
 use Rattle.share_server.specs.JournalStart.rooms.UserRooms.{UserRooms}
-use Rattle.serve_command.specs.Served.{ServeCall, IsUnmade, IsUnopenedOrServed, ServeOutput, Ends, IsTextWhole, IsSinkCut, IsLeftOut, Reports}
+use Rattle.serve_command.specs.Served.{ServeCall, IsUnmade, IsUnopenedOrServed, ServeOutput, HasServingEnded, IsTextWhole, IsSinkCut, IsLeftOut, Reports}
 use Rattle.serve_command.specs.declared.stop.ServingStop.{ServingStop}
 use Rattle.serve_command.specs.declared.stop.ServingStop.TheVariants as stops
 
@@ -72,15 +72,16 @@ pub record HasServedConnections (header : Header) (old new : ServingMoment) (bef
       (standing p (old.clouds header.cloud.0)) before all (standing q (new.clouds header.cloud.0)) after
 
 -- What a search for rooms does to the counts: they rise where a read failed, and else they stay.
-abbrev pub Counts : {T : Type 0} → Cloud → Cloud → ℕ → ℕ → Result T OpenErr → Type 0
-Counts old new before now result = OnFault result (HasFailed old new before now) (KeepsCounts old new before now)
+abbrev pub CountsRoomSearch : {T : Type 0} → Cloud → Cloud → ℕ → ℕ → Result T OpenErr → Type 0
+CountsRoomSearch old new before now result = OnFault result (HasFailed old new before now)
+    (KeepsCounts old new before now)
 
 -- A line was written; or the sink failed in it; or memory ran out for it.
-abbrev pub Writes : List ℕ → ServeOutput → Result (Unit {0}) ServingStop → Type 0
-Writes line out (Ok value) = IsTextWhole out line
-Writes line out (Err stops.SinkFault) = IsSinkCut 4 out [] line
-Writes line out (Err stops.NoMemory) = IsLeftOut 6 out []
-Writes line out (Err stops.PortsFault) = ⊥
+abbrev pub WritesLine : List ℕ → ServeOutput → Result (Unit {0}) ServingStop → Type 0
+WritesLine line out (Ok value) = IsTextWhole out line
+WritesLine line out (Err stops.SinkFault) = IsSinkCut 4 out [] line
+WritesLine line out (Err stops.NoMemory) = IsLeftOut 6 out []
+WritesLine line out (Err stops.PortsFault) = ⊥
 
 -- Of a cloud that isn't opened for the error the last line was written, and the status is the error's; or the line
 -- wasn't.
@@ -108,4 +109,4 @@ pub record ServesAll (status : ℕ) (header : Header) (old new : ServingMoment) 
   pub all : List Served
   pub after : ℕ
   pub went : HasServedConnections header old new before all after
-  pub ends : Ends status address count out all after now
+  pub ends : HasServingEnded status address count out all after now

@@ -4,7 +4,7 @@ ghost use Rattle.std.specs.Prelude.{◌≡◌, IsTrue};
 ghost use Rattle.share_server.specs.CdEdges.Shelf.{IsCall};
 ghost use Rattle.share_server.specs.UserDedup.Exec.{Peer};
 ghost use Rattle.share_server.specs.Serving.{IsServing, number_of};
-ghost use Rattle.serve_command.specs.Connection.{EndsWithCause, Serves};
+ghost use Rattle.serve_command.specs.Connection.{EndsWithCause, ServesConnection};
 ghost use Rattle.serve_command.specs.Serving.{RepliesOne, ServesOne, held_of, place_of, standing};
 
 use crate::responder::CloudResponder;
@@ -26,10 +26,11 @@ fn serve_responder<V: Shelf, P: Ports>(
         → IsServing responder.old.server.now (V.cloud_at responder.old.shelf.now (number_of responder.old.server.now)) p
         → (q : Peer)
         × IsServing responder.new.server.now (V.cloud_at responder.new.shelf.now (number_of responder.old.server.now)) q
-        × Serves (ServesOne responder.old.server.now.store.header) (P.tells ports.old) (P.tells ports.new) port
+        × ServesConnection (ServesOne responder.old.server.now.store.header) (P.tells ports.old)
+        (P.tells ports.new) port
         (standing p (V.cloud_at responder.old.shelf.now (number_of responder.old.server.now)))
         (standing q (V.cloud_at responder.new.shelf.now (number_of responder.old.server.now))) result }
-    ensures replied { Serves RepliesOne (P.tells ports.old) (P.tells ports.new) port
+    ensures replied { ServesConnection RepliesOne (P.tells ports.old) (P.tells ports.new) port
         (held_of responder.old.server.now.store
         (V.cloud_at responder.old.shelf.now (number_of responder.old.server.now)) (V.faults responder.old.shelf.now))
         (held_of responder.new.server.now.store
@@ -73,10 +74,10 @@ pub fn serve_connection<V: Shelf, P: Ports>(
     ensures served { IsTrue (V.cloud_at shelf.old (number_of server.old)).told → (p : Peer)
         → IsServing server.old (V.cloud_at shelf.old (number_of server.old)) p
         → (q : Peer) × IsServing server.new (V.cloud_at shelf.new (number_of server.old)) q
-        × Serves (ServesOne server.old.store.header) (P.tells ports.old) (P.tells ports.new) port
+        × ServesConnection (ServesOne server.old.store.header) (P.tells ports.old) (P.tells ports.new) port
         (standing p (V.cloud_at shelf.old (number_of server.old)))
         (standing q (V.cloud_at shelf.new (number_of server.old))) result }
-    ensures replied { Serves RepliesOne (P.tells ports.old) (P.tells ports.new) port
+    ensures replied { ServesConnection RepliesOne (P.tells ports.old) (P.tells ports.new) port
         (held_of server.old.store (V.cloud_at shelf.old (number_of server.old)) (V.faults shelf.old))
         (held_of server.new.store (V.cloud_at shelf.new (number_of server.old)) (V.faults shelf.new)) result }
     ensures same { server.new.store.header ≡ server.old.store.header }

@@ -7,7 +7,7 @@ ghost use Rattle.share_server.specs.CdEdges.Shelf.{IsCall, HasFailed, KeepsCount
 ghost use Rattle.share_server.specs.CommitJournal.Openings.{OnFault};
 ghost use Rattle.share_server.specs.JournalStart.Ranges.{AreRooms};
 ghost use Rattle.share_server.specs.Refusals.{MayCome};
-ghost use Rattle.serve_command.specs.Served.{HasRooms, IsUnreadable};
+ghost use Rattle.serve_command.specs.Served.{HasJournalRooms, IsUnreadable};
 
 use ports_link::CloudNo;
 use share_server::{FindErr, OpenErr, Shelf, UserRooms, find};
@@ -23,7 +23,7 @@ pub fn rooms_of<V: Shelf>(
     requires { length window.old ≡ window_len }
     ensures allowed { IfOk result AreRooms }
     ensures found { IsTrue (V.cloud_at shelf.old cloud.0).told
-        → IfOk result (HasRooms ((V.cloud_at shelf.old cloud.0).now Area.Journal).read) }
+        → IfOk result (HasJournalRooms ((V.cloud_at shelf.old cloud.0).now Area.Journal).read) }
     ensures unreadable { IfErr result (IsUnreadable (V.cloud_at shelf.old cloud.0)) }
     ensures may_come { IfErr result MayCome }
     ensures stays { Stays (V.cloud_at shelf.old cloud.0) (V.cloud_at shelf.new cloud.0) }

@@ -6,7 +6,7 @@ ghost use Rattle.ports_link.specs.Frames.Frames.{IsContent, IsFrame, IsRefused};
 ghost use Rattle.ports_link.specs.Frames.Found.{found_of};
 ghost use Rattle.share_server.specs.CdEdges.Ports.{Telling};
 ghost use Rattle.serve_command.specs.declared.served.ConnectionStop.TheVariants.{BadLength};
-ghost use Rattle.serve_command.specs.Connection.{EndsWithCause, Serves};
+ghost use Rattle.serve_command.specs.Connection.{EndsWithCause, ServesConnection};
 ghost use Rattle.serve_command.specs.Framing.{IsAlongFrames, Broken, Stops, StopsWithCause, ended_with, stopped_by};
 
 use crate::frame_responder::Responder;
@@ -232,7 +232,8 @@ fn serve_by<P: Ports, R: Responder>(
     piece: &mut [u8],
 ) -> Served
     requires piece { 0 < length piece.old }
-    ensures serves { Serves R.step (P.tells ports.old) (P.tells ports.new) port responder.old responder.new result }
+    ensures serves { ServesConnection R.step (P.tells ports.old)
+        (P.tells ports.new) port responder.old responder.new result }
     ensures loans { R.loans responder.new ≡ R.loans responder.old }
     ensures told { (P.tells ports.new).told ≡ (P.tells ports.old).told }
     ensures cause { EndsWithCause result (P.faults ports.old) (P.faults ports.new) }
@@ -264,7 +265,8 @@ pub fn serve_frames<P: Ports, R: Responder>(
     framer: &mut Framer,
     reply: &mut ReplyBuf,
 ) -> Served
-    ensures serves { Serves R.step (P.tells ports.old) (P.tells ports.new) port responder.old responder.new result }
+    ensures serves { ServesConnection R.step (P.tells ports.old)
+        (P.tells ports.new) port responder.old responder.new result }
     ensures loans { R.loans responder.new ≡ R.loans responder.old }
     ensures told { (P.tells ports.new).told ≡ (P.tells ports.old).told }
     ensures cause { EndsWithCause result (P.faults ports.old) (P.faults ports.new) }

@@ -4,7 +4,7 @@ ghost use Rattle.std.specs.Prelude.{◌≡◌, [], ◌∷◌, IfOk, codes, decim
 ghost use Rattle.ports_link.specs.Transcript.Transcript.{ended};
 ghost use Rattle.serve_command.specs.Lines.{connection_text, end_word, ready_text};
 ghost use Rattle.serve_command.specs.Served.{output_of};
-ghost use Rattle.serve_command.specs.Steps.{Writes};
+ghost use Rattle.serve_command.specs.Steps.{WritesLine};
 
 use crate::Served;
 use crate::stop::ServingStop;
@@ -48,7 +48,7 @@ fn connection_line(alloc: Global, number: u32, served: Served) -> Result<String,
 
 /// Writes a line. Where the sink fails, a front of it may have been written.
 pub fn write_line<K: Sink>(sink: &mut K, line: &[u8]) -> Result<(), ServingStop>
-    ensures { Writes line.now
+    ensures { WritesLine line.now
         (output_of (K.written sink.old) (K.written sink.new) (K.faults sink.old) (K.faults sink.new)) result }
 {
     match write_all(sink, line) {
@@ -59,7 +59,7 @@ pub fn write_line<K: Sink>(sink: &mut K, line: &[u8]) -> Result<(), ServingStop>
 
 /// Writes the line behind which connections to the address are taken.
 pub fn write_ready<K: Sink>(alloc: Global, address: &str, sink: &mut K) -> Result<(), ServingStop>
-    ensures { Writes (ready_text address.now)
+    ensures { WritesLine (ready_text address.now)
         (output_of (K.written sink.old) (K.written sink.new) (K.faults sink.old) (K.faults sink.new)) result }
 {
     match ready_line(alloc, address) {
@@ -75,7 +75,7 @@ pub fn write_connection<K: Sink>(
     served: Served,
     sink: &mut K,
 ) -> Result<(), ServingStop>
-    ensures { Writes (connection_text number served)
+    ensures { WritesLine (connection_text number served)
         (output_of (K.written sink.old) (K.written sink.new) (K.faults sink.old) (K.faults sink.new)) result }
 {
     match connection_line(alloc, number, served) {

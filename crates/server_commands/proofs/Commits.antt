@@ -30,7 +30,7 @@ use Rattle.server_reads.specs.UserDedup.Requests.{fps_of, fps_read}
 use Rattle.server_reads.specs.UserDedup.Dedup.{commit_outcome, answer_over}
 use Rattle.server_reads.specs.Allowed.{Replies}
 use Rattle.server_commands.specs.Leaving.{EntersNothing}
-use Rattle.server_commands.specs.Serving.{IsGiven, Gives}
+use Rattle.server_commands.specs.Serving.{IsGiven, GivesReply}
 use Rattle.server_commands.specs.Steps.{IsOfNew, by_recipe}
 use Rattle.server_commands.proofs.Contents.{one_kind}
 
@@ -59,7 +59,7 @@ module _ (shape : Shape) (number : ℕ) (list : List Command) (user : UserId) (t
 
 -- ---- replies
 
-given : (shape : Shape) (request : Request) (reply : Reply) (content : List ℕ) → IsReply content reply → IsGiven shape request reply → Gives shape request content
+given : (shape : Shape) (request : Request) (reply : Reply) (content : List ℕ) → IsReply content reply → IsGiven shape request reply → GivesReply shape request content
 given shape request reply content is g = record { reply = reply; is = is; given = g }
 
 pub committed_given : (shape : Shape) (user : UserId) (tag : Tag) (version : Version) (recipe : List ℕ) → IsGiven shape (requests.Commit user tag version recipe) replies.Committed
@@ -87,7 +87,7 @@ rotten_of_commit shape user tag version recipe named found = record {
 }
 
 pub lacking_given : (shape : Shape) (user : UserId) (tag : Tag) (version : Version) (r : Recipe) (content : List ℕ) (place : ℕ) → IsRecipe shape (spelling r) r → place < length r.items
-    → IsReply content (replies.Lacking place) → Gives shape (requests.Commit user tag version (spelling r)) content
+    → IsReply content (replies.Lacking place) → GivesReply shape (requests.Commit user tag version (spelling r)) content
 lacking_given shape user tag version r content place is within reply = record {
   reply = replies.Lacking place;
   is = reply;
@@ -117,10 +117,10 @@ compared_leaves content there recipe Left is (replies.Full room used need limit)
 compared_leaves content there recipe Left is answer leaves other = elim leaves [ ]
 
 pub compared_gives : (shape : Shape) (user : UserId) (tag : Tag) (version : Version) (there recipe content : List ℕ) → IsReply content (by_recipe there recipe)
-    → Gives shape (requests.Commit user tag version recipe) content
+    → GivesReply shape (requests.Commit user tag version recipe) content
 compared_gives shape user tag version there recipe content is = by (bytes_eq there recipe) is
   where
-    by : (b : Bool) → IsReply content (cond b replies.Committed replies.Exists) → Gives shape (requests.Commit user tag version recipe) content
+    by : (b : Bool) → IsReply content (cond b replies.Committed replies.Exists) → GivesReply shape (requests.Commit user tag version recipe) content
     by true w = given shape _ replies.Committed content w (committed_given shape user tag version recipe)
     by false w = given shape _ replies.Exists content w (exists_given shape user tag version recipe)
 
@@ -160,7 +160,7 @@ module _ {T E : Type 0} (content : List ℕ) where
   new_leaves (Ok v) Left s full answer leaves = elim leaves [ ]
 
   pub new_gives : (r : Result T E) (shape : Shape) (user : UserId) (tag : Tag) (version : Version) (recipe : List ℕ) → OnOk r (Replies content IsOfNew)
-      → OnOk r (Gives shape (requests.Commit user tag version recipe) content)
+      → OnOk r (GivesReply shape (requests.Commit user tag version recipe) content)
   new_gives (Err e) shape user tag version recipe s = tt
   new_gives (Ok v) shape user tag version recipe s = record { reply = s.reply; is = s.is; given = new_given shape user tag version recipe s.reply s.said }
 

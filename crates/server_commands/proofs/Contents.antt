@@ -13,7 +13,7 @@ use Rattle.server_reads.specs.Messages.Replies.{IsReply}
 use Rattle.server_reads.specs.Allowed.{Replies}
 use Rattle.server_reads.proofs.Rotting.{fronts, rests}
 use Rattle.server_commands.specs.Leaving.{FindsNone}
-use Rattle.server_commands.specs.Serving.{IsGiven, Gives}
+use Rattle.server_commands.specs.Serving.{IsGiven, GivesReply}
 use Rattle.server_commands.specs.Steps.{IsOfDelete}
 
 -- the first byte of a content names its kind
@@ -62,11 +62,11 @@ module _ {T E : Type 0} (content : List ℕ) where
   delete_adds (Ok v) Left s replies.Missing none = λ other. absurd (delete_not content s.reply 136 _ (λ e. omega (arith, e)) (λ e. omega (arith, e)) s.is s.said other.spelled)
   delete_adds (Ok v) Left s answer none = elim none [ ]
 
-  pub delete_gives : (r : Result T E) (shape : Shape) (user : UserId) (tag : Tag) (version : Version) → OnOk r (Replies content IsOfDelete) → OnOk r (Gives shape (requests.Delete user tag version) content)
+  pub delete_gives : (r : Result T E) (shape : Shape) (user : UserId) (tag : Tag) (version : Version) → OnOk r (Replies content IsOfDelete) → OnOk r (GivesReply shape (requests.Delete user tag version) content)
   delete_gives (Err e) shape user tag version s = tt
   delete_gives (Ok v) shape user tag version s = record { reply = s.reply; is = s.is; given = delete_given shape user tag version s.reply s.said }
 
-pub missing_given : (shape : Shape) (user : UserId) (tag : Tag) (version : Version) (content : List ℕ) → IsReply content replies.Missing → Gives shape (requests.Delete user tag version) content
+pub missing_given : (shape : Shape) (user : UserId) (tag : Tag) (version : Version) (content : List ℕ) → IsReply content replies.Missing → GivesReply shape (requests.Delete user tag version) content
 missing_given shape user tag version content is = record {
   reply = replies.Missing;
   is = is;

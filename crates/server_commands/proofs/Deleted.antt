@@ -40,8 +40,8 @@ use Rattle.server_reads.specs.Reading.{HasReadCloud, IfRotten}
 use Rattle.server_reads.proofs.Calling.{rotten_at, Answer}
 use Rattle.server_reads.proofs.Held.{none_there}
 use Rattle.server_commands.specs.Executing.{IsStoreReady, Executes}
-use Rattle.server_commands.specs.Growing.{IsAdded}
-use Rattle.server_commands.specs.Steps.{Calls, IsLeftSettled, Does, GoesBehind, HasOnlyReadRecipes, ReadsFile, IsOfDelete}
+use Rattle.server_commands.specs.Growing.{HasCommandAdded}
+use Rattle.server_commands.specs.Steps.{Calls, IsLeftSettled, DoesByList, GoesBehind, HasOnlyReadRecipes, ReadsFile, IsOfDelete}
 use Rattle.server_commands.proofs.Grown.{IsFilled, goes_on, is_added, still_ended}
 use Rattle.server_commands.proofs.Calls.{ok_result, failed_result, ok_read, failed_read, calls_then, calls_failed, calls_read, no_calls, stays_still}
 use Rattle.server_commands.proofs.Contents.{one_kind, rotten_said, rotten_leaves, delete_never_rotten, delete_adds, delete_gives, missing_given, rotten_of_delete}
@@ -65,7 +65,7 @@ module _ (user : UserId) (tag : Tag) (version : Version) where
     pub leaves : IsLeftSettled x new r
     pub does : (list : List Command) (chain : Chain) (file : FileEntry) → Serves list chain x (b x.header.cloud.0)
         → entry_at (user_view x.header.shape list user).files (tag, version) ≡ Some file → file.recipe ≡ recipe
-        → Does x new (b x.header.cloud.0) (c x.header.cloud.0) list (requests.Delete user tag version) content r
+        → DoesByList x new (b x.header.cloud.0) (c x.header.cloud.0) list (requests.Delete user tag version) content r
     pub behind : KeepsOrGrows x (body_bytes delete_record) (b x.header.cloud.0) (c x.header.cloud.0)
     pub goes : GoesBehind x new (body_bytes delete_record) (b x.header.cloud.0) (c x.header.cloud.0) (IsReply content replies.Deleted) r
     pub some : OnOk r (Replies content IsOfDelete)
@@ -76,7 +76,7 @@ module _ (user : UserId) (tag : Tag) (version : Version) where
   ByLists old cloud bytes read = (list : List Command) (chain : Chain) → Serves list chain old cloud → ReadsFile (user_view old.header.shape list user).files (tag, version) bytes read
 
   delete_added : (w : Where) (old : CloudStore) (kept : List Kept) (new : CloudStore) (a b c : Cloud) → IsStoreReady old → Stays a b → IsGrownFrom w (keeping old kept) new (body_bytes delete_record) b c
-      → IsAdded w old new a c request
+      → HasCommandAdded w old new a c request
   delete_added w old kept new a b c ready stays g =
       is_added w old new a c request delete_record (keeping old kept).disk.shares (keeping old kept).disk.recipes refl ready.meet refl refl ready.none.shares
       (record { fit = ready.none.recipes.fit; bytes = ready.none.recipes.bytes })

@@ -27,10 +27,10 @@ use Rattle.cloud_store.specs.declared.store.CloudStore.{CloudStore}
 use Rattle.cloud_store.specs.Store.{ServesSome}
 use Rattle.server_reads.specs.Found.{IsOther, IsFoundRecipe, IsFoundShare}
 use Rattle.server_commands.specs.Executing.{Executes, ForServed, GrowsBehind, LeavesBoth}
-use Rattle.server_commands.specs.Growing.{Adds, GoesOn}
+use Rattle.server_commands.specs.Growing.{SaysAdded, JournalGoesOn}
 use Rattle.server_commands.specs.Leaving.{LeavesAll, IsSteady, IsFound}
-use Rattle.server_commands.specs.Serving.{serves, IsServedByList, IsServedOrNot, Gives}
-use Rattle.server_commands.specs.Steps.{Calls, IsLeftSettled, Does}
+use Rattle.server_commands.specs.Serving.{serves, IsServedByList, IsServedOrNot, GivesReply}
+use Rattle.server_commands.specs.Steps.{Calls, IsLeftSettled, DoesByList}
 use Rattle.server_commands.proofs.Grown.{goes_still}
 
 -- ---- outcomes
@@ -69,7 +69,7 @@ served_still old new after list request content reply is content_is some = recor
 -- a request that adds nothing does what its list says
 pub stays_does : {T E : Type 0} (old new : CloudStore) (before after : Cloud) (list : List Command) (request : Request) (content : List ℕ) (reply : Reply) (r : Result T E)
     → serves old list request ≡ only reply → OnOk r (content ≡ reply_bytes reply) → ServesSome list old before → LeavesBoth old new before after → OnOk r (ServesSome list new after)
-    → Does old new before after list request content r
+    → DoesByList old new before after list request content r
 stays_does old new before after list request content reply r is content_is some both next = record {
   any_moment = stayed before after (StandsForSome old.header (IsServedOrNot old list request)) both.cloud (λ image left. (list, inl refl, images_served old before list some image left));
   served = by r content_is next;
@@ -91,7 +91,7 @@ module _ (old new : CloudStore) (before after : Cloud) (list : List Command) (re
   or_not image (inr with) = (list ++ command ∷ [], inr (command, adds, refl), with)
 
   pub adds_does : {T E : Type 0} (content : List ℕ) (r : Result T E) → OnOk r (content ≡ reply_bytes reply) → KeepsOrAdds old.header list command before after
-      → OnOk r (ServesSome (list ++ command ∷ []) new after) → Does old new before after list request content r
+      → OnOk r (ServesSome (list ++ command ∷ []) new after) → DoesByList old new before after list request content r
   adds_does content r content_is images some = record {
     any_moment = weaker before after (StandsForEither old.header list command) (StandsForSome old.header (IsServedOrNot old list request)) images or_not;
     served = by r content_is some;
@@ -159,8 +159,8 @@ module _ {T E : Type 0} (r : Result T E) where
         → ForServed old (before old.header.cloud.0) (λ list. OnOk r (IsServedByList old new (after old.header.cloud.0) list request content))
         → ((named found : Fp) → OnOk r (IsReply content (replies.Rotten named found) → IsFound (before old.header.cloud.0) (memory_of old.memory) request named found))
         → ((answer : Reply) → LeavesAll request answer → OnOk r (IsReply content answer → Same × (new ≡ old)))
-        → OnOk r (Gives old.header.shape request content)
-        → OnOk r (new.disk.journal ≡ old.disk.journal) → ((answer : Reply) → Adds (memory_of old.memory) request answer → OnOk r (IsReply content answer → ⊥))
+        → OnOk r (GivesReply old.header.shape request content)
+        → OnOk r (new.disk.journal ≡ old.disk.journal) → ((answer : Reply) → SaysAdded (memory_of old.memory) request answer → OnOk r (IsReply content answer → ⊥))
         → Executes Same old new before after f0 f1 request content r
     stays_executes leaves both calls served rotten untouched kind journal asks =
         let c0 = before old.header.cloud.0 in let c1 = after old.header.cloud.0 in
@@ -189,14 +189,14 @@ module _ {T E : Type 0} (r : Result T E) where
         }
 
     -- a request that adds its command where the store serves a list
-    pub adds_executes : IsLeftSettled old new r → ForServed old (before old.header.cloud.0) (λ list. Does old new (before old.header.cloud.0) (after old.header.cloud.0) list request content r)
+    pub adds_executes : IsLeftSettled old new r → ForServed old (before old.header.cloud.0) (λ list. DoesByList old new (before old.header.cloud.0) (after old.header.cloud.0) list request content r)
         → GrowsBehind old (before old.header.cloud.0) (after old.header.cloud.0) request
         → (IsTrue (before old.header.cloud.0).told → (w : Where) → IsJournalEnded old.disk.journal ((before old.header.cloud.0).now Journal) w
-        → OnOk r (GoesOn w old new (before old.header.cloud.0) (after old.header.cloud.0) request content))
+        → OnOk r (JournalGoesOn w old new (before old.header.cloud.0) (after old.header.cloud.0) request content))
         → Calls before after old.header.cloud.0 f0 f1 r → (IsSteady (memory_of old.memory) request → ⊥)
         → ((named found : Fp) → OnOk r (IsReply content (replies.Rotten named found) → ⊥))
         → ((answer : Reply) → LeavesAll request answer → OnOk r (IsReply content answer → Same × (new ≡ old)))
-        → OnOk r (Gives old.header.shape request content) → Executes Same old new before after f0 f1 request content r
+        → OnOk r (GivesReply old.header.shape request content) → Executes Same old new before after f0 f1 request content r
     adds_executes leaves does behind grown calls no_entry never untouched kind =
         let c0 = before old.header.cloud.0 in let c1 = after old.header.cloud.0 in
         record {

@@ -47,9 +47,9 @@ use Rattle.server_reads.specs.Allowed.{Replies}
 use Rattle.server_reads.specs.Found.{HasNone}
 use Rattle.server_reads.proofs.Held.{none_there}
 use Rattle.server_commands.specs.Executing.{IsStoreReady, Executes}
-use Rattle.server_commands.specs.Growing.{IsAdded, commit_record}
+use Rattle.server_commands.specs.Growing.{HasCommandAdded, commit_record}
 use Rattle.server_commands.specs.Serving.{IsServedByList}
-use Rattle.server_commands.specs.Steps.{Calls, IsLeftSettled, Does, GoesBehind, HasRecipeStaged, IsOfNew, IsAnsweredNew, staging}
+use Rattle.server_commands.specs.Steps.{Calls, IsLeftSettled, DoesByList, GoesBehind, HasRecipeStaged, IsOfNew, IsAnsweredNew, staging}
 use Rattle.server_commands.proofs.Commits.{answers_commit, few_bytes, fps_spelled, new_never_rotten, new_leaves, new_gives}
 use Rattle.server_commands.proofs.Doing.{adds_executes}
 use Rattle.server_commands.proofs.Grown.{IsFilled, goes_on, is_added}
@@ -106,7 +106,7 @@ module _ (user : UserId) (tag : Tag) (version : Version) where
   pub record Enters {T E : Type 0} (Same : Type 0) (x new : CloudStore) (b c : ℕ → Cloud) (f1 f2 : ℕ) (recipe content : List ℕ) (r : Result T E) : Type 0 where
     pub leaves : IsLeftSettled x new r
     pub does : (list : List Command) (chain : Chain) → Serves list chain x (b x.header.cloud.0) → IsAnsweredNew x.header list user tag version recipe
-        → Does x new (b x.header.cloud.0) (c x.header.cloud.0) list (requests.Commit user tag version recipe) content r
+        → DoesByList x new (b x.header.cloud.0) (c x.header.cloud.0) list (requests.Commit user tag version recipe) content r
     pub behind : KeepsOrGrows x (body_bytes (commit_record x user tag version recipe)) (b x.header.cloud.0) (c x.header.cloud.0)
     pub goes : GoesBehind x new (body_bytes (commit_record x user tag version recipe)) (b x.header.cloud.0) (c x.header.cloud.0) (IsReply content replies.Committed) r
     pub some : OnOk r (Replies content IsOfNew)
@@ -125,7 +125,7 @@ module _ (user : UserId) (tag : Tag) (version : Version) where
   served_staged old new c recipe list request content (Ok v) s = record { reply = s.reply; next = s.next }
 
   does_staged : {T E : Type 0} (old new : CloudStore) (a c : Cloud) (recipe : List ℕ) (list : List Command) (request : Request) (content : List ℕ) (r : Result T E)
-      → Does (staging old recipe) new a c list request content r → Does old new a c list request content r
+      → DoesByList (staging old recipe) new a c list request content r → DoesByList old new a c list request content r
   does_staged old new a c recipe list request content r d = record {
     any_moment = d.any_moment;
     served = served_staged old new c recipe list request content r d.served;
@@ -137,7 +137,7 @@ module _ (user : UserId) (tag : Tag) (version : Version) where
   full_then (Ok v) P Same old new recipe none f = λ p. let u = f p in (u.0, u.1 ∙ unstaged_is old recipe none)
 
   commit_added : (w : Where) (old new : CloudStore) (a c : Cloud) (shape : Shape) (r : Recipe) → IsRecipe shape (spelling r) r → IsStoreReady old
-      → IsGrownFrom w (staging old (spelling r)) new (body_bytes (commit_record old user tag version (spelling r))) a c → IsAdded w old new a c (requests.Commit user tag version (spelling r))
+      → IsGrownFrom w (staging old (spelling r)) new (body_bytes (commit_record old user tag version (spelling r))) a c → HasCommandAdded w old new a c (requests.Commit user tag version (spelling r))
   commit_added w old new a c shape r is ready g =
       is_added w old new a c (requests.Commit user tag version (spelling r)) (commit_record old user tag version (spelling r)) old.disk.shares (staging old (spelling r)).disk.recipes
       refl ready.meet refl refl ready.none.shares (recipe_has old (spelling r) ready (few_bytes shape r (spelling r) is refl)) (All-nil IsFilled)

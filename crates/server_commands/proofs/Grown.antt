@@ -21,7 +21,7 @@ use Rattle.cloud_store.specs.RecordBody.Spelling.{Body, body_bytes}
 use Rattle.cloud_store.specs.declared.store.CloudStore.{CloudStore}
 use Rattle.cloud_store.specs.Store.{EndsMeet}
 use Rattle.cloud_store.specs.Adding.{IsGrownFrom, share_at, summed, unplaced}
-use Rattle.server_commands.specs.Growing.{Adds, StoresSome, record_of, new_to, recipe_of, shares_of, recipes_of, IsSynced, Gains, IsAdded, GoesOn}
+use Rattle.server_commands.specs.Growing.{SaysAdded, StoresSome, record_of, new_to, recipe_of, shares_of, recipes_of, IsSyncedForBlobs, Gains, HasCommandAdded, JournalGoesOn}
 use Rattle.server_commands.specs.Steps.{LeavesRead}
 
 -- ---- areas
@@ -34,7 +34,7 @@ not_empty gap s rest filled e = let none = ap length e in omega (arith, none, fi
 
 -- where something is staged all of the area is on the disk
 synced : (log : State) (blobs : List (List ℕ)) (before after : Store) → log.staged ≡ laid log.end blobs → All IsFilled blobs → after ≡ with_written before log.end log.staged
-    → IsSynced (placed log.end blobs) before after
+    → IsSyncedForBlobs (placed log.end blobs) before after
 synced log [] before after staged some is = is ∙ ap (with_written before log.end) staged
 synced log (s ∷ ss) before after staged some is = by_bytes log.staged refl
   where
@@ -74,17 +74,17 @@ read_full w old new body a c Acknowledged journal same never ended =
 
 -- a request that adds nothing
 pub goes_still : {T E : Type 0} (r : Result T E) (w : Where) (old new : CloudStore) (a c : Cloud) (request : Request) (content : List ℕ) → OnOk r (new.disk.journal ≡ old.disk.journal) → Stays a c
-    → ((answer : Reply) → Adds (memory_of old.memory) request answer → OnOk r (IsReply content answer → ⊥)) → journals.IsJournalEnded old.disk.journal (a.now Journal) w
-    → OnOk r (GoesOn w old new a c request content)
+    → ((answer : Reply) → SaysAdded (memory_of old.memory) request answer → OnOk r (IsReply content answer → ⊥)) → journals.IsJournalEnded old.disk.journal (a.now Journal) w
+    → OnOk r (JournalGoesOn w old new a c request content)
 goes_still (Err e) w old new a c request content journal stays never ended = tt
 goes_still (Ok v) w old new a c request content journal stays never ended =
     record { next = w; ended = still_ended w old new a c journal stays.now ended; added = λ answer adds is. absurd (never answer adds is) }
 
 -- one that adds its command
 pub goes_on : {T E : Type 0} (r : Result T E) (w : Where) (x old new : CloudStore) (a b c : Cloud) (request : Request) (content body : List ℕ) (Acknowledged : Type 0)
-    → ((answer : Reply) → Adds (memory_of old.memory) request answer → IsReply content answer → Acknowledged)
-    → (IsGrownFrom w x new body b c → IsAdded w old new a c request)
-    → OnOk r (LeavesRead w x new body b c Acknowledged) → OnOk r (GoesOn w old new a c request content)
+    → ((answer : Reply) → SaysAdded (memory_of old.memory) request answer → IsReply content answer → Acknowledged)
+    → (IsGrownFrom w x new body b c → HasCommandAdded w old new a c request)
+    → OnOk r (LeavesRead w x new body b c Acknowledged) → OnOk r (JournalGoesOn w old new a c request content)
 goes_on (Err e) w x old new a b c request content body Acknowledged ack add l = tt
 goes_on (Ok v) w x old new a b c request content body Acknowledged ack add l = record { next = l.next; ended = l.ended; added = λ answer adds is. add (l.grown (ack answer adds is)) }
 
@@ -95,7 +95,7 @@ pub is_added : (w : Where) (old new : CloudStore) (a c : Cloud) (request : Reque
     → All IsFilled (unplaced (memory_of old.memory).places (new_to (memory_of old.memory) request)) → All IsFilled (recipe_of request)
     → map (share_at (new_to (memory_of old.memory) request)) (shares_placed body) ≡ shares_of (memory_of old.memory) request
     → (journals.IsJournalEnded new.disk.journal (c.now Journal) (with_body w (body_bytes body)) ⊎ journals.IsJournalEnded new.disk.journal (c.now Journal) (with_body (summed old w) (body_bytes body)))
-    → IsFlushed shares (a.now Shares) (c.now Shares) → IsFlushed recipes (a.now Recipes) (c.now Recipes) → IsAdded w old new a c request
+    → IsFlushed shares (a.now Shares) (c.now Shares) → IsFlushed recipes (a.now Recipes) (c.now Recipes) → HasCommandAdded w old new a c request
 is_added w old new a c request body shares recipes is meet shares_end recipes_end in_shares in_recipes some_shares some_recipes places chain flushed also = record {
   body = body;
   is = is;

@@ -46,11 +46,11 @@ use Rattle.cloud_store.proofs.Keeping.{serves_on}
 use Rattle.server_reads.specs.Allowed.{Replies}
 use Rattle.server_commands.specs.Entering.{Stores, new_of, news_of, unowned}
 use Rattle.server_commands.specs.Executing.{IsStoreReady, Executes}
-use Rattle.server_commands.specs.Growing.{IsAdded, StoresSome}
+use Rattle.server_commands.specs.Growing.{HasCommandAdded, StoresSome}
 use Rattle.server_commands.specs.Leaving.{StoresNothing}
 use Rattle.server_commands.specs.Picked.{Picked, with_shares}
-use Rattle.server_commands.specs.Serving.{serves, IsServedByList, IsGiven, Gives}
-use Rattle.server_commands.specs.Steps.{Calls, IsLeftSettled, Does, GoesBehind, HasNewsStaged}
+use Rattle.server_commands.specs.Serving.{serves, IsServedByList, IsGiven, GivesReply}
+use Rattle.server_commands.specs.Steps.{Calls, IsLeftSettled, DoesByList, GoesBehind, HasNewsStaged}
 use Rattle.server_commands.proofs.Calls.{ok_result, no_calls, stays_still}
 use Rattle.server_commands.proofs.Contents.{one_kind}
 use Rattle.server_commands.proofs.Doing.{served_only, served_still, adding, stays_executes, adds_executes}
@@ -115,7 +115,7 @@ module _ (rooms : UserRooms) (m new : Memory) (user : UserId) (news : List New) 
   put_never_rotten (Ok v) s named found = λ other. stores_not s.reply 143 _ (λ e. omega (arith, e)) (λ e. omega (arith, e)) s.is s.said other.spelled
 
   pub put_gives : {T E : Type 0} (r : Result T E) (shape : Shape) (sent : List (List ℕ)) → length news ≤ length sent → OnOk r (Replies content (Stores rooms m new user news))
-      → OnOk r (Gives shape (requests.Put user sent) content)
+      → OnOk r (GivesReply shape (requests.Put user sent) content)
   put_gives (Err e) shape sent few s = tt
   put_gives (Ok v) shape sent few s = record { reply = s.reply; is = s.is; given = stores_given shape sent few s.reply s.said }
 
@@ -198,7 +198,7 @@ served_staged old new c bytes list request content (Err e) s = tt
 served_staged old new c bytes list request content (Ok v) s = record { reply = s.reply; next = s.next }
 
 does_staged : {T E : Type 0} (old new : CloudStore) (a c : Cloud) (bytes : List ℕ) (list : List Command) (request : Request) (content : List ℕ) (r : Result T E)
-    → Does (with_shares old bytes) new a c list request content r → Does old new a c list request content r
+    → DoesByList (with_shares old bytes) new a c list request content r → DoesByList old new a c list request content r
 does_staged old new a c bytes list request content r d = record {
   any_moment = d.any_moment;
   served = served_staged old new c bytes list request content r d.served;
@@ -215,7 +215,7 @@ module _ (user : UserId) (sent : List (List ℕ)) (news : List New) where
     pub leaves : IsLeftSettled x new r
     pub does : (list : List Command) (chain : Chain) (strings : List (List ℕ)) → IsPut list chain x user news strings (a x.header.cloud.0)
         → strings ≡ new_strings (user_view x.header.shape list user).own sent
-        → Does x new (a x.header.cloud.0) (c x.header.cloud.0) list (requests.Put user sent) content r
+        → DoesByList x new (a x.header.cloud.0) (c x.header.cloud.0) list (requests.Put user sent) content r
     pub behind : KeepsOrGrows x (body_bytes (put_record x user news)) (a x.header.cloud.0) (c x.header.cloud.0)
     pub goes : GoesBehind x new (body_bytes (put_record x user news)) (a x.header.cloud.0) (c x.header.cloud.0) ((count : ℕ) × IsReply content (replies.Stored count)) r
     pub stores : OnOk r (Replies content (Stores x.header.rooms (memory_of x.memory) (memory_of new.memory) user news))
@@ -224,7 +224,7 @@ module _ (user : UserId) (sent : List (List ℕ)) (news : List New) where
 
   put_added : (w : Where) (old x new : CloudStore) (bytes : List ℕ) (a c : Cloud) → IsStoreReady old → Picked old x user sent news
       → HasStaged (with_shares old bytes).disk.shares (unplaced (memory_of old.memory).places (unowned (memory_of old.memory) user sent))
-      → IsGrownFrom w (with_shares old bytes) new (body_bytes (put_record old user news)) a c → IsAdded w old new a c (requests.Put user sent)
+      → IsGrownFrom w (with_shares old bytes) new (body_bytes (put_record old user news)) a c → HasCommandAdded w old new a c (requests.Put user sent)
   put_added w old x new bytes a c ready p staged g =
       let m = memory_of old.memory in
       let news_are : news ≡ news_of m user sent = p.lens ∙ ap (map new_of) p.by_memory in

@@ -15,10 +15,10 @@ use Rattle.cloud_store.specs.Adding.{NoneStaged, IsOneOf, KeepsOrGrows}
 use Rattle.cloud_store.specs.Store.{IsSettled, IsOpen, closed}
 use Rattle.server_reads.specs.declared.blobs.BlobStop.{BlobStop}
 use Rattle.server_reads.specs.declared.blobs.BlobStop.TheVariants as stops
-use Rattle.server_reads.specs.Reading.{UnlessFailed}
+use Rattle.server_reads.specs.Reading.{UnlessReadFailed}
 use Rattle.server_commands.specs.Executing.{IsStoreReady, LeavesBoth}
 use Rattle.server_commands.specs.Serving.{IsServedByList, IsServedOrNot}
-use Rattle.server_commands.specs.Steps.{IsLeftSettled, Does, HasOnlyReadRecipes}
+use Rattle.server_commands.specs.Steps.{IsLeftSettled, DoesByList, HasOnlyReadRecipes}
 use Rattle.server_commands.proofs.Calls.{failed_result, ok_result, since_read, stays_twice, grows_read}
 use Rattle.server_commands.proofs.EntryLaws.{keeping, kept_ready}
 
@@ -37,8 +37,8 @@ module _ (old : CloudStore) (kept : List Kept) (new : CloudStore) (a b c : Cloud
   both_then : LeavesBoth (keeping old kept) new b c → LeavesBoth old new a c
   both_then l = record { cloud = stays_twice a b c stays l.cloud; memory = l.memory }
 
-  pub does_read : {T E : Type 0} (r : Result T E) (list : List Command) (request : Request) (content : List ℕ) → Does (keeping old kept) new b c list request content r
-      → Does old new a c list request content r
+  pub does_read : {T E : Type 0} (r : Result T E) (list : List Command) (request : Request) (content : List ℕ) → DoesByList (keeping old kept) new b c list request content r
+      → DoesByList old new a c list request content r
   does_read r list request content d = record {
     any_moment = since_read a b c (StandsForSome old.header (IsServedOrNot old list request)) stays d.any_moment;
     served = by r d.served;
@@ -78,5 +78,5 @@ leaves_rotten old mid a b o ready =
     let m = ready_read old mid a b o ready in
     record { ready = m; settled = m.settled; none = m.none; shut = tt; header = ap (λ (s : CloudStore). s.header) o.same }
 
-pub counts_at : (stop : BlobStop) (named found : Fp) (P : Type 0) → stop ≡ stops.Rotten named found → UnlessFailed {A = Unit {0}} (Err stop) P → P
-counts_at stop named found P is counts = subst (λ (x : BlobStop). UnlessFailed {A = Unit {0}} (Err x) P) is counts
+pub counts_at : (stop : BlobStop) (named found : Fp) (P : Type 0) → stop ≡ stops.Rotten named found → UnlessReadFailed {A = Unit {0}} (Err stop) P → P
+counts_at stop named found P is counts = subst (λ (x : BlobStop). UnlessReadFailed {A = Unit {0}} (Err x) P) is counts

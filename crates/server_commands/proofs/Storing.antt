@@ -17,7 +17,7 @@ use Rattle.server_reads.specs.UserDedup.Cloud.{fingerprint}
 use Rattle.server_reads.specs.UserDedup.Owning.{is_among}
 use Rattle.server_reads.specs.CloudMemory.rooms.New.{New}
 use Rattle.server_reads.specs.CloudMemory.Memory.{Memory}
-use Rattle.server_reads.specs.CloudMemory.News.{AreOf, AreApart, AreNewTo}
+use Rattle.server_reads.specs.CloudMemory.News.{AreOf, AreFingerprintsApart, AreNewTo}
 use Rattle.server_reads.specs.CloudMemory.Rooms.{memory_of}
 use Rattle.server_reads.specs.CloudMemory.Sharing.{AreOwned}
 use Rattle.server_reads.specs.CloudMemory.Steps.{end_with, with_item, with_items, with_put, part_in, parts_of}
@@ -63,7 +63,7 @@ one_end end len s rest false long =
     let most : max end (place_of end len + len) ≡ place_of end len + len = omega (arith, behind) in
     ap (λ (e : ℕ). end_of_laid e (lengths rest)) (most ∙ ap (end_after end) long)
 
-news_end : (user : UserId) (m : Memory) (news : List New) (strings : List (List ℕ)) → map (λ (k : New). k.fp) news ≡ map fingerprint strings → map (λ (k : New). k.len) news ≡ lengths strings → AreApart news
+news_end : (user : UserId) (m : Memory) (news : List New) (strings : List (List ℕ)) → map (λ (k : New). k.fp) news ≡ map fingerprint strings → map (λ (k : New). k.len) news ≡ lengths strings → AreFingerprintsApart news
     → (with_items user m (parts_of user m news)).shares_end ≡ end_of_laid m.shares_end (lengths (unplaced m.places strings))
 news_end user m [] [] fps lens apart = refl
 news_end user m [] (s ∷ strings) fps lens apart = absurd (let no : [] ≡ fingerprint s ∷ map fingerprint strings = fps in cc)

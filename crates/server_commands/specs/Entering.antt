@@ -27,7 +27,7 @@ use Rattle.server_reads.specs.CloudMemory.Memory.{Memory}
 use Rattle.server_reads.specs.CloudMemory.Rooms.{full_news, full_commit}
 use Rattle.server_reads.specs.CloudMemory.Sharing.{AreOwned, IsFirstUnowned}
 use Rattle.server_reads.specs.CloudMemory.Steps.{parts_of, with_put, with_commit, without_entry}
-use Rattle.server_reads.specs.Found.{IsNamed, HasNone}
+use Rattle.server_reads.specs.Found.{AreEntryBytes, HasNone}
 use Rattle.server_reads.specs.Owned.{first_unowned, owned_flags}
 
 -- ---- a Put
@@ -129,7 +129,7 @@ KnownBy m user fps reply = ⊥
 
 -- To a GetRecipe: Missing where the memory has no entry. Where it has one, Recipe has bytes of the entry's fingerprint, and Rotten names that.
 abbrev pub RecipeBy : Memory → FileKey → Reply → Type 0
-RecipeBy m key (replies.Recipe bytes) = IsNamed m key bytes
+RecipeBy m key (replies.Recipe bytes) = AreEntryBytes m key bytes
 RecipeBy m key replies.Missing = HasNone m key
 RecipeBy m key (replies.Rotten named found) = (entry : Entry) × (get m.files key ≡ Some entry) × (named ≡ entry.fp)
 RecipeBy m key reply = ⊥

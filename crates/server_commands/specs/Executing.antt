@@ -17,9 +17,9 @@ use Rattle.server_reads.specs.CloudMemory.Rooms.{memory_of}
 use Rattle.cloud_store.specs.declared.store.CloudStore.{CloudStore}
 use Rattle.cloud_store.specs.Store.{IsOpen, IsSettled, EndsMeet, ServesSome}
 use Rattle.cloud_store.specs.Adding.{NoneStaged, KeepsOrGrows}
-use Rattle.server_commands.specs.Growing.{record_of, GoesOn}
+use Rattle.server_commands.specs.Growing.{record_of, JournalGoesOn}
 use Rattle.server_commands.specs.Leaving.{LeavesAll, IsSteady, IsFound}
-use Rattle.server_commands.specs.Serving.{serves, IsServedByList, IsServedOrNot, Gives}
+use Rattle.server_commands.specs.Serving.{serves, IsServedByList, IsServedOrNot, GivesReply}
 
 -- What holds of an open store between two requests: nothing is staged, and both logs end where the memory says.
 pub record IsStoreReady (s : CloudStore) : Type 0 where
@@ -60,13 +60,13 @@ pub record Executes {T E : Type 0} (Same : Type 0) (old new : CloudStore) (befor
   -- whatever the cloud has
   pub behind : Stays (before old.header.cloud.0) (after old.header.cloud.0) ⊎ GrowsBehind old (before old.header.cloud.0) (after old.header.cloud.0) request
   pub grown : IsTrue (before old.header.cloud.0).told → (w : Where) → IsJournalEnded old.disk.journal ((before old.header.cloud.0).now Journal) w
-      → OnOk result (GoesOn w old new (before old.header.cloud.0) (after old.header.cloud.0) request content)
+      → OnOk result (JournalGoesOn w old new (before old.header.cloud.0) (after old.header.cloud.0) request content)
   pub steady : IsSteady (memory_of old.memory) request → LeavesBoth old new (before old.header.cloud.0) (after old.header.cloud.0)
   pub spared : (named found : Fp) → OnOk result (IsReply content (replies.Rotten named found) → LeavesBoth old new (before old.header.cloud.0) (after old.header.cloud.0))
   pub rotten : (named found : Fp) → OnOk result (IsReply content (replies.Rotten named found) → IsFound (before old.header.cloud.0) (memory_of old.memory) request named found)
   pub found : (named found : Fp) → OnOk result (IsReply content (replies.Rotten named found) → IsFound (after old.header.cloud.0) (memory_of new.memory) request named found)
   pub untouched : (answer : Reply) → LeavesAll request answer → OnOk result (IsReply content answer → Same × (new ≡ old))
-  pub kind : OnOk result (Gives old.header.shape request content)
+  pub kind : OnOk result (GivesReply old.header.shape request content)
   -- the calls of the device
   pub call : IsCall before after old.header.cloud.0 faults_before faults_after
   pub failed : OnErr result (HasFailed (before old.header.cloud.0) (after old.header.cloud.0) faults_before faults_after)

@@ -34,15 +34,15 @@ StoresSome (replies.Stored new) = 1 ≤ new
 StoresSome reply = ⊥
 
 -- The reply says that the request added its command: some shares were stored, a version was entered that had no entry, or one was taken out.
-abbrev pub Adds : Memory → Request → Reply → Type 0
-Adds m requests.Hello reply = ⊥
-Adds m (requests.Query user fps) reply = ⊥
-Adds m (requests.Put user shares) reply = StoresSome reply
-Adds m (requests.Commit user tag version recipe) reply = (reply ≡ replies.Committed) × (get m.files (key_of user.0 tag.0 version.0) ≡ None)
-Adds m (requests.GetRecipe user tag version) reply = ⊥
-Adds m (requests.GetShares user fps) reply = ⊥
-Adds m (requests.List user after) reply = ⊥
-Adds m (requests.Delete user tag version) reply = reply ≡ replies.Deleted
+abbrev pub SaysAdded : Memory → Request → Reply → Type 0
+SaysAdded m requests.Hello reply = ⊥
+SaysAdded m (requests.Query user fps) reply = ⊥
+SaysAdded m (requests.Put user shares) reply = StoresSome reply
+SaysAdded m (requests.Commit user tag version recipe) reply = (reply ≡ replies.Committed) × (get m.files (key_of user.0 tag.0 version.0) ≡ None)
+SaysAdded m (requests.GetRecipe user tag version) reply = ⊥
+SaysAdded m (requests.GetShares user fps) reply = ⊥
+SaysAdded m (requests.List user after) reply = ⊥
+SaysAdded m (requests.Delete user tag version) reply = reply ≡ replies.Deleted
 
 -- ---- records
 
@@ -93,19 +93,19 @@ recipes_of m request = placed m.recipes_end (recipe_of request)
 -- ---- areas
 
 -- where there is a new blob all of the area is on the disk, and else it is as it was
-abbrev pub IsSynced : List Placed → Store → Store → Type 0
-IsSynced [] before after = after ≡ before
-IsSynced (blob ∷ blobs) before after = after ≡ stable after.read
+abbrev pub IsSyncedForBlobs : List Placed → Store → Store → Type 0
+IsSyncedForBlobs [] before after = after ≡ before
+IsSyncedForBlobs (blob ∷ blobs) before after = after ≡ stable after.read
 
 -- These blobs lie in the area, on the disk. Each that lay in front of this end lies there still.
 pub record Gains (end : ℕ) (blobs : List Placed) (before after : Store) : Type 0 where
   pub lie : All (IsAt after.read) blobs
-  pub on_disk : IsSynced blobs before after
+  pub on_disk : IsSyncedForBlobs blobs before after
   pub kept : (b : Placed) → b.place + length b.blob ≤ end → IsAt before.read b → IsAt after.read b
 
 -- The request's command was added. Its record is the last one behind the chain that was read, or behind the memory's checkpoint in its place,
 -- and all of the journal is on the disk. What the record places lies there, each share the one that has its fingerprint.
-pub record IsAdded (w : Where) (old new : CloudStore) (before after : Cloud) (request : Request) : Type 0 where
+pub record HasCommandAdded (w : Where) (old new : CloudStore) (before after : Cloud) (request : Request) : Type 0 where
   pub body : Body
   pub is : record_of old request ≡ Some body
   pub chain : IsJournalEnded new.disk.journal (after.now Journal) (with_body w (body_bytes body))
@@ -115,7 +115,7 @@ pub record IsAdded (w : Where) (old new : CloudStore) (before after : Cloud) (re
   pub recipes : Gains old.disk.recipes.end (recipes_of (memory_of old.memory) request) (before.now Recipes) (after.now Recipes)
 
 -- The journal was read to its end, with this chain, and is so then too, with some chain. Where the reply says that the command was added, it was.
-pub record GoesOn (w : Where) (old new : CloudStore) (before after : Cloud) (request : Request) (content : List ℕ) : Type 0 where
+pub record JournalGoesOn (w : Where) (old new : CloudStore) (before after : Cloud) (request : Request) (content : List ℕ) : Type 0 where
   pub next : Where
   pub ended : IsJournalEnded new.disk.journal (after.now Journal) next
-  pub added : (answer : Reply) → Adds (memory_of old.memory) request answer → IsReply content answer → IsAdded w old new before after request
+  pub added : (answer : Reply) → SaysAdded (memory_of old.memory) request answer → IsReply content answer → HasCommandAdded w old new before after request

@@ -37,7 +37,7 @@ pub record IsGiven (shape : Shape) (request : Request) (reply : Reply) : Type 0 
   pub damaged : (at byte : ℕ) → reply ≢ replies.Damaged at byte
 
 -- The content is such a reply.
-pub record Gives (shape : Shape) (request : Request) (content : List ℕ) : Type 0 where
+pub record GivesReply (shape : Shape) (request : Request) (content : List ℕ) : Type 0 where
   pub reply : Reply
   pub is : IsReply content reply
   pub given : IsGiven shape request reply

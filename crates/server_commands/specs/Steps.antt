@@ -57,7 +57,7 @@ pub record IsLeftSettled {T E : Type 0} (old new : CloudStore) (result : Result 
   pub header : new.header ≡ old.header
 
 -- A request is served by a list that the store serves.
-pub record Does {T E : Type 0} (old new : CloudStore) (before after : Cloud) (list : List Command) (request : Request) (content : List ℕ) (result : Result T E) : Type 0 where
+pub record DoesByList {T E : Type 0} (old new : CloudStore) (before after : Cloud) (list : List Command) (request : Request) (content : List ℕ) (result : Result T E) : Type 0 where
   pub any_moment : ImagesSince before after old.header (IsServedOrNot old list request)
   pub served : OnOk result (IsServedByList old new after list request content)
   pub stays : (serves old list request).adds ≡ None → LeavesBoth old new before after

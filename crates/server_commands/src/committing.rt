@@ -26,7 +26,7 @@ ghost use Rattle.server_reads.specs.Allowed.{Replies};
 ghost use Rattle.server_commands.specs.Entering.{Commits, Enters};
 ghost use Rattle.server_commands.specs.Executing.{IsStoreReady, Executes};
 ghost use Rattle.server_commands.specs.Growing.{commit_record};
-ghost use Rattle.server_commands.specs.Steps.{Calls, IsLeftSettled, Does, GoesBehind, HasRecipeStaged, IsOfNew, by_recipe};
+ghost use Rattle.server_commands.specs.Steps.{Calls, IsLeftSettled, DoesByList, GoesBehind, HasRecipeStaged, IsOfNew, by_recipe};
 ghost use Rattle.server_commands.specs.Steps.{staging, IsAnsweredNew};
 
 use crate::reading::read_entry;
@@ -128,7 +128,7 @@ fn add_staged<V: Shelf>(
     ensures does { (list : List Command) (c : Chain)
         → Serves list c store.old (V.cloud_at shelf.old store.old.header.cloud.0)
         → IsAnsweredNew store.old.header list key.user key.tag key.version (spelling recipe.now)
-        → Does store.old store.new (V.cloud_at shelf.old store.old.header.cloud.0)
+        → DoesByList store.old store.new (V.cloud_at shelf.old store.old.header.cloud.0)
         (V.cloud_at shelf.new store.old.header.cloud.0) list
         (requests.Commit key.user key.tag key.version (spelling recipe.now)) reply.new result }
     ensures behind { KeepsOrGrows store.old

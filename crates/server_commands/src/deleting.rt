@@ -20,7 +20,7 @@ ghost use Rattle.cloud_store.specs.Adding.{KeepsOrGrows};
 ghost use Rattle.server_reads.specs.Allowed.{Replies};
 ghost use Rattle.server_commands.specs.Entering.{Enters};
 ghost use Rattle.server_commands.specs.Executing.{IsStoreReady, Executes};
-ghost use Rattle.server_commands.specs.Steps.{Calls, IsLeftSettled, Does, GoesBehind, IsOfDelete, Forgets};
+ghost use Rattle.server_commands.specs.Steps.{Calls, IsLeftSettled, DoesByList, GoesBehind, IsOfDelete, Forgets};
 
 use crate::reading::read_entry;
 use crate::refusing::refuse_long;
@@ -51,7 +51,7 @@ fn forget<V: Shelf>(
         → Serves list c store.old (V.cloud_at shelf.old store.old.header.cloud.0)
         → entry_at (user_view store.old.header.shape list user).files (tag, version) ≡ Some file
         → file.recipe ≡ recipe.now
-        → Does store.old store.new (V.cloud_at shelf.old store.old.header.cloud.0)
+        → DoesByList store.old store.new (V.cloud_at shelf.old store.old.header.cloud.0)
         (V.cloud_at shelf.new store.old.header.cloud.0) list (requests.Delete user tag version) reply.new result }
     ensures behind { KeepsOrGrows store.old
         (body_bytes (bodies.Delete (record { user = user; tag = tag; version = version })))

@@ -18,7 +18,7 @@ ghost use Rattle.cloud_store.specs.Adding.{IsPut, IsShareNew, put_record, unstag
 ghost use Rattle.server_reads.specs.Allowed.{Replies};
 ghost use Rattle.server_commands.specs.Entering.{Stores, Enters};
 ghost use Rattle.server_commands.specs.Executing.{IsStoreReady, Executes};
-ghost use Rattle.server_commands.specs.Steps.{Calls, IsLeftSettled, Does, GoesBehind, HasNewsStaged};
+ghost use Rattle.server_commands.specs.Steps.{Calls, IsLeftSettled, DoesByList, GoesBehind, HasNewsStaged};
 
 use crate::news::collect;
 use crate::refusing::refuse_long;
@@ -44,7 +44,7 @@ fn add_news<V: Shelf>(
     ensures does { (list : List Command) (c : Chain) (sent strings : List (List ℕ))
         → IsPut list c store.old user news.now strings (V.cloud_at shelf.old store.old.header.cloud.0)
         → strings ≡ new_strings (user_view store.old.header.shape list user).own sent
-        → Does store.old store.new (V.cloud_at shelf.old store.old.header.cloud.0)
+        → DoesByList store.old store.new (V.cloud_at shelf.old store.old.header.cloud.0)
         (V.cloud_at shelf.new store.old.header.cloud.0) list (requests.Put user sent) reply.new result }
     ensures behind { KeepsOrGrows store.old (body_bytes (put_record store.old user news.now))
         (V.cloud_at shelf.old store.old.header.cloud.0) (V.cloud_at shelf.new store.old.header.cloud.0) }

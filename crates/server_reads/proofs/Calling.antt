@@ -13,7 +13,7 @@ use Rattle.messages.specs.declared.reply.Reply.TheVariants as replies
 use Rattle.messages.specs.Replies.{IsReply}
 use Rattle.cloud_memory.specs.UserDedup.Cloud.{fingerprint}
 use Rattle.server_reads.specs.Found.{IsOther}
-use Rattle.server_reads.specs.Reading.{IfRotten, OnFailed, UnlessFailed, HasReadCloud}
+use Rattle.server_reads.specs.Reading.{IfRotten, IfReadFailed, UnlessReadFailed, HasReadCloud}
 use Rattle.server_reads.specs.Steps.{OnlyRead}
 
 -- what a step answers
@@ -49,7 +49,7 @@ read_then a b c number before mid now result first second = record {
   counts = counted result second.counts;
 }
   where
-    fails : (r : Answer) → OnFailed r (HasFailed (b number) (c number) mid now) → OnFailed r (HasFailed (a number) (c number) before now)
+    fails : (r : Answer) → IfReadFailed r (HasFailed (b number) (c number) mid now) → IfReadFailed r (HasFailed (a number) (c number) before now)
     fails (Ok x) f = tt
     fails (Err stops.Failed) f = failed_after a b c number before mid now first.call f
     fails (Err (stops.Rotten named found)) f = tt
@@ -57,7 +57,7 @@ read_then a b c number before mid now result first second = record {
     both : KeepsCounts (b number) (c number) mid now → KeepsCounts (a number) (c number) before now
     both k = record { cloud = k.cloud ∙ first.counts.cloud; total = k.total ∙ first.counts.total }
 
-    counted : (r : Answer) → UnlessFailed r (KeepsCounts (b number) (c number) mid now) → UnlessFailed r (KeepsCounts (a number) (c number) before now)
+    counted : (r : Answer) → UnlessReadFailed r (KeepsCounts (b number) (c number) mid now) → UnlessReadFailed r (KeepsCounts (a number) (c number) before now)
     counted (Ok x) k = both k
     counted (Err stops.Failed) k = tt
     counted (Err (stops.Rotten named found)) k = both k
@@ -105,12 +105,12 @@ pub compared : (a b : ℕ → Cloud) (number before now : ℕ) (r : Answer) (fp 
     → Stays (a number) (b number) → IsCall a b number before now → KeepsCounts (a number) (b number) before now → HasReadCloud a b number before now r
 compared a b number before now r fp found e stays call counts = record { stays = stays; call = call; failed = fails r e; counts = counted r }
   where
-    fails : (r : Answer) → IfErr r (λ stop. stop ≡ stops.Rotten fp found) → OnFailed r (HasFailed (a number) (b number) before now)
+    fails : (r : Answer) → IfErr r (λ stop. stop ≡ stops.Rotten fp found) → IfReadFailed r (HasFailed (a number) (b number) before now)
     fails (Ok x) e = tt
     fails (Err stops.Failed) e = absurd (let no : stops.Failed ≡ stops.Rotten fp found = e in cc)
     fails (Err (stops.Rotten n f)) e = tt
 
-    counted : (r : Answer) → UnlessFailed r (KeepsCounts (a number) (b number) before now)
+    counted : (r : Answer) → UnlessReadFailed r (KeepsCounts (a number) (b number) before now)
     counted (Ok x) = counts
     counted (Err stops.Failed) = tt
     counted (Err (stops.Rotten n f)) = counts

@@ -40,8 +40,8 @@ pub record IsFoundShare (cloud : Cloud) (m : Memory) (named found : Fp) : Type 0
       → found ≡ fingerprint []
 
 -- The bytes have the fingerprint of the entry that the memory has.
-abbrev pub IsNamed : Memory → FileKey → List ℕ → Type 0
-IsNamed m key bytes = (entry : Entry) × (get m.files key ≡ Some entry) × (fingerprint bytes ≡ entry.fp)
+abbrev pub AreEntryBytes : Memory → FileKey → List ℕ → Type 0
+AreEntryBytes m key bytes = (entry : Entry) × (get m.files key ≡ Some entry) × (fingerprint bytes ≡ entry.fp)
 
 -- The memory has no entry.
 abbrev pub HasNone : Memory → FileKey → Type 0

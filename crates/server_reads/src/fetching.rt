@@ -19,7 +19,7 @@ ghost use Rattle.cloud_memory.specs.UserDedup.Dedup.{answer_over, IsSound};
 ghost use Rattle.cloud_memory.specs.Memory.{Remembers, Stand};
 ghost use Rattle.cloud_memory.specs.Rooms.{memory_of};
 ghost use Rattle.server_reads.specs.Allowed.{Replies, RecipeReply};
-ghost use Rattle.server_reads.specs.Found.{IsOther, IsNamed, HasNone, IsFoundRecipe, ReadsLog};
+ghost use Rattle.server_reads.specs.Found.{IsOther, AreEntryBytes, HasNone, IsFoundRecipe, ReadsLog};
 ghost use Rattle.server_reads.specs.Reading.{HasReadCloud, IfRotten};
 
 use crate::blobs::{BlobStop, nothing_at, read_blob};
@@ -151,12 +151,12 @@ pub fn recipe<V: Shelf>(
         → OnOk result (reply.new ≡ reply_bytes
         (answer_over shape cloud.0 list (requests.GetRecipe key.user key.tag key.version)).reply) }
     ensures kind { OnOk result (Replies reply.new (RecipeReply
-        (IsNamed (memory_of memory.now) (key_of key.user.0 key.tag.0 key.version.0))
+        (AreEntryBytes (memory_of memory.now) (key_of key.user.0 key.tag.0 key.version.0))
         (HasNone (memory_of memory.now) (key_of key.user.0 key.tag.0 key.version.0))
         (IsFoundRecipe (V.cloud_at shelf.old cloud.0) (memory_of memory.now)
         (key_of key.user.0 key.tag.0 key.version.0)))) }
     ensures hashed { (bytes : List ℕ) → OnOk result (IsReply reply.new (replies.Recipe bytes)
-        → IsNamed (memory_of memory.now) (key_of key.user.0 key.tag.0 key.version.0) bytes) }
+        → AreEntryBytes (memory_of memory.now) (key_of key.user.0 key.tag.0 key.version.0) bytes) }
     ensures missing { HasNone (memory_of memory.now) (key_of key.user.0 key.tag.0 key.version.0)
         → IsOk result × (shelf.new ≡ shelf.old) × (log.new ≡ log.old) × (reply.new ≡ reply_bytes replies.Missing) }
     ensures untouched { OnOk result (IsReply reply.new replies.Missing

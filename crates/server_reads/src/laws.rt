@@ -23,7 +23,7 @@ ghost use Rattle.cloud_memory.specs.UserDedup.Pages.{entry_at};
 ghost use Rattle.cloud_memory.specs.UserDedup.Dedup.{IsSound};
 ghost use Rattle.cloud_memory.specs.Memory.{Memory, Remembers, Stand};
 ghost use Rattle.server_reads.specs.Allowed.{Replies, KnownReply, EntriesReply, SharesReply, RecipeReply, IsPlain};
-ghost use Rattle.server_reads.specs.Found.{IsFoundShare, IsNamed, HasNone, IsFoundRecipe, EntryStands};
+ghost use Rattle.server_reads.specs.Found.{IsFoundShare, AreEntryBytes, HasNone, IsFoundRecipe, EntryStands};
 ghost use Rattle.server_reads.specs.Owned.{first_unowned, owned_flags};
 
 /// Each reply that may come is one that an open server that keeps to the rules gives to its request, and says neither
@@ -37,7 +37,7 @@ pub fn law_of_kinds()
         → SharesReply fps (IsFoundShare cloud m) reply → IsPlain (requests.GetShares user fps) reply }
     ensures recipe { (user : UserId) (tag : Tag) (version : Version) (cloud : Cloud) (m : Memory)
         (key : FileKey) (reply : Reply)
-        → RecipeReply (IsNamed m key) (HasNone m key) (IsFoundRecipe cloud m key) reply
+        → RecipeReply (AreEntryBytes m key) (HasNone m key) (IsFoundRecipe cloud m key) reply
         → IsPlain (requests.GetRecipe user tag version) reply }
 {}
 
@@ -49,7 +49,7 @@ pub fn law_of_rotten()
         → Replies content (SharesReply fps (IsFoundShare cloud m)) → IsReply content (replies.Rotten named found)
         → Contains fps named × IsFoundShare cloud m named found }
     ensures recipe { (cloud : Cloud) (m : Memory) (key : FileKey) (content : List ℕ) (named found : Fp)
-        → Replies content (RecipeReply (IsNamed m key) (HasNone m key) (IsFoundRecipe cloud m key))
+        → Replies content (RecipeReply (AreEntryBytes m key) (HasNone m key) (IsFoundRecipe cloud m key))
         → IsReply content (replies.Rotten named found) → IsFoundRecipe cloud m key named found }
 {}
 

@@ -11,9 +11,9 @@ use Rattle.server_commands.specs.ServerReads.CloudMemory.Memory.{Remembers}
 use Rattle.server_commands.specs.ServerReads.CloudMemory.Rooms.{memory_of}
 use Rattle.server_commands.specs.CloudStore.store.CloudStore.{CloudStore}
 use Rattle.server_commands.specs.Executing.{IsStoreReady, Executes}
-use Rattle.server_commands.specs.Growing.{Adds}
+use Rattle.server_commands.specs.Growing.{SaysAdded}
 use Rattle.server_commands.specs.Leaving.{IsFound}
-use Rattle.server_commands.specs.Serving.{serves, Gives}
+use Rattle.server_commands.specs.Serving.{serves, GivesReply}
 use Rattle.server_commands.proofs.Calls.{ok_result, no_calls, stays_still}
 use Rattle.server_commands.proofs.Doing.{served_still, stays_executes}
 use Rattle.server_requests.proofs.Readings.{answer_of}
@@ -22,7 +22,7 @@ pub was_told : (Same : Type 0) (s : CloudStore) (a : ℕ → Cloud) (f : ℕ) (r
     → ((list : List Command) → serves s list request ≡ only (answer_of s list request))
     → ((list : List Command) → Remembers s.header.shape list (memory_of s.memory) → content ≡ reply_bytes (answer_of s list request))
     → ((named found : Fp) → IsFound (a s.header.cloud.0) (memory_of s.memory) request named found)
-    → Gives s.header.shape request content → ((answer : Reply) → Adds (memory_of s.memory) request answer → ⊥) → Executes Same s s a a f f request content ok_result
+    → GivesReply s.header.shape request content → ((answer : Reply) → SaysAdded (memory_of s.memory) request answer → ⊥) → Executes Same s s a a f f request content ok_result
 was_told Same s a f request content same ready alone value found kind asks =
     let n = s.header.cloud.0 in
     stays_executes ok_result Same s s a a f f request content

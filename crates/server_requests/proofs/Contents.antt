@@ -20,25 +20,25 @@ use Rattle.server_commands.specs.UserDedup.Cloud.{fingerprint}
 use Rattle.server_commands.specs.UserDedup.Exec.{items_of}
 use Rattle.server_commands.specs.ServerReads.CloudMemory.Memory.{Memory}
 use Rattle.server_commands.specs.ServerReads.Allowed.{Replies, IsPlain, KnownReply, RecipeReply, SharesReply}
-use Rattle.server_commands.specs.ServerReads.Found.{IsNamed, HasNone, IsFoundRecipe}
+use Rattle.server_commands.specs.ServerReads.Found.{AreEntryBytes, HasNone, IsFoundRecipe}
 use Rattle.server_commands.specs.ServerReads.Owned.{first_unowned, owned_flag, owned_flags}
 use Rattle.server_commands.proofs.ServerReads.Calling.{kinds}
 use Rattle.server_commands.specs.Entering.{KnownBy, RecipeBy, SharesBy}
 use Rattle.server_commands.specs.Leaving.{FindsNone, FindsForeign}
-use Rattle.server_commands.specs.Serving.{Gives}
+use Rattle.server_commands.specs.Serving.{GivesReply}
 use Rattle.server_requests.specs.Hashed.{AreAsked, IsOfEntry}
 
 -- ---- replies for the request
 
 -- a reply that may come is one for the request
 pub gives_plain : (shape : Shape) (request : Request) (content : List ℕ) (P : Reply → Type 0) → Replies content P → ((reply : Reply) → P reply → IsPlain request reply)
-    → Gives shape request content
+    → GivesReply shape request content
 gives_plain shape request content P s plain =
     let p = plain s.reply s.said in
     record { reply = s.reply; is = s.is; given = record { kind = p.kind (items_of shape request); memory = p.memory; fault = p.fault; damaged = p.damaged } }
 
 pub greets : (header : Header) (content : List ℕ) → IsHeader header → content ≡ reply_bytes (replies.Hello header.shape.n header.shape.k header.cloud.0 1)
-    → Gives header.shape requests.Hello content
+    → GivesReply header.shape requests.Hello content
 greets header content is_header is = record {
   reply = replies.Hello header.shape.n header.shape.k header.cloud.0 1;
   is = record {
@@ -52,7 +52,7 @@ greets header content is_header is = record {
 }
 
 -- what is said of each reply is said of the one that is given
-pub says : (shape : Shape) (request : Request) (content : List ℕ) (P : Reply → Type 0) → Gives shape request content → ((reply : Reply) → P reply) → Replies content P
+pub says : (shape : Shape) (request : Request) (content : List ℕ) (P : Reply → Type 0) → GivesReply shape request content → ((reply : Reply) → P reply) → Replies content P
 says shape request content P gives said = record { reply = gives.reply; is = gives.is; said = said gives.reply }
 
 -- ---- replies that leave all
@@ -73,7 +73,7 @@ pub are_asked : (content : List ℕ) (fps : List Fp) → ((shares : List (List �
 are_asked content fps f (replies.Shares shares) is = f shares is
 are_asked content fps f reply is = tt
 
-pub is_of_entry : (content : List ℕ) (m : Memory) (key : FileKey) → ((bytes : List ℕ) → IsReply content (replies.Recipe bytes) → IsNamed m key bytes) → (answer : Reply)
+pub is_of_entry : (content : List ℕ) (m : Memory) (key : FileKey) → ((bytes : List ℕ) → IsReply content (replies.Recipe bytes) → AreEntryBytes m key bytes) → (answer : Reply)
     → IsReply content answer → IsOfEntry m key answer
 is_of_entry content m key f (replies.Recipe bytes) is = f bytes is
 is_of_entry content m key f reply is = tt
@@ -99,13 +99,13 @@ pub known_by : (m : Memory) (user : UserId) (fps : List Fp) (content : List ℕ)
     → Replies content (KnownReply fps) → Replies content (KnownBy m user fps)
 known_by m user fps content kept r = record { reply = r.reply; is = r.is; said = flags_by m user fps content kept r.reply r.is r.said }
 
-bytes_by : (cloud : Cloud) (m : Memory) (key : FileKey) (reply : Reply) → RecipeReply (IsNamed m key) (HasNone m key) (IsFoundRecipe cloud m key) reply → RecipeBy m key reply
+bytes_by : (cloud : Cloud) (m : Memory) (key : FileKey) (reply : Reply) → RecipeReply (AreEntryBytes m key) (HasNone m key) (IsFoundRecipe cloud m key) reply → RecipeBy m key reply
 bytes_by cloud m key (replies.Recipe bytes) said = said
 bytes_by cloud m key replies.Missing said = said
 bytes_by cloud m key (replies.Rotten named found) said = (said.entry, said.kept, said.named_is)
 bytes_by cloud m key reply said = elim said [ ]
 
-pub recipe_by : (cloud : Cloud) (m : Memory) (key : FileKey) (content : List ℕ) → Replies content (RecipeReply (IsNamed m key) (HasNone m key) (IsFoundRecipe cloud m key))
+pub recipe_by : (cloud : Cloud) (m : Memory) (key : FileKey) (content : List ℕ) → Replies content (RecipeReply (AreEntryBytes m key) (HasNone m key) (IsFoundRecipe cloud m key))
     → Replies content (RecipeBy m key)
 recipe_by cloud m key content r = record { reply = r.reply; is = r.is; said = bytes_by cloud m key r.reply r.said }
 

@@ -22,9 +22,9 @@ use Rattle.server_commands.proofs.OfCloudStore.Keeping.{reads_serve, reads_settl
 use Rattle.server_commands.specs.ServerReads.Found.{ReadsLog}
 use Rattle.server_commands.proofs.ServerReads.Logs.{log_still}
 use Rattle.server_commands.specs.Executing.{IsStoreReady, Executes}
-use Rattle.server_commands.specs.Growing.{Adds}
+use Rattle.server_commands.specs.Growing.{SaysAdded}
 use Rattle.server_commands.specs.Leaving.{LeavesAll, IsFound}
-use Rattle.server_commands.specs.Serving.{serves, Gives}
+use Rattle.server_commands.specs.Serving.{serves, GivesReply}
 use Rattle.server_commands.proofs.Calls.{ok_result, failed_result}
 use Rattle.server_commands.proofs.Doing.{served_still, stays_executes}
 use Rattle.server_requests.specs.Reading.{ReadsDisk}
@@ -96,7 +96,7 @@ module _ (Same : Type 0) (old : CloudStore) (disk : Disk) (a b : ℕ → Cloud) 
       → ((list : List Command) (c : Chain) → Serves list c old (a old.header.cloud.0) → content ≡ reply_bytes (answer_of old list request))
       → ((named found : Fp) → IsReply content (replies.Rotten named found) → IsFound (a old.header.cloud.0) (memory_of old.memory) request named found)
       → ((answer : Reply) → LeavesAll request answer → IsReply content answer → Same × (disk ≡ old.disk))
-      → Gives old.header.shape request content → ((answer : Reply) → Adds (memory_of old.memory) request answer → ⊥)
+      → GivesReply old.header.shape request content → ((answer : Reply) → SaysAdded (memory_of old.memory) request answer → ⊥)
       → Executes Same old (with_disk old disk) a b f0 f1 request content ok_result
   was_read counts alone value rotten leaves kind asks =
       let n = old.header.cloud.0 in let mid = with_disk old disk in

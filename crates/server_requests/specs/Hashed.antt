@@ -9,7 +9,7 @@ use Rattle.server_commands.specs.Messages.reply.Reply.{Reply}
 use Rattle.server_commands.specs.Messages.reply.Reply.TheVariants as replies
 use Rattle.server_commands.specs.UserDedup.Cloud.{fingerprint}
 use Rattle.server_commands.specs.ServerReads.CloudMemory.Memory.{Memory}
-use Rattle.server_commands.specs.ServerReads.Found.{IsNamed}
+use Rattle.server_commands.specs.ServerReads.Found.{AreEntryBytes}
 
 -- shares have these fingerprints
 abbrev pub AreAsked : List Fp → Reply → Type 0
@@ -18,7 +18,7 @@ AreAsked fps reply = Unit {0}
 
 -- a recipe has the fingerprint of the entry that the memory has of a key
 abbrev pub IsOfEntry : Memory → FileKey → Reply → Type 0
-IsOfEntry m key (replies.Recipe bytes) = IsNamed m key bytes
+IsOfEntry m key (replies.Recipe bytes) = AreEntryBytes m key bytes
 IsOfEntry m key reply = Unit {0}
 
 -- The shares that a reply gives to GetShares have just the fingerprints that were asked for, and the recipe that it gives to GetRecipe has

@@ -17,7 +17,7 @@ ghost use Rattle.server_commands.specs.UserDedup.Dedup.{answer_over, IsSound};
 ghost use Rattle.server_commands.specs.ServerReads.CloudMemory.Memory.{Remembers, Stand};
 ghost use Rattle.server_commands.specs.ServerReads.CloudMemory.Rooms.{memory_of};
 ghost use Rattle.server_commands.specs.ServerReads.Allowed.{Replies, RecipeReply};
-ghost use Rattle.server_commands.specs.ServerReads.Found.{IsNamed, HasNone, IsFoundRecipe};
+ghost use Rattle.server_commands.specs.ServerReads.Found.{AreEntryBytes, HasNone, IsFoundRecipe};
 ghost use Rattle.server_commands.specs.Entering.{RecipeBy};
 ghost use Rattle.server_commands.specs.Executing.{IsStoreReady, Executes};
 ghost use Rattle.server_requests.specs.Hashed.{IsHashed};
@@ -49,12 +49,12 @@ fn recipe_on_disk<V: Shelf>(
         → OnOk result (reply.new ≡ reply_bytes
         (answer_over shape cloud.0 list (requests.GetRecipe key.user key.tag key.version)).reply) }
     ensures kind { OnOk result (Replies reply.new (RecipeReply
-        (IsNamed (memory_of memory.now) (key_of key.user.0 key.tag.0 key.version.0))
+        (AreEntryBytes (memory_of memory.now) (key_of key.user.0 key.tag.0 key.version.0))
         (HasNone (memory_of memory.now) (key_of key.user.0 key.tag.0 key.version.0))
         (IsFoundRecipe (V.cloud_at shelf.old cloud.0) (memory_of memory.now)
         (key_of key.user.0 key.tag.0 key.version.0)))) }
     ensures hashed { (bytes : List ℕ) → OnOk result (IsReply reply.new (replies.Recipe bytes)
-        → IsNamed (memory_of memory.now) (key_of key.user.0 key.tag.0 key.version.0) bytes) }
+        → AreEntryBytes (memory_of memory.now) (key_of key.user.0 key.tag.0 key.version.0) bytes) }
     ensures untouched { OnOk result (IsReply reply.new replies.Missing
         → (shelf.new ≡ shelf.old) × (disk.new ≡ disk.old)) }
     ensures disk { ReadsDisk disk.old disk.new (V.cloud_at shelf.old cloud.0) (V.cloud_at shelf.new cloud.0) }

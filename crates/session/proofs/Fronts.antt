@@ -12,9 +12,9 @@ use Rattle.journal_start.specs.Grammar.Words.{cut, word_at, is_blank}
 use Rattle.journal_start.specs.Grammar.Hexadecimal.{hex, unhex}
 use Rattle.journal_start.proofs.Grammar.HexadecimalLaws.{unhex_takes, hex_append}
 use Rattle.transcript.specs.Words.{bytes_text}
-use Rattle.session.specs.Front.{Begins, IsUploading, Names}
-use Rattle.session.specs.Spelling.{AreBytes, Fits, IsLine, spelling, file_limit}
-use Rattle.session.specs.Reading.{Reads, literal, header_left, header_at, placed, event_at}
+use Rattle.session.specs.Front.{BeginsAsUpload, IsUploading, NamesUpload}
+use Rattle.session.specs.Spelling.{AreLineBytes, FitsEvent, IsLine, spelling, file_limit}
+use Rattle.session.specs.Reading.{ReadsScript, literal, header_left, header_at, placed, event_at}
 use Rattle.session.specs.declared.event.Event.{Event}
 use Rattle.session.specs.declared.event.Event.TheVariants as events
 use Rattle.session.specs.declared.reading.ScriptErr.{ScriptErr}
@@ -26,26 +26,26 @@ pub nothing : (head packed : List ℕ) → head ≡ [] → packed ≡ [] → hea
 unfolding hex
 nothing head packed e f = rw (e, f) refl
 
-pub none_packed : (head packed : List ℕ) → Begins head packed → head ≡ [] → packed ≡ []
+pub none_packed : (head packed : List ℕ) → BeginsAsUpload head packed → head ≡ [] → packed ≡ []
 none_packed [] packed begins e = begins
 none_packed (b ∷ head) packed begins e = absurd cc
 
-pub empty_front : (head packed : List ℕ) → Begins head packed → head ≡ [] → head ++ hex packed ≡ []
+pub empty_front : (head packed : List ℕ) → BeginsAsUpload head packed → head ≡ [] → head ++ hex packed ≡ []
 empty_front head packed begins e = nothing head packed e (none_packed head packed begins e)
 
-pub uploading : (head packed : List ℕ) (b : Bool) → Begins head packed → (head ≡ [] → IsTrue b) → b ≡ false → IsUploading (head ++ hex packed)
+pub uploading : (head packed : List ℕ) (b : Bool) → BeginsAsUpload head packed → (head ≡ [] → IsTrue b) → b ≡ false → IsUploading (head ++ hex packed)
 uploading [] packed b begins h e = absurd (let t = h refl in cc)
 uploading (x ∷ head) packed b begins h e = (head ++ hex packed, ap (λ (n : ℕ). n ∷ (head ++ hex packed)) begins)
 
 -- the head was taken
-pub head_taken : (head packed now new text : List ℕ) → head ++ hex packed ≡ now → Begins head packed → head ≡ [] → new ≡ text → new ++ hex packed ≡ now ++ text
+pub head_taken : (head packed now new text : List ℕ) → head ++ hex packed ≡ now → BeginsAsUpload head packed → head ≡ [] → new ≡ text → new ++ hex packed ≡ now ++ text
 unfolding hex
 head_taken head packed now new text view begins e is =
     let p = none_packed head packed begins e in
     let n : now ≡ [] = sym view ∙ nothing head packed e p in
     rw (n, p, is) (append-nil text)
 
-pub head_begins : (head packed new : List ℕ) → Begins head packed → head ≡ [] → Begins new [] → Begins new packed
+pub head_begins : (head packed new : List ℕ) → BeginsAsUpload head packed → head ≡ [] → BeginsAsUpload new [] → BeginsAsUpload new packed
 head_begins head packed new begins e is = rw (none_packed head packed begins e) is
 
 -- digits were taken
@@ -53,7 +53,7 @@ pub packed_taken : (head packed now new text : List ℕ) → head ++ hex packed 
 packed_taken head packed now new text view is =
     ap (λ (x : List ℕ). head ++ x) is ∙ sym (append_assoc head (hex packed) text) ∙ ap (λ (x : List ℕ). x ++ text) view
 
-pub packed_begins : (head packed new : List ℕ) (b : Bool) → Begins head packed → (head ≡ [] → IsTrue b) → b ≡ false → Begins head new
+pub packed_begins : (head packed new : List ℕ) (b : Bool) → BeginsAsUpload head packed → (head ≡ [] → IsTrue b) → b ≡ false → BeginsAsUpload head new
 packed_begins [] packed new b begins h e = absurd (let t = h refl in cc)
 packed_begins (x ∷ head) packed new b begins h e = begins
 
@@ -61,10 +61,10 @@ pub packed_more : (old values new digits : List ℕ) → new ≡ old ++ values �
 packed_more old values new digits e f =
     ap hex e ∙ hex_append old values ∙ ap (λ (x : List ℕ). hex old ++ x) (sym (unhex_takes digits values (sym f)).0)
 
-are_bytes : (digits values : List ℕ) → Some values ≡ unhex digits → AreBytes values
+are_bytes : (digits values : List ℕ) → Some values ≡ unhex digits → AreLineBytes values
 are_bytes digits values f = All-from_recursion _ _ (unhex_takes digits values (sym f)).1
 
-pub bytes_more : (old values new digits : List ℕ) → AreBytes old → new ≡ old ++ values → Some values ≡ unhex digits → AreBytes new
+pub bytes_more : (old values new digits : List ℕ) → AreLineBytes old → new ≡ old ++ values → Some values ≡ unhex digits → AreLineBytes new
 bytes_more old values new digits h e f = rw e (All-append (λ (b : ℕ). b < 256) old values h (are_bytes digits values f))
 
 -- ---- the first line
@@ -107,7 +107,7 @@ behind_four a b c d e =
 spelling_is : (user : UserId) (path : List ℕ) (version : Version) (bytes : List ℕ) → spelling (upload user path version bytes) ≡ name_text user path version ++ bytes_text bytes
 spelling_is user path version bytes = behind_four (codes "upload") (decimal user.0) (hex path) (decimal version.0) (bytes_text bytes)
 
-name_is : (shape : Shape) (jobs : ℕ) (head : List ℕ) (user : UserId) (path : List ℕ) (version : Version) → Names shape jobs head user path version → head ≡ name_text user path version
+name_is : (shape : Shape) (jobs : ℕ) (head : List ℕ) (user : UserId) (path : List ℕ) (version : Version) → NamesUpload shape jobs head user path version → head ≡ name_text user path version
 name_is shape jobs head user path version is = append_cancel_right head (name_text user path version) (45 ∷ []) (is.spelled ∙ spelling_is user path version [])
 
 text_some : (bytes : List ℕ) → 0 < length bytes → bytes_text bytes ≡ hex bytes
@@ -115,12 +115,12 @@ text_some [] some = absurd (omega arith)
 text_some (b ∷ bytes) some = refl
 
 pub content_read : (shape : Shape) (jobs : ℕ) (head packed tail more : List ℕ) (user : UserId) (path : List ℕ) (version : Version) (bytes : List ℕ) → jobs < 2 ^ 64
-    → Names shape jobs head user path version → AreBytes packed → Some more ≡ unhex tail → bytes ≡ packed ++ more → (0 < length packed + length more) × (length packed + length more ≤ file_limit)
+    → NamesUpload shape jobs head user path version → AreLineBytes packed → Some more ≡ unhex tail → bytes ≡ packed ++ more → (0 < length packed + length more) × (length packed + length more ≤ file_limit)
     → event_at shape jobs ((head ++ hex packed) ++ tail) ≡ Ok (upload user path version bytes)
 content_read shape jobs head packed tail more user path version bytes small named are f e len =
     let long : length bytes ≡ length packed + length more = ap length e ∙ length-append packed more in
     let some : 0 < length bytes = omega arith in
-    let all : AreBytes bytes = bytes_more packed more bytes tail are e f in
+    let all : AreLineBytes bytes = bytes_more packed more bytes tail are e f in
     let text : hex bytes ≡ hex packed ++ tail = packed_more packed more bytes tail e f in
     let line : (head ++ hex packed) ++ tail ≡ spelling (upload user path version bytes) =
     append_assoc head (hex packed) tail ∙ ap (λ (x : List ℕ). head ++ x) (sym text) ∙ ap (λ (x : List ℕ). x ++ hex bytes) (name_is shape jobs head user path version named)
@@ -134,12 +134,12 @@ content_read shape jobs head packed tail more user path version bytes small name
 
 -- with a dash in place of the content
 pub named_by : (shape : Shape) (jobs : ℕ) (head text : List ℕ) (user : UserId) (path : List ℕ) (version : Version) (bytes : List ℕ) → jobs < 2 ^ 64
-    → text ≡ head ++ 45 ∷ [] → event_at shape jobs text ≡ Ok (upload user path version bytes) → bytes ≡ [] → Names shape jobs head user path version
+    → text ≡ head ++ 45 ∷ [] → event_at shape jobs text ≡ Ok (upload user path version bytes) → bytes ≡ [] → NamesUpload shape jobs head user path version
 named_by shape jobs head text user path version bytes small is reads none =
     subst (λ (x : List ℕ). IsLine shape jobs x (upload user path version [])) is
     (subst (λ (b : List ℕ). IsLine shape jobs text (upload user path version b)) none ((event_law shape jobs small text (upload user path version bytes)).0 reads))
 
 -- what was read is in its ranges
-pub fits_by : (shape : Shape) (jobs : ℕ) → jobs < 2 ^ 64 → (line : List ℕ) (r : Result Event ScriptErr) → Reads r (event_at shape jobs line) → IfOk r (Fits shape jobs)
+pub fits_by : (shape : Shape) (jobs : ℕ) → jobs < 2 ^ 64 → (line : List ℕ) (r : Result Event ScriptErr) → ReadsScript r (event_at shape jobs line) → IfOk r (FitsEvent shape jobs)
 fits_by shape jobs lt line (Ok event) reads = ((event_law shape jobs lt line event).0 reads).fits
 fits_by shape jobs lt line (Err e) reads = tt

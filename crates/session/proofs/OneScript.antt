@@ -6,7 +6,7 @@ use Rattle.journal_start.specs.declared.rooms.UserRooms.{UserRooms}
 use Rattle.session.specs.Fault.{Fault}
 use Rattle.session.specs.Lines.{next_line, after_line}
 use Rattle.session.specs.Reading.{header_at, event_at}
-use Rattle.session.specs.Scripts.{ScriptPlace, behind, Says, Leads, Begins, Reaches, IsEnd}
+use Rattle.session.specs.Scripts.{ScriptPlace, behind, Says, LeadsThrough, Begins, Reaches, IsEnd}
 use Rattle.session.specs.declared.event.Event.{Event}
 
 same_ok : {A : Type 0} (r : Result A Fault) (x y : A) → r ≡ Ok x → r ≡ Ok y → x ≡ y
@@ -30,13 +30,13 @@ one_next shape place a b p q s t =
 no_next : (shape : Shape) (place : ScriptPlace) (event : Event) (next : ScriptPlace) → IsEnd place → Says shape place event next → ⊥
 no_next shape place event next end s = not_nothing s.line (same_ok (next_line place.taken place.rest) nothing (Some s.line) end s.here)
 
-one_way : (shape : Shape) (place : ScriptPlace) (xs ys : List Event) (p q : ScriptPlace) → Leads shape place xs p → IsEnd p → Leads shape place ys q → IsEnd q → xs ≡ ys
+one_way : (shape : Shape) (place : ScriptPlace) (xs ys : List Event) (p q : ScriptPlace) → LeadsThrough shape place xs p → IsEnd p → LeadsThrough shape place ys q → IsEnd q → xs ≡ ys
 one_way shape place [] [] p q h e k f = refl
 one_way shape place [] (b ∷ ys) p q h e k f = absurd (no_next shape place b k.0 (subst IsEnd h e) k.1)
 one_way shape place (a ∷ xs) [] p q h e k f = absurd (no_next shape place a h.0 (subst IsEnd k f) h.1)
 one_way shape place (a ∷ xs) (b ∷ ys) p q h e k f =
     let one = one_next shape place a b h.0 k.0 h.1 k.1 in
-    let more = one_way shape k.0 xs ys p q (subst (λ (n : ScriptPlace). Leads shape n xs p) one.1 h.2) e k.2 f in
+    let more = one_way shape k.0 xs ys p q (subst (λ (n : ScriptPlace). LeadsThrough shape n xs p) one.1 h.2) e k.2 f in
     cc (one.0, more)
 
 abbrev first_place : List ℕ → List ℕ → ScriptPlace
@@ -55,5 +55,5 @@ pub one_script : (script : List ℕ) (s t : Shape) (q r : UserRooms) (xs ys : Li
     → Reaches script s q xs x → IsEnd x → Reaches script t r ys y → IsEnd y → (s ≡ t) × (q ≡ r) × (xs ≡ ys)
 one_script script s t q r xs ys x y h e k f =
     let first = one_first script s t q r h.0 k.0 h.1 k.1 in
-    let here : Leads s k.0 xs x = subst (λ (n : ScriptPlace). Leads s n xs x) first.2 h.2 in
-    (first.0, first.1, one_way t k.0 xs ys x y (subst (λ (z : Shape). Leads z k.0 xs x) first.0 here) e k.2 f)
+    let here : LeadsThrough s k.0 xs x = subst (λ (n : ScriptPlace). LeadsThrough s n xs x) first.2 h.2 in
+    (first.0, first.1, one_way t k.0 xs ys x y (subst (λ (z : Shape). LeadsThrough z k.0 xs x) first.0 here) e k.2 f)

@@ -7,9 +7,9 @@ use Rattle.session.specs.Spelling.{IsLine}
 use Rattle.session.specs.declared.event.Event.TheVariants as events
 
 -- nothing, or a front that begins as an upload does
-abbrev pub Begins : List ℕ → List ℕ → Type 0
-Begins [] packed = packed ≡ []
-Begins (b ∷ head) packed = b ≡ 117
+abbrev pub BeginsAsUpload : List ℕ → List ℕ → Type 0
+BeginsAsUpload [] packed = packed ≡ []
+BeginsAsUpload (b ∷ head) packed = b ≡ 117
 
 -- the text begins as an upload does
 abbrev pub IsUploading : List ℕ → Type 0
@@ -26,5 +26,5 @@ pub record Moved (n : ℕ) (front ahead front-now ahead-now : List ℕ) : Type 0
   pub ahead_is : ahead-now ≡ drop n ahead
 
 -- with a dash behind it the text is an upload of no bytes, of this name
-abbrev pub Names : Shape → ℕ → List ℕ → UserId → List ℕ → Version → Type 0
-Names shape jobs head user path version = IsLine shape jobs (head ++ 45 ∷ []) (events.Upload user path version [])
+abbrev pub NamesUpload : Shape → ℕ → List ℕ → UserId → List ℕ → Version → Type 0
+NamesUpload shape jobs head user path version = IsLine shape jobs (head ++ 45 ∷ []) (events.Upload user path version [])

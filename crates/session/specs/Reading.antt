@@ -21,10 +21,10 @@ use Rattle.session.specs.declared.reading.ScriptErr.{ScriptErr}
 use Rattle.session.specs.declared.reading.ScriptErr.TheVariants as errors
 
 -- What a function returned is what reading gives, unless memory ran out.
-abbrev pub Reads : {A : Type 0} → Result A ScriptErr → Result A Fault → Type 0
-Reads (Ok value) reading = reading ≡ Ok value
-Reads (Err errors.NoMemory) reading = Unit {0}
-Reads (Err (errors.At at found)) reading = reading ≡ Err (record { at = at; found = found })
+abbrev pub ReadsScript : {A : Type 0} → Result A ScriptErr → Result A Fault → Type 0
+ReadsScript (Ok value) reading = reading ≡ Ok value
+ReadsScript (Err errors.NoMemory) reading = Unit {0}
+ReadsScript (Err (errors.At at found)) reading = reading ≡ Err (record { at = at; found = found })
 
 -- a fault's place, counted from the front of the line, with the byte there or the end
 abbrev pub placed : {A : Type 0} → List ℕ → Result A ℕ → Result A Fault

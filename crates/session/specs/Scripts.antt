@@ -5,7 +5,7 @@ use Rattle.journal_start.specs.declared.rooms.UserRooms.{UserRooms}
 use Rattle.session.specs.Fault.{Fault}
 use Rattle.session.specs.Lines.{next_line, after_line}
 use Rattle.session.specs.Reading.{header_at, event_at}
-use Rattle.session.specs.Spelling.{Fits, IsTyped}
+use Rattle.session.specs.Spelling.{FitsEvent, IsTyped}
 use Rattle.session.specs.declared.event.Event.{Event}
 use Rattle.session.specs.declared.event.Event.TheVariants as events
 
@@ -31,7 +31,7 @@ jobs_of jobs (event ∷ events) = jobs_of (jobs_after jobs event) events
 -- each line is in its ranges
 abbrev pub AreLines : Shape → ℕ → List Event → Type 0
 AreLines shape jobs [] = Unit {0}
-AreLines shape jobs (event ∷ events) = Fits shape jobs event × IsTyped event × AreLines shape (jobs_after jobs event) events
+AreLines shape jobs (event ∷ events) = FitsEvent shape jobs event × IsTyped event × AreLines shape (jobs_after jobs event) events
 
 -- a place in a script: how many uploads and how many of its bytes came before, and the bytes that are left
 pub record ScriptPlace : Type 0 where
@@ -51,10 +51,10 @@ pub record Says (shape : Shape) (place : ScriptPlace) (event : Event) (next : Sc
   pub next_is : next ≡ behind place line event
 
 -- the next lines say this, one after another
-abbrev pub Leads : Shape → ScriptPlace → List Event → ScriptPlace → Type 0
-Leads shape place [] last = last ≡ place
-Leads shape place (event ∷ events) last = (next : ScriptPlace) × Says shape place event next
-    × Leads shape next events last
+abbrev pub LeadsThrough : Shape → ScriptPlace → List Event → ScriptPlace → Type 0
+LeadsThrough shape place [] last = last ≡ place
+LeadsThrough shape place (event ∷ events) last = (next : ScriptPlace) × Says shape place event next
+    × LeadsThrough shape next events last
 
 -- the script begins with this first line
 pub record Begins (script : List ℕ) (shape : Shape) (rooms : UserRooms) (place : ScriptPlace) : Type 0 where
@@ -65,7 +65,7 @@ pub record Begins (script : List ℕ) (shape : Shape) (rooms : UserRooms) (place
 
 -- so many lines of the script were read, and it goes on at this place
 abbrev pub Reaches : List ℕ → Shape → UserRooms → List Event → ScriptPlace → Type 0
-Reaches script shape rooms events place = (first : ScriptPlace) × Begins script shape rooms first × Leads shape first events place
+Reaches script shape rooms events place = (first : ScriptPlace) × Begins script shape rooms first × LeadsThrough shape first events place
 
 -- the script ends here
 abbrev pub IsEnd : ScriptPlace → Type 0

@@ -2,8 +2,8 @@
 
 ghost use Rattle.std.specs.Prelude.{◌≡◌, ◌*◌, ◌++◌, ◌≤◌, [], length, take, Some, IfOk, OnErr, IsTrue, false};
 ghost use Rattle.journal_start.specs.Grammar.Hexadecimal.{hex, unhex};
-ghost use Rattle.session.specs.Front.{Begins, IsUploading, not_upper};
-ghost use Rattle.session.specs.Spelling.{AreBytes};
+ghost use Rattle.session.specs.Front.{BeginsAsUpload, IsUploading, not_upper};
+ghost use Rattle.session.specs.Spelling.{AreLineBytes};
 
 use journal_start::{Bytes, NoMemory, after, before, encode};
 use memchr::memrchr;
@@ -28,14 +28,14 @@ pub struct Front {
 impl Model for Front {
     ghost use Rattle.std.specs.Prelude.{ℕ, List, ◌++◌};
     ghost use Rattle.journal_start.specs.Grammar.Hexadecimal.{hex};
-    ghost use Rattle.session.specs.Front.{Begins};
-    ghost use Rattle.session.specs.Spelling.{AreBytes};
+    ghost use Rattle.session.specs.Front.{BeginsAsUpload};
+    ghost use Rattle.session.specs.Spelling.{AreLineBytes};
 
     ghost Value = { List ℕ };
 
     ghost view = { λ f. f.head ++ hex f.packed };
 
-    ghost invariant = { λ f. Begins f.head f.packed × AreBytes f.packed };
+    ghost invariant = { λ f. BeginsAsUpload f.head f.packed × AreLineBytes f.packed };
 }
 
 impl Front {
@@ -87,7 +87,7 @@ impl Front {
     /// Its text up to the last word, and the bytes of this word.
     pub fn parts(self) -> (Bytes, Bytes)
         ensures view { self ≡ result.0 ++ hex result.1 }
-        ensures bytes { AreBytes result.1 }
+        ensures bytes { AreLineBytes result.1 }
     {
         (self.head, self.packed)
     }
@@ -96,7 +96,7 @@ impl Front {
 // How many bytes there are up to the last blank, with it, of a line that begins as an upload does; else none.
 fn head_len(bytes: &[u8]) -> usize
     ensures within { result ≤ length bytes.now }
-    ensures begins { Begins (take result bytes.now) [] }
+    ensures begins { BeginsAsUpload (take result bytes.now) [] }
 {
     match bytes {
         [b'u', ..] => match memrchr(b' ', bytes) {
@@ -112,7 +112,7 @@ fn take_head(bytes: &[u8], head: &mut Bytes) -> Result<usize, NoMemory>
     requires { head.old ≡ [] }
     ensures within { IfOk result (λ n. n ≤ length bytes.now) }
     ensures taken { IfOk result (λ n. head.new ≡ take n bytes.now) }
-    ensures begins { Begins head.new [] }
+    ensures begins { BeginsAsUpload head.new [] }
 {
     let len = head_len(bytes);
     head.extend(before(bytes, len))?;
@@ -140,10 +140,10 @@ fn decode_block(digits: &[u8], out: &mut [u8]) -> bool
 
 // Takes the digits of a block as the bytes that they spell, where the block is digits alone.
 fn pack_block(bytes: &[u8], packed: &mut Bytes) -> Result<usize, NoMemory>
-    requires { AreBytes packed.old }
+    requires { AreLineBytes packed.old }
     ensures within { IfOk result (λ n. n ≤ length bytes.now) }
     ensures taken { IfOk result (λ n. hex packed.new ≡ hex packed.old ++ take n bytes.now) }
-    ensures bytes { AreBytes packed.new }
+    ensures bytes { AreLineBytes packed.new }
 {
     let mut block = [0; BLOCK];
     let n = (bytes.len() / 2).min(BLOCK);
@@ -156,10 +156,10 @@ fn pack_block(bytes: &[u8], packed: &mut Bytes) -> Result<usize, NoMemory>
 
 // Takes digits as the bytes that they spell, up to the first block that isn't digits alone.
 fn pack(bytes: &[u8], packed: &mut Bytes) -> Result<usize, NoMemory>
-    requires { AreBytes packed.old }
+    requires { AreLineBytes packed.old }
     ensures within { IfOk result (λ n. n ≤ length bytes.now) }
     ensures taken { IfOk result (λ n. hex packed.new ≡ hex packed.old ++ take n bytes.now) }
-    ensures bytes { AreBytes packed.new }
+    ensures bytes { AreLineBytes packed.new }
 {
     let mut taken = 0;
     while taken < bytes.len() {

@@ -3,9 +3,9 @@
 ghost use Rattle.std.specs.Prelude.{◌≡◌, ◌≢◌, ◌++◌, ◌+◌, ◌<◌, ◌≤◌, IfOk, IfErr, IfSome, IsTrue};
 ghost use Rattle.journal_start.specs.Ranges.{AreRooms};
 ghost use Rattle.journal_start.specs.Grammar.Hexadecimal.{hex};
-ghost use Rattle.session.specs.Front.{Names};
-ghost use Rattle.session.specs.Reading.{Reads, header_at, event_at};
-ghost use Rattle.session.specs.Spelling.{AreBytes, file_limit};
+ghost use Rattle.session.specs.Front.{NamesUpload};
+ghost use Rattle.session.specs.Reading.{ReadsScript, header_at, event_at};
+ghost use Rattle.session.specs.Spelling.{AreLineBytes, file_limit};
 
 use crate::Event;
 use crate::front::{Front, spell};
@@ -23,7 +23,7 @@ struct Name {
 
 /// What a line says as a script's first one. It takes no memory.
 pub fn header_behind(front: &Front, tail: &[u8]) -> Result<(Shape, UserRooms), ScriptErr>
-    ensures reads { Reads result (header_at (front.now ++ tail.now)) }
+    ensures reads { ReadsScript result (header_at (front.now ++ tail.now)) }
     ensures memory { IfErr result (λ e. e ≢ ScriptErr.NoMemory) }
     ensures allowed { IfOk result (λ header. AreRooms header.1) }
 {
@@ -46,7 +46,7 @@ fn read_spelled(
     packed: &[u8],
     tail: &[u8],
 ) -> Result<Event, ScriptErr>
-    ensures { Reads result (event_at shape jobs ((head.now ++ hex packed.now) ++ tail.now)) }
+    ensures { ReadsScript result (event_at shape jobs ((head.now ++ hex packed.now) ++ tail.now)) }
 {
     match spell(alloc, head, packed, tail) {
         Ok(line) => read_line(alloc, shape, jobs, line.as_slice()),
@@ -56,7 +56,7 @@ fn read_spelled(
 
 // The name in an upload's text up to its last word, if it is one.
 fn name_of(alloc: Global, shape: Shape, jobs: u32, head: &[u8]) -> Result<Option<Name>, NoMemory>
-    ensures { IfOk result (λ o. IfSome o (λ name. Names shape jobs head.now name.user name.path name.version)) }
+    ensures { IfOk result (λ o. IfSome o (λ name. NamesUpload shape jobs head.now name.user name.path name.version)) }
 {
     let mut text = Bytes::new(alloc);
     text.extend(head)?;
@@ -104,9 +104,9 @@ fn read_content(
     packed: Bytes,
     tail: &[u8],
 ) -> Result<Event, ScriptErr>
-    requires named { Names shape jobs head.now name.user name.path name.version }
-    requires bytes { AreBytes packed }
-    ensures { Reads result (event_at shape jobs ((head.now ++ hex packed) ++ tail.now)) }
+    requires named { NamesUpload shape jobs head.now name.user name.path name.version }
+    requires bytes { AreLineBytes packed }
+    ensures { ReadsScript result (event_at shape jobs ((head.now ++ hex packed) ++ tail.now)) }
 {
     match decode(alloc, tail) {
         Ok(Some(more)) => {
@@ -138,7 +138,7 @@ pub fn event_behind(
     front: Front,
     tail: &[u8],
 ) -> Result<Event, ScriptErr>
-    ensures { Reads result (event_at shape jobs (front ++ tail.now)) }
+    ensures { ReadsScript result (event_at shape jobs (front ++ tail.now)) }
 {
     let (head, packed) = front.parts();
     match name_of(alloc, shape, jobs, head.as_slice()) {

@@ -5,9 +5,10 @@ ghost use Rattle.journal_start.specs.CdBase.shape.Shape.{Shape};
 ghost use Rattle.journal_start.specs.declared.rooms.UserRooms.{UserRooms};
 ghost use Rattle.journal_start.specs.Ranges.{AreRooms};
 ghost use Rattle.journal_start.specs.Grammar.Readers.{Gives};
-ghost use Rattle.session.specs.Reading.{Reads, header_at, event_at, event_left, fields_at, upload_at, lane_at, job_at};
+ghost use Rattle.session.specs.Reading.{ReadsScript, header_at, event_at, event_left, fields_at, upload_at, lane_at};
+ghost use Rattle.session.specs.Reading.{job_at};
 ghost use Rattle.session.specs.Reading.{cloud_at, get_at, list_at, arm_at, rebuild_at, delete_at};
-ghost use Rattle.session.specs.Spelling.{Fits, IsLine, IsHeader};
+ghost use Rattle.session.specs.Spelling.{FitsEvent, IsLine, IsHeaderLine};
 ghost use Rattle.session.specs.declared.event.Event.{Event};
 
 use crate::Event;
@@ -247,12 +248,12 @@ fn event_of(alloc: Global, shape: Shape, jobs: u32, line: &[u8]) -> Result<Event
 /// `NoMemory` is no answer.
 #[tactic(auto, unfolding(crate::specs::Reading::header_at))]
 pub fn read_header(line: &[u8]) -> Result<(Shape, UserRooms), ScriptErr>
-    ensures reads { Reads result (header_at line.now) }
+    ensures reads { ReadsScript result (header_at line.now) }
     ensures memory { IfErr result (λ e. e ≢ ScriptErr.NoMemory) }
     ensures allowed { IfOk result (λ header. AreRooms header.1) }
     // A line is read as what it is a spelling of, and no other line is read.
     ensures grammar { (shape : Shape) (rooms : UserRooms)
-        → (header_at line.now ≡ Ok (shape, rooms)) ↔ IsHeader line.now (shape, rooms) }
+        → (header_at line.now ≡ Ok (shape, rooms)) ↔ IsHeaderLine line.now (shape, rooms) }
 {
     match header_of(line) {
         Ok(header) => Ok(header),
@@ -266,8 +267,8 @@ pub fn read_header(line: &[u8]) -> Result<(Shape, UserRooms), ScriptErr>
 /// last field.
 #[tactic(auto, unfolding(crate::specs::Reading::event_at))]
 pub fn read_line(alloc: Global, shape: Shape, jobs: u32, line: &[u8]) -> Result<Event, ScriptErr>
-    ensures reads { Reads result (event_at shape jobs line.now) }
-    ensures fits { IfOk result (Fits shape jobs) }
+    ensures reads { ReadsScript result (event_at shape jobs line.now) }
+    ensures fits { IfOk result (FitsEvent shape jobs) }
     // A line is read as the event that it is the spelling of, and no other line is read.
     ensures grammar { (event : Event) → (event_at shape jobs line.now ≡ Ok event) ↔ IsLine shape jobs line.now event }
 {

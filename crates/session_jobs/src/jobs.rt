@@ -27,7 +27,7 @@ impl Jobs {
     ghost use Rattle.session.specs.Spelling.{IsJob};
     ghost use Rattle.lane_steps.specs.UploadJob.Lanes.{LaneView, request_at, IsAsked};
     ghost use Rattle.lane_steps.specs.Reached.{IsReached};
-    ghost use Rattle.lane_steps.specs.Steps.{LaneSteps, Finishes, IsFound};
+    ghost use Rattle.lane_steps.specs.Steps.{LaneSteps, Finishes, IsNothingLost};
     ghost use Rattle.lane_steps.specs.UploadJob.Lane.{Done};
     ghost use Rattle.session_jobs.specs.Jobs.{job_lanes, with_job};
 
@@ -95,7 +95,8 @@ impl Jobs {
             × LaneSteps L.tells L.talk lane.0 link.old (job_lanes self.old job)
             (request_at (job_lanes self.old job) lane.0) result link.new after }
         ensures others { LeavesOthers L.tells lane.0 link.old link.new }
-        ensures lossless { IsTrue (L.tells.lossless link.old) → IsFound result × IsTrue (L.tells.lossless link.new) }
+        ensures lossless { IsTrue (L.tells.lossless link.old) → IsNothingLost result
+            × IsTrue (L.tells.lossless link.new) }
     {
         let place = job as usize - 1;
         let lanes = &mut self.items[place];
@@ -121,7 +122,8 @@ impl Jobs {
             × Finishes L.tells L.talk lane.0 link.old (job_lanes self.old job) told.old.items result
             link.new after told.new.items }
         ensures others { LeavesOthers L.tells lane.0 link.old link.new }
-        ensures lossless { IsTrue (L.tells.lossless link.old) → IsFound result × IsTrue (L.tells.lossless link.new) }
+        ensures lossless { IsTrue (L.tells.lossless link.old) → IsNothingLost result
+            × IsTrue (L.tells.lossless link.new) }
     {
         let place = job as usize - 1;
         let lanes = &mut self.items[place];

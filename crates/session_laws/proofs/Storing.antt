@@ -34,7 +34,7 @@ use Rattle.session_model.proofs.Counts.{keeps_finish, keeps_run}
 use Rattle.session_model.proofs.Faults.{rose_on, then_rose}
 use Rattle.session_model.proofs.Jobs.{AreJobs, AreOf, Brings, brings_turns, versions}
 use Rattle.session_model.proofs.Ranged.{IsRanged, are_ranged}
-use Rattle.session_laws.specs.Stored.{IsRefused, IsUnhindered, StoresAll}
+use Rattle.session_laws.specs.Stored.{SaysRefused, IsUnhindered, StoresAll}
 use Rattle.session_laws.proofs.Working.{IsAtWork, run_done}
 
 -- ---- the lanes of a job
@@ -166,7 +166,7 @@ map_has f (y ∷ xs) x has = elim (contains_cases y xs x has) [
 module _ (s : Setting) (job : ℕ) (told : (cloud : ℕ) → cloud < s.shape.n → IsTrue (s.told cloud)) where
   finish_done : (count from : ℕ) (old : Vault) (answers : List Line) (moments : List Moment) (new : Vault) → from + count ≡ s.shape.n → FinishLanes s job (range_with_len from count) old answers moments new
       → length (lanes_of old.jobs job) ≤ s.shape.n → AreSoFar s.shape from (lanes_of old.jobs job) → ((cloud : ℕ) → cloud < s.shape.n → ¬ Rose (old.peers cloud).faults (new.peers cloud).faults)
-      → ((line : Line) → Contains answers line → ¬ IsRefused line) → all_done (lanes_of new.jobs job) ≡ true
+      → ((line : Line) → Contains answers line → ¬ SaysRefused line) → all_done (lanes_of new.jobs job) ≡ true
   finish_done zero from old answers moments new all f long so still free =
       subst (λ (v : Vault). all_done (lanes_of v.jobs job) ≡ true) (sym f.2) (all_true (lanes_of old.jobs job) (λ i lt. so.done i (omega (arith, all, long, lt)) lt))
   finish_done (suc count) from old answers moments new all f long so still free =

@@ -25,7 +25,7 @@ use Rattle.session_model.specs.Vault.{Setting, HasVaultExecuted, served_at}
 use Rattle.session_model.specs.Steps.{step_line}
 use Rattle.session_model.proofs.Counts.{keeps_executes, keeps_run}
 use Rattle.session_model.proofs.Faults.{rose_on, then_rose}
-use Rattle.session_laws.specs.Stored.{IsRefused}
+use Rattle.session_laws.specs.Stored.{SaysRefused}
 
 -- ---- which replies a told cloud gives
 
@@ -74,7 +74,7 @@ past_open true batch marks rest e = onward_open rest e
 past_open false batch marks rest e = cc
 
 abbrev IsFree : ℕ → ℕ → LaneNews → Type 0
-IsFree job cloud told = IsRefused (step_line job cloud told) → ⊥
+IsFree job cloud told = SaysRefused (step_line job cloud told) → ⊥
 
 -- one that tells of no refusal refuses nothing
 stays_open : (job cloud : ℕ) (w : Work) (state : LaneState) (reply : Reply) (told : LaneNews) → Answered state reply → news_of state reply ≡ Some told → IsFree job cloud told → lane_after w state reply ≡ Refused → ⊥
@@ -108,7 +108,7 @@ stays_open job cloud w (Sending batch marks rest) (replies.Shares shares) told i
 stays_open job cloud w (Sending batch marks rest) (replies.NotYours place) told is news free e = absurd is
 stays_open job cloud w (Sending batch marks rest) (replies.Entries entries) told is news free e = absurd is
 stays_open job cloud w (Sending batch marks rest) replies.Deleted told is news free e = absurd is
-stays_open job cloud w (Sending batch marks rest) (replies.Full room used need limit) told is news free e = free (subst (λ (n : LaneNews). IsRefused (step_line job cloud n)) (same_Some (lane_news.Full room used need limit) told news) tt)
+stays_open job cloud w (Sending batch marks rest) (replies.Full room used need limit) told is news free e = free (subst (λ (n : LaneNews). SaysRefused (step_line job cloud n)) (same_Some (lane_news.Full room used need limit) told news) tt)
 stays_open job cloud w (Sending batch marks rest) replies.Fault told is news free e = absurd is
 stays_open job cloud w (Sending batch marks rest) (replies.Damaged at byte) told is news free e = absurd is
 stays_open job cloud w (Sending batch marks rest) (replies.Rotten named hash) told is news free e = absurd is
@@ -118,7 +118,7 @@ stays_open job cloud w Committing (replies.Hello n k own format) told is news fr
 stays_open job cloud w Committing (replies.Known known) told is news free e = absurd is
 stays_open job cloud w Committing (replies.Stored new) told is news free e = absurd is
 stays_open job cloud w Committing replies.Committed told is news free e = cc
-stays_open job cloud w Committing replies.Exists told is news free e = free (subst (λ (n : LaneNews). IsRefused (step_line job cloud n)) (same_Some lane_news.Exists told news) tt)
+stays_open job cloud w Committing replies.Exists told is news free e = free (subst (λ (n : LaneNews). SaysRefused (step_line job cloud n)) (same_Some lane_news.Exists told news) tt)
 stays_open job cloud w Committing (replies.Lacking place) told is news free e = onward_open w.batches e
 stays_open job cloud w Committing (replies.Recipe bytes) told is news free e = absurd is
 stays_open job cloud w Committing replies.Missing told is news free e = absurd is
@@ -126,7 +126,7 @@ stays_open job cloud w Committing (replies.Shares shares) told is news free e = 
 stays_open job cloud w Committing (replies.NotYours place) told is news free e = absurd is
 stays_open job cloud w Committing (replies.Entries entries) told is news free e = absurd is
 stays_open job cloud w Committing replies.Deleted told is news free e = absurd is
-stays_open job cloud w Committing (replies.Full room used need limit) told is news free e = free (subst (λ (n : LaneNews). IsRefused (step_line job cloud n)) (same_Some (lane_news.Full room used need limit) told news) tt)
+stays_open job cloud w Committing (replies.Full room used need limit) told is news free e = free (subst (λ (n : LaneNews). SaysRefused (step_line job cloud n)) (same_Some (lane_news.Full room used need limit) told news) tt)
 stays_open job cloud w Committing replies.Fault told is news free e = absurd is
 stays_open job cloud w Committing (replies.Damaged at byte) told is news free e = absurd is
 stays_open job cloud w Committing (replies.Rotten named hash) told is news free e = absurd is

@@ -47,7 +47,7 @@ use Rattle.session.specs.Transcript.refusal.Refusal.TheVariants as refusals
 use Rattle.session_model.specs.Vault.{Setting, Vault, served_at, opening}
 use Rattle.session_model.specs.Steps.{Moment, cloud_no, IsGetLine, NoneFrom, ComesBy, GetStep, skip_line, AreRebuildLines, AllTold, RebuildStep, VStep}
 use Rattle.session_model.specs.Run.{Answered, Turns, script_of, moments_of}
-use Rattle.session_model.specs.Kept.{upload_of, uploads, Commits, Ends as Ended, Refills, Kept, IsDispersed}
+use Rattle.session_model.specs.Kept.{upload_of, uploads, SaysCommitted, EndsKept as Ended, SaysRebuilt, IsVersionKept, IsDispersed}
 use Rattle.session_model.specs.Headline.{Session, IsRun, script_in, moments_in, moments_begun, event_of, Clashes, GivesVersion, GivesAcknowledged, Lacks, GivesFromSome, GivesFromMore, DisksKeep, StillKept}
 use Rattle.session.specs.Spelling.{AreSources}
 use Rattle.session_model.proofs.Ranged.{IsRanged, are_ranged, chosen_of, is_chosen, are_choice, line_fits, get_sources, chosen_below}
@@ -168,7 +168,7 @@ module _ (clouds : ℕ → Cloud) (run : Session) (is : IsRun clouds run) (apart
   read_keeps cloud v p q (inl stays) keeps = keeps q.list (stays_in p q stays q.list (inl refl))
   read_keeps cloud v p q (inr settles) keeps = keeps q.list (settles_in p q settles q.list (inl refl))
 
-  kept_told : (rev : List Answered) (c : ℕ) (v : FileVersion) → Kept run.setting rev c v → IsTrue (run.setting.told c)
+  kept_told : (rev : List Answered) (c : ℕ) (v : FileVersion) → IsVersionKept run.setting rev c v → IsTrue (run.setting.told c)
   kept_told [] c v k = absurd k
   kept_told (a ∷ earlier) c v k = k.0
 
@@ -177,10 +177,10 @@ module _ (clouds : ℕ → Cloud) (run : Session) (is : IsRun clouds run) (apart
 
   -- by what the newest line says
   uploaded_by : (a : Answered) (earlier later : List Answered) (c : ℕ) (v : FileVersion) → run.history ≡ reverse earlier ++ a ∷ later
-      → Commits (script_of (reverse earlier)) c v a.answers
-      ⊎ (Refills run.setting.shape (λ source. Kept run.setting earlier source v) c v a
-      ⊎ (Kept run.setting earlier c v × ¬ Ended c v a.event))
-      → ((source : ℕ) → Kept run.setting earlier source v → Contains (uploads (script_in run)) v)
+      → SaysCommitted (script_of (reverse earlier)) c v a.answers
+      ⊎ (SaysRebuilt run.setting.shape (λ source. IsVersionKept run.setting earlier source v) c v a
+      ⊎ (IsVersionKept run.setting earlier c v × ¬ Ended c v a.event))
+      → ((source : ℕ) → IsVersionKept run.setting earlier source v → Contains (uploads (script_in run)) v)
       → Contains (uploads (script_in run)) v
   uploaded_by a earlier later c v e (inl x) more = subst (λ (l : List Answered). Contains (uploads (script_of l ++ event_of run.begun)) v) (sym e)
       (uploads_front (reverse earlier) (a ∷ later) (event_of run.begun) v (got_has (uploads (script_of (reverse earlier))) x.1.0 v x.1.2))
@@ -191,17 +191,17 @@ module _ (clouds : ℕ → Cloud) (run : Session) (is : IsRun clouds run) (apart
       more some.0 (x.kept some.0 some.1)
   uploaded_by a earlier later c v e (inr (inr x)) more = more c x.0
 
-  kept_uploaded : (rev later : List Answered) (c : ℕ) (v : FileVersion) → run.history ≡ reverse rev ++ later → Kept run.setting rev c v → Contains (uploads (script_in run)) v
+  kept_uploaded : (rev later : List Answered) (c : ℕ) (v : FileVersion) → run.history ≡ reverse rev ++ later → IsVersionKept run.setting rev c v → Contains (uploads (script_in run)) v
   kept_uploaded [] later c v e k = absurd k
   kept_uploaded (a ∷ earlier) later c v e k = uploaded_by a earlier later c v (longer a earlier later e) k.1
       (λ source kept. kept_uploaded earlier (a ∷ later) source v (longer a earlier later e) kept)
 
   kept_by : (a : Answered) (earlier later : List Answered) (c : ℕ) (below : c < run.setting.shape.n) (v : FileVersion) (told : IsTrue (run.setting.told c)) (uploaded : Contains (uploads (script_in run)) v) → run.history ≡ reverse earlier ++ a ∷ later
       → (mid : Vault) → Turns run.setting (opening clouds) (reverse earlier) mid → VStep run.setting mid a.event a.answers a.moments a.after → Turns run.setting a.after later run.between
-      → Commits (script_of (reverse earlier)) c v a.answers
-      ⊎ (Refills run.setting.shape (λ source. Kept run.setting earlier source v) c v a
-      ⊎ (Kept run.setting earlier c v × ¬ Ended c v a.event))
-      → ((source : ℕ) → source < run.setting.shape.n → Kept run.setting earlier source v → KeepsThere source v (mid.peers source)) → KeepsThere c v (a.after.peers c)
+      → SaysCommitted (script_of (reverse earlier)) c v a.answers
+      ⊎ (SaysRebuilt run.setting.shape (λ source. IsVersionKept run.setting earlier source v) c v a
+      ⊎ (IsVersionKept run.setting earlier c v × ¬ Ended c v a.event))
+      → ((source : ℕ) → source < run.setting.shape.n → IsVersionKept run.setting earlier source v → KeepsThere source v (mid.peers source)) → KeepsThere c v (a.after.peers c)
   kept_by a earlier later c below v told uploaded e mid front step behind (inl x) more =
       let r = ranged v uploaded in
       let place : x.0 - 1 ≡ x.1.0 = (let q : x.0 ≡ x.1.0 + 1 = x.1.1 in omega arith) in
@@ -216,17 +216,17 @@ module _ (clouds : ℕ → Cloud) (run : Session) (is : IsRun clouds run) (apart
       let rebuilt = subst (λ (event : Event). VStep run.setting mid event a.answers a.moments a.after) x.event_is step in
       by_result x choice r rebuilt.0 (more_kept x choice) rebuilt.0.result rebuilt.0.lines_are (rebuilt.0.told (all_told x))
     where
-      all_told : (x : Refills run.setting.shape (λ source. Kept run.setting earlier source v) c v a) → AllTold run.setting (c ∷ x.from)
+      all_told : (x : SaysRebuilt run.setting.shape (λ source. IsVersionKept run.setting earlier source v) c v a) → AllTold run.setting (c ∷ x.from)
       all_told x cloud has = elim (contains_cases c x.from cloud has) [
         | inl same ↦ subst (λ (n : ℕ). IsTrue (run.setting.told n)) same told
         | inr source ↦ kept_told earlier cloud v (x.kept cloud source)
       ]
 
       -- each list of a cloud that was read is one that it might have settled as
-      more_kept : (x : Refills run.setting.shape (λ source. Kept run.setting earlier source v) c v a) → AreChoice run.setting.shape x.from → (source : ℕ) → Contains x.from source → KeepsThere source v (mid.peers source)
+      more_kept : (x : SaysRebuilt run.setting.shape (λ source. IsVersionKept run.setting earlier source v) c v a) → AreChoice run.setting.shape x.from → (source : ℕ) → Contains x.from source → KeepsThere source v (mid.peers source)
       more_kept x choice source has = more source (chosen_below run.setting.shape x.from choice source has) (x.kept source has)
 
-      by_result : (x : Refills run.setting.shape (λ source. Kept run.setting earlier source v) c v a) → AreChoice run.setting.shape x.from → IsRanged v
+      by_result : (x : SaysRebuilt run.setting.shape (λ source. IsVersionKept run.setting earlier source v) c v a) → AreChoice run.setting.shape x.from → IsRanged v
           → (r : RebuildStep run.setting v.user c x.from mid.peers a.answers a.moments a.after.peers) → ((source : ℕ) → Contains x.from source → KeepsThere source v (mid.peers source))
           → (result : Result Rebuilt RebuildErr) → AreRebuildLines v.user c result a.answers
           → RunsTo run.setting.shape v.user c (served_at run.setting c) x.from result r.turns mid.peers (a.after.peers c) a.after.peers × Came run.setting.shape c x.from v.user a.after.peers result
@@ -243,7 +243,7 @@ module _ (clouds : ℕ → Cloud) (run : Session) (is : IsRun clouds run) (apart
           (map_has skip_line rebuilt.skipped (skip_for (key_of run.setting.shape v.path v.number) whys.TargetExists) skipped)))
           (sees c (reverse earlier) a later e behind).behind
         where
-          x_apart : (x : Refills run.setting.shape (λ source. Kept run.setting earlier source v) c v a) → (source : ℕ) → Contains x.from source → source ≡ c → ⊥
+          x_apart : (x : SaysRebuilt run.setting.shape (λ source. IsVersionKept run.setting earlier source v) c v a) → (source : ℕ) → Contains x.from source → source ≡ c → ⊥
           x_apart x source has same =
               let fits = line_fits run.setting.shape 0 (script_in run) is.lines (events.Rebuild v.user (cloud_no c) x.from)
               (subst (Contains (script_in run)) x.event_is (among run (reverse earlier) later a e)) in
@@ -254,7 +254,7 @@ module _ (clouds : ℕ → Cloud) (run : Session) (is : IsRun clouds run) (apart
 
   -- what a told cloud acknowledged, each list that it may settle as keeps
   kept_keeps : (rev later : List Answered) (c : ℕ) → c < run.setting.shape.n → (v : FileVersion) → run.history ≡ reverse rev ++ later → (mid : Vault) → Turns run.setting (opening clouds) (reverse rev) mid → Turns run.setting mid later run.between
-      → Kept run.setting rev c v → KeepsThere c v (mid.peers c)
+      → IsVersionKept run.setting rev c v → KeepsThere c v (mid.peers c)
   kept_keeps [] later c below v e mid front behind k = absurd k
   kept_keeps (a ∷ earlier) later c below v e mid front behind k =
       let x = splits run.setting (opening clouds) (reverse earlier) a [] mid (subst (λ (l : List Answered). Turns run.setting (opening clouds) l mid) (reverse-cons a earlier) front) in
@@ -290,7 +290,7 @@ module _ (clouds : ℕ → Cloud) (run : Session) (is : IsRun clouds run) (apart
 
   -- of the clouds of a get each choice of k that acknowledged the version gives it by their lists
   chosen_give : (earlier later : List Answered) (a : Answered) (named : List ℕ) (v : FileVersion) → run.history ≡ earlier ++ a ∷ later → a.event ≡ events.Get v.user v.path v.number named
-      → AreSources run.setting.shape named → (subset : List ℕ) → IsSubset run.setting.shape.k named subset → ((cloud : ℕ) → Contains subset cloud → Kept run.setting (reverse earlier) cloud v)
+      → AreSources run.setting.shape named → (subset : List ℕ) → IsSubset run.setting.shape.k named subset → ((cloud : ℕ) → Contains subset cloud → IsVersionKept run.setting (reverse earlier) cloud v)
       → outcome_of (sought run.setting.shape v.user v.path v.number named) a.after.peers subset ≡ Ok v.file
   chosen_give earlier later a named v e get are subset chosen kept =
       let t = splits run.setting (opening clouds) earlier a later run.between (subst (λ (l : List Answered). Turns run.setting (opening clouds) l run.between) e is.answered) in
@@ -332,7 +332,7 @@ module _ (clouds : ℕ → Cloud) (run : Session) (is : IsRun clouds run) (apart
   got_line named v a file line is same = subst (λ (l : Line). GivesVersion named v a (l ∷ [])) (sym is) same
 
   pub acknowledged_given : (earlier later : List Answered) (a : Answered) (named : List ℕ) (v : FileVersion) → run.history ≡ earlier ++ a ∷ later → a.event ≡ events.Get v.user v.path v.number named
-      → AreSources run.setting.shape named → ((cloud : ℕ) → Contains named cloud → Kept run.setting (reverse earlier) cloud v) → GivesVersion named v a a.answers
+      → AreSources run.setting.shape named → ((cloud : ℕ) → Contains named cloud → IsVersionKept run.setting (reverse earlier) cloud v) → GivesVersion named v a a.answers
   acknowledged_given earlier later a named v e get are kept =
       let g = get_at earlier later a named v e get in
       subst (λ (l : List Line). GivesVersion named v a l) (sym g.answers_are)
@@ -369,26 +369,26 @@ module _ (clouds : ℕ → Cloud) (run : Session) (is : IsRun clouds run) (apart
 
   -- so from whatever choice it came, its clouds acknowledged it
   all_kept : (earlier : List Answered) (a : Answered) (named : List ℕ) (v : FileVersion) (g : GetAt a named v) (subset file : List ℕ)
-      → ((cloud : ℕ) → Contains subset cloud → Kept run.setting (reverse earlier) cloud v ⊎ Lacks run.setting cloud (a.before.peers cloud) v)
-      → outcome_of (sought run.setting.shape v.user v.path v.number named) a.after.peers subset ≡ Ok file → (cloud : ℕ) → Contains subset cloud → Kept run.setting (reverse earlier) cloud v
+      → ((cloud : ℕ) → Contains subset cloud → IsVersionKept run.setting (reverse earlier) cloud v ⊎ Lacks run.setting cloud (a.before.peers cloud) v)
+      → outcome_of (sought run.setting.shape v.user v.path v.number named) a.after.peers subset ≡ Ok file → (cloud : ℕ) → Contains subset cloud → IsVersionKept run.setting (reverse earlier) cloud v
   all_kept earlier a named v g subset file each gives cloud has = elim (each cloud has) [
     | inl kept ↦ kept
     | inr lacks ↦ (let x = lacking_chosen earlier a named v g subset cloud has lacks in let q : Ok file ≡ Err x.0 = sym gives ∙ x.1 in absurd (let r = q in cc))
   ]
 
-  some_told : (earlier : List Answered) (a : Answered) (cloud : ℕ) (v : FileVersion) → Kept run.setting (reverse earlier) cloud v ⊎ Lacks run.setting cloud (a.before.peers cloud) v → IsTrue (run.setting.told cloud)
+  some_told : (earlier : List Answered) (a : Answered) (cloud : ℕ) (v : FileVersion) → IsVersionKept run.setting (reverse earlier) cloud v ⊎ Lacks run.setting cloud (a.before.peers cloud) v → IsTrue (run.setting.told cloud)
   some_told earlier a cloud v (inl kept) = kept_told (reverse earlier) cloud v kept
   some_told earlier a cloud v (inr lacks) = lacks.told
 
   abbrev GivesLine : List Answered → Answered → List ℕ → FileVersion → Line → Type 0
-  GivesLine earlier a named v line = GivesFromSome run.setting.shape (λ cloud. Kept run.setting (reverse earlier) cloud v) named v a (line ∷ [])
+  GivesLine earlier a named v line = GivesFromSome run.setting.shape (λ cloud. IsVersionKept run.setting (reverse earlier) cloud v) named v a (line ∷ [])
 
   pub more_given : (earlier later : List Answered) (a : Answered) (named : List ℕ) (v : FileVersion) → run.history ≡ earlier ++ a ∷ later → a.event ≡ events.Get v.user v.path v.number named
-      → AreSources run.setting.shape named → ((cloud : ℕ) → Contains named cloud → Kept run.setting (reverse earlier) cloud v ⊎ Lacks run.setting cloud (a.before.peers cloud) v)
-      → GivesFromSome run.setting.shape (λ cloud. Kept run.setting (reverse earlier) cloud v) named v a a.answers
+      → AreSources run.setting.shape named → ((cloud : ℕ) → Contains named cloud → IsVersionKept run.setting (reverse earlier) cloud v ⊎ Lacks run.setting cloud (a.before.peers cloud) v)
+      → GivesFromSome run.setting.shape (λ cloud. IsVersionKept run.setting (reverse earlier) cloud v) named v a a.answers
   more_given earlier later a named v e get are each =
       let g = get_at earlier later a named v e get in
-      subst (λ (l : List Line). GivesFromSome run.setting.shape (λ cloud. Kept run.setting (reverse earlier) cloud v) named v a l) (sym g.answers_are)
+      subst (λ (l : List Line). GivesFromSome run.setting.shape (λ cloud. IsVersionKept run.setting (reverse earlier) cloud v) named v a l) (sym g.answers_are)
       (by_result g g.step.result g.step.line_is (g.step.told (λ cloud has. some_told earlier a cloud v (each cloud has))).comes)
     where
       by_result : (g : GetAt a named v) (result : Result (Unit {0}) RestoreErr) → IsGetLine result g.step.file g.line
@@ -405,7 +405,7 @@ module _ (clouds : ℕ → Cloud) (run : Session) (is : IsRun clouds run) (apart
               of_all (NoneFrom (sought run.setting.shape v.user v.path v.number named) g.mid.peers a.after.peers) (subsets run.setting.shape.k named) chosen comes.none
               (subset_is_one run.setting.shape.k named chosen are.rising is)
 
-          failed : (chosen : List ℕ) → IsSubset run.setting.shape.k named chosen → ((cloud : ℕ) → Contains chosen cloud → Kept run.setting (reverse earlier) cloud v)
+          failed : (chosen : List ℕ) → IsSubset run.setting.shape.k named chosen → ((cloud : ℕ) → Contains chosen cloud → IsVersionKept run.setting (reverse earlier) cloud v)
               → NoneFrom (sought run.setting.shape v.user v.path v.number named) g.mid.peers a.after.peers chosen
               → (cloud : ℕ) × Contains chosen cloud × Rose (a.before.peers cloud).faults (a.after.peers cloud).faults
           failed chosen is kept (inl none) = absurd (let q : Ok v.file ≡ Err none.0 = sym (chosen_give earlier later a named v e get are chosen is kept) ∙ none.1 in cc)

@@ -26,7 +26,7 @@ use Rattle.session.specs.Transcript.refusal.Refusal.TheVariants as refusals
 use Rattle.session_model.specs.Vault.{Setting, Vault, new_job, opening}
 use Rattle.session_model.specs.Steps.{Moment, quiet, cloud_no, version_of, lose_lines, all_done, stored_line, LaneStep, EndsListing, IsReplaceLine, AreRebuildLines, VStep}
 use Rattle.session_model.specs.Run.{Answered}
-use Rattle.session_model.specs.Kept.{uploads, IsJobOf, Ends, Kept}
+use Rattle.session_model.specs.Kept.{uploads, IsJobNumberOf, EndsKept, IsVersionKept}
 use Rattle.session_model.specs.Headline.{Session, IsRun, due, GivesVersion}
 
 shape : Shape
@@ -54,22 +54,22 @@ two_jobs : jobs_of 0 script ≡ 2
 unfolding script upload
 two_jobs = refl
 
-second_job : IsJobOf script 2 two
+second_job : IsJobNumberOf script 2 two
 unfolding script upload
 second_job = (1, refl, refl)
 
 -- ---- what a deletion ends
 
 -- the version at the cloud of the line
-deleted_ends : Ends 2 one (events.Delete user (97 ∷ []) (record { 0 = 1 }) (cloud_no 2))
+deleted_ends : EndsKept 2 one (events.Delete user (97 ∷ []) (record { 0 = 1 }) (cloud_no 2))
 unfolding one
 deleted_ends = (refl, refl, refl, refl)
 
 -- not at another cloud
-elsewhere_lasts : ¬ Ends 1 one (events.Delete user (97 ∷ []) (record { 0 = 1 }) (cloud_no 2))
+elsewhere_lasts : ¬ EndsKept 1 one (events.Delete user (97 ∷ []) (record { 0 = 1 }) (cloud_no 2))
 elsewhere_lasts ends = let same : 2 ≡ 1 = ends.0 in omega arith
 
-third_job : (v : FileVersion) → IsJobOf script 3 v → ⊥
+third_job : (v : FileVersion) → IsJobNumberOf script 3 v → ⊥
 unfolding script upload
 third_job v is =
     let place : is.0 ≡ 2 = (let e : 3 ≡ is.0 + 1 = is.1 in omega arith) in
@@ -227,6 +227,6 @@ module _ (s : Setting) (v w : Vault) (told : IsTrue (s.told 0)) where
       ∷ line (events.Step 1 (cloud_no 0)) (lines.Step 1 (cloud_no 0) news.Committed ∷ [])
       ∷ line (upload one) (lines.Job 1 ∷ []) ∷ []
 
-  kept_there : Kept s history 0 one
+  kept_there : IsVersionKept s history 0 one
   unfolding history line upload
   kept_there = (told, inr (inr ((told, inl (1, (0, refl, refl), contains_here (lines.Step 1 (cloud_no 0) news.Committed) [])), λ ends. ends)))

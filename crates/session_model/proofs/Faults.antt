@@ -397,7 +397,7 @@ module _ (event : Event) (c : ℕ) where
         of_read (restore_errors.BadPad secret at byte) is caused = absurd is
         of_read restore_errors.NoMemory is caused = absurd is
 
-        of_error : (e : RebuildErr) (why : Refusal) → rebuild_refusal e ≡ Some why → Says (lines.Refused why) → rebuilding.Causes (told_so s.shape) s.told target (failed_by e) old new → Rose (old c).faults (new c).faults
+        of_error : (e : RebuildErr) (why : Refusal) → rebuild_refusal e ≡ Some why → Says (lines.Refused why) → rebuilding.CausesRebuildEnd (told_so s.shape) s.told target (failed_by e) old new → Rose (old c).faults (new c).faults
         of_error (rebuild_errors.FromRestore e) why is says caused = of_read e (refusal_says e why is says) caused
         of_error rebuild_errors.TargetLost why is says caused = absurd (subst (λ (w : Refusal). Says (lines.Refused w)) (sym (same_Some (refusals.Target target_whys.Lost) why is)) says)
         of_error rebuild_errors.TargetFault why is says caused =
@@ -411,7 +411,7 @@ module _ (event : Event) (c : ℕ) where
         of_error (rebuild_errors.TargetStrange kind) why is says caused = absurd (subst (λ (w : Refusal). Says (lines.Refused w)) (sym (same_Some (refusals.Target (target_whys.Strange kind)) why is)) says)
         of_error rebuild_errors.NoMemory why is says caused = absurd (let f : None ≡ Some why = is in cc)
 
-        by_result : (result : Result Rebuilt RebuildErr) → AreRebuildLines user target result answers → rebuilding.Causes (told_so s.shape) s.told target result old new → Rose (old c).faults (new c).faults
+        by_result : (result : Result Rebuilt RebuildErr) → AreRebuildLines user target result answers → rebuilding.CausesRebuildEnd (told_so s.shape) s.told target result old new → Rose (old c).faults (new c).faults
         by_result (Ok rebuilt) is caused =
             elim (contains_cases (lines.Rebuilt user (cloud_no target) rebuilt.files (length rebuilt.skipped)) (map skip_line rebuilt.skipped) line (subst (λ (l : List Line). Contains l line) is has)) [
               | inl same ↦ absurd (subst Says (sym same) says)

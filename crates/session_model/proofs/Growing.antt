@@ -19,7 +19,7 @@ use Rattle.subset_restore.specs.UserDedup.command.Command.{Command}
 use Rattle.subset_restore.specs.UserDedup.command.Command.TheVariants as commands
 use Rattle.subset_restore.specs.UserDedup.file_list.FileEntry.{FileEntry}
 use Rattle.subset_restore.specs.UserDedup.Cloud.{user_view}
-use Rattle.subset_restore.specs.UserDedup.Dedup.{Outcome, FullRoom, Ends as TakesOut, delete_outcome, by_room, unless_full}
+use Rattle.subset_restore.specs.UserDedup.Dedup.{Outcome, FullRoom, TakesVersionOut as TakesOut, delete_outcome, by_room, unless_full}
 use Rattle.subset_restore.specs.UserDedup.Pages.{entry_at}
 use Rattle.subset_restore.proofs.UserDedup.Growing.{Each, GrowsBy, IfCommand, AddsBy, AsksNoDelete, IsNoDelete, adds_no_delete, ends_none, grows_then}
 use Rattle.subset_restore.specs.UserDedup.Exec.{Peer, MaySettleAs, Settles, KeepsPeer, IsCut, Exec, ExecTold, ExecUntold}
@@ -42,7 +42,7 @@ use Rattle.session.specs.Transcript.line.Line.{Line}
 use Rattle.session_model.specs.Vault.{Setting, Vault, HasVaultExecuted, OneGoes, served_at, lanes_of, with_peer, ExecutesAll}
 use Rattle.subset_restore.proofs.UserDedup.Owned.{contains_cases, contains_nothing, contains_here, contains_later}
 use Rattle.session_model.specs.Steps.{Moment, Execution, moment_of, turn_moment, target_moments, LaneStep, DropStep, FinishLanes, ListRun, ReopensUntold, VStep}
-use Rattle.session_model.specs.Kept.{Ends, paths_of}
+use Rattle.session_model.specs.Kept.{EndsKept, paths_of}
 use Rattle.session_model.specs.Headline.{Begun, ComesTo, IsPartOf, event_of}
 use Rattle.session_model.proofs.Jobs.{asks_at}
 use Rattle.session_model.proofs.With.{with_here, same_other}
@@ -288,7 +288,7 @@ module _ (s : Setting) (c : ℕ) (told : IsTrue (s.told c)) where
   but : (v : FileVersion) (old new : Vault) → Grows (old.peers c) (new.peers c) → GrowsBut v.user (key_of s.shape v.path v.number) (old.peers c) (new.peers c)
   but v old new grows = but_of v.user (key_of s.shape v.path v.number) (old.peers c) (new.peers c) grows
 
-  pub grows_step : (v : FileVersion) (old : Vault) (event : Event) (answers : List Line) (moments : List Moment) (new : Vault) → VStep s old event answers moments new → TagsApart s.shape v event → ¬ Ends c v event
+  pub grows_step : (v : FileVersion) (old : Vault) (event : Event) (answers : List Line) (moments : List Moment) (new : Vault) → VStep s old event answers moments new → TagsApart s.shape v event → ¬ EndsKept c v event
       → GrowsBut v.user (key_of s.shape v.path v.number) (old.peers c) (new.peers c)
   grows_step v old (events.Upload user path version bytes) answers moments new x apart lasts = but v old new (grows_same (old.peers c) (new.peers c) (ap (λ (f : ℕ → Peer). f c) x.2))
   grows_step v old (events.Step job lane) answers moments new x apart lasts = but v old new (grows_lane job lane.0 (lanes.request_at (lanes_of old.jobs job) lane.0) old answers moments new refl x)
@@ -400,7 +400,7 @@ module _ (s : Setting) (c : ℕ) (told : IsTrue (s.told c)) where
   grows_at old (events.Delete user path version cloud) answers moments new x = grows_alone old.peers _ moments x.0.5
 
   pub grows_last : (v : FileVersion) (between : Vault) (begun : Option Begun) (last : ℕ → Peer) → MatchOption begun (last ≡ between.peers) (λ b. IsPartOf s between b last)
-      → ((event : Event) → Contains (event_of begun) event → TagsApart s.shape v event) → ((event : Event) → Contains (event_of begun) event → ¬ Ends c v event)
+      → ((event : Event) → Contains (event_of begun) event → TagsApart s.shape v event) → ((event : Event) → Contains (event_of begun) event → ¬ EndsKept c v event)
       → GrowsBut v.user (key_of s.shape v.path v.number) (between.peers c) (last c)
   grows_last v between None last x apart lasts = same_as (Spares v.user (key_of s.shape v.path v.number)) (between.peers c) (last c) (ap (λ (f : ℕ → Peer). f c) x)
   grows_last v between (Some b) last x apart lasts = by_rest x.1 x.3 x.4

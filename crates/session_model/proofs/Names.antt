@@ -12,7 +12,7 @@ use Rattle.subset_restore.proofs.CaontRs.Opened.{text_of_package, names_apart}
 use Rattle.subset_restore.proofs.UserDedup.Owned.{contains_cases, contains_nothing, contains_here}
 use Rattle.rebuild.specs.UploadJob.Upload.{FileVersion}
 use Rattle.session.specs.Scripts.{AreLines}
-use Rattle.session.specs.Spelling.{Fits}
+use Rattle.session.specs.Spelling.{FitsEvent}
 use Rattle.session.specs.declared.event.Event.{Event}
 use Rattle.session.specs.declared.event.Event.TheVariants as events
 use Rattle.session_model.specs.Steps.{version_of}
@@ -65,7 +65,7 @@ only_path one path is has = elim (contains_cases one [] path has) [
   | inr none ↦ absurd (contains_nothing path none)
 ]
 
-path_fits : (shape : Shape) (jobs : ℕ) (event : Event) → Fits shape jobs event → (path : List ℕ) → Contains (paths_of event) path → IsPath path
+path_fits : (shape : Shape) (jobs : ℕ) (event : Event) → FitsEvent shape jobs event → (path : List ℕ) → Contains (paths_of event) path → IsPath path
 path_fits shape jobs (events.Upload user p version bytes) fits path has = only_path p path fits.named has
 path_fits shape jobs (events.Step job lane) fits path has = absurd (contains_nothing path has)
 path_fits shape jobs (events.Lose job lane) fits path has = absurd (contains_nothing path has)

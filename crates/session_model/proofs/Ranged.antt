@@ -17,7 +17,7 @@ use Rattle.subset_restore.specs.Subsets.{subsets, IsSubset}
 use Rattle.subset_restore.proofs.Choices.{each_is_subset}
 use Rattle.subset_restore.proofs.Elements.{all_of, of_all}
 use Rattle.session.specs.Scripts.{jobs_after, AreLines}
-use Rattle.session.specs.Spelling.{AreClouds, AreSources, Fits, IsTyped, AreBytes}
+use Rattle.session.specs.Spelling.{AreClouds, AreSources, FitsEvent, IsTyped, AreLineBytes}
 use Rattle.session.specs.declared.event.Event.{Event}
 use Rattle.session.specs.declared.event.Event.TheVariants as events
 use Rattle.session_model.specs.Steps.{version_of}
@@ -31,7 +31,7 @@ pub record IsRanged (v : FileVersion) : Type 0 where
   pub bytes : (i : ℕ) → slice_index v.file i < 256
 
 -- past their end bytes are read as 0
-byte_at : (bytes : List ℕ) → AreBytes bytes → (i : ℕ) → slice_index bytes i < 256
+byte_at : (bytes : List ℕ) → AreLineBytes bytes → (i : ℕ) → slice_index bytes i < 256
 byte_at bytes are i = elim (cases_lt i (length bytes)) [
   | inl within ↦ are i 0 within
   | inr past ↦ (let zero_is : slice_index bytes i ≡ 0 = get_or_past bytes i 0 past in omega arith)
@@ -63,7 +63,7 @@ are_choice shape clouds are = record {
 -- ---- lines
 
 -- by what the first line is
-upload_ranged : (shape : Shape) (jobs : ℕ) (event : Event) → Fits shape jobs event → IsTyped event → (v : FileVersion) → Contains (upload_of event) v → IsRanged v
+upload_ranged : (shape : Shape) (jobs : ℕ) (event : Event) → FitsEvent shape jobs event → IsTyped event → (v : FileVersion) → Contains (upload_of event) v → IsRanged v
 upload_ranged shape jobs (events.Upload user path version bytes) fits typed v has = elim (contains_cases (version_of user path version bytes) [] v has) [
   | inl same ↦ subst IsRanged same (record { path = fits.named; few = fits.few; letters = byte_at path typed.1; bytes = byte_at bytes typed.3 })
   | inr none ↦ absurd (contains_nothing v none)
@@ -88,10 +88,10 @@ are_ranged shape jobs (event ∷ script) lines v has = elim (Contains-append_cas
 ]
 
 -- each line fits, where some number of uploads came before it
-pub line_fits : (shape : Shape) (jobs : ℕ) (script : List Event) → AreLines shape jobs script → (event : Event) → Contains script event → (before : ℕ) × Fits shape before event
+pub line_fits : (shape : Shape) (jobs : ℕ) (script : List Event) → AreLines shape jobs script → (event : Event) → Contains script event → (before : ℕ) × FitsEvent shape before event
 line_fits shape jobs [] lines event has = absurd (contains_nothing event has)
 line_fits shape jobs (first ∷ script) lines event has = elim (contains_cases first script event has) [
-  | inl same ↦ (jobs, subst (Fits shape jobs) same lines.0)
+  | inl same ↦ (jobs, subst (FitsEvent shape jobs) same lines.0)
   | inr later ↦ line_fits shape (jobs_after jobs first) script lines.2 event later
 ]
 

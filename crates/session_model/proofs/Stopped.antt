@@ -168,7 +168,7 @@ module _ (s : Setting) (old : Vault) (user : UserId) (target : CloudNo) (from : 
 
     -- one that ends so
     part_so : (would : Result Rebuilt RebuildErr) (later : ℕ → Peer) (answers : List Line) → AreRebuildLines user target.0 would answers → rebuilding.is_lost would ≡ false → HandsOn from would
-        → rebuilding.Causes (told_so s.shape) s.told target.0 would old.peers later → SaidLast would (turns ++ more) → OfReply would (EndsLane s.shape user target.0 (turns ++ more)) → Ends would later
+        → rebuilding.CausesRebuildEnd (told_so s.shape) s.told target.0 would old.peers later → SaidLast would (turns ++ more) → OfReply would (EndsLane s.shape user target.0 (turns ++ more)) → Ends would later
         → RunsTo s.shape user target.0 (served_at s target.0) from would (turns ++ more) old.peers (later target.0) later → Refills s.shape target.0 from user later would
         → LeavesBut from target.0 old.peers later → ComesBefore more (later target.0) at → Part
     part_so would later answers lines_are found named caused said ended ends runs refilled leaves comes = part_by turns more at answers later (record {

@@ -26,7 +26,7 @@ use Rattle.rebuild.specs.UploadJob.Lanes.{with_state}
 use Rattle.rebuild.specs.LaneSteps.Runs.{moved, lane_at}
 use Rattle.rebuild.specs.KeptFiles.Kept.{key_of}
 use Rattle.local_link.specs.Calls.{Armed}
-use Rattle.session.specs.Spelling.{Fits, AreClouds}
+use Rattle.session.specs.Spelling.{FitsEvent, AreClouds}
 use Rattle.session.specs.declared.event.Event.{Event}
 use Rattle.session.specs.declared.event.Event.TheVariants as events
 use Rattle.session.specs.Transcript.refusal.Refusal.{Refusal}
@@ -301,7 +301,7 @@ module _ (s : Setting) (old : Vault) where
       request : Request
       request = requests.Delete user (key_of s.shape path version).0 version
 
-  pub unmoved : (jobs : ℕ) (event : Event) → Fits s.shape jobs event → IsUnmoved s old event
+  pub unmoved : (jobs : ℕ) (event : Event) → FitsEvent s.shape jobs event → IsUnmoved s old event
   unmoved jobs (events.Upload user path version bytes) fits = part_of_upload user path version bytes
   unmoved jobs (events.Step job lane) fits = part_of_step job lane
   unmoved jobs (events.Lose job lane) fits = part_of_lose job lane

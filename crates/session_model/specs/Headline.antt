@@ -27,7 +27,7 @@ use Rattle.session.specs.Transcript.line.Line.TheVariants as lines
 use Rattle.session_model.specs.Vault.{Setting, Vault, opening}
 use Rattle.session_model.specs.Steps.{Moment, VStep}
 use Rattle.session_model.specs.Run.{Answered, Turns, script_of, moments_of, answers_of, IsListIn}
-use Rattle.session_model.specs.Kept.{Ends, Kept, Clash, NamesClash}
+use Rattle.session_model.specs.Kept.{EndsKept, IsVersionKept, Clash, NamesClash}
 
 -- a line that was begun and not answered: what has passed of it
 pub record Begun : Type 0 where
@@ -98,7 +98,7 @@ abbrev pub GivesAcknowledged : Session → Type 0
 GivesAcknowledged run =
     (earlier later : List Answered) (a : Answered) (clouds : List ℕ) (v : FileVersion)
     → run.history ≡ earlier ++ a ∷ later → a.event ≡ events.Get v.user v.path v.number clouds
-    → ((cloud : ℕ) → Contains clouds cloud → Kept run.setting (reverse earlier) cloud v)
+    → ((cloud : ℕ) → Contains clouds cloud → IsVersionKept run.setting (reverse earlier) cloud v)
     → ¬ Clashes run
     → GivesVersion clouds v a a.answers
 
@@ -124,14 +124,15 @@ GivesFromMore run =
     (earlier later : List Answered) (a : Answered) (clouds : List ℕ) (v : FileVersion)
     → run.history ≡ earlier ++ a ∷ later → a.event ≡ events.Get v.user v.path v.number clouds
     → ((cloud : ℕ) → Contains clouds cloud
-    → Kept run.setting (reverse earlier) cloud v ⊎ Lacks run.setting cloud (a.before.peers cloud) v)
+    → IsVersionKept run.setting (reverse earlier) cloud v ⊎ Lacks run.setting cloud (a.before.peers cloud) v)
     → ¬ Clashes run
-    → GivesFromSome run.setting.shape (λ cloud. Kept run.setting (reverse earlier) cloud v) clouds v a a.answers
+    → GivesFromSome run.setting.shape
+    (λ cloud. IsVersionKept run.setting (reverse earlier) cloud v) clouds v a a.answers
 
 -- Behind the last line that was begun the cloud keeps what it acknowledged.
 pub record StillKept (run : Session) (cloud : ℕ) (v : FileVersion) : Type 0 where
-  pub kept : Kept run.setting (reverse run.history) cloud v
-  pub lasts : (event : Event) → Contains (event_of run.begun) event → ¬ Ends cloud v event
+  pub kept : IsVersionKept run.setting (reverse run.history) cloud v
+  pub lasts : (event : Event) → Contains (event_of run.begun) event → ¬ EndsKept cloud v event
 
 -- Every disk that a crash may now leave keeps each acknowledged version.
 abbrev pub DisksKeep : Session → (ℕ → Cloud) → Type 0

@@ -36,25 +36,25 @@ abbrev pub uploads : List Event → List FileVersion
 uploads script = flat_map upload_of script
 
 -- job J, counted from 1, is the upload of this version
-abbrev pub IsJobOf : List Event → ℕ → FileVersion → Type 0
-IsJobOf script job v = (place : ℕ) × (job ≡ place + 1) × (slice_get (uploads script) place ≡ Some v)
+abbrev pub IsJobNumberOf : List Event → ℕ → FileVersion → Type 0
+IsJobNumberOf script job v = (place : ℕ) × (job ≡ place + 1) × (slice_get (uploads script) place ≡ Some v)
 
 -- an answer says that the cloud committed a job of this version
-abbrev pub Commits : List Event → ℕ → FileVersion → List Line → Type 0
-Commits script cloud v answers =
-    (job : ℕ) × IsJobOf script job v × Contains answers (lines.Step job (cloud_no cloud) news.Committed)
+abbrev pub SaysCommitted : List Event → ℕ → FileVersion → List Line → Type 0
+SaysCommitted script cloud v answers =
+    (job : ℕ) × IsJobNumberOf script job v × Contains answers (lines.Step job (cloud_no cloud) news.Committed)
 
 -- The line ends what the cloud keeps of the version: the cloud is replaced, or the version is deleted there, whatever is
 -- answered.
-abbrev pub Ends : ℕ → FileVersion → Event → Type 0
-Ends cloud v (events.Replace replaced) = replaced.0 ≡ cloud
-Ends cloud v (events.Delete user path version from) =
+abbrev pub EndsKept : ℕ → FileVersion → Event → Type 0
+EndsKept cloud v (events.Replace replaced) = replaced.0 ≡ cloud
+EndsKept cloud v (events.Delete user path version from) =
     (from.0 ≡ cloud) × (user ≡ v.user) × (path ≡ v.path) × (version ≡ v.number)
-Ends cloud v event = ⊥
+EndsKept cloud v event = ⊥
 
 -- The answer says that the cloud was rebuilt for the version's user, and that the version wasn't skipped, from clouds that each
 -- had it acknowledged.
-pub record Refills (shape : Shape) (KeptAt : ℕ → Type 0) (cloud : ℕ) (v : FileVersion) (a : Answered) : Type 0 where
+pub record SaysRebuilt (shape : Shape) (KeptAt : ℕ → Type 0) (cloud : ℕ) (v : FileVersion) (a : Answered) : Type 0 where
   pub from : List ℕ
   pub event_is : a.event ≡ events.Rebuild v.user (cloud_no cloud) from
   pub files : ℕ
@@ -66,12 +66,12 @@ pub record Refills (shape : Shape) (KeptAt : ℕ → Type 0) (cloud : ℕ) (v : 
 
 -- The answered lines, the newest first: the cloud acknowledged the version, and no line since ended that. All clouds that
 -- this goes back to are told.
-abbrev pub Kept : Setting → List Answered → ℕ → FileVersion → Type 0
-Kept s [] cloud v = ⊥
-Kept s (a ∷ earlier) cloud v =
-    IsTrue (s.told cloud) × (Commits (script_of (reverse earlier)) cloud v a.answers
-    ⊎ (Refills s.shape (λ source. Kept s earlier source v) cloud v a
-    ⊎ (Kept s earlier cloud v × ¬ Ends cloud v a.event)))
+abbrev pub IsVersionKept : Setting → List Answered → ℕ → FileVersion → Type 0
+IsVersionKept s [] cloud v = ⊥
+IsVersionKept s (a ∷ earlier) cloud v =
+    IsTrue (s.told cloud) × (SaysCommitted (script_of (reverse earlier)) cloud v a.answers
+    ⊎ (SaysRebuilt s.shape (λ source. IsVersionKept s earlier source v) cloud v a
+    ⊎ (IsVersionKept s earlier cloud v × ¬ EndsKept cloud v a.event)))
 
 -- ---- clashes
 

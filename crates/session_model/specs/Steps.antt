@@ -283,15 +283,15 @@ IsRestartLine cloud (Ok commands) line = line ≡ lines.Restarted (cloud_no clou
 IsRestartLine cloud (Err errors.Fault) line = line ≡ lines.Fault (cloud_no cloud)
 IsRestartLine cloud (Err e) line = (at : ℕ) × (byte : ℕ) × (line ≡ lines.Damaged (cloud_no cloud) at byte)
 
-abbrev pub IsFault : Result ℕ OpenErr → Type 0
-IsFault (Err errors.Fault) = Unit {0}
-IsFault result = ⊥
+abbrev pub IsOpeningFault : Result ℕ OpenErr → Type 0
+IsOpeningFault (Err errors.Fault) = Unit {0}
+IsOpeningFault result = ⊥
 
 -- an opening of a cloud of which nothing is told
 pub record ReopensUntold (result : Result ℕ OpenErr) (old new : Peer) : Type 0 where
   pub stays : KeepsPeer old new
   pub counts : CountsOn old new
-  pub fault : IsFault result → Rose old.faults new.faults
+  pub fault : IsOpeningFault result → Rose old.faults new.faults
 
 -- The cloud is opened again, and begun where it wasn't. It may be found damaged only where nothing is told.
 abbrev pub RestartStep : Setting → ℕ → Line → Peer → Peer → Type 0
@@ -401,7 +401,7 @@ pub record RebuildStep (s : Setting) (user : UserId) (target : ℕ) (from : List
   pub executes : ExecutesAll s target (old target) turns (new target)
   pub leaves : LeavesBut from target old new
   pub named : HandsOn from result
-  pub caused : rebuilding.Causes (told_so s.shape) s.told target result old new
+  pub caused : rebuilding.CausesRebuildEnd (told_so s.shape) s.told target result old new
   pub said : SaidLast result turns
   pub ended : OfReply result (EndsLane s.shape user target turns)
   pub own : OwnLanes s.shape user target turns

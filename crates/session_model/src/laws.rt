@@ -18,7 +18,7 @@ ghost use Rattle.subset_restore.specs.UserDedup.Spending.{HoldsItself, IsWithin}
 ghost use Rattle.rebuild.specs.LaneSteps.Runs.{LaneTurn};
 ghost use Rattle.rebuild.specs.Rebuilding.{IsRebuildCut};
 ghost use Rattle.rebuild.specs.Turns.{OwnLanes};
-ghost use Rattle.session.specs.Spelling.{AreClouds, AreSources, Fits};
+ghost use Rattle.session.specs.Spelling.{AreClouds, AreSources, FitsEvent};
 ghost use Rattle.session.specs.declared.event.Event.{Event};
 ghost use Rattle.session.specs.declared.event.Event.TheVariants as events;
 ghost use Rattle.session.specs.Transcript.line.Line.{Line};
@@ -91,7 +91,7 @@ pub fn law_of_parts()
           event = events.Rebuild user target from;
           moments = quiet old.peers ++ map (turn_moment old.peers target.0) turns;
         }) (with_peer old.peers target.0 at) }
-    ensures unmoved { (s : Setting) (old : Vault) (jobs : ℕ) (event : Event) → Fits s.shape jobs event
+    ensures unmoved { (s : Setting) (old : Vault) (jobs : ℕ) (event : Event) → FitsEvent s.shape jobs event
         → IsPartOf s old (record { event = event; moments = [] }) old.peers }
 {}
 

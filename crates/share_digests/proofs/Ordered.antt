@@ -6,18 +6,18 @@ use Rattle.std.proofs.lemmas.List.{take_more_set, get_or-set_same, get_or-set_ot
 use Rattle.std.proofs.lemmas.Bool.{cases_lt}
 use Rattle.std.proofs.lemmas.List.Elements.{Contains-append_left, Contains-push}
 use Rattle.std.proofs.lemmas.List.Sorted.{Contains-permutation}
-use Rattle.share_digests.specs.Digests.{HasAll, IsIn}
+use Rattle.share_digests.specs.Digests.{HasAllPlaces, IsIn}
 
-pub has_none : HasAll 0 []
+pub has_none : HasAllPlaces 0 []
 has_none place less = absurd (omega arith)
 
-pub one_has : (places len : ℕ) (order : List (ℕ × ℕ)) → HasAll places order → HasAll (places + 1) (order ++ (len, places) ∷ [])
+pub one_has : (places len : ℕ) (order : List (ℕ × ℕ)) → HasAllPlaces places order → HasAllPlaces (places + 1) (order ++ (len, places) ∷ [])
 one_has places len order all =
     below_more (IsIn (order ++ (len, places) ∷ [])) places
     (λ place less. let old = all place less in record { len = old.len; has = Contains-append_left order ((len, places) ∷ []) (old.len, place) old.has })
     (record { len = len; has = Contains-push order (len, places) })
 
-pub has_sorted : (order sorted : List (ℕ × ℕ)) (places : ℕ) → IsPermutation order sorted → HasAll places order → HasAll places sorted
+pub has_sorted : (order sorted : List (ℕ × ℕ)) (places : ℕ) → IsPermutation order sorted → HasAllPlaces places order → HasAllPlaces places sorted
 has_sorted order sorted places moved all place less =
     let old = all place less in
     record { len = old.len; has = Contains-permutation order sorted (old.len, place) moved old.has }
@@ -29,9 +29,9 @@ read_there (x ∷ xs) zero d e less = refl
 read_there (x ∷ xs) (suc k) d e less = read_there xs k d e (omega (arith, less))
 
 -- one place more is written
-pub has_more : (order : List (ℕ × ℕ)) (place len : ℕ) → place < length order → HasAll place (take place order) → HasAll (place + 1) (take (place + 1) (slice_set order place (len, place)))
+pub has_more : (order : List (ℕ × ℕ)) (place len : ℕ) → place < length order → HasAllPlaces place (take place order) → HasAllPlaces (place + 1) (take (place + 1) (slice_set order place (len, place)))
 has_more order place len less all =
-    subst (HasAll (place + 1)) (sym (take_more_set order place (len, place) less)) (one_has place len (take place order) all)
+    subst (HasAllPlaces (place + 1)) (sym (take_more_set order place (len, place) less)) (one_has place len (take place order) all)
 
 pub below_set : (order : List (ℕ × ℕ)) (place len n : ℕ) → place < length order → place < n → ((k : ℕ) (d : ℕ × ℕ) → k < place → (slice_index_or order k d).1 < n)
     → (k : ℕ) (d : ℕ × ℕ) → k < place + 1 → (slice_index_or (slice_set order place (len, place)) k d).1 < n

@@ -13,8 +13,8 @@ pub record IsIn (order : List (ℕ × ℕ)) (place : ℕ) : Type 0 where
   pub has : Contains order (len, place)
 
 -- each of so many places is in the order
-abbrev pub HasAll : ℕ → List (ℕ × ℕ) → Type 0
-HasAll places order = (place : ℕ) → place < places → IsIn order place
+abbrev pub HasAllPlaces : ℕ → List (ℕ × ℕ) → Type 0
+HasAllPlaces places order = (place : ℕ) → place < places → IsIn order place
 
 -- the digest at a place is that of the share there
 abbrev pub IsRightAt : List (List ℕ) → List (List ℕ) → ℕ → Type 0

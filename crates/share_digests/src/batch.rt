@@ -1,7 +1,7 @@
 //! The digests of a batch of shares.
 ghost use Rattle.std.specs.Prelude.{◌≡◌, ℕ, ◌+◌, ◌<◌, ◌≤◌, [], length, map, All, slice_index_or};
 ghost use Rattle.sha2.specs.Sha256.{sha256};
-ghost use Rattle.share_digests.specs.Digests.{HasAll, IsRightAt, place_at};
+ghost use Rattle.share_digests.specs.Digests.{HasAllPlaces, IsRightAt, place_at};
 
 use crate::order::{index_at, write_order};
 use crate::parts::parts_of;
@@ -66,7 +66,7 @@ fn hash_next(parts: &[&[u8]], order: &[(usize, usize)], index: usize, digests: &
 
 // Puts the digest of each share at its place. The order has each of the places.
 fn hash_each(parts: &[&[u8]], order: &[(usize, usize)], digests: &mut [[u8; 32]])
-    requires all { HasAll (length parts.now) order.now }
+    requires all { HasAllPlaces (length parts.now) order.now }
     requires below { All (λ pair. pair.1 < length parts.now) order.now }
     requires room { length digests.old ≡ length parts.now }
     ensures right { (place : ℕ) → place < length parts.now

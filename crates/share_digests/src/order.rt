@@ -1,11 +1,11 @@
 //! The places of a batch's shares, in the order of their lengths.
 ghost use Rattle.std.specs.Prelude.{◌≡◌, ℕ, ◌<◌, ◌≤◌, length, All};
-ghost use Rattle.share_digests.specs.Digests.{HasAll, place_at};
+ghost use Rattle.share_digests.specs.Digests.{HasAllPlaces, place_at};
 
 // Writes the length and the place of each share.
 fn write_places(parts: &[&[u8]], order: &mut [(usize, usize)])
     requires { length order.old ≤ length parts.now }
-    ensures all { HasAll (length order.old) order.new }
+    ensures all { HasAllPlaces (length order.old) order.new }
     ensures below { All (λ pair. pair.1 < length order.old) order.new }
     ensures len { length order.new ≡ length order.old }
 {
@@ -16,7 +16,7 @@ fn write_places(parts: &[&[u8]], order: &mut [(usize, usize)])
 
 // Sorts places by the lengths in front of them.
 fn sort(order: &mut [(usize, usize)])
-    ensures all { (places : ℕ) → HasAll places order.old → HasAll places order.new }
+    ensures all { (places : ℕ) → HasAllPlaces places order.old → HasAllPlaces places order.new }
     ensures below { (places : ℕ) → All (λ pair. pair.1 < places) order.old → All (λ pair. pair.1 < places) order.new }
     ensures len { length order.new ≡ length order.old }
 {
@@ -26,7 +26,7 @@ fn sort(order: &mut [(usize, usize)])
 /// Writes the places of shares, each behind its length, in the order of the lengths.
 pub(crate) fn write_order(parts: &[&[u8]], order: &mut [(usize, usize)])
     requires { length order.old ≤ length parts.now }
-    ensures all { HasAll (length order.old) order.new }
+    ensures all { HasAllPlaces (length order.old) order.new }
     ensures below { All (λ pair. pair.1 < length order.old) order.new }
     ensures len { length order.new ≡ length order.old }
 {

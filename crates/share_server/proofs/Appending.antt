@@ -9,7 +9,7 @@ use Rattle.server_requests.proofs.CdBase.Lent.{with_bytes_whole}
 use Rattle.server_requests.specs.CdEdges.Shelf.{ReadsFrom}
 use Rattle.share_server.specs.declared.blobs.BlobErr.{BlobErr}
 use Rattle.share_server.specs.declared.blobs.BlobErr.TheVariants.{Short}
-use Rattle.share_server.specs.Blobs.{blob_at, BlobIs, Appends}
+use Rattle.share_server.specs.Blobs.{blob_at, BlobIs, AppendsBlobBytes}
 
 -- the bytes that were there, and so many of those behind them
 cut_behind : (given : List ℕ) (n count : ℕ) → take (n + count) given ≡ take n given ++ take count (drop n given)
@@ -67,7 +67,7 @@ blob_is area before given place count kept long few read = by_test (count == pla
 
 appends_is : (before given : List ℕ) (len count : ℕ) → take (length before) given ≡ before
     → length given ≡ length before + len → count ≤ len
-    → Appends len (if count == len then Ok tt else Err (Short count)) before (take (length before + count) given)
+    → AppendsBlobBytes len (if count == len then Ok tt else Err (Short count)) before (take (length before + count) given)
 appends_is before given len count kept long few = by_test (count == len) refl
   where
     more : List ℕ
@@ -79,7 +79,7 @@ appends_is before given len count kept long few = by_test (count == len) refl
         let taken = length-take count (drop (length before) given) in omega (arith, rest, taken, long, few)
 
     by_test : (b : Bool) → (count == len) ≡ b
-        → Appends len (if b then Ok tt else Err (Short count)) before (take (length before + count) given)
+        → AppendsBlobBytes len (if b then Ok tt else Err (Short count)) before (take (length before + count) given)
     by_test true is = (more, appended before given count kept, more_long ∙ eqb-true count len is)
     by_test false is = (more, appended before given count kept, more_long, fewer count len few is)
 
@@ -134,7 +134,7 @@ blob_came area before given now place count result w is read =
     (subst (λ (l : List ℕ). BlobIs area place (ended_by count place.len) before l) (sym w.now_is) (blob_is area before given place count w.kept w.long w.few read))
 
 pub appends_came : (before given now : List ℕ) (len count : ℕ) (result : Result (Unit {0}) BlobErr) → Came before given now len count
-    → result ≡ ended_by count len → Appends len result before now
+    → result ≡ ended_by count len → AppendsBlobBytes len result before now
 appends_came before given now len count result w is =
-    subst (λ (r : Result (Unit {0}) BlobErr). Appends len r before now) (sym is)
-    (subst (λ (l : List ℕ). Appends len (ended_by count len) before l) (sym w.now_is) (appends_is before given len count w.kept w.long w.few))
+    subst (λ (r : Result (Unit {0}) BlobErr). AppendsBlobBytes len r before now) (sym is)
+    (subst (λ (l : List ℕ). AppendsBlobBytes len (ended_by count len) before l) (sym w.now_is) (appends_is before given len count w.kept w.long w.few))

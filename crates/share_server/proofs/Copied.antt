@@ -13,7 +13,7 @@ use Rattle.blob_copy.specs.CloudDisk.Disk.{IsRead}
 use Rattle.blob_copy.specs.declared.copying.Copying.{Copying}
 use Rattle.blob_copy.specs.declared.copying.CopyErr.{CopyErr}
 use Rattle.blob_copy.specs.declared.copying.CopyErr.TheVariants as copy
-use Rattle.blob_copy.specs.Answers.{MatchStep, IfRotten, MatchFault, NeverWrong}
+use Rattle.blob_copy.specs.Answers.{MatchStep, IfCopyRotten, MatchFault, NeverWrong}
 use Rattle.blob_copy.specs.Copies.{IsRight, HasCopied}
 use Rattle.blob_copy.specs.Copying.{IsCopyLaid, IsCopying, shares_so_far, entries_so_far}
 use Rattle.server_requests.specs.CloudStore.store.CloudStore.{CloudStore}
@@ -105,7 +105,7 @@ wrong_never T copy.Fault is = tt
 wrong_never T (copy.Rotten named found) is = is
 wrong_never T copy.Long is = is
 
-pub rotten_never : (T : Type 0) (e : CopyErr) → IfRotten {T = T} (Err e) (λ named found. ⊥) → IfRottenThere {T = T} (Err (reclaim_error e)) (λ named found. ⊥)
+pub rotten_never : (T : Type 0) (e : CopyErr) → IfCopyRotten {T = T} (Err e) (λ named found. ⊥) → IfRottenThere {T = T} (Err (reclaim_error e)) (λ named found. ⊥)
 rotten_never T copy.Fault is = tt
 rotten_never T (copy.Rotten named found) is = is
 rotten_never T copy.Long is = tt

@@ -7,7 +7,7 @@ use Rattle.server_requests.specs.JournalStart.Ranges.{IsHeader}
 use Rattle.server_requests.specs.JournalStart.Spelling.{front_bytes, rooms_bytes, header_bytes, start_bytes}
 use Rattle.server_requests.proofs.JournalStart.Lengths.{plain_first, plain_second}
 use Rattle.server_requests.proofs.JournalStart.Whole.{one}
-use Rattle.share_server.specs.Refusals.{DiffersAt, AreAlike}
+use Rattle.share_server.specs.Refusals.{DiffersAt, AreSameInFront}
 
 -- ---- lists
 
@@ -15,7 +15,7 @@ whole : (xs : List ℕ) → take (length xs) xs ≡ xs
 whole [] = refl
 whole (x ∷ xs) = ap (λ (l : List ℕ). x ∷ l) (whole xs)
 
-same_list : (xs ys : List ℕ) → length xs ≡ length ys → AreAlike xs ys → xs ≡ ys
+same_list : (xs ys : List ℕ) → length xs ≡ length ys → AreSameInFront xs ys → xs ≡ ys
 same_list xs ys long alike = sym (whole xs) ∙ ap (λ (n : ℕ). take n xs) long ∙ alike ∙ ap (λ (n : ℕ). take n ys) long ∙ whole ys
 
 -- ---- headers
@@ -52,7 +52,7 @@ by_bytes a b i j e =
     (one 0 (record { header = a; checkpoint = None }) (record { header = b; checkpoint = None }) (record { header = i; behind = refl }) (record { header = j; behind = refl }) (ap (λ (l : List ℕ). l ++ []) e))
 
 -- headers that are the same as far as both go are one
-one_header : (a b : Header) → IsHeader a → IsHeader b → AreAlike (header_bytes a) (header_bytes b) → a ≡ b
+one_header : (a b : Header) → IsHeader a → IsHeader b → AreSameInFront (header_bytes a) (header_bytes b) → a ≡ b
 one_header a b i j alike = elim i.format [
   | inl first ↦ elim j.format [
     | inl too ↦ by_bytes a b i j (same_list (header_bytes a) (header_bytes b) (first_long a first ∙ sym (first_long b too)) alike)
@@ -68,9 +68,9 @@ one_header a b i j alike = elim i.format [
 
 -- what is found of two lists of bytes, which are headers' spellings
 pub differs_of : (found asked : Header) (ours theirs : List ℕ) (place byte : ℕ) → ours ≡ start_bytes (record { header = found; checkpoint = None }) → theirs ≡ start_bytes (record { header = asked; checkpoint = None })
-    → (¬ (AreAlike ours theirs) → DiffersAt ours theirs place byte) → IsHeader found → IsHeader asked → found ≢ asked → DiffersAt (header_bytes found) (header_bytes asked) place byte
+    → (¬ (AreSameInFront ours theirs) → DiffersAt ours theirs place byte) → IsHeader found → IsHeader asked → found ≢ asked → DiffersAt (header_bytes found) (header_bytes asked) place byte
 differs_of found asked ours theirs place byte is are differs i j other =
     let o = is ∙ append-nil (header_bytes found) in let t = are ∙ append-nil (header_bytes asked) in
     subst (λ (l : List ℕ). DiffersAt l (header_bytes asked) place byte) o
     (subst (λ (l : List ℕ). DiffersAt ours l place byte) t
-    (differs (λ alike. other (one_header found asked i j (subst (λ (l : List ℕ). AreAlike l (header_bytes asked)) o (subst (λ (l : List ℕ). AreAlike ours l) t alike))))))
+    (differs (λ alike. other (one_header found asked i j (subst (λ (l : List ℕ). AreSameInFront l (header_bytes asked)) o (subst (λ (l : List ℕ). AreSameInFront ours l) t alike))))))

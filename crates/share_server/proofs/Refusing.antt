@@ -24,7 +24,7 @@ use Rattle.server_requests.specs.CloudStore.store.CloudStore.{CloudStore}
 use Rattle.server_requests.specs.CloudStore.Store.{IsOpen}
 use Rattle.server_requests.proofs.ServerReads.Calling.{kinds}
 use Rattle.share_server.specs.Refusals.{IsRefusal, IsErrorReply, MayCome}
-use Rattle.share_server.specs.Serving.{Answered, an_error}
+use Rattle.share_server.specs.Serving.{IsAnsweredContent, an_error}
 
 rotten_or : (content : List ℕ) (reply : Reply) (same : Reply) (named found : Fp) → IsReply content reply → reply ≡ same → IsReply content (replies.Rotten named found)
     → content ≡ reply_bytes same
@@ -156,7 +156,7 @@ hashed_now h m new (requests.Delete user tag version) answer said e is = tt
 -- ---- the reply to an error
 
 pub fault_answered : (shape : Shape) (r : Request) (s : CloudStore) (old new : Cloud) (before now : ℕ) (content : List ℕ) → IsReply content replies.Fault → HasFailed old new before now
-    → ¬ (IsOpen s) → Answered shape r s old new before now content
+    → ¬ (IsOpen s) → IsAnsweredContent shape r s old new before now content
 fault_answered shape r s old new before now content is failed shut = (
   replies.Fault,
   is,
@@ -167,7 +167,7 @@ fault_answered shape r s old new before now content is failed shut = (
 )
 
 pub refused_answered : (shape : Shape) (r : Request) (error : OpenErr) (s : CloudStore) (old new : Cloud) (before now : ℕ) (content : List ℕ) → MayCome error → ¬ (IsOpen s)
-    → OnFault (an_error error) (HasFailed old new before now) (KeepsCounts old new before now) → IsErrorReply error content → Answered shape r s old new before now content
+    → OnFault (an_error error) (HasFailed old new before now) (KeepsCounts old new before now) → IsErrorReply error content → IsAnsweredContent shape r s old new before now content
 refused_answered shape r errors.Fault s old new before now content may shut counts refuses =
     fault_answered shape r s old new before now content (subst (IsReply content) refuses.refusal refuses.is) counts shut
 refused_answered shape r (errors.Damaged at byte) s old new before now content may shut counts refuses = (
@@ -192,7 +192,7 @@ refused_answered shape r (errors.NotBegun len) s old new before now content may 
 -- ---- behind an opening that kept the counts
 
 pub answered_behind : (shape : Shape) (r : Request) (s : CloudStore) (old mid new : Cloud) (first second third : ℕ) (content : List ℕ) → KeepsCounts old mid first second
-    → Answered shape r s mid new second third content → Answered shape r s old new first third content
+    → IsAnsweredContent shape r s mid new second third content → IsAnsweredContent shape r s old new first third content
 answered_behind shape r s old mid new first second third content keeps a = (
   a.0,
   a.1,

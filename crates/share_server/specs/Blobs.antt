@@ -17,11 +17,11 @@ BlobIs area place (Err Fault) before now = now ≡ before
 BlobIs area place (Err NoMemory) before now = now ≡ before
 
 -- So many bytes were appended as the answer says, whatever they are, and none by Fault and NoMemory.
-abbrev pub Appends : ℕ → Result (Unit {0}) BlobErr → List ℕ → List ℕ → Type 0
-Appends len (Ok u) before now = (more : List ℕ) × (now ≡ before ++ more) × (length more ≡ len)
-Appends len (Err (Short found)) before now = (more : List ℕ) × (now ≡ before ++ more) × (length more ≡ found) × (found < len)
-Appends len (Err Fault) before now = now ≡ before
-Appends len (Err NoMemory) before now = now ≡ before
+abbrev pub AppendsBlobBytes : ℕ → Result (Unit {0}) BlobErr → List ℕ → List ℕ → Type 0
+AppendsBlobBytes len (Ok u) before now = (more : List ℕ) × (now ≡ before ++ more) × (length more ≡ len)
+AppendsBlobBytes len (Err (Short found)) before now = (more : List ℕ) × (now ≡ before ++ more) × (length more ≡ found) × (found < len)
+AppendsBlobBytes len (Err Fault) before now = now ≡ before
+AppendsBlobBytes len (Err NoMemory) before now = now ≡ before
 
 -- one fact where a device failed, and another for every other answer
 abbrev pub OnBlobFault : Result (Unit {0}) BlobErr → Type 0 → Type 0 → Type 0

@@ -3,7 +3,7 @@ use Rattle.std.specs.Prelude.{◌≡◌, ℕ, ◌+◌, ◌<◌, Bool, true, fals
 use Rattle.server_requests.specs.CdBase.ids.Fp.{Fp}
 use Rattle.server_requests.specs.CdEdges.Disk.{Cloud, LeavesOnly, reads}
 use Rattle.server_requests.specs.CdEdges.Shelf.{IsCall, HasFailed, KeepsCounts}
-use Rattle.server_requests.specs.CommitJournal.Leaving.{OthersStay}
+use Rattle.server_requests.specs.CommitJournal.Leaving.{OtherAreasStay}
 use Rattle.server_requests.specs.UserDedup.command.Command.{Command}
 use Rattle.server_requests.specs.UserDedup.Compact.{compact}
 use Rattle.blob_copy.specs.CloudAreas.Standing.{Chain, StandsFor}
@@ -77,8 +77,8 @@ at_copies store copies = record store {
 }
 
 -- The copies end where they should, by what is alive in the slots that were gone over.
-abbrev pub AreLaid : CloudStore → Copies → Type 0
-AreLaid store copies = IsCopyLaid (at_copies store copies) copies.copying
+abbrev pub AreCopiesLaid : CloudStore → Copies → Type 0
+AreCopiesLaid store copies = IsCopyLaid (at_copies store copies) copies.copying
 
 -- The store serves the list, and the copies so far lie in the other region.
 pub record KeepsCopies (list : List Command) (c : Chain) (store : CloudStore) (copies : Copies) (cloud : Cloud) : Type 0 where
@@ -101,7 +101,7 @@ pub record HasGoneOn (Same : Type 0) (old : CloudStore) (copying : Copying) (new
       → OnReclaimFault result (Unit {0}) (KeepsCopies list c new copies (after old.header.cloud.0))
   pub answers : (list : List Command) (c : Chain) → IsCopying list c old copying (before old.header.cloud.0) → IsDoneOrFault result
   pub step : MatchCopied result (copied_so_far old copying < copied_so_far old copies.copying) (AreAllCopied old copies.copying × Same) (copies.copying ≡ copying)
-  pub laid : OnReclaimFault result (Unit {0}) (AreLaid new copies)
+  pub laid : OnReclaimFault result (Unit {0}) (AreCopiesLaid new copies)
   pub right : IsTrue (before old.header.cloud.0).told → OnOk result (HasCopied old copying copies.copying (reads (before old.header.cloud.0).now) (reads (after old.header.cloud.0).now))
   pub rotten : IsTrue (before old.header.cloud.0).told → IfRottenThere result (SomeRotten old.memory (reads (after old.header.cloud.0).now))
   pub beside : IsTrue (before old.header.cloud.0).told → OnReclaimFault result (Unit {0}) (KeepsBeside old (before old.header.cloud.0) (after old.header.cloud.0))
@@ -118,8 +118,8 @@ KeepsOrSwitches old new before after =
     KeepsOrSettles old.disk.journal old.header (commands_in (memory_of old.memory)) (length (records_of new.memory)) (other_region old.region) (records_of new.memory) before after
 
 -- After Ok that checkpoint is there.
-abbrev pub HasTakenPlace : {T E : Type 0} → CloudStore → CloudStore → Cloud → Cloud → Result T E → Type 0
-HasTakenPlace old new before after result =
+abbrev pub HasSwitched : {T E : Type 0} → CloudStore → CloudStore → Cloud → Cloud → Result T E → Type 0
+HasSwitched old new before after result =
     HasSettled old.disk.journal new.disk.journal old.header (commands_in (memory_of old.memory)) (length (records_of new.memory)) (other_region old.region) (records_of new.memory) before after result
 
 -- The switch of a store whose logs are where the copies end.
@@ -134,8 +134,8 @@ pub record SwitchesOver (old : CloudStore) (copying : Copying) (new : CloudStore
   pub region : OnOk result (new.region ≡ other_region old.region)
   pub never_rotten : IfRottenThere result (λ named found. ⊥)
   pub chain : KeepsOrSwitches old new (before old.header.cloud.0) (after old.header.cloud.0)
-  pub taken : HasTakenPlace old new (before old.header.cloud.0) (after old.header.cloud.0) result
-  pub others : OthersStay (before old.header.cloud.0) (after old.header.cloud.0) result
+  pub taken : HasSwitched old new (before old.header.cloud.0) (after old.header.cloud.0) result
+  pub others : OtherAreasStay (before old.header.cloud.0) (after old.header.cloud.0) result
   pub header : new.header ≡ old.header
   pub settled : IsSettled new
   pub ready : OnOk result (IsStoreReady new)

@@ -16,24 +16,24 @@ pub record DiffersAt (found asked : List ℕ) (place byte : ℕ) : Type 0 where
   pub byte_is : byte ≡ slice_index found place
 
 -- the bytes are the same as far as both go
-abbrev pub AreAlike : List ℕ → List ℕ → Type 0
-AreAlike found asked = take (length asked) found ≡ take (length found) asked
+abbrev pub AreSameInFront : List ℕ → List ℕ → Type 0
+AreSameInFront found asked = take (length asked) found ≡ take (length found) asked
 
 -- The place and the byte by which an opening's error is named: those of the damage; of another store's header the first byte that differs, from
 -- the header's place on.
-abbrev pub IsDamage : OpenErr → ℕ → ℕ → Type 0
-IsDamage (errors.Damaged place found) at byte = (at ≡ place) × (byte ≡ found)
-IsDamage (errors.OtherStore found asked header_at) at byte =
+abbrev pub IsNamedDamage : OpenErr → ℕ → ℕ → Type 0
+IsNamedDamage (errors.Damaged place found) at byte = (at ≡ place) × (byte ≡ found)
+IsNamedDamage (errors.OtherStore found asked header_at) at byte =
     (place : ℕ) × (header_at + place < 2 ^ 64 → at ≡ header_at + place)
     × (IsHeader found → IsHeader asked → found ≢ asked → DiffersAt (header_bytes found) (header_bytes asked) place byte)
-IsDamage error at byte = Unit {0}
+IsNamedDamage error at byte = Unit {0}
 
 -- The reply to an error of an opening: Fault as it is, and else Damaged by the error's place and byte.
 abbrev pub IsRefusal : OpenErr → Reply → Type 0
 IsRefusal errors.Fault reply = reply ≡ replies.Fault
 IsRefusal (errors.Damaged at byte) reply = reply ≡ replies.Damaged at byte
 IsRefusal (errors.OtherStore found asked at) reply =
-    (place : ℕ) × (byte : ℕ) × (reply ≡ replies.Damaged place byte) × IsDamage (errors.OtherStore found asked at) place byte
+    (place : ℕ) × (byte : ℕ) × (reply ≡ replies.Damaged place byte) × IsNamedDamage (errors.OtherStore found asked at) place byte
 IsRefusal (errors.NotBegun len) reply = ⊥
 
 -- The content is the reply to this error.

@@ -30,7 +30,7 @@ use Rattle.server_requests.specs.CloudStore.Store.{IsOpen, ServesSome}
 use Rattle.server_requests.specs.ServerCommands.Entering.{Enters}
 use Rattle.server_requests.specs.CommitJournal.States.{IsJournalEnded}
 use Rattle.server_requests.specs.ServerCommands.Executing.{GrowsBehind, LeavesBoth}
-use Rattle.server_requests.specs.ServerCommands.Growing.{GoesOn}
+use Rattle.server_requests.specs.ServerCommands.Growing.{JournalGoesOn}
 use Rattle.server_requests.specs.ServerCommands.JournalHalves.Journals.{Where}
 use Rattle.server_requests.specs.ServerCommands.Leaving.{IsSteady}
 use Rattle.server_requests.specs.ServerCommands.Serving.{serves}
@@ -83,8 +83,8 @@ ExecutesAs old new cloud p request content =
 
 -- The content is a reply that some server gives to the request, and not that memory ran out. Fault comes only where a device failed, and the
 -- store is closed then; with any other reply no count rose.
-abbrev pub Answered : Shape → Request → CloudStore → Cloud → Cloud → ℕ → ℕ → List ℕ → Type 0
-Answered shape request store old new before now content =
+abbrev pub IsAnsweredContent : Shape → Request → CloudStore → Cloud → Cloud → ℕ → ℕ → List ℕ → Type 0
+IsAnsweredContent shape request store old new before now content =
     (answer : Reply) × IsReply content answer × IsReplyTo (items_of shape request) request answer × (answer ≢ replies.NoMemory)
     × (answer ≡ replies.Fault → HasFailed old new before now × ¬ (IsOpen store)) × (answer ≢ replies.Fault → KeepsCounts old new before now)
 
@@ -132,7 +132,7 @@ IsReadToEnd store cloud = (w : Where) × IsJournalEnded store.disk.journal (clou
 -- Of a told cloud whose journal an open server has read to its end, with this chain: the count rose, or the journal is read to its end then too.
 -- Where the reply says that a command was added it was: its record is the last one, and all that it places lies there, on the disk.
 abbrev pub GrowsBy : Where → CloudStore → CloudStore → Cloud → Cloud → Request → List ℕ → Type 0
-GrowsBy w old new before after request content = Rose before.faults after.faults ⊎ GoesOn w old new before after request content
+GrowsBy w old new before after request content = Rose before.faults after.faults ⊎ JournalGoesOn w old new before after request content
 
 -- Whatever chain that is.
 abbrev pub GrowsOn : CloudStore → CloudStore → Cloud → Cloud → Request → List ℕ → Type 0

@@ -17,7 +17,7 @@ ghost use Rattle.blob_copy.specs.ShareIndex.Shares.{place_with};
 ghost use Rattle.server_requests.specs.UserDedup.Cloud.{user_view};
 ghost use Rattle.server_requests.specs.UserDedup.Owning.{is_among};
 ghost use Rattle.server_requests.specs.UserDedup.command.Command.{Command};
-ghost use Rattle.share_server.specs.Blobs.{BlobIs, Appends, OnBlobFault};
+ghost use Rattle.share_server.specs.Blobs.{BlobIs, AppendsBlobBytes, OnBlobFault};
 ghost use Rattle.share_server.specs.Serving.{number_of};
 ghost use Rattle.share_server.specs.declared.blobs.BlobErr.TheVariants.{Short};
 
@@ -84,7 +84,7 @@ impl Server {
     ) -> Result<(), BlobErr>
         ensures blob { IsTrue (V.cloud_at shelf.old (number_of self.old)).told
             → BlobIs ((V.cloud_at shelf.old (number_of self.old)).now area).read place result out.old out.new }
-        ensures appends { Appends place.len result out.old out.new }
+        ensures appends { AppendsBlobBytes place.len result out.old out.new }
         ensures server { self.new ≡ self.old }
         ensures stays { Stays (V.cloud_at shelf.old (number_of self.old)) (V.cloud_at shelf.new (number_of self.old)) }
         ensures call { IsCall (V.cloud_at shelf.old) (V.cloud_at shelf.new) (number_of self.old) (V.faults shelf.old)
@@ -148,7 +148,7 @@ fn read_into<V: Shelf>(
 ) -> Result<(), BlobErr>
     ensures blob { IsTrue (V.cloud_at shelf.old cloud.0).told
         → BlobIs ((V.cloud_at shelf.old cloud.0).now area).read place result out.old out.new }
-    ensures appends { Appends place.len result out.old out.new }
+    ensures appends { AppendsBlobBytes place.len result out.old out.new }
     ensures stays { Stays (V.cloud_at shelf.old cloud.0) (V.cloud_at shelf.new cloud.0) }
     ensures call { IsCall (V.cloud_at shelf.old) (V.cloud_at shelf.new) cloud.0 (V.faults shelf.old)
         (V.faults shelf.new) }

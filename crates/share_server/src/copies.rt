@@ -5,7 +5,7 @@ ghost use Rattle.std.specs.Prelude.{◌≡◌, ◌≤◌, ◌<◌, List, length,
 ghost use Rattle.server_requests.specs.CdBase.Limits.{recipe_limit};
 ghost use Rattle.server_requests.specs.CdEdges.Disk.{Cloud, LeavesOnly, reads};
 ghost use Rattle.server_requests.specs.CdEdges.Shelf.{IsCall, HasFailed, KeepsCounts};
-ghost use Rattle.server_requests.specs.CommitJournal.Leaving.{OthersStay};
+ghost use Rattle.server_requests.specs.CommitJournal.Leaving.{OtherAreasStay};
 ghost use Rattle.server_requests.specs.UserDedup.command.Command.{Command};
 ghost use Rattle.server_requests.specs.UserDedup.Compact.{compact};
 ghost use Rattle.blob_copy.specs.CloudAreas.Standing.{Chain, StandsFor};
@@ -18,8 +18,9 @@ ghost use Rattle.blob_copy.specs.CompactMemories.Moved.{IsMoved, other_region};
 ghost use Rattle.blob_copy.specs.Copies.{HasCopied, KeepsBeside};
 ghost use Rattle.blob_copy.specs.Copying.{IsCopyLaid, IsCopying, AreAllCopied, StandsForKept};
 ghost use Rattle.share_server.specs.Copies.{reclaim_error, OnReclaimFault, IfRottenThere, IsDoneOrFault, MatchCopied};
-ghost use Rattle.share_server.specs.Copies.{no_copies, at_copies, AreLaid, KeepsCopies, copied_so_far, KeepsAllBut};
-ghost use Rattle.share_server.specs.Copies.{HasGoneOn, SwitchesOver, KeepsOrSwitches, HasTakenPlace};
+ghost use Rattle.share_server.specs.Copies.{no_copies, at_copies, AreCopiesLaid, KeepsCopies, copied_so_far};
+ghost use Rattle.share_server.specs.Copies.{KeepsAllBut};
+ghost use Rattle.share_server.specs.Copies.{HasGoneOn, SwitchesOver, KeepsOrSwitches, HasSwitched};
 ghost use Rattle.share_server.specs.Serving.{IsServing, number_of, settled_with};
 
 use crate::Server;
@@ -108,7 +109,7 @@ fn pause(store: &mut CloudStore, copies: &mut Copies)
     ensures copying { copies.new.copying ≡ copies.old.copying }
     ensures copied { (list : List Command) (c : Chain) (cloud : Cloud)
         → IsCopying list c store.old copies.old.copying cloud → KeepsCopies list c store.new copies.new cloud }
-    ensures laid { IsCopyLaid store.old copies.old.copying → AreLaid store.new copies.new }
+    ensures laid { IsCopyLaid store.old copies.old.copying → AreCopiesLaid store.new copies.new }
     ensures same { KeepsAllBut store.old store.new }
     ensures ready { IsStoreReady store.new }
 {
@@ -123,7 +124,7 @@ fn begin_copies(store: &mut CloudStore, copies: &mut Copies)
     ensures copied { (list : List Command) (c : Chain) (cloud : Cloud) → Serves list c store.old cloud
         → KeepsCopies list c store.new copies.new cloud }
     ensures none { (copies.new.copying.place_slot ≡ 0) × (copies.new.copying.file_slot ≡ 0) }
-    ensures laid { AreLaid store.new copies.new }
+    ensures laid { AreCopiesLaid store.new copies.new }
     ensures same { KeepsAllBut store.old store.new }
     ensures ready { IsStoreReady store.new }
 {
@@ -190,7 +191,7 @@ impl Server {
         ensures copied { (list : List Command) (c : Chain) (cloud : Cloud) → Serves list c self.old.store cloud
             → KeepsCopies list c self.new.store self.new.copies cloud }
         ensures none { (self.new.copies.copying.place_slot ≡ 0) × (self.new.copies.copying.file_slot ≡ 0) }
-        ensures laid { AreLaid self.new.store self.new.copies }
+        ensures laid { AreCopiesLaid self.new.store self.new.copies }
         ensures same { KeepsAllBut self.old.store self.new.store }
         ensures open { IsOpen self.new.store }
     {
@@ -214,7 +215,7 @@ impl Server {
     /// count of faults rose, and closes the server.
     pub fn copy_step<V: Shelf>(&mut self, shelf: &mut V) -> Result<bool, ReclaimErr>
         requires open { IsOpen self.old.store }
-        requires laid { AreLaid self.old.store self.old.copies }
+        requires laid { AreCopiesLaid self.old.store self.old.copies }
         ensures any_moment { (list : List Command) (c : Chain)
             → KeepsCopies list c self.old.store self.old.copies (V.cloud_at shelf.old (number_of self.old))
             → LeavesOnly (V.cloud_at shelf.old (number_of self.old)) (V.cloud_at shelf.new (number_of self.old))
@@ -231,7 +232,7 @@ impl Server {
             < copied_so_far self.old.store self.new.copies.copying)
             (AreAllCopied self.old.store self.new.copies.copying × (shelf.new ≡ shelf.old))
             (self.new.copies.copying ≡ self.old.copies.copying) }
-        ensures laid { OnReclaimFault result (Unit {0}) (AreLaid self.new.store self.new.copies) }
+        ensures laid { OnReclaimFault result (Unit {0}) (AreCopiesLaid self.new.store self.new.copies) }
         ensures right { IsTrue (V.cloud_at shelf.old (number_of self.old)).told → OnOk result
             (HasCopied (at_copies self.old.store self.old.copies) self.old.copies.copying self.new.copies.copying
             (reads (V.cloud_at shelf.old (number_of self.old)).now)
@@ -262,7 +263,7 @@ impl Server {
     /// no memory.
     pub fn copy_switch<V: Shelf>(&mut self, shelf: &mut V) -> Result<(), ReclaimErr>
         requires open { IsOpen self.old.store }
-        requires laid { AreLaid self.old.store self.old.copies }
+        requires laid { AreCopiesLaid self.old.store self.old.copies }
         requires all { AreAllCopied self.old.store self.old.copies.copying }
         ensures any_moment { (list : List Command) (c : Chain)
             → KeepsCopies list c self.old.store self.old.copies (V.cloud_at shelf.old (number_of self.old))
@@ -286,9 +287,9 @@ impl Server {
         ensures never_rotten { IfRottenThere result (λ named found. ⊥) }
         ensures chain { KeepsOrSwitches self.old.store self.new.store (V.cloud_at shelf.old (number_of self.old))
             (V.cloud_at shelf.new (number_of self.old)) }
-        ensures taken { HasTakenPlace self.old.store self.new.store (V.cloud_at shelf.old (number_of self.old))
+        ensures taken { HasSwitched self.old.store self.new.store (V.cloud_at shelf.old (number_of self.old))
             (V.cloud_at shelf.new (number_of self.old)) result }
-        ensures others { OthersStay (V.cloud_at shelf.old (number_of self.old))
+        ensures others { OtherAreasStay (V.cloud_at shelf.old (number_of self.old))
             (V.cloud_at shelf.new (number_of self.old)) result }
         ensures none { self.new.copies ≡ no_copies }
         ensures header { self.new.store.header ≡ self.old.store.header }

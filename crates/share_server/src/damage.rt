@@ -3,13 +3,13 @@
 ghost use Rattle.std.specs.Prelude.{◌≢◌};
 ghost use Rattle.server_requests.specs.JournalStart.Ranges.{IsHeader};
 ghost use Rattle.server_requests.specs.JournalStart.Spelling.{header_bytes};
-ghost use Rattle.share_server.specs.Refusals.{DiffersAt, AreAlike, IsDamage, IsErrorReply, MayCome};
+ghost use Rattle.share_server.specs.Refusals.{DiffersAt, AreSameInFront, IsNamedDamage, IsErrorReply, MayCome};
 
 use server_requests::{Header, OpenErr, ReplyBuf, Start, write_damaged, write_fault};
 
 // The first place of both at which found bytes differ from the asked ones, and the byte there; or 0 and 0 where there is none.
 fn first_difference(found: &[u8], asked: &[u8]) -> (usize, u8)
-    ensures { ¬ (AreAlike found.now asked.now) → DiffersAt found.now asked.now result.0 result.1 }
+    ensures { ¬ (AreSameInFront found.now asked.now) → DiffersAt found.now asked.now result.0 result.1 }
 {
     for place in 0..found.len().min(asked.len()) {
         if found[place] != asked[place] {
@@ -41,7 +41,7 @@ fn first_place(found: Header, asked: Header) -> (usize, u8)
 /// header the first byte that differs, counted from the header's place on. Of the other errors, which are no damage, nothing is
 /// said.
 pub fn damage_of(error: OpenErr) -> (u64, u8)
-    ensures { IsDamage error result.0 result.1 }
+    ensures { IsNamedDamage error result.0 result.1 }
 {
     match error {
         OpenErr::Damaged { at, byte } => (at, byte),

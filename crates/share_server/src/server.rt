@@ -55,7 +55,7 @@ impl Server {
     ghost use Rattle.share_server.specs.Names.{header_of};
     ghost use Rattle.share_server.specs.Openings.{NotBegunIs, OtherStoreIs};
     ghost use Rattle.share_server.specs.Serving.{number_of, IsServing, server_serves, settled_with, ReopensAs};
-    ghost use Rattle.share_server.specs.Serving.{ExecutesAs, Answered, IsUnopenedReply, CanOpen};
+    ghost use Rattle.share_server.specs.Serving.{ExecutesAs, IsAnsweredContent, IsUnopenedReply, CanOpen};
     ghost use Rattle.share_server.specs.Serving.{ChangesBehind, EntersBy, GrowsOn, IsReadToEnd, OpensFirst, RottenLeaves};
 
     /// A closed server of this cloud of a store of this shape, in these rooms. It takes all its memory here; the only
@@ -229,7 +229,7 @@ impl Server {
             → ImagesSince (V.cloud_at shelf.old (number_of self.old))
             (V.cloud_at shelf.new (number_of self.old)) self.old.store.header (MayBecome (server_serves self.old) p r) }
         ensures untold { (r : Request) → asked_at self.old.store.header.shape request.now ≡ Ok r
-            → Answered self.old.store.header.shape r self.new.store (V.cloud_at shelf.old (number_of self.old))
+            → IsAnsweredContent self.old.store.header.shape r self.new.store (V.cloud_at shelf.old (number_of self.old))
             (V.cloud_at shelf.new (number_of self.old)) (V.faults shelf.old) (V.faults shelf.new) reply.new }
         ensures rotten { (r : Request) (named found : Fp) → IsOpen self.old.store
             → asked_at self.old.store.header.shape request.now ≡ Ok r → IsReply reply.new (replies.Rotten named found)

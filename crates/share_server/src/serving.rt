@@ -19,7 +19,8 @@ ghost use Rattle.server_requests.specs.ServerCommands.Serving.{serves};
 ghost use Rattle.server_requests.specs.Asking.{request_of, IsOfShape, IsForMemory};
 ghost use Rattle.share_server.specs.Keeping.{IsStoreKept};
 ghost use Rattle.share_server.specs.Refusals.{MayCome};
-ghost use Rattle.share_server.specs.Serving.{ServesAs, ExecutesAs, Answered, IsUnopened, IsUnopenedReply, CanOpen};
+ghost use Rattle.share_server.specs.Serving.{ServesAs, ExecutesAs, IsAnsweredContent, IsUnopened, IsUnopenedReply};
+ghost use Rattle.share_server.specs.Serving.{CanOpen};
 ghost use Rattle.share_server.specs.Serving.{ChangesBehind, EntersBy, GrowsOn, OpensFirst, RottenLeaves};
 ghost use Rattle.server_requests.specs.Hashed.{IsHashed};
 ghost use Rattle.share_server.specs.Steps.{OpensAs, HasDoneRequest, IsOpenedBy};
@@ -52,7 +53,7 @@ fn serve<V: Shelf>(
         → ImagesSince (V.cloud_at shelf.old store.old.header.cloud.0)
         (V.cloud_at shelf.new store.old.header.cloud.0) store.old.header
         (MayBecome (serves store.old) p (request_of asked.now)) }
-    ensures answered { Answered store.old.header.shape (request_of asked.now) store.new
+    ensures answered { IsAnsweredContent store.old.header.shape (request_of asked.now) store.new
         (V.cloud_at shelf.old store.old.header.cloud.0) (V.cloud_at shelf.new store.old.header.cloud.0)
         (V.faults shelf.old) (V.faults shelf.new) reply.new }
     ensures open { IsOpen store.new ⊎ (reply.new ≡ reply_bytes replies.Fault) }
@@ -154,7 +155,7 @@ pub(crate) fn answer<V: Shelf>(
         → ImagesSince (V.cloud_at shelf.old store.old.header.cloud.0)
         (V.cloud_at shelf.new store.old.header.cloud.0) store.old.header
         (MayBecome (serves store.old) p (request_of asked.now)) }
-    ensures answered { Answered store.old.header.shape (request_of asked.now) store.new
+    ensures answered { IsAnsweredContent store.old.header.shape (request_of asked.now) store.new
         (V.cloud_at shelf.old store.old.header.cloud.0) (V.cloud_at shelf.new store.old.header.cloud.0)
         (V.faults shelf.old) (V.faults shelf.new) reply.new }
     ensures rotten { (named found : Fp) → IsOpen store.old → IsReply reply.new (replies.Rotten named found)

@@ -21,7 +21,7 @@ use Rattle.upload_spool.specs.declared.error.SpoolErr.{SpoolErr}
 use Rattle.upload_spool.specs.declared.error.SpoolErr.TheVariants as spool_errors
 use Rattle.upload_spool.specs.declared.spool.Spool.{Spool}
 use Rattle.upload_spool.specs.Spools.{IsBegunOr}
-use Rattle.upload_spool.specs.States.{SpoolState, BeginsIs, IsSpool, LeavesJob, OnFault}
+use Rattle.upload_spool.specs.States.{SpoolState, BeginsIs, IsSpool, LeavesJob, OnSpoolFault}
 use Rattle.backup_command.specs.BackedUp.{AreDone, Met}
 use Rattle.backup_command.specs.Lanes.{numbered}
 use Rattle.spool_command.specs.declared.interruption.Interruption.{Interruption}
@@ -29,7 +29,7 @@ use Rattle.spool_command.specs.declared.interruption.Interruption.TheVariants.{P
 use Rattle.spool_command.specs.declared.writing.Unspooled.TheVariants.{Interrupted}
 use Rattle.spool_command.specs.Going.{GoneOn, HeldOn, WentOn}
 use Rattle.spool_command.specs.Noted.{IfPorts, IfShelf}
-use Rattle.spool_command.specs.Spooled.{CarriesSpool, IsSpoolKept, IsOwnOr, IsUnbegun, LeavesOwn, SpoolOutside, SparesFilled, SpooledOn, call_for, unmet_as}
+use Rattle.spool_command.specs.Spooled.{CarriesSpool, IsSpoolKept, IsOwnOr, IsSpoolUnbegun, LeavesOwn, SpoolOutside, SparesFilled, SpooledOn, call_for, unmet_as}
 
 -- ---- nothing was begun
 
@@ -41,8 +41,8 @@ untouched_spared cloud told some = record { armed = refl; past = refl; now = ref
 
 pub why_unbegun : (error : SpoolErr) (old new : Cloud) (before now : ℕ)
     → (IsTrue old.told → BeginsIs {T = Spool} (reads old.now) (Err error))
-    → OnFault {T = Spool} (Err error) (HasFailed old new before now) (KeepsCounts old new before now)
-    → IsUnbegun old new error
+    → OnSpoolFault {T = Spool} (Err error) (HasFailed old new before now) (KeepsCounts old new before now)
+    → IsSpoolUnbegun old new error
 why_unbegun spool_errors.NoMemory old new before now is counts = tt
 why_unbegun spool_errors.Fault old new before now is counts = counts.cloud
 why_unbegun (spool_errors.NotEmpty area len) old new before now is counts = is

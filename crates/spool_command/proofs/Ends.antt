@@ -23,18 +23,18 @@ use Rattle.backup_command.proofs.Joining.{joined}
 use Rattle.spool_command.specs.declared.interruption.Interruption.{Interruption}
 use Rattle.spool_command.specs.declared.interruption.Interruption.TheVariants.{Ports, Shelf, Memory}
 use Rattle.spool_command.specs.Noted.{IfPorts, IfShelf, IsAlong, KeepsSpool, LanesNoted, NotedWent}
-use Rattle.spool_command.specs.Going.{EndsJob, EndsStored, GoneOn, IsEmptied, IsHeld, NowHolds, WentOn, stored_lines}
+use Rattle.spool_command.specs.Going.{EndsJob, EndsStored, GoneOn, IsFolderEmptied, IsSpoolHeld, NowHolds, WentOn, stored_lines}
 
 -- ---- what is kept
 
 -- so far, or empty
 abbrev pub Sofar : Shape → FileVersion → List CloudNo → List CloudNo → Image → Type 0
-Sofar shape v noted all image = IsAlong shape v noted all image ⊎ IsEmptied image
+Sofar shape v noted all image = IsAlong shape v noted all image ⊎ IsFolderEmptied image
 
 along_only : (shape : Shape) (v : FileVersion) (noted all : List CloudNo) (old new : Cloud) → LeavesOnly old new (IsAlong shape v noted all) → LeavesOnly old new (Sofar shape v noted all)
 along_only shape v noted all old new leaves = weaker old new _ _ leaves (λ image at. inl at)
 
-held : (before after : SpoolState) (v : FileVersion) (all : List CloudNo) (cloud : Cloud) → after.shape ≡ before.shape → IsSpool after v all cloud → IsHeld before.shape v all cloud
+held : (before after : SpoolState) (v : FileVersion) (all : List CloudNo) (cloud : Cloud) → after.shape ≡ before.shape → IsSpool after v all cloud → IsSpoolHeld before.shape v all cloud
 held before after v all cloud shape is image now =
     subst (λ (s : Shape). SpoolFor image s v all) shape (spool_image after v all cloud is image now)
 
@@ -47,7 +47,7 @@ last_along shape v noted all grows image spool = record {
   spool = subst (SpoolFor image shape v) grows.1 spool;
 }
 
-fresh_images : (shape : Shape) (v : FileVersion) (noted all : List CloudNo) (old new : Cloud) → (more : List CloudNo) × (all ≡ noted ++ more) → IsHeld shape v all old → IsFresh old new
+fresh_images : (shape : Shape) (v : FileVersion) (noted all : List CloudNo) (old new : Cloud) → (more : List CloudNo) × (all ≡ noted ++ more) → IsSpoolHeld shape v all old → IsFresh old new
     → LeavesOnly old new (Sofar shape v noted all)
 fresh_images shape v noted all old new grows is fresh =
     moved old new (Sofar shape v noted all) fresh.past (λ image now. inl (last_along shape v noted all grows image (is image now)))
@@ -206,7 +206,7 @@ module _ (behind now : Telling) (clouds : List (CloudNo × ℕ)) (views after : 
           | inl alone ↦ record {
             any_moment = images_joined c0 c1 c2 (Sofar s0.shape v s0.noted w.all) (along_only s0.shape v s0.noted w.all c0 c1 k.any_moment)
                 (left_alone c1 c2 _ alone (λ image is. inl (last_along s0.shape v s0.noted w.all w.grows image (here image is))));
-            now = inl (subst (IsHeld s0.shape v w.all) (sym alone) here);
+            now = inl (subst (IsSpoolHeld s0.shape v w.all) (sym alone) here);
           }
           | inr fresh ↦ record {
             any_moment = images_joined c0 c1 c2 (Sofar s0.shape v s0.noted w.all) (along_only s0.shape v s0.noted w.all c0 c1 k.any_moment)

@@ -18,11 +18,11 @@ use Rattle.upload_spool.specs.States.{SpoolState}
 use Rattle.backup_command.specs.declared.halt.Halt.{Halt}
 use Rattle.backup_command.specs.declared.halt.Halt.TheVariants as halts
 use Rattle.backup_command.specs.Texts.{text_of, step_line, lane_lines}
-use Rattle.backup_command.specs.Steps.{KeepsOtherPorts, AreReady, LaneGoes}
+use Rattle.backup_command.specs.Steps.{KeepsOtherPorts, AreReady, LaneGoesOnPort}
 use Rattle.backup_command.proofs.Joining.{came_on, joined, rest_silent}
 use Rattle.spool_command.specs.declared.interruption.Interruption.{Interruption}
 use Rattle.spool_command.specs.declared.interruption.Interruption.TheVariants.{Ports, Shelf, Memory}
-use Rattle.spool_command.specs.Noted.{Notes, NoteIs, IsAlong, KeepsAll, KeepsNote, LanesNoted, AllNoted, OneNoted, PortsFailed, ShelfFailed, MemoryLacked, Wrote, NotedWent, halted_as}
+use Rattle.spool_command.specs.Noted.{NotesLane, NoteIs, IsAlong, KeepsAll, KeepsNote, LanesNoted, AllNoted, OneNoted, PortsFailed, ShelfFailed, MemoryLacked, WroteLaneLines, NotedWent, halted_as}
 use Rattle.spool_command.proofs.Notes.{kept_same, lost_same, lacked_same}
 
 -- no lane
@@ -38,13 +38,13 @@ went_none behind now views text state cloud = record {
   keeps = kept_same state state cloud refl;
 }
 
-wrote_more : (result : Result (Unit {0}) Interruption) (before mid text : List ℕ) (one more : List Line) → mid ≡ before ++ text_of one → Wrote result mid text more → Wrote result before text (one ++ more)
+wrote_more : (result : Result (Unit {0}) Interruption) (before mid text : List ℕ) (one more : List Line) → mid ≡ before ++ text_of one → WroteLaneLines result mid text more → WroteLaneLines result before text (one ++ more)
 wrote_more (Ok u) before mid text one more a b = joined before mid text one more a b
 wrote_more (Err Ports) before mid text one more a b = joined before mid text one more a b
 wrote_more (Err Shelf) before mid text one more a b = joined before mid text one more a b
 wrote_more (Err Memory) before mid text one more a b = tt
 
-grown : (noted mid : List CloudNo) (lane : CloudNo) (state : LaneState) → Notes noted lane state mid → (more : List CloudNo) × (mid ≡ noted ++ more)
+grown : (noted mid : List CloudNo) (lane : CloudNo) (state : LaneState) → NotesLane noted lane state mid → (more : List CloudNo) × (mid ≡ noted ++ more)
 grown noted mid lane state notes = elim notes [
   | inl new ↦ (lane ∷ [], new.2)
   | inr old ↦ ([], old.1 ∙ sym (append-nil noted))
@@ -95,11 +95,11 @@ stands views between cloud state lt e = ap (λ (l : List LaneView). (lane_at l c
 
 -- a lane that came to its end, and the lanes behind it
 pub went_more : (behind mid new : Telling) (line : CloudNo × ℕ) (rest : List (CloudNo × ℕ)) (views between after : List LaneView) (result : Result (Unit {0}) Interruption) (before text now : List ℕ)
-    (s0 s1 s2 : SpoolState) (c0 c1 c2 : Cloud) → line.0.0 < length views → (IsTrue behind.told → new.port line.1 ≡ mid.port line.1) → LaneGoes behind mid line views (Ok tt) between before text
+    (s0 s1 s2 : SpoolState) (c0 c1 c2 : Cloud) → line.0.0 < length views → (IsTrue behind.told → new.port line.1 ≡ mid.port line.1) → LaneGoesOnPort behind mid line views (Ok tt) between before text
     → NoteIs s0 s1 line.0 (lane_at between line.0.0).state (Ok tt) → KeepsNote s0 s1 line.0 c0 c1 (Ok tt) → s1.shape ≡ s0.shape → c1.told ≡ c0.told
     → NotedWent behind new rest between result after text now s1 s2 c1 c2 → NotedWent behind new (line ∷ rest) views result after before now s0 s2 c0 c2
 went_more behind mid new line rest views between after result before text now s0 s1 s2 c0 c1 c2 lt same one note kept shape told rests =
-    let notes = subst (λ (s : LaneState). Notes s0.noted line.0 s s1.noted) (stands views between line.0.0 one.2 lt one.4) note in
+    let notes = subst (λ (s : LaneState). NotesLane s0.noted line.0 s s1.noted) (stands views between line.0.0 one.2 lt one.4) note in
     let g = grown s0.noted s1.noted line.0 one.2 notes in
     record {
       answers = lane_lines line.0.0 one.0 one.1 ++ rests.answers;
@@ -119,7 +119,7 @@ went_more behind mid new line rest views between after result before text now s0
 -- a lane in which the ports failed, or memory ran out
 pub went_stopped : {P : Type 0} (tells : P → Telling) (behind : Telling) (old new : PortsLink P) (line : CloudNo × ℕ) (rest : List (CloudNo × ℕ)) (views after : List LaneView) (halt : Halt)
     (before text : List ℕ) (state : SpoolState) (cloud : Cloud) → AreReady behind tells old (line ∷ rest) → KeepsOtherPorts tells line.0.0 old new
-    → LaneGoes behind (tells new.ports.now) line views (Err halt) after before text
+    → LaneGoesOnPort behind (tells new.ports.now) line views (Err halt) after before text
     → NotedWent behind (tells new.ports.now) (line ∷ rest) views (Err (halted_as halt)) after before text state state cloud cloud
 went_stopped tells behind old new line rest views after halts.Lost before text state cloud ready leaves one = record {
   answers = map (step_line line.0.0) one.0;
@@ -144,7 +144,7 @@ went_stopped tells behind old new line rest views after halts.NoMemory before te
 -- a lane whose note failed
 pub went_unnoted : {P : Type 0} (tells : P → Telling) (behind : Telling) (old new : PortsLink P) (line : CloudNo × ℕ) (rest : List (CloudNo × ℕ)) (views between : List LaneView) (why : Interruption)
     (before text : List ℕ) (s0 s1 : SpoolState) (c0 c1 : Cloud) → line.0.0 < length views → AreReady behind tells old (line ∷ rest) → KeepsOtherPorts tells line.0.0 old new
-    → LaneGoes behind (tells new.ports.now) line views (Ok tt) between before text
+    → LaneGoesOnPort behind (tells new.ports.now) line views (Ok tt) between before text
     → NoteIs s0 s1 line.0 (lane_at between line.0.0).state (Err why) → KeepsNote s0 s1 line.0 c0 c1 (Err why) → s1.shape ≡ s0.shape
     → NotedWent behind (tells new.ports.now) (line ∷ rest) views (Err why) between before text s0 s1 c0 c1
 went_unnoted tells behind old new line rest views between Ports before text s0 s1 c0 c1 lt ready leaves one note kept shape = absurd note

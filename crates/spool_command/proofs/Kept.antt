@@ -20,8 +20,8 @@ use Rattle.backup_command.specs.PortsLink.Hellos.{hello}
 use Rattle.backup_command.specs.PortsLink.Meeting.{MeetsAll}
 use Rattle.backup_command.specs.PortsLink.Sending.{SendsOnly}
 use Rattle.upload_spool.specs.declared.error.SpoolErr.TheVariants as spool_errors
-use Rattle.upload_spool.specs.Opens.{IsOpenedSpool, OpensIs, answer_of, rising}
-use Rattle.upload_spool.specs.Spools.{FitsKept, SpoolFor}
+use Rattle.upload_spool.specs.Opens.{IsOpenedSpool, OpensSpoolIs, answer_of, rising}
+use Rattle.upload_spool.specs.Spools.{FitsFileVersion, SpoolFor}
 use Rattle.upload_spool.specs.States.{SpoolState, IsJobOf, IsOf, IsSpool, state_of}
 use Rattle.upload_spool.specs.declared.spool.Spool.{Spool}
 use Rattle.upload_spool.proofs.Again.{found_again}
@@ -50,7 +50,7 @@ module _ (shape : Shape) (c0 c1 c2 : Cloud) (same : c1.told ≡ c0.told) (spared
   told_then : IsTrue c0.told → IsTrue c1.told
   told_then told = subst IsTrue (sym same) told
 
-  pub no_job : (IsTrue c0.told → OpensIs shape (reads c0.now) (Ok None)) → (IsTrue c1.told → IsCleared c1 c2) → HasNoJob shape c0 c2
+  pub no_job : (IsTrue c0.told → OpensSpoolIs shape (reads c0.now) (Ok None)) → (IsTrue c1.told → IsCleared c1 c2) → HasNoJob shape c0 c2
   no_job opens clears = record {
     opens = opens;
     clears = λ told.
@@ -75,8 +75,8 @@ module _ (shape : Shape) (c0 c1 c2 : Cloud) (same : c1.told ≡ c0.told) (spared
   -- ---- what is
 
   pub kept_on : (behind now : Telling) (clouds : List (CloudNo × ℕ)) (result : Result Bool Interruption) (text : List ℕ) (state : SpoolState) (views : List LaneView) (v : FileVersion) → IsPath v.path
-      → length v.file ≤ file_limit → IsOf state v → views ≡ lanes_resumed shape v (rising shape state.noted) → (IsTrue c0.told → OpensIs shape (reads c0.now) (Ok (Some (state, views)))) → state.shape ≡ shape
-      → (IsTrue c0.told → (u : FileVersion) (lanes : List CloudNo) → FitsKept u → SpoolFor (reads c0.now) shape u lanes → IsSpool state u lanes c1)
+      → length v.file ≤ file_limit → IsOf state v → views ≡ lanes_resumed shape v (rising shape state.noted) → (IsTrue c0.told → OpensSpoolIs shape (reads c0.now) (Ok (Some (state, views)))) → state.shape ≡ shape
+      → (IsTrue c0.told → (u : FileVersion) (lanes : List CloudNo) → FitsFileVersion u → SpoolFor (reads c0.now) shape u lanes → IsSpool state u lanes c1)
       → WentOn behind now clouds views state result text c1 c2 → KeptOn shape behind now clouds c0 c2 result text
   kept_on behind now clouds result text state views v path few of views_are opens shape_is spool w = record {
     v = v;
@@ -116,7 +116,7 @@ module _ (shape : Shape) (c0 c1 c2 : Cloud) (same : c1.told ≡ c0.told) (spared
 
 -- what is kept is gone on with, or the shelf or memory failed
 found_job : (shape : Shape) (behind now : Telling) (faults later : ℕ) (clouds : List (CloudNo × ℕ)) (folder left : Cloud) (came : Result (Option Bool) Unspooled) (text : List ℕ)
-    → GoesKept shape behind now faults later clouds folder left came text → IsTrue folder.told → (u : FileVersion) (lanes : List CloudNo) → FitsKept u → SpoolFor (reads folder.now) shape u lanes → HasFoundJob came
+    → GoesKept shape behind now faults later clouds folder left came text → IsTrue folder.told → (u : FileVersion) (lanes : List CloudNo) → FitsFileVersion u → SpoolFor (reads folder.now) shape u lanes → HasFoundJob came
 found_job shape behind now faults later clouds folder left (Ok (Some stored)) text goes told u lanes fits for = tt
 found_job shape behind now faults later clouds folder left (Ok None) text goes told u lanes fits for = found_again (reads folder.now) shape u lanes fits for (Ok None) (goes.1.opens told)
 found_job shape behind now faults later clouds folder left (Err (Unkept spool_errors.Fault)) text goes told u lanes fits for = tt
@@ -176,8 +176,8 @@ opened_own shape x is = (
 )
 
 module _ (shape : Shape) (c0 c1 c2 : Cloud) (same : c1.told ≡ c0.told) (spared : IsTrue c0.told → LeavesOnly c0 c1 (IsImage c0.now)) (x : Spool × List LaneView) (o : Option (Spool × List LaneView)) (is_some : o ≡ Some x)
-    (found : IsTrue c0.told → OpensIs shape (reads c0.now) (answer_of (Ok o)))
-    (kept : IsTrue c0.told → (u : FileVersion) (lanes : List CloudNo) → FitsKept u → SpoolFor (reads c0.now) shape u lanes → IfSome o (λ (y : Spool × List LaneView). IsSpool (state_of y.0) u lanes c1))
+    (found : IsTrue c0.told → OpensSpoolIs shape (reads c0.now) (answer_of (Ok o)))
+    (kept : IsTrue c0.told → (u : FileVersion) (lanes : List CloudNo) → FitsFileVersion u → SpoolFor (reads c0.now) shape u lanes → IfSome o (λ (y : Spool × List LaneView). IsSpool (state_of y.0) u lanes c1))
     (opened : IfSome o (IsOpenedSpool shape)) where
   pub opened_is : IsOpenedSpool shape x
   opened_is = subst (λ (p : Option (Spool × List LaneView)). IfSome p (IsOpenedSpool shape)) is_some opened
@@ -186,8 +186,8 @@ module _ (shape : Shape) (c0 c1 c2 : Cloud) (same : c1.told ≡ c0.told) (spared
       → KeptOn shape behind now clouds c0 c2 result text
   kept_by behind now clouds result text w =
       kept_on shape c0 c1 c2 same spared behind now clouds result text (state_of x.0) x.1 opened_is.v opened_is.path opened_is.few opened_is.of opened_is.job_is
-      (subst (λ (p : Option (Spool × List LaneView)). IsTrue c0.told → OpensIs shape (reads c0.now) (answer_of (Ok p))) is_some found) opened_is.shape_is
-      (subst (λ (p : Option (Spool × List LaneView)). IsTrue c0.told → (u : FileVersion) (lanes : List CloudNo) → FitsKept u → SpoolFor (reads c0.now) shape u lanes
+      (subst (λ (p : Option (Spool × List LaneView)). IsTrue c0.told → OpensSpoolIs shape (reads c0.now) (answer_of (Ok p))) is_some found) opened_is.shape_is
+      (subst (λ (p : Option (Spool × List LaneView)). IsTrue c0.told → (u : FileVersion) (lanes : List CloudNo) → FitsFileVersion u → SpoolFor (reads c0.now) shape u lanes
       → IfSome p (λ (y : Spool × List LaneView). IsSpool (state_of y.0) u lanes c1)) is_some kept) w
 
   pub kept_sends : (dialled : List ℕ) (behind now : Telling) → SendsOn (IsAskOn (numbered 0 dialled) x.1) behind now → SendsKept shape dialled behind now c0
@@ -197,7 +197,7 @@ module _ (shape : Shape) (c0 c1 c2 : Cloud) (same : c1.told ≡ c0.told) (spared
     of = opened_is.of;
     views = x.1;
     views_are = opened_is.job_is;
-    opens = subst (λ (p : Option (Spool × List LaneView)). IsTrue c0.told → OpensIs shape (reads c0.now) (answer_of (Ok p))) is_some found;
+    opens = subst (λ (p : Option (Spool × List LaneView)). IsTrue c0.told → OpensSpoolIs shape (reads c0.now) (answer_of (Ok p))) is_some found;
     sends = sends;
   }
 

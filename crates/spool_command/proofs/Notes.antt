@@ -12,10 +12,10 @@ use Rattle.backup_command.specs.LaneSteps.Runs.{lane_at}
 use Rattle.upload_spool.specs.declared.error.SpoolErr.{SpoolErr}
 use Rattle.upload_spool.specs.declared.error.SpoolErr.TheVariants as spool_errors
 use Rattle.upload_spool.specs.Spools.{SpoolFor, IsNotedOr}
-use Rattle.upload_spool.specs.States.{SpoolState, IsSpool, IsNoteAnswer, KeepsOrNotes, HasNoted, OnFault}
+use Rattle.upload_spool.specs.States.{SpoolState, IsSpool, IsNoteAnswer, KeepsOrNotes, HasNoted, OnSpoolFault}
 use Rattle.upload_spool.proofs.Notes.{spool_image}
 use Rattle.spool_command.specs.declared.interruption.Interruption.TheVariants.{Ports, Shelf, Memory}
-use Rattle.spool_command.specs.Noted.{IsNew, Notes, NoteIs, IsAlong, KeepsSpool, KeepsAll, KeepsNote, IfShelf, interruption_of}
+use Rattle.spool_command.specs.Noted.{IsUnnoted, NotesLane, NoteIs, IsAlong, KeepsSpool, KeepsAll, KeepsNote, IfShelf, interruption_of}
 
 -- ---- which lane has entered its version
 
@@ -35,7 +35,7 @@ not_true true both e x = absurd (let f : true ≡ false = e in cc)
 not_true false both e x = let t : IsTrue false = both.1 x in absurd (let f : false ≡ true = t in cc)
 
 pub not_due : (views : List LaneView) (lane : CloudNo) (noted : List CloudNo) (b : Bool) → lane.0 < length views
-    → (IsTrue b ↔ (IsDoneAt views lane.0 × IsNew noted lane)) → b ≡ false → Notes noted lane (lane_at views lane.0).state noted
+    → (IsTrue b ↔ (IsDoneAt views lane.0 × IsUnnoted noted lane)) → b ≡ false → NotesLane noted lane (lane_at views lane.0).state noted
 not_due views lane noted b lt both e = inr ((λ x. not_true b both e (done_at views lane.0 lt x.0, x.1)), refl)
 
 -- ---- images of a spool with these lanes
@@ -108,7 +108,7 @@ abbrev pub an_error : SpoolErr → Result (Unit {0}) SpoolErr
 an_error error = Err error
 
 pub failed_note : (error : SpoolErr) (before after : SpoolState) (lane : CloudNo) (state : LaneState) (old new : Cloud) → IsNoteAnswer (an_error error)
-    → (state ≡ Done) × IsNew before.noted lane
+    → (state ≡ Done) × IsUnnoted before.noted lane
     → (an_error error ≡ an_error spool_errors.NoMemory → (after ≡ before) × (new ≡ old))
     → NoteIs before after lane state (Err (interruption_of error))
 failed_note spool_errors.NoMemory before after lane state old new answer due memory = ap (λ (s : SpoolState). s.noted) (memory refl).0
@@ -132,7 +132,7 @@ failed_kept (spool_errors.Damaged at byte) before after lane old new answer shap
 failed_kept (spool_errors.OtherStore found asked) before after lane old new answer shape keeps memory = absurd answer
 failed_kept (spool_errors.Rotten named found) before after lane old new answer shape keeps memory = absurd answer
 
-pub failed_counts : (error : SpoolErr) (failed other : Type 0) → IsNoteAnswer (an_error error) → OnFault (an_error error) failed other
+pub failed_counts : (error : SpoolErr) (failed other : Type 0) → IsNoteAnswer (an_error error) → OnSpoolFault (an_error error) failed other
     → IfShelf {T = Unit {0}} (Err (interruption_of error)) failed
 failed_counts spool_errors.NoMemory failed other answer on = tt
 failed_counts spool_errors.Fault failed other answer on = on

@@ -66,29 +66,29 @@ GoneOn behind now clouds views noted had (Err Memory) answers after all text =
 -- ---- what is kept
 
 -- the folder's three areas are empty
-abbrev pub IsEmptied : Image → Type 0
-IsEmptied image = (area : Area) → image area ≡ []
+abbrev pub IsFolderEmptied : Image → Type 0
+IsFolderEmptied image = (area : Area) → image area ≡ []
 
 -- a crash leaves the spool of this version with these lanes
-abbrev pub IsHeld : Shape → FileVersion → List CloudNo → Cloud → Type 0
-IsHeld shape v lanes cloud = (image : Image) → IsImage cloud.now image → SpoolFor image shape v lanes
+abbrev pub IsSpoolHeld : Shape → FileVersion → List CloudNo → Cloud → Type 0
+IsSpoolHeld shape v lanes cloud = (image : Image) → IsImage cloud.now image → SpoolFor image shape v lanes
 
 -- Where the version is entered at all clouds the folder is empty, which a crash leaves so. Else a crash leaves the spool with
 -- all lanes that were noted; where the shelf failed in a note, with those before it or with that one. Where memory ran out it is
 -- one or the other.
 abbrev pub NowHolds : Shape → FileVersion → List CloudNo → Cloud → Result Bool Interruption → Type 0
 NowHolds shape v all cloud (Ok true) = (area : Area) → cloud.now area ≡ stable []
-NowHolds shape v all cloud (Ok false) = IsHeld shape v all cloud
-NowHolds shape v all cloud (Err Ports) = IsHeld shape v all cloud
-NowHolds shape v all cloud (Err Shelf) = IsHeld shape v all cloud
+NowHolds shape v all cloud (Ok false) = IsSpoolHeld shape v all cloud
+NowHolds shape v all cloud (Err Ports) = IsSpoolHeld shape v all cloud
+NowHolds shape v all cloud (Err Shelf) = IsSpoolHeld shape v all cloud
     ⊎ ((front : List CloudNo) × (lane : CloudNo) × (all ≡ front ++ lane ∷ [])
     × ((image : Image) → IsImage cloud.now image → IsNotedOr shape v front lane image))
-NowHolds shape v all cloud (Err Memory) = IsHeld shape v all cloud ⊎ ((area : Area) → cloud.now area ≡ stable [])
+NowHolds shape v all cloud (Err Memory) = IsSpoolHeld shape v all cloud ⊎ ((area : Area) → cloud.now area ≡ stable [])
 
 -- Each image since is the spool with the lanes that were noted so far, or empty.
 pub record HeldOn (shape : Shape) (v : FileVersion) (noted all : List CloudNo) (old new : Cloud)
     (result : Result Bool Interruption) : Type 0 where
-  pub any_moment : LeavesOnly old new (λ image. IsAlong shape v noted all image ⊎ IsEmptied image)
+  pub any_moment : LeavesOnly old new (λ image. IsAlong shape v noted all image ⊎ IsFolderEmptied image)
   pub now : NowHolds shape v all new result
 
 -- What the job came to, with its lines, and what is kept of it.

@@ -49,18 +49,18 @@ IfShelf result P = Unit {0}
 -- ---- one lane
 
 -- the lane wasn't noted
-abbrev pub IsNew : List CloudNo → CloudNo → Type 0
-IsNew noted lane = All (λ (other : CloudNo). other.0 ≢ lane.0) noted
+abbrev pub IsUnnoted : List CloudNo → CloudNo → Type 0
+IsUnnoted noted lane = All (λ (other : CloudNo). other.0 ≢ lane.0) noted
 
 -- A lane that stands so is noted behind those before, exactly where its version is entered and it wasn't noted.
-abbrev pub Notes : List CloudNo → CloudNo → LaneState → List CloudNo → Type 0
-Notes noted lane state all =
-    ((state ≡ Done) × IsNew noted lane × (all ≡ noted ++ lane ∷ [])) ⊎ (¬ ((state ≡ Done) × IsNew noted lane) × (all ≡ noted))
+abbrev pub NotesLane : List CloudNo → CloudNo → LaneState → List CloudNo → Type 0
+NotesLane noted lane state all =
+    ((state ≡ Done) × IsUnnoted noted lane × (all ≡ noted ++ lane ∷ [])) ⊎ (¬ ((state ≡ Done) × IsUnnoted noted lane) × (all ≡ noted))
 
 -- what a note answers of a lane that stands so
 abbrev pub NoteIs : SpoolState → SpoolState → CloudNo → LaneState → Result (Unit {0}) Interruption → Type 0
-NoteIs before after lane state (Ok u) = Notes before.noted lane state after.noted
-NoteIs before after lane state (Err Shelf) = (state ≡ Done) × IsNew before.noted lane
+NoteIs before after lane state (Ok u) = NotesLane before.noted lane state after.noted
+NoteIs before after lane state (Err Shelf) = (state ≡ Done) × IsUnnoted before.noted lane
 NoteIs before after lane state (Err Memory) = after.noted ≡ before.noted
 NoteIs before after lane state (Err Ports) = ⊥
 
@@ -114,7 +114,7 @@ pub data LanesNoted (behind now : Telling) : List (CloudNo × ℕ) → List Lane
       (noted mid all : List CloudNo) (came : Result (Unit {0}) StepErr) (news : List LaneNews) (state : LaneState)
       (result : Result (Unit {0}) Interruption) (more : List Line)
       → LaneCame (Tells behind now line.1) (lane_at views line.0.0) came news state
-      → Notes noted line.0 state mid
+      → NotesLane noted line.0 state mid
       → LanesNoted behind now rest (with_state views line.0.0 state) mid result more after all
       → LanesNoted behind now (line ∷ rest) views noted result (lane_lines line.0.0 came news ++ more) after all
   PortsFailed : (line : CloudNo × ℕ) (rest : List (CloudNo × ℕ)) (views : List LaneView) (noted : List CloudNo)
@@ -125,7 +125,7 @@ pub data LanesNoted (behind now : Telling) : List (CloudNo × ℕ) → List Lane
   ShelfFailed : (line : CloudNo × ℕ) (rest : List (CloudNo × ℕ)) (views : List LaneView) (noted : List CloudNo)
       (came : Result (Unit {0}) StepErr) (news : List LaneNews) (state : LaneState)
       → LaneCame (Tells behind now line.1) (lane_at views line.0.0) came news state
-      → state ≡ Done → IsNew noted line.0
+      → state ≡ Done → IsUnnoted noted line.0
       → All (λ (other : CloudNo × ℕ). Tells behind now other.1 SaysNothing) rest
       → LanesNoted behind now (line ∷ rest) views noted (Err Shelf) (lane_lines line.0.0 came news)
       (with_state views line.0.0 state) (noted ++ line.0 ∷ [])
@@ -134,11 +134,11 @@ pub data LanesNoted (behind now : Telling) : List (CloudNo × ℕ) → List Lane
       → LanesNoted behind now lines views noted (Err Memory) [] after noted
 
 -- the lines stand behind what was there, but where memory ran out
-abbrev pub Wrote : {T : Type 0} → Result T Interruption → List ℕ → List ℕ → List Line → Type 0
-Wrote (Ok u) before text answers = text ≡ before ++ text_of answers
-Wrote (Err Ports) before text answers = text ≡ before ++ text_of answers
-Wrote (Err Shelf) before text answers = text ≡ before ++ text_of answers
-Wrote (Err Memory) before text answers = Unit {0}
+abbrev pub WroteLaneLines : {T : Type 0} → Result T Interruption → List ℕ → List ℕ → List Line → Type 0
+WroteLaneLines (Ok u) before text answers = text ≡ before ++ text_of answers
+WroteLaneLines (Err Ports) before text answers = text ≡ before ++ text_of answers
+WroteLaneLines (Err Shelf) before text answers = text ≡ before ++ text_of answers
+WroteLaneLines (Err Memory) before text answers = Unit {0}
 
 -- What the lanes of these clouds came to, with their lines behind what was there, and what is kept.
 pub record NotedWent (behind now : Telling) (lines : List (CloudNo × ℕ)) (views : List LaneView)
@@ -147,7 +147,7 @@ pub record NotedWent (behind now : Telling) (lines : List (CloudNo × ℕ)) (vie
   pub answers : List Line
   pub all : List CloudNo
   pub go : LanesNoted behind now lines views old.noted result answers after all
-  pub wrote : Wrote result before text answers
+  pub wrote : WroteLaneLines result before text answers
   pub grows : (more : List CloudNo) × (all ≡ old.noted ++ more)
   pub shape : new.shape ≡ old.shape
   pub keeps : KeepsAll old new all cloud left result

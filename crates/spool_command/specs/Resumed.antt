@@ -19,8 +19,8 @@ use Rattle.backup_command.specs.PortsLink.Meeting.{MeetsAll}
 use Rattle.backup_command.specs.PortsLink.Sending.{SendsOnly}
 use Rattle.upload_spool.specs.declared.error.SpoolErr.{SpoolErr}
 use Rattle.upload_spool.specs.declared.error.SpoolErr.TheVariants as spool_errors
-use Rattle.upload_spool.specs.Opens.{OpensIs, rising}
-use Rattle.upload_spool.specs.Spools.{FitsKept, SpoolFor}
+use Rattle.upload_spool.specs.Opens.{OpensSpoolIs, rising}
+use Rattle.upload_spool.specs.Spools.{FitsFileVersion, SpoolFor}
 use Rattle.upload_spool.specs.States.{SpoolState, IsOf}
 use Rattle.backup_command.specs.BackedUp.{AreDone, Met}
 use Rattle.backup_command.specs.Lanes.{numbered}
@@ -30,7 +30,7 @@ use Rattle.spool_command.specs.declared.interruption.Interruption.{Interruption}
 use Rattle.spool_command.specs.declared.interruption.Interruption.TheVariants.{Ports, Shelf, Memory}
 use Rattle.spool_command.specs.declared.writing.Unspooled.{Unspooled}
 use Rattle.spool_command.specs.declared.writing.Unspooled.TheVariants.{Undialled, Unheard, Refused, Unkept, Interrupted}
-use Rattle.spool_command.specs.Going.{GoneOn, IsEmptied, NowHolds}
+use Rattle.spool_command.specs.Going.{GoneOn, IsFolderEmptied, NowHolds}
 use Rattle.spool_command.specs.Noted.{IsAlong, LanesNoted}
 use Rattle.spool_command.specs.Spooled.{SpoolOutside, call_for, AreAddressesUnmet}
 use Rattle.spool_command.specs.Writing.{IsWritten}
@@ -39,7 +39,7 @@ use Rattle.spool_command.specs.Writing.{IsWritten}
 
 -- what a crash might have left at the start, or empty areas
 abbrev pub IsOldOrEmptied : Cloud → Image → Type 0
-IsOldOrEmptied folder image = IsImage folder.now image ⊎ IsEmptied image
+IsOldOrEmptied folder image = IsImage folder.now image ⊎ IsFolderEmptied image
 
 -- The folder reads empty in the end, and each image since is one of before, or empty.
 pub record IsCleared (folder left : Cloud) : Type 0 where
@@ -53,12 +53,12 @@ Clears folder left (Err error) = LeavesOnly folder left (IsImage folder.now)
 
 -- No job is kept for clouds of this shape, and the folder is cleared.
 pub record HasNoJob (shape : Shape) (folder left : Cloud) : Type 0 where
-  pub opens : IsTrue folder.told → OpensIs shape (reads folder.now) (Ok None)
+  pub opens : IsTrue folder.told → OpensSpoolIs shape (reads folder.now) (Ok None)
   pub clears : IsTrue folder.told → IsCleared folder left
 
 -- What is kept for clouds of this shape can't be gone on with. It stays: each image since is one that a crash might have left before.
 pub record IsSpoolUnopened (shape : Shape) (folder left : Cloud) (error : SpoolErr) : Type 0 where
-  pub opens : IsTrue folder.told → OpensIs shape (reads folder.now) (Err error)
+  pub opens : IsTrue folder.told → OpensSpoolIs shape (reads folder.now) (Err error)
   pub stays : IsTrue folder.told → LeavesOnly folder left (IsImage folder.now)
   pub cause : error ≡ spool_errors.Fault → Rose folder.faults left.faults
 
@@ -83,14 +83,14 @@ pub record KeptOn (shape : Shape) (behind now : Telling) (clouds : List (CloudNo
   pub of : IsOf state v
   pub views : List LaneView
   pub views_are : views ≡ lanes_resumed shape v (rising shape state.noted)
-  pub opens : IsTrue folder.told → OpensIs shape (reads folder.now) (Ok (Some (state, views)))
+  pub opens : IsTrue folder.told → OpensSpoolIs shape (reads folder.now) (Ok (Some (state, views)))
   pub had : Bool
   pub had_is : IsTrue had ↔ AreDone views
   pub answers : List Line
   pub after : List LaneView
   pub all : List CloudNo
   pub gone : GoneOn behind now clouds views state.noted had result answers after all text
-  pub kept : IsTrue folder.told → (u : FileVersion) (lanes : List CloudNo) → FitsKept u → SpoolFor (reads folder.now) shape u lanes
+  pub kept : IsTrue folder.told → (u : FileVersion) (lanes : List CloudNo) → FitsFileVersion u → SpoolFor (reads folder.now) shape u lanes
       → (state.noted ≡ lanes)
       × KeptSince shape u lanes all folder left result (LanesNoted behind now clouds views lanes (Ok tt) answers after all × AreDone after)
 
@@ -120,7 +120,7 @@ pub record SendsKept (shape : Shape) (dialled : List ℕ) (behind now : Telling)
   pub of : IsOf state v
   pub views : List LaneView
   pub views_are : views ≡ lanes_resumed shape v (rising shape state.noted)
-  pub opens : IsTrue folder.told → OpensIs shape (reads folder.now) (Ok (Some (state, views)))
+  pub opens : IsTrue folder.told → OpensSpoolIs shape (reads folder.now) (Ok (Some (state, views)))
   pub sends : SendsOn (IsAskOn (numbered 0 dialled) views) behind now
 
 -- The same, or nothing was sent.
@@ -155,7 +155,7 @@ pub record MetAndWent (out : SpoolOutside) (came : Result (Option Bool) Unspoole
   pub behind : Telling
   pub met : Met (call_for out any_version) dialled shape behind
   pub goes : GoesKept shape behind out.after out.faults_before out.faults_after (numbered 0 dialled) out.folder out.left came text
-  pub found : IsTrue out.folder.told → (u : FileVersion) (lanes : List CloudNo) → FitsKept u → SpoolFor (reads out.folder.now) shape u lanes → HasFoundJob came
+  pub found : IsTrue out.folder.told → (u : FileVersion) (lanes : List CloudNo) → FitsFileVersion u → SpoolFor (reads out.folder.now) shape u lanes → HasFoundJob came
   pub others : IsTrue behind.told → (port : ℕ) → ¬ Contains dialled port → out.after.port port ≡ behind.port port
 
 -- Nothing but pieces of Hellos was sent; or all clouds replied as asked, and then nothing but pieces of the requests of the kept job.

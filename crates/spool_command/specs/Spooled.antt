@@ -24,14 +24,14 @@ use Rattle.upload_spool.specs.Spools.{HasOpenJob}
 use Rattle.upload_spool.specs.States.{SpoolState, BeginsIs, IsSpool, LeavesJob, NoOpenJob, first_filled}
 use Rattle.backup_command.specs.BackedUp.{AreDone, BackupCall, Met}
 use Rattle.backup_command.specs.Lanes.{numbered}
-use Rattle.backup_command.specs.Reading.{Input, IsFileRead, IsTooLong}
+use Rattle.backup_command.specs.Reading.{Input, IsFileRead, IsFileTooLong}
 use Rattle.backup_command.specs.Writing.{Output, IsSilent, HasWrittenOrCause}
 use Rattle.spool_command.specs.declared.interruption.Interruption.{Interruption}
 use Rattle.spool_command.specs.declared.interruption.Interruption.TheVariants.{Ports, Shelf, Memory}
 use Rattle.spool_command.specs.declared.spooling.SpooledFile.{SpooledFile}
 use Rattle.spool_command.specs.declared.writing.Unspooled.{Unspooled}
 use Rattle.spool_command.specs.declared.writing.Unspooled.TheVariants.{Undialled, Unheard, Refused, Unkept, Interrupted}
-use Rattle.spool_command.specs.Going.{GoneOn, IsEmptied, NowHolds}
+use Rattle.spool_command.specs.Going.{GoneOn, IsFolderEmptied, NowHolds}
 use Rattle.spool_command.specs.Noted.{IsAlong}
 use Rattle.spool_command.specs.Writing.{IsWritten}
 
@@ -65,10 +65,10 @@ abbrev pub call_of : SpoolOutside → SpooledFile → BackupCall
 call_of out file = call_for out (version_for file [])
 
 -- Why nothing was begun, by the folder's areas, before and after it.
-abbrev pub IsUnbegun : Cloud → Cloud → SpoolErr → Type 0
-IsUnbegun old new spool_errors.NoMemory = Unit {0}
-IsUnbegun old new spool_errors.Fault = Rose old.faults new.faults
-IsUnbegun old new error = IsTrue old.told → BeginsIs {T = Unit {0}} (reads old.now) (Err error)
+abbrev pub IsSpoolUnbegun : Cloud → Cloud → SpoolErr → Type 0
+IsSpoolUnbegun old new spool_errors.NoMemory = Unit {0}
+IsSpoolUnbegun old new spool_errors.Fault = Rose old.faults new.faults
+IsSpoolUnbegun old new error = IsTrue old.told → BeginsIs {T = Unit {0}} (reads old.now) (Err error)
 
 -- a folder that isn't empty stays as it is
 abbrev pub SparesFilled : Cloud → Cloud → Type 0
@@ -105,12 +105,12 @@ pub record IsUnkept (out : SpoolOutside) (v : FileVersion) (error : SpoolErr) : 
   pub shape : Shape
   pub dialled : List ℕ
   pub met : Met (call_for out v) dialled shape out.after
-  pub refused : IsUnbegun out.folder out.left error
+  pub refused : IsSpoolUnbegun out.folder out.left error
   pub any_moment : LeavesJob shape v out.folder out.left
 
 -- no job is open, or this one, with the lanes that were noted so far, or all is empty
 abbrev pub IsOwnOr : Shape → FileVersion → List CloudNo → Image → Type 0
-IsOwnOr shape v all image = (¬ (HasOpenJob (image Journal))) ⊎ (IsAlong shape v [] all image ⊎ IsEmptied image)
+IsOwnOr shape v all image = (¬ (HasOpenJob (image Journal))) ⊎ (IsAlong shape v [] all image ⊎ IsFolderEmptied image)
 
 -- Where the folder was empty and no crash left a job there, each image since is so.
 abbrev pub LeavesOwn : Shape → FileVersion → List CloudNo → Cloud → Cloud → Type 0
@@ -169,7 +169,7 @@ pub data IsSpooled (status : ℕ) (outside : SpoolOutside) (file : SpooledFile) 
   ReadLacked : status ≡ 6 → IsSilent out → IsOutsideUntouched outside → IsSpooled status outside file input out
   ReadFailed : status ≡ 3 → Rose input.faults_before input.faults_after → IsSilent out → IsOutsideUntouched outside
       → IsSpooled status outside file input out
-  ReadTooMuch : (byte : ℕ) → IsTooLong input byte
+  ReadTooMuch : (byte : ℕ) → IsFileTooLong input byte
       → HasWrittenOrCause (ending_text (endings.Script 1 file_limit (Some byte))) 2 out status
       → IsOutsideUntouched outside
       → IsSpooled status outside file input out

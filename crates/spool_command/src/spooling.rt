@@ -11,7 +11,7 @@ ghost use Rattle.backup_command.specs.PortsLink.Dialled.{OnlyDialled};
 ghost use Rattle.backup_command.specs.Reading.{input_of};
 ghost use Rattle.backup_command.specs.Sends.{HasSentOwn, SendsOwn};
 ghost use Rattle.backup_command.specs.Writing.{output_of};
-ghost use Rattle.spool_command.specs.Spooled.{CarriesSpool, IsSpoolKept, IsSpooled, IsUnbegun, SparesFilled, unmet_as, version_for};
+ghost use Rattle.spool_command.specs.Spooled.{CarriesSpool, IsSpoolKept, IsSpooled, IsSpoolUnbegun, SparesFilled, unmet_as, version_for};
 
 use crate::bringing::LaneBuffers;
 use crate::going::go_on;
@@ -55,7 +55,7 @@ fn start<V: Shelf>(
     ensures any_moment { LeavesJob shape (version_for file.now bytes)
         (V.cloud_at shelf.old 0) (V.cloud_at shelf.new 0) }
     ensures spared { SparesFilled (V.cloud_at shelf.old 0) (V.cloud_at shelf.new 0) }
-    ensures refused { IfErr result (IsUnbegun (V.cloud_at shelf.old 0) (V.cloud_at shelf.new 0)) }
+    ensures refused { IfErr result (IsSpoolUnbegun (V.cloud_at shelf.old 0) (V.cloud_at shelf.new 0)) }
     ensures call { IsCall (V.cloud_at shelf.old) (V.cloud_at shelf.new) 0 (V.faults shelf.old) (V.faults shelf.new) }
 {
     let user = file.user;

@@ -32,10 +32,10 @@ use Rattle.cloud_opening.specs.Synced.{AreSynced, BeginsSynced}
 use Rattle.cloud_opening.proofs.Synced.{counts_still}
 use Rattle.store_migration.specs.declared.errors.MigrateErr.{MigrateErr}
 use Rattle.store_migration.specs.declared.errors.MigrateErr.TheVariants as why
-use Rattle.store_migration.specs.Answers.{MigratedAs, OnFault, IfAnswered, IfRefused, IfNoMemory}
+use Rattle.store_migration.specs.Answers.{MigratedAs, OnMigrateFault, IfAnswered, IfRefused, IfNoMemory}
 use Rattle.store_migration.specs.Exact.{ReadsOld, Migrates}
 use Rattle.store_migration.specs.Exact as exact
-use Rattle.store_migration.specs.Judging.{JudgedAs, JudgedBy, SettledAs, TakenOverAs, GoesOn}
+use Rattle.store_migration.specs.Judging.{MemoryJudgedAs, JudgedBy, SettledAs, TakenOverAs, MomentsGoOn}
 use Rattle.store_migration.specs.Kit.{HasFirst}
 
 -- ---- the memory without what no user owns
@@ -74,7 +74,7 @@ images_stand header list c j cloud is image left = subst (λ (im : Image). Stand
 
 -- ---- judged, then settled
 
-pub taken_over : (rooms : UserRooms) (m : Memory) (commands : ℕ) (result : Result ℕ MigrateErr) → JudgedAs rooms m (Ok commands) → SettledAs commands result → TakenOverAs rooms m result
+pub taken_over : (rooms : UserRooms) (m : Memory) (commands : ℕ) (result : Result ℕ MigrateErr) → MemoryJudgedAs rooms m (Ok commands) → SettledAs commands result → TakenOverAs rooms m result
 taken_over rooms m commands (Ok number) judged settled = (judged.0, settled ∙ judged.1)
 taken_over rooms m commands (Err (why.Open error)) judged settled = absurd settled
 taken_over rooms m commands (Err why.Already) judged settled = absurd settled
@@ -82,7 +82,7 @@ taken_over rooms m commands (Err (why.TooLarge user room used limit)) judged set
 taken_over rooms m commands (Err why.Fault) judged settled = tt
 taken_over rooms m commands (Err why.NoMemory) judged settled = absurd settled
 
-pub judged_over : (rooms : UserRooms) (m : Memory) (error : MigrateErr) → JudgedAs rooms m (Err error) → TakenOverAs rooms m (Err error)
+pub judged_over : (rooms : UserRooms) (m : Memory) (error : MigrateErr) → MemoryJudgedAs rooms m (Err error) → TakenOverAs rooms m (Err error)
 judged_over rooms m (why.Open error) judged = absurd judged
 judged_over rooms m why.Already judged = absurd judged
 judged_over rooms m (why.TooLarge user room used limit) judged = judged
@@ -108,7 +108,7 @@ module _ (shape : Shape) (cloud_no : CloudNo) (rooms : UserRooms) (list : List C
   judged_as why.NoMemory judged = absurd judged
 
   -- a cloud that may be migrated is read, or a device failed
-  pub read_as : (error : MigrateErr) → OnFault {T = Unit {0}} (Err error) (Unit {0}) (IsOk {T = Unit {0}} {E = MigrateErr} (Err error)) → MigratedAs shape cloud_no rooms list cloud (Err error)
+  pub read_as : (error : MigrateErr) → OnMigrateFault {T = Unit {0}} (Err error) (Unit {0}) (IsOk {T = Unit {0}} {E = MigrateErr} (Err error)) → MigratedAs shape cloud_no rooms list cloud (Err error)
   read_as (why.Open error) whole = absurd (let no : false ≡ true = whole in cc)
   read_as why.Already whole = absurd (let no : false ≡ true = whole in cc)
   read_as (why.TooLarge user room used limit) whole = absurd (let no : false ≡ true = whole in cc)
@@ -126,7 +126,7 @@ module _ (shape : Shape) (cloud_no : CloudNo) (rooms : UserRooms) (image : Image
   moves_as (Err why.Fault) read over = tt
   moves_as (Err why.NoMemory) read over = tt
 
-  pub unread_as : (error : MigrateErr) → OnFault {T = Unit {0}} (Err error) (Unit {0}) (ReadsOld shape cloud_no image m (Err error))
+  pub unread_as : (error : MigrateErr) → OnMigrateFault {T = Unit {0}} (Err error) (Unit {0}) (ReadsOld shape cloud_no image m (Err error))
       → IfAnswered {T = ℕ} (Err error) (Migrates shape cloud_no rooms image (Err error))
   unread_as (why.Open error) read = exact.Unread m (why.Open error) read
   unread_as why.Already read = exact.Unread m why.Already read
@@ -164,7 +164,7 @@ settled_not_refused commands (Err (why.TooLarge user room used limit)) P settled
 settled_not_refused commands (Err why.Fault) P settled = tt
 settled_not_refused commands (Err why.NoMemory) P settled = absurd settled
 
-pub unread_refused : (error : MigrateErr) (P : Type 0) → OnFault {T = Unit {0}} (Err error) (Unit {0}) P → IfRefused {T = ℕ} (Err error) P
+pub unread_refused : (error : MigrateErr) (P : Type 0) → OnMigrateFault {T = Unit {0}} (Err error) (Unit {0}) P → IfRefused {T = ℕ} (Err error) P
 unread_refused (why.Open error) P is = is
 unread_refused why.Already P is = is
 unread_refused (why.TooLarge user room used limit) P is = is
@@ -179,7 +179,7 @@ answered_of (Err (why.TooLarge user room used limit)) P holds = holds
 answered_of (Err why.Fault) P holds = tt
 answered_of (Err why.NoMemory) P holds = tt
 
-pub unread_answered : (error : MigrateErr) (P Q : Type 0) → (P → Q) → OnFault {T = Unit {0}} (Err error) (Unit {0}) P → IfAnswered {T = ℕ} (Err error) Q
+pub unread_answered : (error : MigrateErr) (P Q : Type 0) → (P → Q) → OnMigrateFault {T = Unit {0}} (Err error) (Unit {0}) P → IfAnswered {T = ℕ} (Err error) Q
 unread_answered (why.Open error) P Q f is = f is
 unread_answered why.Already P Q f is = f is
 unread_answered (why.TooLarge user room used limit) P Q f is = f is
@@ -211,11 +211,11 @@ never_no_memory (Err why.NoMemory) P is = absurd is
 
 -- ---- moments
 
-pub still_goes_on : (cloud : Cloud) → GoesOn cloud cloud
+pub still_goes_on : (cloud : Cloud) → MomentsGoOn cloud cloud
 still_goes_on cloud = ([], sym (append-nil cloud.past))
 
 -- the three syncs, and what came behind them
-pub begins : (c0 c1 c2 : Cloud) → AreSynced c0 c1 → GoesOn c1 c2 → BeginsSynced c0 c2
+pub begins : (c0 c1 c2 : Cloud) → AreSynced c0 c1 → MomentsGoOn c1 c2 → BeginsSynced c0 c2
 begins c0 c1 c2 first on = record { synced = c1; first = first; since = on.0; past = on.1 }
 
 -- ---- counts
@@ -228,8 +228,8 @@ no_call clouds number now = record { others = λ other ne. refl; told = refl; ar
 
 -- the counts of calls behind some that were Ok
 pub counted_behind : (result : Result ℕ MigrateErr) (a b c : ℕ → Cloud) (number before mid now : ℕ) → IsCall a b number before mid → KeepsCounts (a number) (b number) before mid
-    → OnFault result (HasFailed (b number) (c number) mid now) (KeepsCounts (b number) (c number) mid now)
-    → OnFault result (HasFailed (a number) (c number) before now) (KeepsCounts (a number) (c number) before now)
+    → OnMigrateFault result (HasFailed (b number) (c number) mid now) (KeepsCounts (b number) (c number) mid now)
+    → OnMigrateFault result (HasFailed (a number) (c number) before now) (KeepsCounts (a number) (c number) before now)
 counted_behind (Ok value) a b c number before mid now call first second = counts_still (a number) (b number) (c number) before mid now first second
 counted_behind (Err (why.Open error)) a b c number before mid now call first second = counts_still (a number) (b number) (c number) before mid now first second
 counted_behind (Err why.Already) a b c number before mid now call first second = counts_still (a number) (b number) (c number) before mid now first second
@@ -238,7 +238,7 @@ counted_behind (Err why.Fault) a b c number before mid now call first second = f
 counted_behind (Err why.NoMemory) a b c number before mid now call first second = counts_still (a number) (b number) (c number) before mid now first second
 
 -- the same of an error, whatever an Ok would give
-pub unread_counts : (error : MigrateErr) (failed other : Type 0) → OnFault {T = Unit {0}} (Err error) failed other → OnFault {T = ℕ} (Err error) failed other
+pub unread_counts : (error : MigrateErr) (failed other : Type 0) → OnMigrateFault {T = Unit {0}} (Err error) failed other → OnMigrateFault {T = ℕ} (Err error) failed other
 unread_counts (why.Open error) failed other is = is
 unread_counts why.Already failed other is = is
 unread_counts (why.TooLarge user room used limit) failed other is = is
@@ -246,7 +246,7 @@ unread_counts why.Fault failed other is = is
 unread_counts why.NoMemory failed other is = is
 
 -- who judges calls no device
-pub judged_counts : (rooms : UserRooms) (m : Memory) (error : MigrateErr) (failed other : Type 0) → JudgedAs rooms m (Err error) → other → OnFault {T = ℕ} (Err error) failed other
+pub judged_counts : (rooms : UserRooms) (m : Memory) (error : MigrateErr) (failed other : Type 0) → MemoryJudgedAs rooms m (Err error) → other → OnMigrateFault {T = ℕ} (Err error) failed other
 judged_counts rooms m (why.Open error) failed other judged holds = holds
 judged_counts rooms m why.Already failed other judged holds = holds
 judged_counts rooms m (why.TooLarge user room used limit) failed other judged holds = holds

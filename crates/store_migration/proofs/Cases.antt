@@ -6,11 +6,11 @@ use Rattle.fresh_checkpoints.proofs.CdEdges.Calls.{failed_after}
 use Rattle.cloud_opening.proofs.Synced.{counts_still}
 use Rattle.store_migration.specs.declared.errors.MigrateErr.{MigrateErr}
 use Rattle.store_migration.specs.declared.errors.MigrateErr.TheVariants as why
-use Rattle.store_migration.specs.Answers.{OnFault, IfNoMemory}
-use Rattle.store_migration.specs.Steps.{IsOfRecords}
+use Rattle.store_migration.specs.Answers.{OnMigrateFault, IfNoMemory}
+use Rattle.store_migration.specs.Steps.{IsOfFirstRecords}
 
 -- of every answer
-pub of_all : {T : Type 0} (result : Result T MigrateErr) (P : Type 0) → P → OnFault result (Unit {0}) P
+pub of_all : {T : Type 0} (result : Result T MigrateErr) (P : Type 0) → P → OnMigrateFault result (Unit {0}) P
 of_all (Ok value) P holds = holds
 of_all (Err (why.Open error)) P holds = holds
 of_all (Err why.Already) P holds = holds
@@ -19,7 +19,7 @@ of_all (Err why.Fault) P holds = tt
 of_all (Err why.NoMemory) P holds = holds
 
 -- of every answer but that a device call failed
-pub on_answer : {T : Type 0} (result : Result T MigrateErr) (P Q : Type 0) → (P → Q) → OnFault result (Unit {0}) P → OnFault result (Unit {0}) Q
+pub on_answer : {T : Type 0} (result : Result T MigrateErr) (P Q : Type 0) → (P → Q) → OnMigrateFault result (Unit {0}) P → OnMigrateFault result (Unit {0}) Q
 on_answer (Ok value) P Q f is = f is
 on_answer (Err (why.Open error)) P Q f is = f is
 on_answer (Err why.Already) P Q f is = f is
@@ -28,7 +28,7 @@ on_answer (Err why.Fault) P Q f is = tt
 on_answer (Err why.NoMemory) P Q f is = f is
 
 -- the same of an Err, whatever an Ok would give
-pub same_err : (T U : Type 0) (error : MigrateErr) (failed other : Type 0) → OnFault {T = T} (Err error) failed other → OnFault {T = U} (Err error) failed other
+pub same_err : (T U : Type 0) (error : MigrateErr) (failed other : Type 0) → OnMigrateFault {T = T} (Err error) failed other → OnMigrateFault {T = U} (Err error) failed other
 same_err T U (why.Open error) failed other is = is
 same_err T U why.Already failed other is = is
 same_err T U (why.TooLarge user room used limit) failed other is = is
@@ -37,7 +37,7 @@ same_err T U why.NoMemory failed other is = is
 
 -- the counts of a call behind one that was Ok
 pub counted_behind : {T : Type 0} (result : Result T MigrateErr) (a b c : ℕ → Cloud) (number before mid now : ℕ) → IsCall a b number before mid → KeepsCounts (a number) (b number) before mid
-    → OnFault result (HasFailed (b number) (c number) mid now) (KeepsCounts (b number) (c number) mid now) → OnFault result (HasFailed (a number) (c number) before now) (KeepsCounts (a number) (c number) before now)
+    → OnMigrateFault result (HasFailed (b number) (c number) mid now) (KeepsCounts (b number) (c number) mid now) → OnMigrateFault result (HasFailed (a number) (c number) before now) (KeepsCounts (a number) (c number) before now)
 counted_behind (Ok value) a b c number before mid now call first second = counts_still (a number) (b number) (c number) before mid now first second
 counted_behind (Err (why.Open error)) a b c number before mid now call first second = counts_still (a number) (b number) (c number) before mid now first second
 counted_behind (Err why.Already) a b c number before mid now call first second = counts_still (a number) (b number) (c number) before mid now first second
@@ -46,7 +46,7 @@ counted_behind (Err why.Fault) a b c number before mid now call first second = f
 counted_behind (Err why.NoMemory) a b c number before mid now call first second = counts_still (a number) (b number) (c number) before mid now first second
 
 -- an answer of records isn't want of memory
-pub not_memory : {T : Type 0} (result : Result T MigrateErr) → IsOfRecords result → IfNoMemory result ⊥
+pub not_memory : {T : Type 0} (result : Result T MigrateErr) → IsOfFirstRecords result → IfNoMemory result ⊥
 not_memory (Ok value) kind = tt
 not_memory (Err (why.Open error)) kind = tt
 not_memory (Err why.Already) kind = absurd kind

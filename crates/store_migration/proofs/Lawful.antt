@@ -5,7 +5,7 @@ use Rattle.std.proofs.lemmas.List.Elements.{All-head, All-tail}
 use Rattle.fresh_checkpoints.specs.CdEdges.area.Area.TheVariants.{Journal, Shares, Recipes}
 use Rattle.fresh_checkpoints.specs.CdEdges.Disk.{Image}
 use Rattle.cloud_opening.specs.JournalHalves.Records.{IsJournal}
-use Rattle.cloud_opening.specs.JournalHalves.Frames.{IsClosed, IsRecord}
+use Rattle.cloud_opening.specs.JournalHalves.Frames.{IsClosed, IsRecordAhead}
 use Rattle.cloud_opening.proofs.JournalHalves.Headed.{one_record}
 use Rattle.cloud_opening.proofs.JournalHalves.Unique.{undamaged}
 use Rattle.cloud_opening.specs.JournalStart.start.Checkpoint.{Checkpoint}
@@ -63,7 +63,7 @@ pub record IsLast (new old : Memory) (answer : Result (Unit {0}) OldErr) : Type 
   pub answer_is : answer ≡ Ok tt
 
 module _ (g : Ground) (half : ℕ) (start : Start) (recipes : List ℕ) (new : Memory) where
-  by_record : (rest body : List ℕ) (gate records : ℕ) (old : Memory) (answer : Result (Unit {0}) OldErr) → IsRecord rest body → ReplaysFirst g half start recipes new rest gate records old answer
+  by_record : (rest body : List ℕ) (gate records : ℕ) (old : Memory) (answer : Result (Unit {0}) OldErr) → IsRecordAhead rest body → ReplaysFirst g half start recipes new rest gate records old answer
       → Further g half start recipes new rest body gate records old answer ⊎ IsStopped g start recipes body gate records old
   by_record rest body gate records old answer r (Ended l k n c full) = absurd (not_open rest body c r)
   by_record rest body gate records old answer r (Early l k n o c few) = absurd (not_open rest body c r)

@@ -21,12 +21,12 @@ use Rattle.store_migration.specs.declared.errors.MigrateErr.{MigrateErr}
 use Rattle.store_migration.specs.declared.errors.MigrateErr.TheVariants as why
 use Rattle.store_migration.specs.Answers.{IfRefused, IfNoMemory}
 use Rattle.store_migration.specs.Exact.{ReadsOld}
-use Rattle.store_migration.specs.Judging.{JudgedAs, SettledAs}
+use Rattle.store_migration.specs.Judging.{MemoryJudgedAs, SettledAs}
 use Rattle.store_migration.specs.Left.{checkpoint_for, LeavesOld, IsOldOrEither, HasTakenPlace, IsLeftBy, HasEitherPlace, IsLaidFrom, IfLaid}
 use Rattle.store_migration.proofs.Whole.{ended_chain}
 
 -- who judges lays no checkpoint
-pub judged_not_laid : (rooms : UserRooms) (m : Memory) (error : MigrateErr) (P : Type 0) → JudgedAs rooms m (Err error) → IfLaid (Err error) P
+pub judged_not_laid : (rooms : UserRooms) (m : Memory) (error : MigrateErr) (P : Type 0) → MemoryJudgedAs rooms m (Err error) → IfLaid (Err error) P
 judged_not_laid rooms m (why.Open error) P judged = tt
 judged_not_laid rooms m why.Already P judged = tt
 judged_not_laid rooms m (why.TooLarge user room used limit) P judged = tt

@@ -35,10 +35,10 @@ use Rattle.store_migration.specs.declared.errors.OldErr.{OldErr}
 use Rattle.store_migration.specs.declared.errors.OldErr.TheVariants.{NotBegun, Damaged, OtherStore, RoomsTooSmall}
 use Rattle.store_migration.specs.declared.errors.MigrateErr.{MigrateErr}
 use Rattle.store_migration.specs.declared.errors.MigrateErr.TheVariants as why
-use Rattle.store_migration.specs.Answers.{OnFault}
+use Rattle.store_migration.specs.Answers.{OnMigrateFault}
 use Rattle.store_migration.specs.Exact.{users_most, ReplaysFirst, ReplaysAllFirst, ReadsOld, Unbegun, NoStart, New, Other, PastEnd, Unread, Read}
 use Rattle.store_migration.specs.Finding.{OpenedAs}
-use Rattle.store_migration.specs.Steps.{From, FromStart, AllAs, LoadsAs, HasReadAll, IsReadWholeOne, past_err}
+use Rattle.store_migration.specs.Steps.{ReplaysFirstFrom, FromStart, AllFirstRecordsAs, LoadsAs, HasReadAll, IsReadWholeOne, past_err}
 
 -- ---- the memory of no commands
 
@@ -57,10 +57,10 @@ users_kept old new keeps rooms = (keeps (limit_of Fps) (limit_of Owners) (limit_
 
 module _ (g : Ground) (half : ℕ) (recipes : List ℕ) (store : Store) (w : Where) (before : JournalState) (m0 : Memory) (after : JournalState) (new : Memory)
     (begun : m0 ≡ begun_behind users_most (recipes_end_of before.start.checkpoint)) (within : recipes_end_of before.start.checkpoint ≤ g.recipes_len) where
-  from_start : (answer : Result (Unit {0}) OldErr) → From g recipes store new before 0 m0 answer → FromStart g recipes store new before answer
-  from_start answer from = subst (λ (m : Memory). From g recipes store new before 0 m answer) begun from
+  from_start : (answer : Result (Unit {0}) OldErr) → ReplaysFirstFrom g recipes store new before 0 m0 answer → FromStart g recipes store new before answer
+  from_start answer from = subst (λ (m : Memory). ReplaysFirstFrom g recipes store new before 0 m answer) begun from
 
-  pub loads : (result : Result (Unit {0}) MigrateErr) → AllAs g recipes store w before m0 after new result → LoadsAs g half recipes store before new result
+  pub loads : (result : Result (Unit {0}) MigrateErr) → AllFirstRecordsAs g recipes store w before m0 after new result → LoadsAs g half recipes store before new result
   loads (Ok value) all = (within, from_start (Ok tt) all.1)
   loads (Err (why.Open error)) all = inl (within, from_start (Err error) (all new))
   loads (Err why.Already) all = all
@@ -68,7 +68,7 @@ module _ (g : Ground) (half : ℕ) (recipes : List ℕ) (store : Store) (w : Whe
   loads (Err why.Fault) all = tt
   loads (Err why.NoMemory) all = all
 
-  pub loads_ended : (result : Result (Unit {0}) MigrateErr) → AllAs g recipes store w before m0 after new result → OnOk result (HasChainEnded after store w)
+  pub loads_ended : (result : Result (Unit {0}) MigrateErr) → AllFirstRecordsAs g recipes store w before m0 after new result → OnOk result (HasChainEnded after store w)
   loads_ended (Ok value) all = record { bodies = all.0.0; ended = all.0.1 }
   loads_ended (Err e) all = tt
 
@@ -123,7 +123,7 @@ module _ (shape : Shape) (cloud_no : CloudNo) (c : Cloud) (state : JournalState)
       subst (λ (e : OldErr). ReadsOld shape cloud_no (reads c.now) new (Err (why.Open e))) (sym (is ∙ ap (λ (h : ℕ). past_err h (recipes_end_of state.start.checkpoint)) same ∙ ap (past_err w.half) end_is))
       (PastEnd w.half w.start o.reading.is_current o.header_is (omega (arith, beyond, end_is, recipes_is)))
 
-  pub read_as : (new : Memory) (result : Result (Unit {0}) MigrateErr) → LoadsAs g half (c.now Recipes).read (c.now Journal) state new result → OnFault result (Unit {0}) (ReadsOld shape cloud_no (reads c.now) new result)
+  pub read_as : (new : Memory) (result : Result (Unit {0}) MigrateErr) → LoadsAs g half (c.now Recipes).read (c.now Journal) state new result → OnMigrateFault result (Unit {0}) (ReadsOld shape cloud_no (reads c.now) new result)
   read_as new (Ok value) loaded = Read w.half w.start o.reading.is_current o.header_is (within_area loaded.0) (replays new (Ok tt) loaded.1)
   read_as new (Err (why.Open error)) loaded = elim loaded [
     | inl here ↦ Unread w.half w.start error o.reading.is_current o.header_is (within_area here.0) (replays new (Err error) here.1)
@@ -180,7 +180,7 @@ module _ (shape : Shape) (cloud_no : CloudNo) (after : JournalState) (c : Cloud)
   abbrev answer : MigrateErr → Type 0
   answer error = ReadsOld shape cloud_no (reads c.now) new (Err error)
 
-  pub unopened_as : (error : MigrateErr) → OpenedAs shape cloud_no after (c.now Journal) (Err error) → OnFault {T = Unit {0}} (Err error) (Unit {0}) (answer error)
+  pub unopened_as : (error : MigrateErr) → OpenedAs shape cloud_no after (c.now Journal) (Err error) → OnMigrateFault {T = Unit {0}} (Err error) (Unit {0}) (answer error)
   unopened_as (why.Open (NotBegun len)) is = subst (λ (n : ℕ). answer (why.Open (NotBegun n))) (sym is.1) (Unbegun is.0)
   unopened_as (why.Open (Damaged at byte)) is = NoStart at byte is
   unopened_as (why.Open (OtherStore found asked at)) is =
@@ -195,8 +195,8 @@ module _ (shape : Shape) (cloud_no : CloudNo) (after : JournalState) (c : Cloud)
   unopened_as why.NoMemory is = absurd is
 
 -- behind the syncs
-pub unopened_before : (shape : Shape) (cloud_no : CloudNo) (c0 c1 : Cloud) (after : JournalState) (new : Memory) (error : MigrateErr) → OnFault {T = ℕ} (Err error) (Unit {0}) (AreSynced c0 c1)
-    → OpenedAs shape cloud_no after (c1.now Journal) (Err error) → OnFault {T = Unit {0}} (Err error) (Unit {0}) (ReadsOld shape cloud_no (reads c0.now) new (Err error))
+pub unopened_before : (shape : Shape) (cloud_no : CloudNo) (c0 c1 : Cloud) (after : JournalState) (new : Memory) (error : MigrateErr) → OnMigrateFault {T = ℕ} (Err error) (Unit {0}) (AreSynced c0 c1)
+    → OpenedAs shape cloud_no after (c1.now Journal) (Err error) → OnMigrateFault {T = Unit {0}} (Err error) (Unit {0}) (ReadsOld shape cloud_no (reads c0.now) new (Err error))
 unopened_before shape cloud_no c0 c1 after new (why.Open error) synced is = read_before shape cloud_no c0 c1 synced new (Err (why.Open error)) (unopened_as shape cloud_no after c1 new (why.Open error) is)
 unopened_before shape cloud_no c0 c1 after new why.Already synced is = read_before shape cloud_no c0 c1 synced new (Err why.Already) (unopened_as shape cloud_no after c1 new why.Already is)
 unopened_before shape cloud_no c0 c1 after new (why.TooLarge user room used limit) synced is = absurd is

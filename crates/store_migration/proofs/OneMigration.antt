@@ -8,7 +8,7 @@ use Rattle.fresh_checkpoints.specs.CdBase.ids.UserId.{UserId}
 use Rattle.fresh_checkpoints.specs.CdBase.shape.Shape.{Shape}
 use Rattle.fresh_checkpoints.specs.CdEdges.area.Area.TheVariants.{Journal, Recipes}
 use Rattle.fresh_checkpoints.specs.CdEdges.Disk.{Image}
-use Rattle.cloud_opening.specs.JournalHalves.Frames.{IsRecord}
+use Rattle.cloud_opening.specs.JournalHalves.Frames.{IsRecordAhead}
 use Rattle.cloud_opening.proofs.JournalHalves.Headed.{one_record}
 use Rattle.cloud_opening.proofs.JournalHalves.Unique.{undamaged}
 use Rattle.cloud_opening.specs.JournalStart.rooms.UserRooms.{UserRooms}
@@ -74,7 +74,7 @@ module _ (g : Ground) (half : ℕ) (start : Start) (recipes : List ℕ) where
   inside_at records = nat_lt records (records_of start.checkpoint)
 
   -- the answers to what stands at one gate
-  judged_alike : (rest body body2 read read2 : List ℕ) (gate records : ℕ) (old : Memory) (x y : Result Memory FirstErr) → IsRecord rest body → IsRecord rest body2
+  judged_alike : (rest body body2 read read2 : List ℕ) (gate records : ℕ) (old : Memory) (x y : Result Memory FirstErr) → IsRecordAhead rest body → IsRecordAhead rest body2
       → ReadsFor g (inside_at records) old body recipes read → ReadsFor g (inside_at records) old body2 recipes read2
       → JudgesFirst g (inside_at records) read old (gate + 5) body x → JudgesFirst g (inside_at records) read2 old (gate + 5) body2 y → x ≡ y
   judged_alike rest body body2 read read2 gate records old x y r r2 reads reads2 j j2 =

@@ -17,7 +17,7 @@ use Rattle.large_users.specs.MigrationModel.Migrating.{header_one}
 use Rattle.store_migration.specs.declared.errors.OldErr.TheVariants.{NotBegun, Damaged, OtherStore, RoomsTooSmall}
 use Rattle.store_migration.specs.declared.errors.MigrateErr.{MigrateErr}
 use Rattle.store_migration.specs.declared.errors.MigrateErr.TheVariants as why
-use Rattle.store_migration.specs.Answers.{OnFault, IfNoMemory}
+use Rattle.store_migration.specs.Answers.{OnMigrateFault, IfNoMemory}
 use Rattle.store_migration.specs.Exact.{IsNewHeader}
 use Rattle.store_migration.specs.Finding.{err_of_find, err_of_open, FoundAs, OpenedAs}
 
@@ -31,13 +31,13 @@ found_of shape cloud journal (finds.Damaged at byte) found = found
 pub not_found : (shape : Shape) (cloud : CloudNo) (journal : List ℕ) (error : FindErr) (e : MigrateErr) → e ≡ err_of_find error → findings.FindIs journal (Err error) → FoundAs shape cloud journal (Err e)
 not_found shape cloud journal error e is found = subst (λ (x : MigrateErr). FoundAs shape cloud journal (Err x)) (sym is) (found_of shape cloud journal error found)
 
-counts_of_find : (error : FindErr) (failed other : Type 0) → findings.OnFault {T = Found} (Err error) failed other → OnFault {T = ℕ} (Err (err_of_find error)) failed other
+counts_of_find : (error : FindErr) (failed other : Type 0) → findings.OnFindFault {T = Found} (Err error) failed other → OnMigrateFault {T = ℕ} (Err (err_of_find error)) failed other
 counts_of_find finds.Fault failed other is = is
 counts_of_find (finds.NotBegun len) failed other is = is
 counts_of_find (finds.Damaged at byte) failed other is = is
 
-pub find_counts : (error : FindErr) (e : MigrateErr) (failed other : Type 0) → e ≡ err_of_find error → findings.OnFault {T = Found} (Err error) failed other → OnFault {T = ℕ} (Err e) failed other
-find_counts error e failed other is counts = subst (λ (x : MigrateErr). OnFault {T = ℕ} (Err x) failed other) (sym is) (counts_of_find error failed other counts)
+pub find_counts : (error : FindErr) (e : MigrateErr) (failed other : Type 0) → e ≡ err_of_find error → findings.OnFindFault {T = Found} (Err error) failed other → OnMigrateFault {T = ℕ} (Err e) failed other
+find_counts error e failed other is counts = subst (λ (x : MigrateErr). OnMigrateFault {T = ℕ} (Err x) failed other) (sym is) (counts_of_find error failed other counts)
 
 memory_of_find : (error : FindErr) → IfNoMemory {T = ℕ} (Err (err_of_find error)) ⊥
 memory_of_find finds.Fault = tt
@@ -49,14 +49,14 @@ find_memory error e is = subst (λ (x : MigrateErr). IfNoMemory {T = ℕ} (Err x
 
 -- ---- it isn't opened
 
-counts_of_open : (error : OpenErr) (failed other : Type 0) → openings.OnFault {T = Unit {0}} (Err error) failed other → OnFault {T = ℕ} (Err (err_of_open error)) failed other
+counts_of_open : (error : OpenErr) (failed other : Type 0) → openings.OnFault {T = Unit {0}} (Err error) failed other → OnMigrateFault {T = ℕ} (Err (err_of_open error)) failed other
 counts_of_open opens.Fault failed other is = is
 counts_of_open (opens.NotBegun len) failed other is = is
 counts_of_open (opens.Damaged at byte) failed other is = is
 counts_of_open (opens.OtherStore found asked at) failed other is = is
 
-pub open_counts : (error : OpenErr) (e : MigrateErr) (failed other : Type 0) → e ≡ err_of_open error → openings.OnFault {T = Unit {0}} (Err error) failed other → OnFault {T = ℕ} (Err e) failed other
-open_counts error e failed other is counts = subst (λ (x : MigrateErr). OnFault {T = ℕ} (Err x) failed other) (sym is) (counts_of_open error failed other counts)
+pub open_counts : (error : OpenErr) (e : MigrateErr) (failed other : Type 0) → e ≡ err_of_open error → openings.OnFault {T = Unit {0}} (Err error) failed other → OnMigrateFault {T = ℕ} (Err e) failed other
+open_counts error e failed other is counts = subst (λ (x : MigrateErr). OnMigrateFault {T = ℕ} (Err x) failed other) (sym is) (counts_of_open error failed other counts)
 
 memory_of_open : (error : OpenErr) → IfNoMemory {T = ℕ} (Err (err_of_open error)) ⊥
 memory_of_open opens.Fault = tt

@@ -2,7 +2,7 @@
 use Rattle.std.proofs.Common.{◌≡◌, inl, inr, ℕ, ◌+◌, ◌*◌, Bool, true, false, List, length, drop, nat_lt, Result, Ok, Err, refl, sym, ◌∙◌, ap, subst, arith}
 use Rattle.std.proofs.lemmas.List.{drop-drop}
 use Rattle.fresh_checkpoints.specs.CdEdges.Disk.{Store}
-use Rattle.cloud_opening.specs.JournalHalves.Frames.{IsRecord}
+use Rattle.cloud_opening.specs.JournalHalves.Frames.{IsRecordAhead}
 use Rattle.cloud_opening.specs.JournalStart.start.Start.{Start}
 use Rattle.cloud_opening.specs.JournalStart.Spelling.{records_of}
 use Rattle.fresh_checkpoints.specs.JournalHalves.Halves.{half_len}
@@ -21,9 +21,9 @@ use Rattle.store_migration.specs.declared.errors.OldErr.{OldErr}
 use Rattle.store_migration.specs.declared.errors.OldErr.TheVariants.{Damaged}
 use Rattle.store_migration.specs.declared.errors.MigrateErr.{MigrateErr}
 use Rattle.store_migration.specs.declared.errors.MigrateErr.TheVariants as why
-use Rattle.store_migration.specs.Answers.{OnFault}
+use Rattle.store_migration.specs.Answers.{OnMigrateFault}
 use Rattle.store_migration.specs.Exact.{ReplaysFirst, Ended, Early, Taken, Refused, Broken}
-use Rattle.store_migration.specs.Steps.{From, IsFirstOneAs, NextAs}
+use Rattle.store_migration.specs.Steps.{ReplaysFirstFrom, IsFirstOneAs, NextFirstAs}
 
 module _ (g : Ground) (recipes : List ℕ) (store : Store) (old mid : JournalState) (w : Where) (before : Memory) (reading : IsJournalReading old store w) where
   -- the same from an equal place
@@ -39,11 +39,11 @@ module _ (g : Ground) (recipes : List ℕ) (store : Store) (old mid : JournalSta
   inside_is inside is = is ∙ ap (λ (s : Start). nat_lt (length w.bodies) (records_of s.checkpoint)) (sym reading.start)
 
   module _ (inside : Bool) (is : inside ≡ nat_lt (length w.bodies) (records_of w.start.checkpoint)) (further : IsJournalReading mid store (with_body w mid.current.body)) (over : IsRecordFurther old.current mid.current) where
-    at_gate : IsRecord (rest_of old.current store) mid.current.body
+    at_gate : IsRecordAhead (rest_of old.current store) mid.current.body
     at_gate = record_at old.current mid.current store (all_bodies w) mid.current.body reading.read over.half further.read
 
     pub as_taken : (stage : Stage) (m : Memory) → mid.start ≡ old.start → IsFirstOneAs g inside recipes before mid.current.body_at mid.current.body m (Ok tt)
-        → NextAs g recipes store w old before (record mid { stage = stage }) m (Ok true)
+        → NextFirstAs g recipes store w old before (record mid { stage = stage }) m (Ok true)
     as_taken stage m start one = (
       (mid.current.body, restaged mid store (with_body w mid.current.body) stage further),
       λ new answer rest. Taken (rest_of old.current store) mid.current.body one.read (gate_at old.current) (length w.bodies) before m answer at_gate
@@ -60,11 +60,11 @@ module _ (g : Ground) (recipes : List ℕ) (store : Store) (old mid : JournalSta
         gate_is : mid.current.gate ≡ old.current.gate + (5 + length mid.current.body)
         gate_is = omega (arith, over.gate)
 
-    pub as_refused : (new_state : JournalState) (m : Memory) (error : MigrateErr) → OnFault {T = Unit {0}} (Err error) (Unit {0}) (IsFirstOneAs g inside recipes before mid.current.body_at mid.current.body m (Err error))
-        → NextAs g recipes store w old before new_state m (Err error)
+    pub as_refused : (new_state : JournalState) (m : Memory) (error : MigrateErr) → OnMigrateFault {T = Unit {0}} (Err error) (Unit {0}) (IsFirstOneAs g inside recipes before mid.current.body_at mid.current.body m (Err error))
+        → NextFirstAs g recipes store w old before new_state m (Err error)
     as_refused new_state m (why.Open error) one = λ new.
         let e = one.judged.0 in
-        subst (λ (x : OldErr). From g recipes store new old (length w.bodies) before (Err x)) (sym one.judged.2)
+        subst (λ (x : OldErr). ReplaysFirstFrom g recipes store new old (length w.bodies) before (Err x)) (sym one.judged.2)
         (Refused (rest_of old.current store) mid.current.body one.read (gate_at old.current) (length w.bodies) before e at_gate
         (subst (λ (b : Bool). ReadsFor g b before mid.current.body recipes one.read) (inside_is inside is) one.reads_for)
         (subst (λ (b : Bool). JudgesFirst g b one.read before (gate_at old.current + 5) mid.current.body (Err e)) (inside_is inside is)
@@ -74,7 +74,7 @@ module _ (g : Ground) (recipes : List ℕ) (store : Store) (old mid : JournalSta
     as_refused new_state m why.Fault one = tt
     as_refused new_state m why.NoMemory one = one.judged
 
-  pub as_ended : mid.current.half ≡ old.current.half → IsJournalEnded mid store w → NextAs g recipes store w old before mid before (Ok false)
+  pub as_ended : mid.current.half ≡ old.current.half → IsJournalEnded mid store w → NextFirstAs g recipes store w old before mid before (Ok false)
   as_ended half ended = (
     ended,
     Ended (rest_of old.current store) (gate_at old.current) (length w.bodies) (closed_at old.current mid.current store (all_bodies w) reading.read half ended.read)
@@ -82,11 +82,11 @@ module _ (g : Ground) (recipes : List ℕ) (store : Store) (old mid : JournalSta
     refl,
   )
 
-  pub as_damaged : (at byte : ℕ) → IsDamaged old store at byte → (new : Memory) → From g recipes store new old (length w.bodies) before (Err (Damaged at byte))
+  pub as_damaged : (at byte : ℕ) → IsDamaged old store at byte → (new : Memory) → ReplaysFirstFrom g recipes store new old (length w.bodies) before (Err (Damaged at byte))
   as_damaged at byte (inl damage) new = Broken (rest_of old.current store) (gate_at old.current) (length w.bodies) at byte before damage
   as_damaged at byte (inr early) new =
       let e = early.1 in
-      subst (λ (n : ℕ). From g recipes store new old (length w.bodies) before (Err (Damaged n byte))) (sym e.place)
-      (subst (λ (n : ℕ). From g recipes store new old (length w.bodies) before (Err (Damaged (old.current.half * half_len + records_place old.start) n))) (sym e.byte_is)
+      subst (λ (n : ℕ). ReplaysFirstFrom g recipes store new old (length w.bodies) before (Err (Damaged n byte))) (sym e.place)
+      (subst (λ (n : ℕ). ReplaysFirstFrom g recipes store new old (length w.bodies) before (Err (Damaged (old.current.half * half_len + records_place old.start) n))) (sym e.byte_is)
       (Early (rest_of old.current store) (gate_at old.current) (length w.bodies) before early.0
       (omega (arith, e.more, reading.left, ap (λ (s : Start). records_of s.checkpoint) reading.start))))

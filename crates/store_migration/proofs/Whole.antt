@@ -31,7 +31,7 @@ use Rattle.large_users.specs.MigrationModel.Migrating.{header_one, IsBegunOne, M
 use Rattle.store_migration.specs.declared.errors.OldErr.{OldErr}
 use Rattle.store_migration.specs.declared.errors.MigrateErr.{MigrateErr}
 use Rattle.store_migration.specs.declared.errors.MigrateErr.TheVariants as why
-use Rattle.store_migration.specs.Answers.{OnFault}
+use Rattle.store_migration.specs.Answers.{OnMigrateFault}
 use Rattle.store_migration.specs.Exact.{users_most, ReplaysAllFirst, ReadsOld, Unbegun, NoStart, New, Other, PastEnd, Unread, Read}
 use Rattle.store_migration.specs.Reading.{IsReadFirst}
 use Rattle.store_migration.specs.Steps.{IsReadWholeOne}
@@ -154,7 +154,7 @@ module _ (shape : Shape) (cloud_no : CloudNo) (list : List Command) (old new : C
       }
 
   pub read_by_list : new.told ≡ old.told → (result : Result (Unit {0}) MigrateErr) → OnOk result (IsReadWholeOne shape cloud_no journal m new)
-      → OnFault result (Unit {0}) (OnOk result (IsReadFirst shape cloud_no list journal m new))
+      → OnMigrateFault result (Unit {0}) (OnOk result (IsReadFirst shape cloud_no list journal m new))
   read_by_list told (Ok tt) read = found told read
   read_by_list told (Err (why.Open error)) read = tt
   read_by_list told (Err why.Already) read = tt
@@ -165,8 +165,8 @@ module _ (shape : Shape) (cloud_no : CloudNo) (list : List Command) (old new : C
   whole : (result : Result (Unit {0}) MigrateErr) → AreSynced old new → ReadsOld shape cloud_no (reads old.now) m result → IsOk result
   whole result synced exact = read_ok shape cloud_no list (reads old.now) (stands_now (reads old.now) (synced_at old new synced)) may.within m result exact
 
-  pub whole_by_list : (result : Result (Unit {0}) MigrateErr) → OnFault result (Unit {0}) (AreSynced old new) → OnFault result (Unit {0}) (ReadsOld shape cloud_no (reads old.now) m result)
-      → OnFault result (Unit {0}) (IsOk result)
+  pub whole_by_list : (result : Result (Unit {0}) MigrateErr) → OnMigrateFault result (Unit {0}) (AreSynced old new) → OnMigrateFault result (Unit {0}) (ReadsOld shape cloud_no (reads old.now) m result)
+      → OnMigrateFault result (Unit {0}) (IsOk result)
   whole_by_list (Ok tt) synced exact = refl
   whole_by_list (Err (why.Open error)) synced exact = whole (Err (why.Open error)) synced exact
   whole_by_list (Err why.Already) synced exact = whole (Err why.Already) synced exact

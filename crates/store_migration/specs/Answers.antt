@@ -20,13 +20,13 @@ MigratedAs shape cloud_no rooms list cloud (Err why.Fault) = Unit {0}
 MigratedAs shape cloud_no rooms list cloud (Err why.NoMemory) = Unit {0}
 
 -- one fact where a device call failed, and another for every other answer
-abbrev pub OnFault : {T : Type 0} → Result T MigrateErr → Type 0 → Type 0 → Type 0
-OnFault (Ok value) failed other = other
-OnFault (Err (why.Open error)) failed other = other
-OnFault (Err why.Already) failed other = other
-OnFault (Err (why.TooLarge user room used limit)) failed other = other
-OnFault (Err why.Fault) failed other = failed
-OnFault (Err why.NoMemory) failed other = other
+abbrev pub OnMigrateFault : {T : Type 0} → Result T MigrateErr → Type 0 → Type 0 → Type 0
+OnMigrateFault (Ok value) failed other = other
+OnMigrateFault (Err (why.Open error)) failed other = other
+OnMigrateFault (Err why.Already) failed other = other
+OnMigrateFault (Err (why.TooLarge user room used limit)) failed other = other
+OnMigrateFault (Err why.Fault) failed other = failed
+OnMigrateFault (Err why.NoMemory) failed other = other
 
 -- a fact where the cloud was read and isn't migrated
 abbrev pub IfRefused : {T : Type 0} → Result T MigrateErr → Type 0 → Type 0

@@ -7,7 +7,7 @@ use Rattle.fresh_checkpoints.specs.CdBase.shape.Shape.{Shape}
 use Rattle.fresh_checkpoints.specs.CdEdges.area.Area.TheVariants.{Journal, Recipes}
 use Rattle.fresh_checkpoints.specs.CdEdges.Disk.{Image}
 use Rattle.cloud_opening.specs.JournalHalves.Records.{IsDamage}
-use Rattle.cloud_opening.specs.JournalHalves.Frames.{IsClosed, IsRecord}
+use Rattle.cloud_opening.specs.JournalHalves.Frames.{IsClosed, IsRecordAhead}
 use Rattle.cloud_opening.specs.JournalStart.rooms.UserRooms.{UserRooms}
 use Rattle.cloud_opening.specs.JournalStart.start.Header.{Header}
 use Rattle.cloud_opening.specs.JournalStart.start.Start.{Start}
@@ -65,12 +65,12 @@ pub data ReplaysFirst (g : Ground) (half : ℕ) (start : Start) (recipes : List 
   Early : (rest : List ℕ) (gate records : ℕ) (old : Memory) → IsClosed rest → records < records_of start.checkpoint
       → ReplaysFirst g half start recipes new rest gate records old
       (Err (Damaged (half * half_len + records_place start) (slice_index (to_be_bytes w32 (records_of start.checkpoint)) 0)))
-  Taken : (rest body read : List ℕ) (gate records : ℕ) (old mid : Memory) (answer : Result (Unit {0}) OldErr) → IsRecord rest body
+  Taken : (rest body read : List ℕ) (gate records : ℕ) (old mid : Memory) (answer : Result (Unit {0}) OldErr) → IsRecordAhead rest body
       → ReadsFor g (nat_lt records (records_of start.checkpoint)) old body recipes read
       → JudgesFirst g (nat_lt records (records_of start.checkpoint)) read old (gate + 5) body (Ok mid)
       → ReplaysFirst g half start recipes new (drop (5 + length body) rest) (gate + 5 + length body) (records + 1) mid answer
       → ReplaysFirst g half start recipes new rest gate records old answer
-  Refused : (rest body read : List ℕ) (gate records : ℕ) (old : Memory) (error : FirstErr) → IsRecord rest body
+  Refused : (rest body read : List ℕ) (gate records : ℕ) (old : Memory) (error : FirstErr) → IsRecordAhead rest body
       → ReadsFor g (nat_lt records (records_of start.checkpoint)) old body recipes read
       → JudgesFirst g (nat_lt records (records_of start.checkpoint)) read old (gate + 5) body (Err error)
       → ReplaysFirst g half start recipes new rest gate records old (Err (old_err error))

@@ -12,13 +12,13 @@ use Rattle.store_migration.specs.declared.errors.MigrateErr.{MigrateErr}
 use Rattle.store_migration.specs.declared.errors.MigrateErr.TheVariants as why
 
 -- which user is the first that keeps too much by the memory; or none does, and what is kept has so many commands
-abbrev pub JudgedAs : UserRooms → Memory → Result ℕ MigrateErr → Type 0
-JudgedAs rooms m (Ok commands) = IsNonePassed rooms m × (commands ≡ commands_in m)
-JudgedAs rooms m (Err (why.Open error)) = ⊥
-JudgedAs rooms m (Err why.Already) = ⊥
-JudgedAs rooms m (Err (why.TooLarge user room used limit)) = IsFirstPassed rooms m user (record { room = room; used = used; need = 0; limit = limit })
-JudgedAs rooms m (Err why.Fault) = ⊥
-JudgedAs rooms m (Err why.NoMemory) = ⊥
+abbrev pub MemoryJudgedAs : UserRooms → Memory → Result ℕ MigrateErr → Type 0
+MemoryJudgedAs rooms m (Ok commands) = IsNonePassed rooms m × (commands ≡ commands_in m)
+MemoryJudgedAs rooms m (Err (why.Open error)) = ⊥
+MemoryJudgedAs rooms m (Err why.Already) = ⊥
+MemoryJudgedAs rooms m (Err (why.TooLarge user room used limit)) = IsFirstPassed rooms m user (record { room = room; used = used; need = 0; limit = limit })
+MemoryJudgedAs rooms m (Err why.Fault) = ⊥
+MemoryJudgedAs rooms m (Err why.NoMemory) = ⊥
 
 -- the same by the list
 abbrev pub JudgedBy : Shape → UserRooms → List Command → Result ℕ MigrateErr → Type 0
@@ -48,5 +48,5 @@ TakenOverAs rooms m (Err why.Fault) = Unit {0}
 TakenOverAs rooms m (Err why.NoMemory) = ⊥
 
 -- The cloud's moments go on behind those that were.
-abbrev pub GoesOn : Cloud → Cloud → Type 0
-GoesOn old new = (since : List Areas) × (new.past ≡ old.past ++ since)
+abbrev pub MomentsGoOn : Cloud → Cloud → Type 0
+MomentsGoOn old new = (since : List Areas) × (new.past ≡ old.past ++ since)

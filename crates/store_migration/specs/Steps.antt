@@ -28,13 +28,13 @@ use Rattle.store_migration.specs.declared.errors.MigrateErr.TheVariants as why
 use Rattle.store_migration.specs.Exact.{users_most, end_place, old_err, ReplaysFirst, ReplaysAllFirst}
 
 -- An answer that comes of records.
-abbrev pub IsOfRecords : {T : Type 0} → Result T MigrateErr → Type 0
-IsOfRecords (Ok value) = Unit {0}
-IsOfRecords (Err (why.Open error)) = Unit {0}
-IsOfRecords (Err why.Already) = ⊥
-IsOfRecords (Err (why.TooLarge user room used limit)) = ⊥
-IsOfRecords (Err why.Fault) = Unit {0}
-IsOfRecords (Err why.NoMemory) = ⊥
+abbrev pub IsOfFirstRecords : {T : Type 0} → Result T MigrateErr → Type 0
+IsOfFirstRecords (Ok value) = Unit {0}
+IsOfFirstRecords (Err (why.Open error)) = Unit {0}
+IsOfFirstRecords (Err why.Already) = ⊥
+IsOfFirstRecords (Err (why.TooLarge user room used limit)) = ⊥
+IsOfFirstRecords (Err why.Fault) = Unit {0}
+IsOfFirstRecords (Err why.NoMemory) = ⊥
 
 -- how far the journal is read after an answer
 abbrev pub stage_of : Result Bool MigrateErr → Stage
@@ -47,56 +47,57 @@ stage_after stage (Ok value) = stage
 stage_after stage (Err e) = Shut
 
 -- a fact where one record more was taken
-abbrev pub OnTrue : Result Bool MigrateErr → Type 0 → Type 0
-OnTrue (Ok true) fact = fact
-OnTrue (Ok false) fact = Unit {0}
-OnTrue (Err e) fact = Unit {0}
+abbrev pub OnRecordTaken : Result Bool MigrateErr → Type 0 → Type 0
+OnRecordTaken (Ok true) fact = fact
+OnRecordTaken (Ok false) fact = Unit {0}
+OnRecordTaken (Err e) fact = Unit {0}
 
 -- What comes of the records from the gate on.
-abbrev pub From : Ground → List ℕ → Store → Memory → journals.JournalState → ℕ → Memory → Result (Unit {0}) OldErr
+abbrev pub ReplaysFirstFrom : Ground → List ℕ → Store → Memory → journals.JournalState → ℕ → Memory
+    → Result (Unit {0}) OldErr
     → Type 0
-From g recipes store new journal records old answer =
+ReplaysFirstFrom g recipes store new journal records old answer =
     ReplaysFirst g journal.current.half journal.start recipes new (rest_of journal.current store) (gate_at journal.current) records old answer
 
 -- a record's error is the answer
-abbrev pub IsErrOf : Ground → Bool → List ℕ → Memory → ℕ → List ℕ → OldErr → Type 0
-IsErrOf g inside read old at body error = (e : FirstErr) × JudgesFirst g inside read old at body (Err e) × (error ≡ old_err e)
+abbrev pub IsErrOfRecord : Ground → Bool → List ℕ → Memory → ℕ → List ℕ → OldErr → Type 0
+IsErrOfRecord g inside read old at body error = (e : FirstErr) × JudgesFirst g inside read old at body (Err e) × (error ≡ old_err e)
 
 -- A record is taken with these bytes where its recipe lies, as its checks say, or not.
-abbrev pub BodyAs : Ground → Bool → List ℕ → Memory → ℕ → List ℕ → Memory → Result (Unit {0}) MigrateErr → Type 0
-BodyAs g inside read old at body new (Ok value) = JudgesFirst g inside read old at body (Ok new)
-BodyAs g inside read old at body new (Err (why.Open error)) = IsErrOf g inside read old at body error
-BodyAs g inside read old at body new (Err why.Already) = ⊥
-BodyAs g inside read old at body new (Err (why.TooLarge user room used limit)) = ⊥
-BodyAs g inside read old at body new (Err why.Fault) = ⊥
-BodyAs g inside read old at body new (Err why.NoMemory) = ⊥
+abbrev pub FirstBodyAs : Ground → Bool → List ℕ → Memory → ℕ → List ℕ → Memory → Result (Unit {0}) MigrateErr → Type 0
+FirstBodyAs g inside read old at body new (Ok value) = JudgesFirst g inside read old at body (Ok new)
+FirstBodyAs g inside read old at body new (Err (why.Open error)) = IsErrOfRecord g inside read old at body error
+FirstBodyAs g inside read old at body new (Err why.Already) = ⊥
+FirstBodyAs g inside read old at body new (Err (why.TooLarge user room used limit)) = ⊥
+FirstBodyAs g inside read old at body new (Err why.Fault) = ⊥
+FirstBodyAs g inside read old at body new (Err why.NoMemory) = ⊥
 
 -- the same with what is read there
 pub record IsFirstOneAs (g : Ground) (inside : Bool) (recipes : List ℕ) (old : Memory) (at : ℕ) (body : List ℕ) (new : Memory) (result : Result (Unit {0}) MigrateErr) : Type 0 where
   pub read : List ℕ
   pub reads_for : ReadsFor g inside old body recipes read
-  pub judged : BodyAs g inside read old at body new result
+  pub judged : FirstBodyAs g inside read old at body new result
 
 -- With one record taken the rest decides; or the gate is closed behind all of the checkpoint's records; or this is the answer.
-abbrev pub NextAs : Ground → List ℕ → Store → Where → journals.JournalState → Memory → journals.JournalState → Memory → Result Bool MigrateErr → Type 0
-NextAs g recipes store w before old after mid (Ok true) = ((body : List ℕ) × journals.IsJournalReading after store (with_body w body))
-    × ((new : Memory) (answer : Result (Unit {0}) OldErr) → From g recipes store new after (length w.bodies + 1) mid answer → From g recipes store new before (length w.bodies) old answer)
-NextAs g recipes store w before old after mid (Ok false) = journals.IsJournalEnded after store w × From g recipes store mid before (length w.bodies) old (Ok tt) × (mid ≡ old)
-NextAs g recipes store w before old after mid (Err (why.Open error)) = (new : Memory) → From g recipes store new before (length w.bodies) old (Err error)
-NextAs g recipes store w before old after mid (Err why.Already) = ⊥
-NextAs g recipes store w before old after mid (Err (why.TooLarge user room used limit)) = ⊥
-NextAs g recipes store w before old after mid (Err why.Fault) = Unit {0}
-NextAs g recipes store w before old after mid (Err why.NoMemory) = ⊥
+abbrev pub NextFirstAs : Ground → List ℕ → Store → Where → journals.JournalState → Memory → journals.JournalState → Memory → Result Bool MigrateErr → Type 0
+NextFirstAs g recipes store w before old after mid (Ok true) = ((body : List ℕ) × journals.IsJournalReading after store (with_body w body))
+    × ((new : Memory) (answer : Result (Unit {0}) OldErr) → ReplaysFirstFrom g recipes store new after (length w.bodies + 1) mid answer → ReplaysFirstFrom g recipes store new before (length w.bodies) old answer)
+NextFirstAs g recipes store w before old after mid (Ok false) = journals.IsJournalEnded after store w × ReplaysFirstFrom g recipes store mid before (length w.bodies) old (Ok tt) × (mid ≡ old)
+NextFirstAs g recipes store w before old after mid (Err (why.Open error)) = (new : Memory) → ReplaysFirstFrom g recipes store new before (length w.bodies) old (Err error)
+NextFirstAs g recipes store w before old after mid (Err why.Already) = ⊥
+NextFirstAs g recipes store w before old after mid (Err (why.TooLarge user room used limit)) = ⊥
+NextFirstAs g recipes store w before old after mid (Err why.Fault) = Unit {0}
+NextFirstAs g recipes store w before old after mid (Err why.NoMemory) = ⊥
 
 -- All records were taken, or this is the answer.
-abbrev pub AllAs : Ground → List ℕ → Store → Where → journals.JournalState → Memory → journals.JournalState → Memory → Result (Unit {0}) MigrateErr → Type 0
-AllAs g recipes store w before old after mid (Ok value) =
-    ((bodies : List (List ℕ)) × journals.IsJournalEnded after store (record w { bodies = bodies })) × From g recipes store mid before 0 old (Ok tt)
-AllAs g recipes store w before old after mid (Err (why.Open error)) = (new : Memory) → From g recipes store new before 0 old (Err error)
-AllAs g recipes store w before old after mid (Err why.Already) = ⊥
-AllAs g recipes store w before old after mid (Err (why.TooLarge user room used limit)) = ⊥
-AllAs g recipes store w before old after mid (Err why.Fault) = Unit {0}
-AllAs g recipes store w before old after mid (Err why.NoMemory) = ⊥
+abbrev pub AllFirstRecordsAs : Ground → List ℕ → Store → Where → journals.JournalState → Memory → journals.JournalState → Memory → Result (Unit {0}) MigrateErr → Type 0
+AllFirstRecordsAs g recipes store w before old after mid (Ok value) =
+    ((bodies : List (List ℕ)) × journals.IsJournalEnded after store (record w { bodies = bodies })) × ReplaysFirstFrom g recipes store mid before 0 old (Ok tt)
+AllFirstRecordsAs g recipes store w before old after mid (Err (why.Open error)) = (new : Memory) → ReplaysFirstFrom g recipes store new before 0 old (Err error)
+AllFirstRecordsAs g recipes store w before old after mid (Err why.Already) = ⊥
+AllFirstRecordsAs g recipes store w before old after mid (Err (why.TooLarge user room used limit)) = ⊥
+AllFirstRecordsAs g recipes store w before old after mid (Err why.Fault) = Unit {0}
+AllFirstRecordsAs g recipes store w before old after mid (Err why.NoMemory) = ⊥
 
 -- ---- all records behind a start
 
@@ -106,7 +107,7 @@ past_err half end = Damaged (half * half_len + end_place) (slice_index (to_be_by
 
 -- What comes of all records, into a memory of no commands whose recipes end where the start says.
 abbrev pub FromStart : Ground → List ℕ → Store → Memory → journals.JournalState → Result (Unit {0}) OldErr → Type 0
-FromStart g recipes store new before answer = From g recipes store new before 0 (begun_behind users_most (recipes_end_of before.start.checkpoint)) answer
+FromStart g recipes store new before answer = ReplaysFirstFrom g recipes store new before 0 (begun_behind users_most (recipes_end_of before.start.checkpoint)) answer
 
 -- Recipes are to end within their area, and the records decide; or they end past it.
 abbrev pub LoadsAs : Ground → ℕ → List ℕ → Store → journals.JournalState → Memory → Result (Unit {0}) MigrateErr

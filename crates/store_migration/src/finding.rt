@@ -8,7 +8,7 @@ ghost use Rattle.cloud_opening.specs.CommitJournal.journal.Stage.TheVariants as 
 ghost use Rattle.cloud_opening.specs.CommitJournal.Openings.{IsSynced};
 ghost use Rattle.cloud_opening.specs.CommitJournal.States.{state_of};
 ghost use Rattle.cloud_opening.specs.Synced.{AreSynced};
-ghost use Rattle.store_migration.specs.Answers.{OnFault, IfNoMemory};
+ghost use Rattle.store_migration.specs.Answers.{OnMigrateFault, IfNoMemory};
 ghost use Rattle.store_migration.specs.Finding.{FoundAs, OpenedAs};
 ghost use Rattle.store_migration.specs.Steps.{stage_after};
 
@@ -33,7 +33,7 @@ fn find_old<V: Shelf>(
     ensures stays { Stays (V.cloud_at shelf.old cloud.0) (V.cloud_at shelf.new cloud.0) }
     ensures call { IsCall (V.cloud_at shelf.old) (V.cloud_at shelf.new) cloud.0 (V.faults shelf.old)
         (V.faults shelf.new) }
-    ensures counts { OnFault result
+    ensures counts { OnMigrateFault result
         (HasFailed (V.cloud_at shelf.old cloud.0) (V.cloud_at shelf.new cloud.0) (V.faults shelf.old)
         (V.faults shelf.new))
         (KeepsCounts (V.cloud_at shelf.old cloud.0) (V.cloud_at shelf.new cloud.0) (V.faults shelf.old)
@@ -70,7 +70,7 @@ fn open_found<V: Shelf>(
     ensures stays { Stays (V.cloud_at shelf.old cloud.0) (V.cloud_at shelf.new cloud.0) }
     ensures call { IsCall (V.cloud_at shelf.old) (V.cloud_at shelf.new) cloud.0 (V.faults shelf.old)
         (V.faults shelf.new) }
-    ensures counts { OnFault result
+    ensures counts { OnMigrateFault result
         (HasFailed (V.cloud_at shelf.old cloud.0) (V.cloud_at shelf.new cloud.0) (V.faults shelf.old)
         (V.faults shelf.new))
         (KeepsCounts (V.cloud_at shelf.old cloud.0) (V.cloud_at shelf.new cloud.0) (V.faults shelf.old)
@@ -99,7 +99,7 @@ fn open_synced<V: Shelf>(
     ensures stays { Stays (V.cloud_at shelf.old cloud.0) (V.cloud_at shelf.new cloud.0) }
     ensures call { IsCall (V.cloud_at shelf.old) (V.cloud_at shelf.new) cloud.0 (V.faults shelf.old)
         (V.faults shelf.new) }
-    ensures counts { OnFault result
+    ensures counts { OnMigrateFault result
         (HasFailed (V.cloud_at shelf.old cloud.0) (V.cloud_at shelf.new cloud.0) (V.faults shelf.old)
         (V.faults shelf.new))
         (KeepsCounts (V.cloud_at shelf.old cloud.0) (V.cloud_at shelf.new cloud.0) (V.faults shelf.old)
@@ -123,7 +123,7 @@ pub(crate) fn open_old<V: Shelf>(
     ensures any_moment { IsTrue (V.cloud_at shelf.old cloud.0).told
         → LeavesOnly (V.cloud_at shelf.old cloud.0) (V.cloud_at shelf.new cloud.0)
         (IsImage (V.cloud_at shelf.old cloud.0).now) }
-    ensures synced { IsTrue (V.cloud_at shelf.old cloud.0).told → OnFault result (Unit {0})
+    ensures synced { IsTrue (V.cloud_at shelf.old cloud.0).told → OnMigrateFault result (Unit {0})
         (AreSynced (V.cloud_at shelf.old cloud.0) (V.cloud_at shelf.new cloud.0)) }
     ensures opened { IsTrue (V.cloud_at shelf.old cloud.0).told
         → OpenedAs shape cloud (state_of journal.new) ((V.cloud_at shelf.new cloud.0).now Area.Journal) result }
@@ -132,7 +132,7 @@ pub(crate) fn open_old<V: Shelf>(
     ensures limit { (state_of journal.new).limit ≡ (state_of journal.old).limit }
     ensures call { IsCall (V.cloud_at shelf.old) (V.cloud_at shelf.new) cloud.0 (V.faults shelf.old)
         (V.faults shelf.new) }
-    ensures counts { OnFault result
+    ensures counts { OnMigrateFault result
         (HasFailed (V.cloud_at shelf.old cloud.0) (V.cloud_at shelf.new cloud.0) (V.faults shelf.old)
         (V.faults shelf.new))
         (KeepsCounts (V.cloud_at shelf.old cloud.0) (V.cloud_at shelf.new cloud.0) (V.faults shelf.old)

@@ -30,9 +30,9 @@ ghost use Rattle.fresh_checkpoints.specs.Switching.{IsReadOne, IsMigrating};
 ghost use Rattle.cloud_opening.specs.Synced.{AreSynced, BeginsSynced};
 ghost use Rattle.large_users.specs.MigrationModel.Migrating.{MayBeMigrated, EachBegunOne, IsBetween};
 ghost use Rattle.large_users.specs.MigrationModel.Migrating as model;
-ghost use Rattle.store_migration.specs.Answers.{MigratedAs, OnFault, IfAnswered, IfRefused, IfNoMemory};
+ghost use Rattle.store_migration.specs.Answers.{MigratedAs, OnMigrateFault, IfAnswered, IfRefused, IfNoMemory};
 ghost use Rattle.store_migration.specs.Exact.{Migrates};
-ghost use Rattle.store_migration.specs.Judging.{JudgedAs, JudgedBy, SettledAs, TakenOverAs, GoesOn};
+ghost use Rattle.store_migration.specs.Judging.{MemoryJudgedAs, JudgedBy, SettledAs, TakenOverAs, MomentsGoOn};
 ghost use Rattle.store_migration.specs.Kit.{HasFirst, IsKit};
 ghost use Rattle.store_migration.specs.Left.{checkpoint_for, HasEitherPlace, IsLaidFrom, IfLaid, IsLeftBy};
 ghost use Rattle.store_migration.specs.Reading.{IsReadFirst};
@@ -95,7 +95,7 @@ fn judge(memory: &mut CloudMemory, rooms: &UserRooms) -> Result<u64, MigrateErr>
     requires rooms { AreRooms rooms.now }
     requires first { HasFirst memory.old }
     requires fit { FitsRecords (memory_of memory.old) }
-    ensures judged { JudgedAs rooms.now (memory_of memory.old) result }
+    ensures judged { MemoryJudgedAs rooms.now (memory_of memory.old) result }
     ensures compacted { OnOk result (IsCompacted memory.old (memory_of memory.new)) }
     ensures by_list { (shape : OfStore) (cloud : ℕ) (list : List Command) (table : List Row) → IsSound shape cloud list
         → Remembers shape list (with_table table (memory_of memory.old)) → JudgedBy shape rooms.now list result }
@@ -144,14 +144,14 @@ fn settle<V: Shelf>(
     ensures settled { SettledAs commands result }
     ensures goes_on { IsTrue (V.cloud_at shelf.old cloud.0).told → (w : Where)
         → journals.IsJournalEnded (journals.state_of kit.old.journal) ((V.cloud_at shelf.old cloud.0).now OfJournal) w
-        → GoesOn (V.cloud_at shelf.old cloud.0) (V.cloud_at shelf.new cloud.0) }
+        → MomentsGoOn (V.cloud_at shelf.old cloud.0) (V.cloud_at shelf.new cloud.0) }
     ensures laid { IsTrue (V.cloud_at shelf.old cloud.0).told → (w : Where)
         → journals.IsJournalEnded (journals.state_of kit.old.journal) ((V.cloud_at shelf.old cloud.0).now OfJournal) w
         → HasEitherPlace w (checkpoint_for header.now commands kit.old.memory w) (V.cloud_at shelf.old cloud.0)
         (V.cloud_at shelf.new cloud.0) result }
     ensures call { IsCall (V.cloud_at shelf.old) (V.cloud_at shelf.new) cloud.0 (V.faults shelf.old)
         (V.faults shelf.new) }
-    ensures counts { OnFault result
+    ensures counts { OnMigrateFault result
         (HasFailed (V.cloud_at shelf.old cloud.0) (V.cloud_at shelf.new cloud.0) (V.faults shelf.old)
         (V.faults shelf.new))
         (KeepsCounts (V.cloud_at shelf.old cloud.0) (V.cloud_at shelf.new cloud.0) (V.faults shelf.old)
@@ -210,7 +210,7 @@ fn take_over<V: Shelf>(
     ensures taken_over { TakenOverAs rooms.now (memory_of kit.old.memory) result }
     ensures goes_on { IsTrue (V.cloud_at shelf.old cloud.0).told → (w : Where)
         → journals.IsJournalEnded (journals.state_of kit.old.journal) ((V.cloud_at shelf.old cloud.0).now OfJournal) w
-        → GoesOn (V.cloud_at shelf.old cloud.0) (V.cloud_at shelf.new cloud.0) }
+        → MomentsGoOn (V.cloud_at shelf.old cloud.0) (V.cloud_at shelf.new cloud.0) }
     ensures laid { IsTrue (V.cloud_at shelf.old cloud.0).told → (w : Where)
         → journals.IsJournalEnded (journals.state_of kit.old.journal) ((V.cloud_at shelf.old cloud.0).now OfJournal) w
         → IfLaid result (IsLaidFrom (model.header_two shape cloud rooms.now) kit.old.memory w
@@ -218,7 +218,7 @@ fn take_over<V: Shelf>(
     ensures spared { IfRefused result (shelf.new ≡ shelf.old) }
     ensures call { IsCall (V.cloud_at shelf.old) (V.cloud_at shelf.new) cloud.0 (V.faults shelf.old)
         (V.faults shelf.new) }
-    ensures counts { OnFault result
+    ensures counts { OnMigrateFault result
         (HasFailed (V.cloud_at shelf.old cloud.0) (V.cloud_at shelf.new cloud.0) (V.faults shelf.old)
         (V.faults shelf.new))
         (KeepsCounts (V.cloud_at shelf.old cloud.0) (V.cloud_at shelf.new cloud.0) (V.faults shelf.old)
@@ -263,7 +263,7 @@ fn migrate_with<V: Shelf>(
     ensures memory { IfNoMemory result ⊥ }
     ensures call { IsCall (V.cloud_at shelf.old) (V.cloud_at shelf.new) cloud.0 (V.faults shelf.old)
         (V.faults shelf.new) }
-    ensures counts { OnFault result
+    ensures counts { OnMigrateFault result
         (HasFailed (V.cloud_at shelf.old cloud.0) (V.cloud_at shelf.new cloud.0) (V.faults shelf.old)
         (V.faults shelf.new))
         (KeepsCounts (V.cloud_at shelf.old cloud.0) (V.cloud_at shelf.new cloud.0) (V.faults shelf.old)
@@ -332,7 +332,7 @@ pub fn migrate<V: Shelf>(
     ensures undone { IfNoMemory result (shelf.new ≡ shelf.old) }
     ensures call { IsCall (V.cloud_at shelf.old) (V.cloud_at shelf.new) cloud.0 (V.faults shelf.old)
         (V.faults shelf.new) }
-    ensures counts { OnFault result
+    ensures counts { OnMigrateFault result
         (HasFailed (V.cloud_at shelf.old cloud.0) (V.cloud_at shelf.new cloud.0) (V.faults shelf.old)
         (V.faults shelf.new))
         (KeepsCounts (V.cloud_at shelf.old cloud.0) (V.cloud_at shelf.new cloud.0) (V.faults shelf.old)

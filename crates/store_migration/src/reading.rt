@@ -16,11 +16,12 @@ ghost use Rattle.first_laws.specs.FirstRecords.Limits.{HasFirstRooms};
 ghost use Rattle.large_users.specs.MigrationModel.Migrating.{MayBeMigrated};
 ghost use Rattle.cloud_opening.specs.Steps.{HasChainEnded};
 ghost use Rattle.cloud_opening.specs.Synced.{AreSynced};
-ghost use Rattle.store_migration.specs.Answers.{OnFault, IfNoMemory};
+ghost use Rattle.store_migration.specs.Answers.{OnMigrateFault, IfNoMemory};
 ghost use Rattle.store_migration.specs.Exact.{ReadsOld, users_most};
 ghost use Rattle.store_migration.specs.Finding.{OpenedAs};
 ghost use Rattle.store_migration.specs.Reading.{IsReadFirst};
-ghost use Rattle.store_migration.specs.Steps.{past_err, stage_after, HasReadAll, IsOfRecords, IsReadWholeOne, LoadsAs};
+ghost use Rattle.store_migration.specs.Steps.{past_err, stage_after, HasReadAll, IsOfFirstRecords, IsReadWholeOne};
+ghost use Rattle.store_migration.specs.Steps.{LoadsAs};
 
 use crate::finding::open_old;
 use crate::records::take_all;
@@ -96,11 +97,11 @@ fn load<V: Shelf>(
     ensures users { OnOk result (length memory.new.spent ≡ users_most) }
     ensures stage { (state_of journal.new).stage ≡ stage_after Stage.AtEnd result }
     ensures limit { (state_of journal.new).limit ≡ (state_of journal.old).limit }
-    ensures kind { IsOfRecords result }
+    ensures kind { IsOfFirstRecords result }
     ensures stays { Stays (V.cloud_at shelf.old cloud.0) (V.cloud_at shelf.new cloud.0) }
     ensures call { IsCall (V.cloud_at shelf.old) (V.cloud_at shelf.new) cloud.0 (V.faults shelf.old)
         (V.faults shelf.new) }
-    ensures counts { OnFault result
+    ensures counts { OnMigrateFault result
         (HasFailed (V.cloud_at shelf.old cloud.0) (V.cloud_at shelf.new cloud.0) (V.faults shelf.old)
         (V.faults shelf.new))
         (KeepsCounts (V.cloud_at shelf.old cloud.0) (V.cloud_at shelf.new cloud.0) (V.faults shelf.old)
@@ -131,7 +132,7 @@ fn read_opened<V: Shelf>(
     requires buffer { recipe_limit ≤ length buffer.old }
     ensures exact { IsTrue (V.cloud_at shelf.old cloud.0).told
         → OpenedAs shape cloud (state_of journal.old) ((V.cloud_at shelf.old cloud.0).now Area.Journal) (Ok half)
-        → OnFault result (Unit {0})
+        → OnMigrateFault result (Unit {0})
         (ReadsOld shape cloud (reads (V.cloud_at shelf.old cloud.0).now) (memory_of memory.new) result) }
     ensures read { IsTrue (V.cloud_at shelf.old cloud.0).told
         → OpenedAs shape cloud (state_of journal.old) ((V.cloud_at shelf.old cloud.0).now Area.Journal) (Ok half)
@@ -146,7 +147,7 @@ fn read_opened<V: Shelf>(
     ensures stays { Stays (V.cloud_at shelf.old cloud.0) (V.cloud_at shelf.new cloud.0) }
     ensures call { IsCall (V.cloud_at shelf.old) (V.cloud_at shelf.new) cloud.0 (V.faults shelf.old)
         (V.faults shelf.new) }
-    ensures counts { OnFault result
+    ensures counts { OnMigrateFault result
         (HasFailed (V.cloud_at shelf.old cloud.0) (V.cloud_at shelf.new cloud.0) (V.faults shelf.old)
         (V.faults shelf.new))
         (KeepsCounts (V.cloud_at shelf.old cloud.0) (V.cloud_at shelf.new cloud.0) (V.faults shelf.old)
@@ -177,10 +178,10 @@ fn read_journal<V: Shelf>(
     ensures any_moment { IsTrue (V.cloud_at shelf.old cloud.0).told
         → LeavesOnly (V.cloud_at shelf.old cloud.0) (V.cloud_at shelf.new cloud.0)
         (IsImage (V.cloud_at shelf.old cloud.0).now) }
-    ensures synced { IsTrue (V.cloud_at shelf.old cloud.0).told → OnFault result (Unit {0})
+    ensures synced { IsTrue (V.cloud_at shelf.old cloud.0).told → OnMigrateFault result (Unit {0})
         (AreSynced (V.cloud_at shelf.old cloud.0) (V.cloud_at shelf.new cloud.0)) }
     // whatever the bytes of the areas are
-    ensures exact { IsTrue (V.cloud_at shelf.old cloud.0).told → OnFault result (Unit {0})
+    ensures exact { IsTrue (V.cloud_at shelf.old cloud.0).told → OnMigrateFault result (Unit {0})
         (ReadsOld shape cloud (reads (V.cloud_at shelf.old cloud.0).now) (memory_of memory.new) result) }
     ensures read { IsTrue (V.cloud_at shelf.old cloud.0).told → OnOk result
         (IsReadWholeOne shape cloud (state_of journal.new) (memory_of memory.new) (V.cloud_at shelf.new cloud.0)) }
@@ -195,7 +196,7 @@ fn read_journal<V: Shelf>(
     ensures limit { (state_of journal.new).limit ≡ (state_of journal.old).limit }
     ensures call { IsCall (V.cloud_at shelf.old) (V.cloud_at shelf.new) cloud.0 (V.faults shelf.old)
         (V.faults shelf.new) }
-    ensures counts { OnFault result
+    ensures counts { OnMigrateFault result
         (HasFailed (V.cloud_at shelf.old cloud.0) (V.cloud_at shelf.new cloud.0) (V.faults shelf.old)
         (V.faults shelf.new))
         (KeepsCounts (V.cloud_at shelf.old cloud.0) (V.cloud_at shelf.new cloud.0) (V.faults shelf.old)
@@ -223,17 +224,17 @@ pub(crate) fn read_old<V: Shelf>(
     ensures any_moment { IsTrue (V.cloud_at shelf.old cloud.0).told
         → LeavesOnly (V.cloud_at shelf.old cloud.0) (V.cloud_at shelf.new cloud.0)
         (IsImage (V.cloud_at shelf.old cloud.0).now) }
-    ensures synced { IsTrue (V.cloud_at shelf.old cloud.0).told → OnFault result (Unit {0})
+    ensures synced { IsTrue (V.cloud_at shelf.old cloud.0).told → OnMigrateFault result (Unit {0})
         (AreSynced (V.cloud_at shelf.old cloud.0) (V.cloud_at shelf.new cloud.0)) }
     // whatever the bytes of the areas are
-    ensures exact { IsTrue (V.cloud_at shelf.old cloud.0).told → OnFault result (Unit {0})
+    ensures exact { IsTrue (V.cloud_at shelf.old cloud.0).told → OnMigrateFault result (Unit {0})
         (ReadsOld shape cloud (reads (V.cloud_at shelf.old cloud.0).now) (memory_of memory.new) result) }
     // by each list that the cloud stands for in format 1
     ensures read { (list : List Command) → MayBeMigrated shape cloud list (V.cloud_at shelf.old cloud.0)
-        → OnFault result (Unit {0}) (OnOk result
+        → OnMigrateFault result (Unit {0}) (OnOk result
         (IsReadFirst shape cloud list (state_of journal.new) (memory_of memory.new) (V.cloud_at shelf.new cloud.0))) }
     ensures whole { (list : List Command) → MayBeMigrated shape cloud list (V.cloud_at shelf.old cloud.0)
-        → OnFault result (Unit {0}) (IsOk result) }
+        → OnMigrateFault result (Unit {0}) (IsOk result) }
     ensures ended { IsTrue (V.cloud_at shelf.old cloud.0).told → OnOk result ((w : Where)
         × IsJournalEnded (state_of journal.new) ((V.cloud_at shelf.new cloud.0).now Area.Journal) w) }
     ensures fit { OnOk result (FitsRecords (memory_of memory.new)) }
@@ -245,7 +246,7 @@ pub(crate) fn read_old<V: Shelf>(
     ensures limit { (state_of journal.new).limit ≡ (state_of journal.old).limit }
     ensures call { IsCall (V.cloud_at shelf.old) (V.cloud_at shelf.new) cloud.0 (V.faults shelf.old)
         (V.faults shelf.new) }
-    ensures counts { OnFault result
+    ensures counts { OnMigrateFault result
         (HasFailed (V.cloud_at shelf.old cloud.0) (V.cloud_at shelf.new cloud.0) (V.faults shelf.old)
         (V.faults shelf.new))
         (KeepsCounts (V.cloud_at shelf.old cloud.0) (V.cloud_at shelf.new cloud.0) (V.faults shelf.old)

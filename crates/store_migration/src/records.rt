@@ -12,9 +12,10 @@ ghost use Rattle.cloud_opening.specs.CommitJournal.States.{state_of, IsJournalRe
 ghost use Rattle.fresh_checkpoints.specs.CloudMemory.Fitting.{FitsRecords};
 ghost use Rattle.fresh_checkpoints.specs.CloudMemory.Rooms.{memory_of};
 ghost use Rattle.first_laws.specs.FirstRecords.Limits.{HasFirstRooms};
-ghost use Rattle.store_migration.specs.Answers.{OnFault};
+ghost use Rattle.store_migration.specs.Answers.{OnMigrateFault};
 ghost use Rattle.store_migration.specs.Exact.{old_err};
-ghost use Rattle.store_migration.specs.Steps.{BodyAs, IsFirstOneAs, NextAs, AllAs, IsOfRecords, OnTrue, stage_of};
+ghost use Rattle.store_migration.specs.Steps.{FirstBodyAs, IsFirstOneAs, NextFirstAs, AllFirstRecordsAs};
+ghost use Rattle.store_migration.specs.Steps.{IsOfFirstRecords, OnRecordTaken, stage_of};
 ghost use Rattle.store_migration.specs.Steps.{stage_after};
 ghost use Rattle.store_migration.specs.declared.errors.MigrateErr.TheVariants.{Open};
 
@@ -49,14 +50,15 @@ fn take_body(
     requires place { 5 ≤ (state_of journal.old).current.body_at }
     requires end { (state_of journal.old).current.body_at + length (state_of journal.old).current.body < 2 ^ 64 }
     requires read { length read.now < 2 ^ 32 }
-    ensures judged { BodyAs ground.now inside read.now (memory_of memory.old) (state_of journal.old).current.body_at
+    ensures judged { FirstBodyAs ground.now inside read.now (memory_of memory.old)
+        (state_of journal.old).current.body_at
         (state_of journal.old).current.body (memory_of memory.new) result }
     ensures rooms { HasFirstRooms memory.new }
     ensures unspent { OnOk result (memory.new.spent ≡ memory.old.spent) }
     ensures fit { FitsRecords (memory_of memory.old) → OnOk result (FitsRecords (memory_of memory.new)) }
     ensures journal { state_of journal.new ≡ record
         (state_of journal.old) { stage = (if is_ok result then (state_of journal.old).stage else Stage.Shut) } }
-    ensures kind { IsOfRecords result }
+    ensures kind { IsOfFirstRecords result }
 {
     match take(
         memory,
@@ -90,8 +92,8 @@ fn take_read<V: Shelf>(
     requires place { 5 ≤ (state_of journal.old).current.body_at }
     requires end { (state_of journal.old).current.body_at + length (state_of journal.old).current.body < 2 ^ 64 }
     requires room { place.len ≤ length buffer.old }
-    ensures judged { IsTrue (V.cloud_at shelf.old cloud.0).told → OnFault result (Unit {0})
-        (BodyAs ground.now inside
+    ensures judged { IsTrue (V.cloud_at shelf.old cloud.0).told → OnMigrateFault result (Unit {0})
+        (FirstBodyAs ground.now inside
         (take place.len (drop place.at ((V.cloud_at shelf.old cloud.0).now Area.Recipes).read))
         (memory_of memory.old) (state_of journal.old).current.body_at (state_of journal.old).current.body
         (memory_of memory.new) result) }
@@ -100,12 +102,12 @@ fn take_read<V: Shelf>(
     ensures fit { FitsRecords (memory_of memory.old) → OnOk result (FitsRecords (memory_of memory.new)) }
     ensures journal { state_of journal.new ≡ record
         (state_of journal.old) { stage = (if is_ok result then (state_of journal.old).stage else Stage.Shut) } }
-    ensures kind { IsOfRecords result }
+    ensures kind { IsOfFirstRecords result }
     ensures buffer { length buffer.new ≡ length buffer.old }
     ensures stays { Stays (V.cloud_at shelf.old cloud.0) (V.cloud_at shelf.new cloud.0) }
     ensures call { IsCall (V.cloud_at shelf.old) (V.cloud_at shelf.new) cloud.0 (V.faults shelf.old)
         (V.faults shelf.new) }
-    ensures counts { OnFault result
+    ensures counts { OnMigrateFault result
         (HasFailed (V.cloud_at shelf.old cloud.0) (V.cloud_at shelf.new cloud.0) (V.faults shelf.old)
         (V.faults shelf.new))
         (KeepsCounts (V.cloud_at shelf.old cloud.0) (V.cloud_at shelf.new cloud.0) (V.faults shelf.old)
@@ -136,7 +138,7 @@ fn take_record<V: Shelf>(
     requires place { 5 ≤ (state_of journal.old).current.body_at }
     requires end { (state_of journal.old).current.body_at + length (state_of journal.old).current.body < 2 ^ 64 }
     requires buffer { recipe_limit ≤ length buffer.old }
-    ensures judged { IsTrue (V.cloud_at shelf.old cloud.0).told → OnFault result (Unit {0})
+    ensures judged { IsTrue (V.cloud_at shelf.old cloud.0).told → OnMigrateFault result (Unit {0})
         (IsFirstOneAs ground.now inside ((V.cloud_at shelf.old cloud.0).now Area.Recipes).read
         (memory_of memory.old) (state_of journal.old).current.body_at (state_of journal.old).current.body
         (memory_of memory.new) result) }
@@ -145,12 +147,12 @@ fn take_record<V: Shelf>(
     ensures fit { FitsRecords (memory_of memory.old) → OnOk result (FitsRecords (memory_of memory.new)) }
     ensures journal { state_of journal.new ≡ record
         (state_of journal.old) { stage = (if is_ok result then (state_of journal.old).stage else Stage.Shut) } }
-    ensures kind { IsOfRecords result }
+    ensures kind { IsOfFirstRecords result }
     ensures buffer { length buffer.new ≡ length buffer.old }
     ensures stays { Stays (V.cloud_at shelf.old cloud.0) (V.cloud_at shelf.new cloud.0) }
     ensures call { IsCall (V.cloud_at shelf.old) (V.cloud_at shelf.new) cloud.0 (V.faults shelf.old)
         (V.faults shelf.new) }
-    ensures counts { OnFault result
+    ensures counts { OnMigrateFault result
         (HasFailed (V.cloud_at shelf.old cloud.0) (V.cloud_at shelf.new cloud.0) (V.faults shelf.old)
         (V.faults shelf.new))
         (KeepsCounts (V.cloud_at shelf.old cloud.0) (V.cloud_at shelf.new cloud.0) (V.faults shelf.old)
@@ -184,22 +186,23 @@ fn take_next<V: Shelf>(
     ensures exact { IsTrue (V.cloud_at shelf.old cloud.0).told → (w : Where)
         → IsJournalReading (state_of journal.old) ((V.cloud_at shelf.old cloud.0).now Area.Journal) w
         → inside ≡ nat_lt (length w.bodies) (records_of w.start.checkpoint)
-        → NextAs ground.now ((V.cloud_at shelf.old cloud.0).now Area.Recipes).read
+        → NextFirstAs ground.now ((V.cloud_at shelf.old cloud.0).now Area.Recipes).read
         ((V.cloud_at shelf.old cloud.0).now Area.Journal) w (state_of journal.old) (memory_of memory.old)
         (state_of journal.new) (memory_of memory.new) result }
     ensures rooms { HasFirstRooms memory.new }
     ensures unspent { OnOk result (memory.new.spent ≡ memory.old.spent) }
     ensures fit { FitsRecords (memory_of memory.old) → OnOk result (FitsRecords (memory_of memory.new)) }
-    ensures gate { OnTrue result ((state_of journal.old).current.gate + 6 ≤ (state_of journal.new).current.gate) }
+    ensures gate { OnRecordTaken result
+        ((state_of journal.old).current.gate + 6 ≤ (state_of journal.new).current.gate) }
     ensures stage { (state_of journal.new).stage ≡ stage_of result }
     ensures start { (state_of journal.new).start ≡ (state_of journal.old).start }
     ensures limit { (state_of journal.new).limit ≡ (state_of journal.old).limit }
-    ensures kind { IsOfRecords result }
+    ensures kind { IsOfFirstRecords result }
     ensures buffer { length buffer.new ≡ length buffer.old }
     ensures stays { Stays (V.cloud_at shelf.old cloud.0) (V.cloud_at shelf.new cloud.0) }
     ensures call { IsCall (V.cloud_at shelf.old) (V.cloud_at shelf.new) cloud.0 (V.faults shelf.old)
         (V.faults shelf.new) }
-    ensures counts { OnFault result
+    ensures counts { OnMigrateFault result
         (HasFailed (V.cloud_at shelf.old cloud.0) (V.cloud_at shelf.new cloud.0) (V.faults shelf.old)
         (V.faults shelf.new))
         (KeepsCounts (V.cloud_at shelf.old cloud.0) (V.cloud_at shelf.new cloud.0) (V.faults shelf.old)
@@ -232,7 +235,7 @@ pub(crate) fn take_all<V: Shelf>(
     requires buffer { recipe_limit ≤ length buffer.old }
     ensures exact { IsTrue (V.cloud_at shelf.old cloud.0).told → (w : Where)
         → IsJournalReading (state_of journal.old) ((V.cloud_at shelf.old cloud.0).now Area.Journal) w → w.bodies ≡ []
-        → AllAs ground.now ((V.cloud_at shelf.old cloud.0).now Area.Recipes).read
+        → AllFirstRecordsAs ground.now ((V.cloud_at shelf.old cloud.0).now Area.Recipes).read
         ((V.cloud_at shelf.old cloud.0).now Area.Journal) w (state_of journal.old) (memory_of memory.old)
         (state_of journal.new) (memory_of memory.new) result }
     ensures rooms { HasFirstRooms memory.new }
@@ -241,11 +244,11 @@ pub(crate) fn take_all<V: Shelf>(
     ensures stage { (state_of journal.new).stage ≡ stage_after Stage.AtEnd result }
     ensures start { (state_of journal.new).start ≡ (state_of journal.old).start }
     ensures limit { (state_of journal.new).limit ≡ (state_of journal.old).limit }
-    ensures kind { IsOfRecords result }
+    ensures kind { IsOfFirstRecords result }
     ensures stays { Stays (V.cloud_at shelf.old cloud.0) (V.cloud_at shelf.new cloud.0) }
     ensures call { IsCall (V.cloud_at shelf.old) (V.cloud_at shelf.new) cloud.0 (V.faults shelf.old)
         (V.faults shelf.new) }
-    ensures counts { OnFault result
+    ensures counts { OnMigrateFault result
         (HasFailed (V.cloud_at shelf.old cloud.0) (V.cloud_at shelf.new cloud.0) (V.faults shelf.old)
         (V.faults shelf.new))
         (KeepsCounts (V.cloud_at shelf.old cloud.0) (V.cloud_at shelf.new cloud.0) (V.faults shelf.old)

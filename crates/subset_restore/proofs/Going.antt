@@ -12,7 +12,7 @@ use Rattle.restore_job.proofs.UserDedup.Owned.{contains_here, contains_later, co
 use Rattle.restore_job.specs.Asking.{HasAskedClouds, LeadsAny, AreOnlyAsked, AreRead, Readable, TellsAll, among, is_loss, is_lost}
 use Rattle.restore_job.specs.Brought.{Brought}
 use Rattle.restore_job.specs.Exchanges.{LostSaid, RestorePassed, RestoreSaid, Unlost}
-use Rattle.restore_job.specs.Reading.{Ends, ReadsBy, Restores}
+use Rattle.restore_job.specs.Reading.{Ends, ReadsUpTo, Restores}
 use Rattle.restore_job.specs.Refusals.{Caused, CausesAmong, ShownAmong, Names}
 use Rattle.restore_job.specs.Restored.{Unrestored}
 use Rattle.restore_job.specs.declared.error.RestoreErr.{RestoreErr}
@@ -25,7 +25,7 @@ use Rattle.subset_restore.specs.Tries.{Try, GoneThrough, NoneYet, Passed, Refuse
 use Rattle.subset_restore.specs.Restored.{first_bytes, first_given, restored_any}
 use Rattle.subset_restore.specs.Ends.{Sought, outcome_of, any_outcome, GivesNone, IsNone, NoneFailed, OneRestore, AllRefused, AllCaused, AllShown, CameTold, CameAlone, HasFileCome, NoneTold, NothingAlone, NoneCame, OnlyLeads, NoneBy}
 use Rattle.subset_restore.specs.Tracking.{Tracks, HoldsMarked, first_of}
-use Rattle.subset_restore.specs.Going.{sought, TryTold, EachTold, EachShown, EachAlone, TriesStand, AllStand, Begun, SoFar, GoesOn, Goes}
+use Rattle.subset_restore.specs.Going.{sought, TryTold, EachTold, EachShown, EachAlone, TriesStand, AllStand, HasTriedInOrder, SoFar, GoesOn, Seeks}
 use Rattle.subset_restore.specs.declared.refusals.Refusals.{Refusals}
 use Rattle.subset_restore.specs.declared.trying.Went.{Went}
 use Rattle.subset_restore.specs.declared.trying.Went.TheVariants as went
@@ -82,13 +82,13 @@ of_more P tries y all one x has = elim (contains_last tries y x has) [ inl l ↦
 no_refuser : (subset : List ℕ) → HoldsRefuser [] subset → ⊥
 no_refuser subset holds = contains_nothing holds.2.0 holds.2.1
 
-begun_passed : (done : List (List ℕ)) (tries : List Try) (subset : List ℕ) → Begun done tries → HoldsRefuser tries subset → Begun (done ++ subset ∷ []) tries
+begun_passed : (done : List (List ℕ)) (tries : List Try) (subset : List ℕ) → HasTriedInOrder done tries → HoldsRefuser tries subset → HasTriedInOrder (done ++ subset ∷ []) tries
 begun_passed [] [] subset begun holds = absurd (no_refuser subset holds)
 begun_passed [] (x ∷ tries) subset begun holds = absurd begun
 begun_passed (one ∷ done) [] subset begun holds = absurd begun
 begun_passed (one ∷ done) (x ∷ tries) subset begun holds = begun
 
-begun_refused : (done : List (List ℕ)) (tries : List Try) (y : Try) → Begun done tries → Begun (done ++ y.subset ∷ []) (tries ++ y ∷ [])
+begun_refused : (done : List (List ℕ)) (tries : List Try) (y : Try) → HasTriedInOrder done tries → HasTriedInOrder (done ++ y.subset ∷ []) (tries ++ y ∷ [])
 begun_refused [] [] y begun = refl
 begun_refused [] (x ∷ tries) y begun = absurd begun
 begun_refused (one ∷ done) [] y begun = absurd begun
@@ -107,10 +107,10 @@ no_end [] y e = cc
 no_end (z ∷ tries) y e = cc
 
 -- which clouds the one try read
-read_once : (tries : List Try) (y : Try) (a b c : ℕ → Peer) → (tries ≡ [] → b ≡ a) → ReadsBy y.subset (Err y.refusal) b c → (x : Try) → tries ++ y ∷ [] ≡ x ∷ [] → ReadsBy x.subset (Err x.refusal) a c
+read_once : (tries : List Try) (y : Try) (a b c : ℕ → Peer) → (tries ≡ [] → b ≡ a) → ReadsUpTo y.subset (Err y.refusal) b c → (x : Try) → tries ++ y ∷ [] ≡ x ∷ [] → ReadsUpTo x.subset (Err x.refusal) a c
 read_once [] y a b c none reads x e =
     let same : y ≡ x = cc in
-    subst (λ (z : Try). ReadsBy z.subset (Err z.refusal) a c) same (subst (λ (p : ℕ → Peer). ReadsBy y.subset (Err y.refusal) p c) (none refl) reads)
+    subst (λ (z : Try). ReadsUpTo z.subset (Err z.refusal) a c) same (subst (λ (p : ℕ → Peer). ReadsUpTo y.subset (Err y.refusal) p c) (none refl) reads)
 read_once (z ∷ tries) y a b c none reads x e = absurd (no_end tries y (let f : z ∷ (tries ++ y ∷ []) ≡ x ∷ [] = e in cc))
 
 -- there are no more tries than choices
@@ -385,15 +385,15 @@ module _ {L : Type 0} (t : LinkTelling L) (talk : L → ℕ → Talk → Type 0)
   no_error : (b : RestoreErr) → None ≡ Some b → ⊥
   no_error b same = cc
 
-  first_try : (tries : List Try) (done : List (List ℕ)) (e : RestoreErr) (first : List ℕ) (rest : List (List ℕ)) → first_of tries ≡ Some e → done ≡ first ∷ rest → Begun done tries → FirstTry tries e first
+  first_try : (tries : List Try) (done : List (List ℕ)) (e : RestoreErr) (first : List ℕ) (rest : List (List ℕ)) → first_of tries ≡ Some e → done ≡ first ∷ rest → HasTriedInOrder done tries → FirstTry tries e first
   first_try [] done e first rest is split begun = absurd (no_error e is)
   first_try (x ∷ tries) done e first rest is split begun =
-      let same : x.subset ≡ first = subst (λ (l : List (List ℕ)). Begun l (x ∷ tries)) split begun in
+      let same : x.subset ≡ first = subst (λ (l : List (List ℕ)). HasTriedInOrder l (x ∷ tries)) split begun in
       record { more = tries; is = λ i. record { subset = same i; refusal = error_some x.refusal e is i } ∷ tries }
 
   -- from just k clouds
   just_first : (tries : List Try) (e : RestoreErr) (first : List ℕ) (rest : List (List ℕ)) (a b : ℕ → Peer) → GoneThrough (subsets s.shape.k s.clouds) tries → subsets s.shape.k s.clouds ≡ first ∷ rest
-      → FirstTry tries e first → Ends (outcome_of s b first) first (Err e) bytes bytes a b → ((x : Try) → tries ≡ x ∷ [] → ReadsBy x.subset (Err x.refusal) a b) → subsets s.shape.k s.clouds ≡ s.clouds ∷ []
+      → FirstTry tries e first → Ends (outcome_of s b first) first (Err e) bytes bytes a b → ((x : Try) → tries ≡ x ∷ [] → ReadsUpTo x.subset (Err x.refusal) a b) → subsets s.shape.k s.clouds ≡ s.clouds ∷ []
       → Restores s.shape s.user (s.tag, s.version) s.clouds (Err e) bytes bytes a b
   just_first tries e first rest a b gone split one ends reads all =
       let first_is : first ≡ s.clouds = sole [] first rest s.clouds (sym split ∙ all) in
@@ -504,8 +504,8 @@ module _ {L : Type 0} (t : LinkTelling L) (talk : L → ℕ → Talk → Type 0)
       → subsets s.shape.k s.clouds ≡ first ∷ rest → first_of tries ≡ None → ⊥
   none_untried now tries first rest f split is = go tries f.begun is
     where
-      go : (tries : List Try) → Begun (subsets s.shape.k s.clouds) tries → first_of tries ≡ None → ⊥
-      go [] begun is = subst (λ (l : List (List ℕ)). Begun l []) split begun
+      go : (tries : List Try) → HasTriedInOrder (subsets s.shape.k s.clouds) tries → first_of tries ≡ None → ⊥
+      go [] begun is = subst (λ (l : List (List ℕ)). HasTriedInOrder l []) split begun
       go (x ∷ tries) begun is = no_error x.refusal (sym is)
 
 -- ---- one part after another
@@ -513,13 +513,13 @@ module _ {L : Type 0} (t : LinkTelling L) (talk : L → ℕ → Talk → Type 0)
 module _ {L : Type 0} (t : LinkTelling L) (talk : L → ℕ → Talk → Type 0) (shape : Shape) (user : UserId) (path : List ℕ) (version : Version) where
   -- the same choices, among more clouds
   pub goes_as : (old new : L) (bytes bytes' among among' : List ℕ) (todo todo' : List (List ℕ)) (r r' : Refusals) (result : Went) → ((x : ℕ) → Contains among x → Contains among' x) → todo ≡ todo'
-      → Goes t talk shape user path version old new bytes bytes' among todo r r' result → Goes t talk shape user path version old new bytes bytes' among' todo' r r' result
+      → Seeks t talk shape user path version old new bytes bytes' among todo r r' result → Seeks t talk shape user path version old new bytes bytes' among' todo' r r' result
   goes_as old new bytes bytes' among among' todo todo' r r' result more same goes =
-      subst (λ (l : List (List ℕ)). Goes t talk shape user path version old new bytes bytes' among' l r r' result) same
+      subst (λ (l : List (List ℕ)). Seeks t talk shape user path version old new bytes bytes' among' l r r' result) same
       (λ clouds start done tries all f tracks. goes clouds start done tries (λ x has. all x (more x has)) f tracks)
 
   -- no choices
-  pub goes_nowhere : (old : L) (bytes among : List ℕ) (r : Refusals) → Goes t talk shape user path version old old bytes bytes among [] r r went.Refused
+  pub goes_nowhere : (old : L) (bytes among : List ℕ) (r : Refusals) → Seeks t talk shape user path version old old bytes bytes among [] r r went.Refused
   goes_nowhere old bytes among r clouds start done tries all f tracks =
       (tries, subst (λ (l : List (List ℕ)). SoFar t talk (sought shape user path version clouds) start old bytes l tries) (sym (append-nil done)) f, tracks, refl)
 
@@ -533,27 +533,27 @@ module _ {L : Type 0} (t : LinkTelling L) (talk : L → ℕ → Talk → Type 0)
 
   -- some choices, and then more
   pub goes_twice : (old mid new : L) (bytes between bytes' among : List ℕ) (todo more : List (List ℕ)) (r r' r'' : Refusals) (result : Went)
-      → Goes t talk shape user path version old mid bytes between among todo r r' went.Refused → Goes t talk shape user path version mid new between bytes' among more r' r'' result
-      → Goes t talk shape user path version old new bytes bytes' among (todo ++ more) r r'' result
+      → Seeks t talk shape user path version old mid bytes between among todo r r' went.Refused → Seeks t talk shape user path version mid new between bytes' among more r' r'' result
+      → Seeks t talk shape user path version old new bytes bytes' among (todo ++ more) r r'' result
   goes_twice old mid new bytes between bytes' among todo more r r' r'' result one two clouds start done tries all f tracks =
       let x = one clouds start done tries all f tracks in
       let s = sought shape user path version clouds in
-      let next = subst (λ (l : List ℕ). Goes t talk shape user path version mid new l bytes' among more r' r'' result) x.3 two in
+      let next = subst (λ (l : List ℕ). Seeks t talk shape user path version mid new l bytes' among more r' r'' result) x.3 two in
       on_behind start new s bytes bytes' done todo more r'' result (next clouds start (done ++ todo) x.0 all x.1 x.2)
 
   -- the file came, or memory ran out, in front of more choices
-  pub goes_found : (old new : L) (bytes bytes' among : List ℕ) (todo more : List (List ℕ)) (r r' r'' : Refusals) → Goes t talk shape user path version old new bytes bytes' among todo r r' went.Restored
-      → Goes t talk shape user path version old new bytes bytes' among (todo ++ more) r r'' went.Restored
+  pub goes_found : (old new : L) (bytes bytes' among : List ℕ) (todo more : List (List ℕ)) (r r' r'' : Refusals) → Seeks t talk shape user path version old new bytes bytes' among todo r r' went.Restored
+      → Seeks t talk shape user path version old new bytes bytes' among (todo ++ more) r r'' went.Restored
   goes_found old new bytes bytes' among todo more r r' r'' goes clouds start done tries all f tracks =
       let g = goes clouds start done tries all f tracks in
       (λ rest e. g.0 (more ++ rest) (e ∙ ap (λ (l : List (List ℕ)). l ++ rest) (sym (append_assoc done todo more)) ∙ append_assoc (done ++ todo) more rest), g.1)
 
-  pub goes_lacked : (old new : L) (bytes bytes' among : List ℕ) (todo more : List (List ℕ)) (r r' r'' : Refusals) → Goes t talk shape user path version old new bytes bytes' among todo r r' went.NoMemory
-      → Goes t talk shape user path version old new bytes bytes' among (todo ++ more) r r'' went.NoMemory
+  pub goes_lacked : (old new : L) (bytes bytes' among : List ℕ) (todo more : List (List ℕ)) (r r' r'' : Refusals) → Seeks t talk shape user path version old new bytes bytes' among todo r r' went.NoMemory
+      → Seeks t talk shape user path version old new bytes bytes' among (todo ++ more) r r'' went.NoMemory
   goes_lacked old new bytes bytes' among todo more r r' r'' goes clouds start done tries all f tracks = goes clouds start done tries all f tracks
 
   -- memory ran out before an ask
-  pub goes_unasked : (old : L) (bytes among : List ℕ) (todo : List (List ℕ)) (r r' : Refusals) → Goes t talk shape user path version old old bytes bytes among todo r r' went.NoMemory
+  pub goes_unasked : (old : L) (bytes among : List ℕ) (todo : List (List ℕ)) (r r' : Refusals) → Seeks t talk shape user path version old old bytes bytes among todo r r' went.NoMemory
   goes_unasked old bytes among todo r r' clouds start done tries all f tracks =
       (lacked t talk (sought shape user path version clouds) start bytes old done tries f, f.asked)
 
@@ -563,7 +563,7 @@ module _ {L : Type 0} (t : LinkTelling L) (talk : L → ℕ → Talk → Type 0)
   not_held : (tries : List Try) (r : Refusals) (subset : List ℕ) → Tracks tries r → (HoldsMarked r.marks subset → ⊥) → HoldsRefuser tries subset → ⊥
   not_held tries r subset tracks free holds = free (holds.0, holds.1, tracks.each holds.0 holds.2)
 
-  pub goes_passed : (old : L) (bytes subset : List ℕ) (r : Refusals) → HoldsMarked r.marks subset → Goes t talk shape user path version old old bytes bytes subset (subset ∷ []) r r went.Refused
+  pub goes_passed : (old : L) (bytes subset : List ℕ) (r : Refusals) → HoldsMarked r.marks subset → Seeks t talk shape user path version old old bytes bytes subset (subset ∷ []) r r went.Refused
   goes_passed old bytes subset r holds clouds start done tries all f tracks =
       (tries, so_far_passed t talk (sought shape user path version clouds) start bytes old done tries subset f (held tries r subset tracks holds), tracks, refl)
 
@@ -585,7 +585,7 @@ module _ {L : Type 0} (t : LinkTelling L) (talk : L → ℕ → Talk → Type 0)
 
   pub goes_refused : (old new : L) (bytes bytes' subset : List ℕ) (r r' : Refusals) (e : RestoreErr) → (HoldsMarked r.marks subset → ⊥) → e ≢ errors.NoMemory → bytes' ≡ bytes → Names (Contains subset) e
       → Restored old new bytes bytes' subset (Err e) → ((tries : List Try) (x : List ℕ) → Tracks tries r → Tracks (tries ++ record { subset = x; refusal = e } ∷ []) r')
-      → Goes t talk shape user path version old new bytes bytes' subset (subset ∷ []) r r' went.Refused
+      → Seeks t talk shape user path version old new bytes bytes' subset (subset ∷ []) r r' went.Refused
   goes_refused old new bytes bytes' subset r r' e free plain kept names one notes clouds start done tries all f tracks =
       let s = sought shape user path version clouds in
       let same : Restored old new bytes bytes subset (Err e) = subst (λ (l : List ℕ). Restored old new bytes l subset (Err e)) kept one in (
@@ -596,7 +596,7 @@ module _ {L : Type 0} (t : LinkTelling L) (talk : L → ℕ → Talk → Type 0)
       )
 
   pub goes_came : (old new : L) (bytes bytes' subset : List ℕ) (r r' : Refusals) → (HoldsMarked r.marks subset → ⊥) → Brought shape subset bytes bytes'
-      → Restored old new bytes bytes' subset (Ok tt) → Goes t talk shape user path version old new bytes bytes' subset (subset ∷ []) r r' went.Restored
+      → Restored old new bytes bytes' subset (Ok tt) → Seeks t talk shape user path version old new bytes bytes' subset (subset ∷ []) r r' went.Restored
   goes_came old new bytes bytes' subset r r' free brought one clouds start done tries all f tracks =
       let s = sought shape user path version clouds in
       let step = step_of old new start bytes bytes' subset (Ok tt) clouds all one in (
@@ -605,7 +605,7 @@ module _ {L : Type 0} (t : LinkTelling L) (talk : L → ℕ → Talk → Type 0)
       )
 
   pub goes_short : (old new : L) (bytes bytes' subset : List ℕ) (r r' : Refusals) (e : RestoreErr) → Restored old new bytes bytes' subset (Err e)
-      → Goes t talk shape user path version old new bytes bytes' subset (subset ∷ []) r r' went.NoMemory
+      → Seeks t talk shape user path version old new bytes bytes' subset (subset ∷ []) r r' went.NoMemory
   goes_short old new bytes bytes' subset r r' e one clouds start done tries all f tracks =
       let s = sought shape user path version clouds in
       let step = step_of old new start bytes bytes' subset (Err e) clouds all one in

@@ -12,7 +12,7 @@ use Rattle.restore_job.specs.declared.error.RestoreErr.{RestoreErr}
 use Rattle.subset_restore.specs.Subsets.{subsets, behind}
 use Rattle.subset_restore.specs.Ends.{HasFileCome, OnlyLeads}
 use Rattle.subset_restore.specs.Tracking.{Tracks}
-use Rattle.subset_restore.specs.Going.{sought, GoesOn, Goes}
+use Rattle.subset_restore.specs.Going.{sought, GoesOn, Seeks}
 use Rattle.subset_restore.specs.declared.refusals.Refusals.{Refusals}
 use Rattle.subset_restore.specs.declared.trying.Went.{Went}
 use Rattle.subset_restore.specs.declared.trying.Went.TheVariants as went
@@ -56,14 +56,14 @@ walk_split chosen more rest named cloud need rest_is named_is some =
 
 module _ {L : Type 0} (t : LinkTelling L) (talk : L → ℕ → Talk → Type 0) (shape : Shape) (user : UserId) (path : List ℕ) (version : Version) where
   pub walk_one : (old new : L) (bytes bytes' chosen rest slice : List ℕ) (need : ℕ) (r r' : Refusals) (result : Went) → slice ≡ chosen → need ≡ 0
-      → Goes t talk shape user path version old new bytes bytes' slice (slice ∷ []) r r' result → Goes t talk shape user path version old new bytes bytes' (chosen ++ rest) (behind chosen need rest) r r' result
+      → Seeks t talk shape user path version old new bytes bytes' slice (slice ∷ []) r r' result → Seeks t talk shape user path version old new bytes bytes' (chosen ++ rest) (behind chosen need rest) r r' result
   walk_one old new bytes bytes' chosen rest slice need r r' result same none =
       goes_as t talk shape user path version old new bytes bytes' slice (chosen ++ rest) (slice ∷ []) (behind chosen need rest) r r' result
       (λ x has. contains_front chosen rest x (subst (λ (l : List ℕ). Contains l x) same has))
       (ap (λ (l : List ℕ). l ∷ []) same ∙ sym (behind_none chosen rest) ∙ ap (λ (n : ℕ). behind chosen n rest) (sym none))
 
   pub walk_none : (old : L) (bytes chosen rest : List ℕ) (need : ℕ) (r : Refusals) → length rest < need
-      → Goes t talk shape user path version old old bytes bytes (chosen ++ rest) (behind chosen need rest) r r went.Refused
+      → Seeks t talk shape user path version old old bytes bytes (chosen ++ rest) (behind chosen need rest) r r went.Refused
   walk_none old bytes chosen rest need r few =
       goes_as t talk shape user path version old old bytes bytes (chosen ++ rest) (chosen ++ rest) [] (behind chosen need rest) r r went.Refused (λ x has. has)
       (ap (λ (l : List (List ℕ)). map (λ subset. chosen ++ subset) l) (sym (none_left need rest few)))
@@ -76,9 +76,9 @@ module _ {L : Type 0} (t : LinkTelling L) (talk : L → ℕ → Talk → Type 0)
   more_in chosen more rest cloud rest_is x has = subst (λ (l : List ℕ). Contains (chosen ++ l) x) (sym rest_is) (part_of chosen more cloud x has)
 
   pub walk_twice : (old mid new : L) (bytes between bytes' chosen more rest named : List ℕ) (cloud need : ℕ) (r r' r'' : Refusals) (result : Went) → rest ≡ cloud ∷ more → named ≡ chosen ++ cloud ∷ [] → 1 ≤ need
-      → Goes t talk shape user path version old mid bytes between (named ++ more) (behind named (need - 1) more) r r' went.Refused
-      → Goes t talk shape user path version mid new between bytes' (chosen ++ more) (behind chosen need more) r' r'' result
-      → Goes t talk shape user path version old new bytes bytes' (chosen ++ rest) (behind chosen need rest) r r'' result
+      → Seeks t talk shape user path version old mid bytes between (named ++ more) (behind named (need - 1) more) r r' went.Refused
+      → Seeks t talk shape user path version mid new between bytes' (chosen ++ more) (behind chosen need more) r' r'' result
+      → Seeks t talk shape user path version old new bytes bytes' (chosen ++ rest) (behind chosen need rest) r r'' result
   walk_twice old mid new bytes between bytes' chosen more rest named cloud need r r' r'' result rest_is named_is some one two =
       goes_as t talk shape user path version old new bytes bytes' (chosen ++ rest) (chosen ++ rest) (behind named (need - 1) more ++ behind chosen need more) (behind chosen need rest) r r'' result (λ x has. has)
       (walk_split chosen more rest named cloud need rest_is named_is some)
@@ -87,16 +87,16 @@ module _ {L : Type 0} (t : LinkTelling L) (talk : L → ℕ → Talk → Type 0)
       (goes_as t talk shape user path version mid new between bytes' (chosen ++ more) (chosen ++ rest) (behind chosen need more) (behind chosen need more) r' r'' result (more_in chosen more rest cloud rest_is) refl two))
 
   pub walk_found : (old new : L) (bytes bytes' chosen more rest named : List ℕ) (cloud need : ℕ) (r r' : Refusals) → rest ≡ cloud ∷ more → named ≡ chosen ++ cloud ∷ [] → 1 ≤ need
-      → Goes t talk shape user path version old new bytes bytes' (named ++ more) (behind named (need - 1) more) r r' went.Restored
-      → Goes t talk shape user path version old new bytes bytes' (chosen ++ rest) (behind chosen need rest) r r' went.Restored
+      → Seeks t talk shape user path version old new bytes bytes' (named ++ more) (behind named (need - 1) more) r r' went.Restored
+      → Seeks t talk shape user path version old new bytes bytes' (chosen ++ rest) (behind chosen need rest) r r' went.Restored
   walk_found old new bytes bytes' chosen more rest named cloud need r r' rest_is named_is some one =
       goes_as t talk shape user path version old new bytes bytes' (named ++ more) (chosen ++ rest) (behind named (need - 1) more ++ behind chosen need more) (behind chosen need rest) r r' went.Restored
       (named_in chosen more rest named cloud rest_is named_is) (walk_split chosen more rest named cloud need rest_is named_is some)
       (goes_found t talk shape user path version old new bytes bytes' (named ++ more) (behind named (need - 1) more) (behind chosen need more) r r' r' one)
 
   pub walk_lacked : (old new : L) (bytes bytes' chosen more rest named : List ℕ) (cloud need : ℕ) (r r' : Refusals) → rest ≡ cloud ∷ more → named ≡ chosen ++ cloud ∷ [] → 1 ≤ need
-      → Goes t talk shape user path version old new bytes bytes' (named ++ more) (behind named (need - 1) more) r r' went.NoMemory
-      → Goes t talk shape user path version old new bytes bytes' (chosen ++ rest) (behind chosen need rest) r r' went.NoMemory
+      → Seeks t talk shape user path version old new bytes bytes' (named ++ more) (behind named (need - 1) more) r r' went.NoMemory
+      → Seeks t talk shape user path version old new bytes bytes' (chosen ++ rest) (behind chosen need rest) r r' went.NoMemory
   walk_lacked old new bytes bytes' chosen more rest named cloud need r r' rest_is named_is some one =
       goes_as t talk shape user path version old new bytes bytes' (named ++ more) (chosen ++ rest) (behind named (need - 1) more ++ behind chosen need more) (behind chosen need rest) r r' went.NoMemory
       (named_in chosen more rest named cloud rest_is named_is) (walk_split chosen more rest named cloud need rest_is named_is some)
@@ -108,26 +108,26 @@ module _ {L : Type 0} (t : LinkTelling L) (talk : L → ℕ → Talk → Type 0)
   whole chosen rest clouds need none all k = (λ i. behind (none i) (k i) (all i)) ∙ behind_nothing shape.k clouds
 
   from_start : (old new : L) (bytes bytes' chosen rest clouds : List ℕ) (need : ℕ) (r r' : Refusals) (result : Went) → chosen ≡ [] → rest ≡ clouds → need ≡ shape.k → Tracks [] r
-      → Goes t talk shape user path version old new bytes bytes' (chosen ++ rest) (behind chosen need rest) r r' result
+      → Seeks t talk shape user path version old new bytes bytes' (chosen ++ rest) (behind chosen need rest) r r' result
       → GoesOn t talk (sought shape user path version clouds) old new bytes bytes' [] (subsets shape.k clouds) r' result
   from_start old new bytes bytes' chosen rest clouds need r r' result none all k tracks goes =
       subst (λ (l : List (List ℕ)). GoesOn t talk (sought shape user path version clouds) old new bytes bytes' [] l r' result) (whole chosen rest clouds need none all k)
       (goes clouds old [] [] (λ x has. subst (λ (l : List ℕ). Contains l x) (λ i. none i ++ all i) has) (so_far_none t talk (sought shape user path version clouds) old bytes) tracks)
 
   pub start_found : (old new : L) (bytes bytes' chosen rest clouds : List ℕ) (need : ℕ) (r r' : Refusals) → chosen ≡ [] → rest ≡ clouds → need ≡ shape.k → Tracks [] r
-      → Goes t talk shape user path version old new bytes bytes' (chosen ++ rest) (behind chosen need rest) r r' went.Restored
+      → Seeks t talk shape user path version old new bytes bytes' (chosen ++ rest) (behind chosen need rest) r r' went.Restored
       → HasFileCome t talk (sought shape user path version clouds) old new bytes bytes' × HasAskedClouds t clouds old new false
   start_found old new bytes bytes' chosen rest clouds need r r' none all k tracks goes =
       let g = from_start old new bytes bytes' chosen rest clouds need r r' went.Restored none all k tracks goes in
       (g.0 [] (sym (append-nil (subsets shape.k clouds))), g.1)
 
   pub start_lacked : (old new : L) (bytes bytes' chosen rest clouds : List ℕ) (need : ℕ) (r r' : Refusals) → chosen ≡ [] → rest ≡ clouds → need ≡ shape.k → Tracks [] r
-      → Goes t talk shape user path version old new bytes bytes' (chosen ++ rest) (behind chosen need rest) r r' went.NoMemory
+      → Seeks t talk shape user path version old new bytes bytes' (chosen ++ rest) (behind chosen need rest) r r' went.NoMemory
       → OnlyLeads t clouds old new × HasAskedClouds t clouds old new false
   start_lacked old new bytes bytes' chosen rest clouds need r r' none all k tracks goes = from_start old new bytes bytes' chosen rest clouds need r r' went.NoMemory none all k tracks goes
 
   pub start_refused : (old new : L) (bytes bytes' chosen rest clouds : List ℕ) (need : ℕ) (r r' : Refusals) (e : RestoreErr) → chosen ≡ [] → rest ≡ clouds → need ≡ shape.k → Tracks [] r → shape.k ≤ length clouds
-      → Goes t talk shape user path version old new bytes bytes' (chosen ++ rest) (behind chosen need rest) r r' went.Refused → r'.first ≡ Some e
+      → Seeks t talk shape user path version old new bytes bytes' (chosen ++ rest) (behind chosen need rest) r r' went.Refused → r'.first ≡ Some e
       → EndsSo t talk (sought shape user path version clouds) old bytes new e
   start_refused old new bytes bytes' chosen rest clouds need r r' e none all k tracks enough goes is =
       let g = from_start old new bytes bytes' chosen rest clouds need r r' went.Refused none all k tracks goes in
@@ -135,7 +135,7 @@ module _ {L : Type 0} (t : LinkTelling L) (talk : L → ℕ → Talk → Type 0)
       ends_so t talk (sought shape user path version clouds) old bytes new g.0 e first.0 first.1 g.1 first.2 (sym g.2.first ∙ is)
 
   pub start_none : (old new : L) (bytes bytes' chosen rest clouds : List ℕ) (need : ℕ) (r r' : Refusals) → chosen ≡ [] → rest ≡ clouds → need ≡ shape.k → Tracks [] r → shape.k ≤ length clouds
-      → Goes t talk shape user path version old new bytes bytes' (chosen ++ rest) (behind chosen need rest) r r' went.Refused → r'.first ≡ None → ⊥
+      → Seeks t talk shape user path version old new bytes bytes' (chosen ++ rest) (behind chosen need rest) r r' went.Refused → r'.first ≡ None → ⊥
   start_none old new bytes bytes' chosen rest clouds need r r' none all k tracks enough goes is =
       let g = from_start old new bytes bytes' chosen rest clouds need r r' went.Refused none all k tracks goes in
       let first = first_choice shape.k clouds enough in

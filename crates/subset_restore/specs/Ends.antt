@@ -51,13 +51,13 @@ abbrev pub WasLost : List Try → ℕ → Type 0
 WasLost tries cloud = (x : Try) × Contains tries x × (x.refusal ≡ errors.Lost (record { 0 = cloud }))
 
 -- a device of one of these clouds failed, whose count rose, or an ask of it was lost
-abbrev pub HoldsFailed : List Try → (ℕ → Peer) → (ℕ → Peer) → List ℕ → Type 0
-HoldsFailed tries before after clouds = (cloud : ℕ) × Contains clouds cloud
+abbrev pub HoldsFailedOrLost : List Try → (ℕ → Peer) → (ℕ → Peer) → List ℕ → Type 0
+HoldsFailedOrLost tries before after clouds = (cloud : ℕ) × Contains clouds cloud
     × (Rose (before cloud).faults (after cloud).faults ⊎ WasLost tries cloud)
 
 -- the file doesn't come from this choice of clouds: their lists give none, or one of them failed
 abbrev pub IsNone : Sought → List Try → (ℕ → Peer) → (ℕ → Peer) → List ℕ → Type 0
-IsNone s tries before after subset = GivesNone s after subset ⊎ HoldsFailed tries before after subset
+IsNone s tries before after subset = GivesNone s after subset ⊎ HoldsFailedOrLost tries before after subset
 
 -- no count rose of these clouds, and no ask was lost
 pub record NoneFailed (s : Sought) (losses losses_after : ℕ) (before after : ℕ → Peer) : Type 0 where

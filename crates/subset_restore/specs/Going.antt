@@ -9,7 +9,7 @@ use Rattle.restore_job.specs.CaontRs.Package.{tag as tag_at}
 use Rattle.restore_job.specs.UserDedup.Exec.{Peer}
 use Rattle.restore_job.specs.UserDedup.Link.{LinkTelling, Talk}
 use Rattle.restore_job.specs.Asking.{HasAskedClouds, LeadsAny, TellsAll, among, is_loss}
-use Rattle.restore_job.specs.Reading.{Ends, ReadsBy}
+use Rattle.restore_job.specs.Reading.{Ends, ReadsUpTo}
 use Rattle.restore_job.specs.Refusals.{ShownAmong, Names}
 use Rattle.restore_job.specs.declared.error.RestoreErr.{RestoreErr}
 use Rattle.restore_job.specs.declared.error.RestoreErr.TheVariants as errors
@@ -66,7 +66,7 @@ EachTold s tries bytes before after = (x : Try) → Contains tries x → TryTold
 pub record AllStand (s : Sought) (tries : List Try) (bytes : List ℕ) (before after : ℕ → Peer) : Type 0 where
   pub each : EachTold s tries bytes before after
   pub none : tries ≡ [] → after ≡ before
-  pub one : (x : Try) → tries ≡ x ∷ [] → ReadsBy x.subset (Err x.refusal) before after
+  pub one : (x : Try) → tries ≡ x ∷ [] → ReadsUpTo x.subset (Err x.refusal) before after
 
 abbrev pub EachShown : {L : Type 0} → LinkTelling L → L → Sought → List Try → (ℕ → Bool) → (ℕ → Peer) → (ℕ → Peer)
     → Type 0
@@ -88,17 +88,17 @@ pub record TriesStand {L : Type 0} (t : LinkTelling L) (link : L) (s : Sought) (
 -- ---- so far
 
 -- the first choice was tried first
-abbrev pub Begun : List (List ℕ) → List Try → Type 0
-Begun [] [] = Unit {0}
-Begun [] (x ∷ tries) = ⊥
-Begun (subset ∷ done) [] = ⊥
-Begun (subset ∷ done) (x ∷ tries) = x.subset ≡ subset
+abbrev pub HasTriedInOrder : List (List ℕ) → List Try → Type 0
+HasTriedInOrder [] [] = Unit {0}
+HasTriedInOrder [] (x ∷ tries) = ⊥
+HasTriedInOrder (subset ∷ done) [] = ⊥
+HasTriedInOrder (subset ∷ done) (x ∷ tries) = x.subset ≡ subset
 
 -- These choices were gone through, with these refusals.
 pub record SoFar {L : Type 0} (t : LinkTelling L) (talk : L → ℕ → Talk → Type 0) (s : Sought) (start now : L)
     (bytes : List ℕ) (done : List (List ℕ)) (tries : List Try) : Type 0 where
   pub gone : GoneThrough done tries
-  pub begun : Begun done tries
+  pub begun : HasTriedInOrder done tries
   pub each : (subset : List ℕ) → Contains done subset → WasTried tries subset ⊎ HoldsRefuser tries subset
   pub plain : (x : Try) → Contains tries x → x.refusal ≢ errors.NoMemory
   pub named : (x : Try) → Contains tries x → Names (Contains s.clouds) x.refusal
@@ -124,9 +124,9 @@ GoesOn t talk s start now bytes new done todo refusals went.Refused =
     (tries : List Try) × SoFar t talk s start now bytes (done ++ todo) tries × Tracks tries refusals × (new ≡ bytes)
 
 -- From whatever was gone through, it went on so.
-abbrev pub Goes : {L : Type 0} → LinkTelling L → (L → ℕ → Talk → Type 0) → Shape → UserId → List ℕ → Version → L → L
+abbrev pub Seeks : {L : Type 0} → LinkTelling L → (L → ℕ → Talk → Type 0) → Shape → UserId → List ℕ → Version → L → L
     → List ℕ → List ℕ → List ℕ → List (List ℕ) → Refusals → Refusals → Went → Type 0
-Goes {L} t talk shape user path version old now bytes new among todo refusals refusals_now result =
+Seeks {L} t talk shape user path version old now bytes new among todo refusals refusals_now result =
     (clouds : List ℕ) (start : L) (done : List (List ℕ)) (tries : List Try)
     → ((cloud : ℕ) → Contains among cloud → Contains clouds cloud)
     → SoFar t talk (sought shape user path version clouds) start old bytes done tries → Tracks tries refusals

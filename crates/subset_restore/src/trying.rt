@@ -6,7 +6,7 @@ ghost use Rattle.std.specs.List.{Contains};
 ghost use Rattle.std.specs.List.Sorted.{IsStrictlyIncreasing};
 ghost use Rattle.transcript.specs.CdBase.Limits.{IsPath};
 ghost use Rattle.transcript.specs.CdBase.Numbers.{numbers_of};
-ghost use Rattle.subset_restore.specs.Going.{Goes, KeepsToldBeside};
+ghost use Rattle.subset_restore.specs.Going.{Seeks, KeepsToldBeside};
 ghost use Rattle.subset_restore.specs.Tracking.{HoldsMarked};
 ghost use Rattle.subset_restore.specs.Subsets.{behind};
 
@@ -89,7 +89,7 @@ fn restore_from<L: Link>(
     requires free { HoldsMarked refusals.old.marks named.now → ⊥ }
     ensures keeps { KeepsToldBeside L.tells link.old link.new }
     ensures kept { result ≢ Went.Restored → out.new ≡ out.old }
-    ensures goes { Goes L.tells L.talk wanted.now.shape wanted.now.user wanted.now.path.now wanted.now.version link.old
+    ensures goes { Seeks L.tells L.talk wanted.now.shape wanted.now.user wanted.now.path.now wanted.now.version link.old
         link.new out.old out.new named.now (named.now ∷ []) refusals.old refusals.new result }
 {
     let WantedVersion {
@@ -128,7 +128,7 @@ fn try_one<L: Link>(
     requires path { IsPath wanted.now.path.now }
     ensures keeps { KeepsToldBeside L.tells link.old link.new }
     ensures kept { result ≢ Went.Restored → out.new ≡ out.old }
-    ensures goes { Goes L.tells L.talk wanted.now.shape wanted.now.user wanted.now.path.now wanted.now.version link.old
+    ensures goes { Seeks L.tells L.talk wanted.now.shape wanted.now.user wanted.now.path.now wanted.now.version link.old
         link.new out.old out.new (numbers_of clouds.now) (numbers_of clouds.now ∷ []) refusals.old refusals.new result }
 {
     if refusals.hold(clouds) {
@@ -162,7 +162,7 @@ pub fn try_from<L: Link>(
     requires path { IsPath wanted.now.path.now }
     ensures keeps { KeepsToldBeside L.tells link.old link.new }
     ensures kept { result ≢ Went.Restored → out.new ≡ out.old }
-    ensures goes { Goes L.tells L.talk wanted.now.shape wanted.now.user wanted.now.path.now wanted.now.version link.old
+    ensures goes { Seeks L.tells L.talk wanted.now.shape wanted.now.user wanted.now.path.now wanted.now.version link.old
         link.new out.old out.new (choices.now.chosen.now ++ numbers_of choices.now.rest.now)
         (behind choices.now.chosen.now choices.now.need (numbers_of choices.now.rest.now)) refusals.old refusals.new
         result }

@@ -10,7 +10,7 @@ use Rattle.std.proofs.lemmas.List.Sums.{position_or_len_is}
 use Rattle.std.proofs.Math.Seq.{get_or-append_right}
 use Rattle.grammar.specs.Words.{is_blank}
 use Rattle.transcript.specs.Transcript.{line_words, line_text}
-use Rattle.transcript.specs.Ranges.{Fits}
+use Rattle.transcript.specs.Ranges.{FitsTranscript}
 use Rattle.transcript.specs.Reading.{is_newline, line_len, and_rest, line_of, line_at}
 use Rattle.transcript.specs.declared.line.Line.{Line}
 use Rattle.transcript.proofs.WordsBack.{solid, all_solid}
@@ -88,7 +88,7 @@ unfolding line_of
 words_of [] e x h = absurd cc
 words_of (word ∷ words) e x h = ap line_of (split_back word words e) ∙ h
 
-pub read_back : (x : Line) (rest : List ℕ) → Fits x → line_at (line_text x ++ rest) ≡ Some (x, rest)
+pub read_back : (x : Line) (rest : List ℕ) → FitsTranscript x → line_at (line_text x ++ rest) ≡ Some (x, rest)
 unfolding line_text
 read_back x rest fits =
     let all = line_solid x fits in
@@ -96,7 +96,7 @@ read_back x rest fits =
     ∙ ap (λ (o : Option Line). and_rest o rest) (words_of (line_words x) all x (line_back x fits))
 
 -- no two texts of lines begin alike
-pub one_line : (a b : Line) (x y : List ℕ) → Fits a → Fits b → line_text a ++ x ≡ line_text b ++ y → (a ≡ b) × (x ≡ y)
+pub one_line : (a b : Line) (x y : List ℕ) → FitsTranscript a → FitsTranscript b → line_text a ++ x ≡ line_text b ++ y → (a ≡ b) × (x ≡ y)
 one_line a b x y first second same =
     let e : (a, x) ≡ (b, y) = same_Some (a, x) (b, y) (sym (read_back a x first) ∙ ap line_at same ∙ read_back b y second) in
     (ap (λ (p : Line × List ℕ). p.0) e, ap (λ (p : Line × List ℕ). p.1) e)
@@ -109,11 +109,11 @@ nothing = None
 not_nothing : (p : Line × List ℕ) → nothing ≡ Some p → ⊥
 not_nothing p e = cc
 
-no_line : (x : Line) (rest : List ℕ) → Fits x → [] ≡ line_text x ++ rest → ⊥
+no_line : (x : Line) (rest : List ℕ) → FitsTranscript x → [] ≡ line_text x ++ rest → ⊥
 unfolding line_at line_of
 no_line x rest fits e = not_nothing (x, rest) (ap line_at e ∙ read_back x rest fits)
 
-each_line : (a b : List Line) → AllByRecursion Fits a → AllByRecursion Fits b → flat_map line_text a ≡ flat_map line_text b → a ≡ b
+each_line : (a b : List Line) → AllByRecursion FitsTranscript a → AllByRecursion FitsTranscript b → flat_map line_text a ≡ flat_map line_text b → a ≡ b
 each_line [] [] p q e = refl
 each_line [] (y ∷ ys) p q e = absurd (no_line y (flat_map line_text ys) q.0 e)
 each_line (x ∷ xs) [] p q e = absurd (no_line x (flat_map line_text xs) p.0 (sym e))
@@ -122,5 +122,5 @@ each_line (x ∷ xs) (y ∷ ys) p q e =
     let more = each_line xs ys p.1 q.1 one.1 in
     cc (one.0, more)
 
-pub one_transcript : (a b : List Line) → All Fits a → All Fits b → flat_map line_text a ≡ flat_map line_text b → a ≡ b
+pub one_transcript : (a b : List Line) → All FitsTranscript a → All FitsTranscript b → flat_map line_text a ≡ flat_map line_text b → a ≡ b
 one_transcript a b first second = each_line a b (recursion_from_All _ _ first) (recursion_from_All _ _ second)

@@ -3,7 +3,7 @@ use Rattle.std.proofs.Common.{◌≡◌, Bool, true, false, [], ◌∷◌, Some,
 use Rattle.grammar.specs.CdBase.rooms.Room.{Room}
 use Rattle.grammar.specs.CdBase.rooms.Room.TheVariants as rooms
 use Rattle.transcript.specs.Transcript.{room_word, news_words, target_words, refusal_words, skip_word, end_word, line_words}
-use Rattle.transcript.specs.Ranges.{FitsNews, FitsTarget, FitsRefusal, Fits}
+use Rattle.transcript.specs.Ranges.{FitsNews, FitsTarget, FitsRefusal, FitsTranscript}
 use Rattle.transcript.specs.Reading.{room_in, skip_in, end_in, named_by, news_named, target_named, refusal_named, line_of}
 use Rattle.transcript.specs.declared.news.News.{News}
 use Rattle.transcript.specs.declared.news.News.TheVariants as news
@@ -153,7 +153,7 @@ refusal_solid (refusals.Target why) h = target_solid why h
 
 -- ---- lines
 
-pub line_back : (x : Line) → Fits x → line_of (line_words x) ≡ Some x
+pub line_back : (x : Line) → FitsTranscript x → line_of (line_words x) ≡ Some x
 unfolding line_of
 line_back (lines.Opened shape) h =
     let a = shape.spare in let b = shape.few in
@@ -183,7 +183,7 @@ line_back (lines.Rotten cloud named found) h = rw (back_8 cloud.0 h.0, back_prin
 line_back (lines.NoMemory cloud) h = rw (back_8 cloud.0 h) refl
 line_back (lines.Strange cloud kind) h = rw (back_8 cloud.0 h.0, back_byte kind h.1) refl
 
-pub line_solid : (x : Line) → Fits x → all_solid (line_words x) ≡ true
+pub line_solid : (x : Line) → FitsTranscript x → all_solid (line_words x) ≡ true
 line_solid (lines.Opened shape) h =
     let a = shape.spare in let b = shape.few in
     rw (solid_8 shape.n (omega arith), solid_8 shape.k (omega arith)) refl

@@ -13,7 +13,7 @@ use Rattle.grammar.proofs.WordLaws.{keep_again}
 use Rattle.grammar.proofs.NumeralLaws.{own, numbers_below}
 use Rattle.grammar.proofs.HexadecimalLaws.{unhex_again}
 use Rattle.transcript.specs.Words.{bytes_text, byte_text}
-use Rattle.transcript.specs.Ranges.{AreBytes, IsPrint}
+use Rattle.transcript.specs.Ranges.{AreLineBytes, IsPrint}
 use Rattle.transcript.specs.Reading.{number_8, number_16, number_32, number_64, only, byte_in, print_in, bytes_in}
 
 -- ---- a word is read back
@@ -30,7 +30,7 @@ back_32 n fits = (numbers_below 4294967296 4294967295 refl (omega arith)).again 
 pub back_64 : (n : ℕ) → n < 2 ^ 64 → number_64 (decimal n) ≡ Some n
 back_64 n fits = (numbers_below 18446744073709551616 18446744073709551615 refl (omega arith)).again n (omega arith)
 
-by_recursion : (bytes : List ℕ) → AreBytes bytes → AllByRecursion (λ b. b < 256) bytes
+by_recursion : (bytes : List ℕ) → AreLineBytes bytes → AllByRecursion (λ b. b < 256) bytes
 by_recursion bytes fits = recursion_from_All _ _ fits
 
 pub back_byte : (byte : ℕ) → byte < 2 ^ 8 → byte_in (byte_text byte) ≡ Some byte
@@ -51,7 +51,7 @@ pub hex_begins : (b : ℕ) (bs : List ℕ) → bytes_eq (hex (b ∷ bs)) (45 ∷
 unfolding hex
 hex_begins b bs = not_dash (hex_digit (b / 16)) (hex_digit (b % 16) ∷ hex bs) (no_dash (b / 16))
 
-pub back_bytes : (bytes : List ℕ) → AreBytes bytes → bytes_in (bytes_text bytes) ≡ Some bytes
+pub back_bytes : (bytes : List ℕ) → AreLineBytes bytes → bytes_in (bytes_text bytes) ≡ Some bytes
 unfolding bytes_in
 back_bytes [] fits = refl
 back_bytes (b ∷ bs) fits = rw (hex_begins b bs) (unhex_again (b ∷ bs) (by_recursion (b ∷ bs) fits))

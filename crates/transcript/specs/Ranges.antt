@@ -9,12 +9,12 @@ use Rattle.transcript.specs.declared.refusal.Refusal.TheVariants as refusals
 use Rattle.transcript.specs.declared.line.Line.{Line}
 use Rattle.transcript.specs.declared.line.Line.TheVariants as lines
 
-abbrev pub AreBytes : List ℕ → Type 0
-AreBytes bytes = All (λ byte. byte < 256) bytes
+abbrev pub AreLineBytes : List ℕ → Type 0
+AreLineBytes bytes = All (λ byte. byte < 256) bytes
 
 -- a fingerprint or a tag
 abbrev pub IsPrint : List ℕ → Type 0
-IsPrint bytes = (length bytes ≡ 32) × AreBytes bytes
+IsPrint bytes = (length bytes ≡ 32) × AreLineBytes bytes
 
 abbrev pub AreLimits : ℕ → ℕ → ℕ → Type 0
 AreLimits used need limit = (used < 2 ^ 64) × (need < 2 ^ 64) × (limit < 2 ^ 64)
@@ -62,29 +62,29 @@ FitsRefusal (refusals.BadPad secret at byte) = (secret < 2 ^ 32) × (at < 2 ^ 32
 FitsRefusal (refusals.Target why) = FitsTarget why
 
 -- the ranges of a line's fields
-abbrev pub Fits : Line → Type 0
-Fits (lines.Opened shape) = Unit {0}
-Fits (lines.Done events) = events < 2 ^ 64
-Fits (lines.Job job) = job < 2 ^ 32
-Fits (lines.Step job lane news) = (job < 2 ^ 32) × (lane.0 < 2 ^ 8) × FitsNews news
-Fits (lines.JobStored job) = job < 2 ^ 32
-Fits (lines.Lost job lane) = (job < 2 ^ 32) × (lane.0 < 2 ^ 8)
-Fits (lines.End job stored) = job < 2 ^ 32
-Fits (lines.Got bytes) = AreBytes bytes
-Fits (lines.Refused why) = FitsRefusal why
-Fits (lines.Entries user cloud count) = (user.0 < 2 ^ 32) × (cloud.0 < 2 ^ 8) × (count < 2 ^ 32)
-Fits (lines.Entry tag version) = IsPrint tag.0 × (version.0 < 2 ^ 64)
-Fits (lines.Armed cloud) = cloud.0 < 2 ^ 8
-Fits (lines.Restarted cloud commands) = (cloud.0 < 2 ^ 8) × (commands < 2 ^ 64)
-Fits (lines.Replaced cloud) = cloud.0 < 2 ^ 8
-Fits (lines.Fault cloud) = cloud.0 < 2 ^ 8
-Fits (lines.Damaged cloud at byte) = (cloud.0 < 2 ^ 8) × (at < 2 ^ 64) × (byte < 2 ^ 8)
-Fits (lines.Rebuilt user cloud files skipped) =
+abbrev pub FitsTranscript : Line → Type 0
+FitsTranscript (lines.Opened shape) = Unit {0}
+FitsTranscript (lines.Done events) = events < 2 ^ 64
+FitsTranscript (lines.Job job) = job < 2 ^ 32
+FitsTranscript (lines.Step job lane news) = (job < 2 ^ 32) × (lane.0 < 2 ^ 8) × FitsNews news
+FitsTranscript (lines.JobStored job) = job < 2 ^ 32
+FitsTranscript (lines.Lost job lane) = (job < 2 ^ 32) × (lane.0 < 2 ^ 8)
+FitsTranscript (lines.End job stored) = job < 2 ^ 32
+FitsTranscript (lines.Got bytes) = AreLineBytes bytes
+FitsTranscript (lines.Refused why) = FitsRefusal why
+FitsTranscript (lines.Entries user cloud count) = (user.0 < 2 ^ 32) × (cloud.0 < 2 ^ 8) × (count < 2 ^ 32)
+FitsTranscript (lines.Entry tag version) = IsPrint tag.0 × (version.0 < 2 ^ 64)
+FitsTranscript (lines.Armed cloud) = cloud.0 < 2 ^ 8
+FitsTranscript (lines.Restarted cloud commands) = (cloud.0 < 2 ^ 8) × (commands < 2 ^ 64)
+FitsTranscript (lines.Replaced cloud) = cloud.0 < 2 ^ 8
+FitsTranscript (lines.Fault cloud) = cloud.0 < 2 ^ 8
+FitsTranscript (lines.Damaged cloud at byte) = (cloud.0 < 2 ^ 8) × (at < 2 ^ 64) × (byte < 2 ^ 8)
+FitsTranscript (lines.Rebuilt user cloud files skipped) =
     (user.0 < 2 ^ 32) × (cloud.0 < 2 ^ 8) × (files < 2 ^ 32) × (skipped < 2 ^ 32)
-Fits (lines.Skipped tag version why) = IsPrint tag.0 × (version.0 < 2 ^ 64)
-Fits (lines.Deleted cloud) = cloud.0 < 2 ^ 8
-Fits (lines.Missing cloud) = cloud.0 < 2 ^ 8
-Fits (lines.Full cloud room used need limit) = (cloud.0 < 2 ^ 8) × AreLimits used need limit
-Fits (lines.Rotten cloud named found) = (cloud.0 < 2 ^ 8) × IsPrint named.0 × IsPrint found.0
-Fits (lines.NoMemory cloud) = cloud.0 < 2 ^ 8
-Fits (lines.Strange cloud kind) = (cloud.0 < 2 ^ 8) × (kind < 2 ^ 8)
+FitsTranscript (lines.Skipped tag version why) = IsPrint tag.0 × (version.0 < 2 ^ 64)
+FitsTranscript (lines.Deleted cloud) = cloud.0 < 2 ^ 8
+FitsTranscript (lines.Missing cloud) = cloud.0 < 2 ^ 8
+FitsTranscript (lines.Full cloud room used need limit) = (cloud.0 < 2 ^ 8) × AreLimits used need limit
+FitsTranscript (lines.Rotten cloud named found) = (cloud.0 < 2 ^ 8) × IsPrint named.0 × IsPrint found.0
+FitsTranscript (lines.NoMemory cloud) = cloud.0 < 2 ^ 8
+FitsTranscript (lines.Strange cloud kind) = (cloud.0 < 2 ^ 8) × (kind < 2 ^ 8)

@@ -26,7 +26,7 @@ use Rattle.session_model.specs.UploadJob.Lanes.{LaneView}
 use Rattle.session_model.specs.UploadJob.Lanes as lanes
 use Rattle.session_model.specs.Session.event.Event.{Event}
 use Rattle.session_model.specs.Session.event.Event.TheVariants as events
-use Rattle.session_model.specs.Session.Spelling.{Fits}
+use Rattle.session_model.specs.Session.Spelling.{FitsEvent}
 use Rattle.session_model.specs.Transcript.line.Line.{Line}
 use Rattle.session_model.specs.Transcript.line.Line.TheVariants as lines
 use Rattle.session_model.specs.Vault.{Setting, JobState, Vault, OneGoes, new_job, lanes_of}
@@ -198,7 +198,7 @@ module _ (s : Setting) (u : UserId) (k : ℕ → Cloud) (In : ℕ → List ℕ �
     calm_same : new.peers ≡ old.peers → CalmPeers s u k In new.peers
     calm_same e = subst (CalmPeers s u k In) (sym e) calm
 
-    pub step_calm : (event : Event) → Fits s.shape (length vs) event → is_arm event ≡ false → VStep s old event answers moments new → CalmPeers s u k In new.peers
+    pub step_calm : (event : Event) → FitsEvent s.shape (length vs) event → is_arm event ≡ false → VStep s old event answers moments new → CalmPeers s u k In new.peers
     step_calm (events.Upload user path version bytes) fits arms x = calm_same x.2
     step_calm (events.Step job lane) fits arms x = calm_lane s u k In prem vs job lane.0 fits.1 old answers moments new calm still brings (lanes.request_at (lanes_of old.jobs job) lane.0) x
     step_calm (events.Lose job lane) fits arms x = calm_same (ap (λ (v : Vault). v.peers) x.2)
@@ -216,7 +216,7 @@ module _ (s : Setting) (u : UserId) (k : ℕ → Cloud) (In : ℕ → List ℕ �
     both : own_peers u k new.peers ≡ own_peers u k old.peers → own_jobs u new.jobs ≡ own_jobs u old.jobs → own_vault u k new ≡ own_vault u k old
     both peers jobs = λ i. record { peers = peers i; jobs = jobs i }
 
-    pub step_other : (event : Event) → Fits s.shape (length vs) event → is_own u vs event ≡ false → names_none event ≡ false → VStep s old event answers moments new → own_vault u k new ≡ own_vault u k old
+    pub step_other : (event : Event) → FitsEvent s.shape (length vs) event → is_own u vs event ≡ false → names_none event ≡ false → VStep s old event answers moments new → own_vault u k new ≡ own_vault u k old
     step_other (events.Upload user path version bytes) fits other named x =
         both (ap (own_peers u k) x.2) (ap (own_jobs u) x.3 ∙ other_job_more u old.jobs (new_job s (version_of user path version bytes)) other)
     step_other (events.Step job lane) fits other named x =
@@ -239,7 +239,7 @@ module _ (s : Setting) (u : UserId) (k : ℕ → Cloud) (In : ℕ → List ℕ �
         both (other_delete s u k In prem cloud.0 fits.1 user (other_user user u other) path version old.peers answers moments new.peers x.0 calm still) (ap (own_jobs u) x.1)
 
     -- a line that names no user does the same there
-    pub step_none : (event : Event) → Fits s.shape (length vs) event → names_none event ≡ true → is_arm event ≡ false → VStep s old event answers moments new
+    pub step_none : (event : Event) → FitsEvent s.shape (length vs) event → names_none event ≡ true → is_arm event ≡ false → VStep s old event answers moments new
         → VStep s (own_vault u k old) event (none_answers u event answers new) (map (own_moment u k) moments) (own_vault u k new)
     step_none (events.Upload user path version bytes) fits none arms x = absurd (let no : false ≡ true = none in cc)
     step_none (events.Step job lane) fits none arms x = absurd (let no : false ≡ true = none in cc)
@@ -343,7 +343,7 @@ module _ (s : Setting) (u : UserId) (k : ℕ → Cloud) (In : ℕ → List ℕ �
         ap (own_jobs u) x.5,
       )
 
-      pub step_own : (event : Event) → Fits s.shape (length vs) event → is_own u vs event ≡ true → VStep s old event answers moments new
+      pub step_own : (event : Event) → FitsEvent s.shape (length vs) event → is_own u vs event ≡ true → VStep s old event answers moments new
           → VStep s (own_vault u k old) (own_event u vs event) (map (own_line u vs) answers) (map (own_moment u k) moments) (own_vault u k new)
       step_own (events.Upload user path version bytes) fits own x =
           let e = same_user user u own in

@@ -19,7 +19,7 @@ use Rattle.session_model.specs.KeptFiles.Kept.{key_of}
 use Rattle.session_model.specs.UploadJob.Lanes as lanes
 use Rattle.session_model.specs.Session.event.Event.{Event}
 use Rattle.session_model.specs.Session.event.Event.TheVariants as events
-use Rattle.session_model.specs.Session.Spelling.{Fits, AreClouds}
+use Rattle.session_model.specs.Session.Spelling.{FitsEvent, AreClouds}
 use Rattle.session_model.specs.Session.Scripts.{AreLines, jobs_after}
 use Rattle.session_model.specs.Transcript.line.Line.{Line}
 use Rattle.session_model.specs.Transcript.line.Line.TheVariants as lines
@@ -142,7 +142,7 @@ module _ (s : Setting) (told : (c : ℕ) → c < s.shape.n → s.told c ≡ true
     none_read : (from : List ℕ) → AreClouds s.shape from → from ≡ [] → ⊥
     none_read from are none = let count = are.count in let e = ap (λ (l : List ℕ). length l) none in let several = s.shape.several in omega (arith, count, e, several)
 
-    pub step_once : (jobs : ℕ) (event : Event) → Fits s.shape jobs event → VStep s old event a1 m1 n1 → VStep s old event a2 m2 n2 → Once s told a1 a2 m1 m2 n1 n2
+    pub step_once : (jobs : ℕ) (event : Event) → FitsEvent s.shape jobs event → VStep s old event a1 m1 n1 → VStep s old event a2 m2 n2 → Once s told a1 a2 m1 m2 n1 n2
     step_once jobs (events.Upload user path version bytes) fits x y = record {
       answers = x.0 ∙ sym y.0;
       moments = x.1 ∙ sym y.1;

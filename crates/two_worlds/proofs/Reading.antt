@@ -21,7 +21,7 @@ use Rattle.session_model.specs.LaneSteps.Runs.{LaneTurn}
 use Rattle.session_model.specs.RestoreJob.error.RestoreErr.{RestoreErr}
 use Rattle.session_model.specs.RestoreJob.error.RestoreErr.TheVariants as errors
 use Rattle.session_model.specs.RestoreJob.Asking.{Reads, AreOnlyAsked, AreRead, StoppedAt}
-use Rattle.session_model.specs.RestoreJob.Reading.{Ends, ReadsBy}
+use Rattle.session_model.specs.RestoreJob.Reading.{Ends, ReadsUpTo}
 use Rattle.session_model.specs.RestoreJob.Refusals.{Names, Causes}
 use Rattle.session_model.specs.RestoreJob.Restored.{Unrestored}
 use Rattle.session_model.specs.SubsetRestore.Ends.{outcome_of, any_outcome}
@@ -130,7 +130,7 @@ module _ (s : Setting) (u : UserId) (k : ℕ → Cloud) (In : ℕ → List ℕ �
     stopped_there at choice front rest split Stops stops =
         record { front = front; rest = rest; split = split; read = λ c has ne. reads_still (mine c) refl; stops = stops; others = λ c no. refl }
 
-    reads_there : (choice : List ℕ) → ((c : ℕ) → Contains choice c → c < s.shape.n) → (r : Result (Unit {0}) RestoreErr) → ReadsBy choice r peers peers → ReadsBy choice r mine mine
+    reads_there : (choice : List ℕ) → ((c : ℕ) → Contains choice c → c < s.shape.n) → (r : Result (Unit {0}) RestoreErr) → ReadsUpTo choice r peers peers → ReadsUpTo choice r mine mine
     reads_there choice there (Ok x) r = read_there choice
     reads_there choice there (Err (errors.Missing cloud)) r = stopped_there cloud.0 choice r.front r.rest r.split Reads (reads_still (mine cloud.0) refl)
     reads_there choice there (Err (errors.Lost cloud)) r = tt

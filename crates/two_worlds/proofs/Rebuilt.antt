@@ -41,7 +41,7 @@ use Rattle.session_model.specs.Rebuild.Rebuilding.{Progressed, nothing_yet, last
 use Rattle.session_model.specs.Rebuild.Over.{HandsOn, ReadCaused, is_lost}
 use Rattle.session_model.specs.Rebuild.Over as rebuilding
 use Rattle.session_model.specs.Rebuild.Turns.{EndsLane, LaneEnded, LaneGoes, LanesGo, OfReply, SaidLast, goes_to}
-use Rattle.session_model.specs.Rebuild.Standing.{entry_in, HasEntry, HasOther}
+use Rattle.session_model.specs.Rebuild.Standing.{entry_in, HasEntryWith, HasOther}
 use Rattle.session_model.specs.Rebuild.Kept.{HasVersion, HasAnother, SkipCaused, Refills}
 use Rattle.session_model.specs.Transcript.line.Line.{Line}
 use Rattle.session_model.specs.Transcript.line.Line.TheVariants as lines
@@ -151,8 +151,8 @@ module _ (u : UserId) (k : ℕ → Cloud) where
   read_caused shape told refusals.NoMemory from old new none names c = c
 
   own_caused : (shape : Shape) (told : ℕ → Bool) (target : ℕ) (from : List ℕ) (r : Result Rebuilt RebuildErr) (old new : ℕ → Peer)
-      → ((c : ℕ) → Contains (target ∷ from) c → Rose (old c).faults (new c).faults → ⊥) → HandsOn from r → rebuilding.Causes (told_so shape) told target r old new
-      → rebuilding.Causes (told_so shape) told target r (own_peers u k old) (own_peers u k new)
+      → ((c : ℕ) → Contains (target ∷ from) c → Rose (old c).faults (new c).faults → ⊥) → HandsOn from r → rebuilding.CausesRebuildEnd (told_so shape) told target r old new
+      → rebuilding.CausesRebuildEnd (told_so shape) told target r (own_peers u k old) (own_peers u k new)
   own_caused shape told target from (Ok x) old new none hands c = c
   own_caused shape told target from (Err (errors.FromRestore e)) old new none hands c = read_caused shape told e from old new (λ d has. none d (contains_later target from d has)) hands.1 c
   own_caused shape told target from (Err errors.TargetLost) old new none hands c = c
@@ -624,7 +624,7 @@ module _ (s : Setting) (u : UserId) (k : ℕ → Cloud) (In : ℕ → List ℕ �
   same_entry : (c : ℕ) (key : Tag × Version) → entry_in s.shape (own_peers u k new c).list u key ≡ entry_in s.shape (new c).list u key
   same_entry c key = ap (λ (v : View). entry_at v.files key) (same_view s.shape u (new c).list)
 
-  has_there : (key : Tag × Version) (recipe : List ℕ) → HasEntry s.shape (new target).list u key recipe → HasEntry s.shape (own_peers u k new target).list u key recipe
+  has_there : (key : Tag × Version) (recipe : List ℕ) → HasEntryWith s.shape (new target).list u key recipe → HasEntryWith s.shape (own_peers u k new target).list u key recipe
   has_there key recipe h = (h.0, same_entry target key ∙ h.1, h.2)
 
   other_there : (key : Tag × Version) (recipe : List ℕ) → HasOther s.shape (new target).list u key recipe → HasOther s.shape (own_peers u k new target).list u key recipe
@@ -632,8 +632,8 @@ module _ (s : Setting) (u : UserId) (k : ℕ → Cloud) (In : ℕ → List ℕ �
 
   version_there : (v : FileVersion) → v.user ≡ u → HasVersion s.shape target (new target).list v → HasVersion s.shape target (own_peers u k new target).list v
   version_there v same h =
-      subst (λ (w : UserId). HasEntry s.shape (own_peers u k new target).list w (key_of s.shape v.path v.number) (recipe_bytes s.shape target v.path v.file)) (sym same)
-      (has_there (key_of s.shape v.path v.number) (recipe_bytes s.shape target v.path v.file) (subst (λ (w : UserId). HasEntry s.shape (new target).list w (key_of s.shape v.path v.number) (recipe_bytes s.shape target v.path v.file)) same h))
+      subst (λ (w : UserId). HasEntryWith s.shape (own_peers u k new target).list w (key_of s.shape v.path v.number) (recipe_bytes s.shape target v.path v.file)) (sym same)
+      (has_there (key_of s.shape v.path v.number) (recipe_bytes s.shape target v.path v.file) (subst (λ (w : UserId). HasEntryWith s.shape (new target).list w (key_of s.shape v.path v.number) (recipe_bytes s.shape target v.path v.file)) same h))
 
   another_there : (v : FileVersion) → v.user ≡ u → HasAnother s.shape target (new target).list v → HasAnother s.shape target (own_peers u k new target).list v
   another_there v same h =

@@ -28,7 +28,7 @@ use Rattle.session_model.specs.Rebuild.Over as rebuilding
 use Rattle.session_model.specs.KeptFiles.Kept.{key_of}
 use Rattle.session_model.specs.Session.event.Event.{Event}
 use Rattle.session_model.specs.Session.event.Event.TheVariants as events
-use Rattle.session_model.specs.Session.Spelling.{Fits}
+use Rattle.session_model.specs.Session.Spelling.{FitsEvent}
 use Rattle.session_model.specs.Session.Scripts.{AreLines, jobs_after}
 use Rattle.session_model.specs.Transcript.refusal.Refusal.{Refusal}
 use Rattle.session_model.specs.Transcript.line.Line.{Line}
@@ -165,7 +165,7 @@ module _ (shape : Shape) (rooms : UserRooms) (one two : ℕ → Bool) (yes_one :
     read_caused refusals.NoMemory old new named c = c
 
     rebuild_caused : (target : ℕ) → target < shape.n → (r : Result Rebuilt RebuildErr) (old new : ℕ → Peer) → HandsOn clouds r
-        → rebuilding.Causes (told_so shape) one target r old new → rebuilding.Causes (told_so shape) two target r old new
+        → rebuilding.CausesRebuildEnd (told_so shape) one target r old new → rebuilding.CausesRebuildEnd (told_so shape) two target r old new
     rebuild_caused target below (Ok x) old new hands c = c
     rebuild_caused target below (Err (errors.FromRestore e)) old new hands c = read_caused e old new hands.1 c
     rebuild_caused target below (Err errors.TargetLost) old new hands c = c
@@ -213,7 +213,7 @@ module _ (shape : Shape) (rooms : UserRooms) (one two : ℕ → Bool) (yes_one :
   one_there : (cloud : ℕ) (G H : Peer → Peer → Type 0) (old new : ℕ → Peer) → ((p q : Peer) → G p q → H p q) → OneGoes cloud G old new → OneGoes cloud H old new
   one_there cloud G H old new there x = record { goes = there (old cloud) (new cloud) x.goes; others = x.others }
 
-  step_there : (jobs : ℕ) (event : Event) → Fits shape jobs event → (old : Vault) (answers : List Line) (moments : List Moment) (new : Vault) → VStep s old event answers moments new → VStep t old event answers moments new
+  step_there : (jobs : ℕ) (event : Event) → FitsEvent shape jobs event → (old : Vault) (answers : List Line) (moments : List Moment) (new : Vault) → VStep s old event answers moments new → VStep t old event answers moments new
   step_there jobs (events.Upload user path version bytes) fits old answers moments new x = x
   step_there jobs (events.Step job lane) fits old answers moments new x = lane_there lane.0 fits.1 job (lanes.request_at (lanes_of old.jobs job) lane.0) old answers moments new x
   step_there jobs (events.Lose job lane) fits old answers moments new x = x

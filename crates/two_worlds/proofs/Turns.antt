@@ -13,7 +13,7 @@ use Rattle.session_model.proofs.UserDedup.Owned.{contains_here, contains_later}
 use Rattle.session_model.specs.UploadJob.Upload.{FileVersion}
 use Rattle.session_model.specs.Session.event.Event.{Event}
 use Rattle.session_model.specs.Session.event.Event.TheVariants as events
-use Rattle.session_model.specs.Session.Spelling.{Fits, IsTyped}
+use Rattle.session_model.specs.Session.Spelling.{FitsEvent, IsTyped}
 use Rattle.session_model.specs.Session.Scripts.{AreLines, jobs_after}
 use Rattle.session_model.specs.Transcript.line.Line.{Line}
 use Rattle.session_model.specs.Vault.{Setting, Vault}
@@ -147,7 +147,7 @@ module _ (u : UserId) (k : ℕ → Cloud) where
   count_on vs (events.Rebuild user target from) = ap (λ (l : List FileVersion). length l) (sym (append-nil vs))
   count_on vs (events.Delete user path version cloud) = ap (λ (l : List FileVersion). length l) (sym (append-nil vs))
 
-  own_fits : (shape : Shape) (vs : List FileVersion) (event : Event) → in_own u vs event ≡ true → Fits shape (length vs) event → Fits shape (length (own_versions u vs)) (own_event u vs event)
+  own_fits : (shape : Shape) (vs : List FileVersion) (event : Event) → in_own u vs event ≡ true → FitsEvent shape (length vs) event → FitsEvent shape (length (own_versions u vs)) (own_event u vs event)
   own_fits shape vs (events.Upload user path version bytes) inside fits =
       let few = own_few u vs in let allowed = fits.allowed in record { allowed = omega (arith, few, allowed); named = fits.named; few = fits.few }
   own_fits shape vs (events.Step job lane) inside fits = ((own_job_some u vs job, job_below u vs job (own_of (is_own_job u vs job) inside)), fits.1)

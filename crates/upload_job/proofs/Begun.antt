@@ -23,7 +23,7 @@ use Rattle.upload_job.specs.declared.lane.Lane.{Lane}
 use Rattle.upload_job.specs.declared.lane.LaneStage.{LaneStage}
 use Rattle.upload_job.specs.Upload.{FileVersion, work_of, wanted_for, in_batches}
 use Rattle.upload_job.specs.Lanes.{LaneView, begun, idle, lanes_begun, lane_begun}
-use Rattle.upload_job.specs.Index.{IsInShares, AreIn, AreNamed, HasShares, IsLane, AreLanes, IsBegun, IsIdle, IsAlone, EachNamed, EachBegun, pieces, shares_in, lane_in, lanes_in}
+use Rattle.upload_job.specs.Index.{IsInShares, AreIn, AreNamed, HasRecalledShares, IsLane, AreLanes, IsBegun, IsIdle, IsAlone, EachNamed, EachBegun, pieces, shares_in, lane_in, lanes_in}
 use Rattle.upload_job.proofs.Laning.{length-lanes_in}
 
 -- ---- one lane after the other
@@ -122,7 +122,7 @@ begun_inside : (k : ℕ) (f : CloudFile) (lane : Lane) → IsBegun k f lane → 
 begun_inside k f lane is =
     let has : lane.shares ≡ lane.recalled.bytes = is.shares ∙ sym is.recalled in (
       subst (λ (xs : List ℕ). AreIn xs lane.wanted.items) (sym is.recalled) is.inside,
-      subst (λ (s : LaneStage). HasShares s lane.shares lane.recalled.bytes) (sym is.stage) has,
+      subst (λ (s : LaneStage). HasRecalledShares s lane.shares lane.recalled.bytes) (sym is.stage) has,
     )
 
 -- an element of a list that has one
@@ -157,7 +157,7 @@ idle_in s v key lane user tagged number is =
 idle_inside : (lane : Lane) → IsIdle lane → IsLane lane
 idle_inside lane is = (
   subst (AreIn lane.recalled.bytes) (sym is.wanted) (All-nil (IsInShares lane.recalled.bytes)),
-  subst (λ (s : LaneStage). HasShares s lane.shares lane.recalled.bytes) (sym is.stage) tt,
+  subst (λ (s : LaneStage). HasRecalledShares s lane.shares lane.recalled.bytes) (sym is.stage) tt,
 )
 
 not_same : (a b : ℕ) (t : Bool) → eqb a b ≡ t → a ≢ b → eqb a b ≡ false

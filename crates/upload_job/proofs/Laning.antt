@@ -12,8 +12,8 @@ use Rattle.upload_job.specs.declared.news.LaneNews.{LaneNews}
 use Rattle.upload_job.specs.declared.news.LaneErr.{LaneErr}
 use Rattle.upload_job.specs.Upload.{Work, in_batches}
 use Rattle.upload_job.specs.Lane.{LaneState, Done, onward, lane_request}
-use Rattle.upload_job.specs.Lanes.{LaneView, request_at, IsAsked, IsDoneAt, Answers, AnswersAt, with_state}
-use Rattle.upload_job.specs.Index.{HasShares, IsLane, AreLanes, shares_in, lane_in, lanes_in, state_in, moved_to, next_in}
+use Rattle.upload_job.specs.Lanes.{LaneView, request_at, IsAsked, IsDoneAt, AnswersLane, AnswersAt, with_state}
+use Rattle.upload_job.specs.Index.{HasRecalledShares, IsLane, AreLanes, shares_in, lane_in, lanes_in, state_in, moved_to, next_in}
 
 pub length-lanes_in : (key : VersionKey) (lanes : List Lane) → length (lanes_in key lanes) ≡ length lanes
 length-lanes_in key lanes = length-map lanes (lane_in key)
@@ -51,7 +51,7 @@ moved : (key : VersionKey) (l m : Lane) (state : LaneState) → Moves key l m st
 moved key l m state h = rw (h.recipe, h.items, h.recalled, h.wanted, h.stands) refl
 
 answers_in : (key : VersionKey) (lanes : List Lane) (i : ℕ) (l m : Lane) (content : List ℕ) (result : Result LaneNews LaneErr) (state : LaneState) → i < length lanes
-    → Answers (lane_in key (get_or lanes i l)) content result state → Moves key (get_or lanes i l) m state → AnswersAt (lanes_in key lanes) i content result (lanes_in key (set lanes i m))
+    → AnswersLane (lane_in key (get_or lanes i l)) content result state → Moves key (get_or lanes i l) m state → AnswersAt (lanes_in key lanes) i content result (lanes_in key (set lanes i m))
 answers_in key [] i l m content result state lt a n = absurd (omega arith)
 answers_in key (o ∷ lanes) zero l m content result state lt a n = (state, a, ap (λ (x : LaneView). x ∷ lanes_in key lanes) (moved key o m state n))
 answers_in key (o ∷ lanes) (suc i) l m content result state lt a n = (lanes_in key (set lanes i m), answers_in key lanes i l m content result state (omega arith) a n, refl)
@@ -136,18 +136,18 @@ request_found key lanes seen i l view lt here =
 -- an answer to the lane at a place, which is moved there
 pub answered : (key : VersionKey) (lanes : List Lane) (seen : List LaneView) (i : ℕ) (l old m : Lane) (next : Option LaneStage) (content : List ℕ) (result : Result LaneNews LaneErr)
     → lanes_in key lanes ≡ seen → i < length lanes → l ≡ get_or lanes i l → old ≡ get_or lanes i old → m ≡ moved_to old next
-    → Answers (lane_in key l) content result (next_in (shares_in l.recalled.bytes l.wanted.items) (lane_in key l).state next)
+    → AnswersLane (lane_in key l) content result (next_in (shares_in l.recalled.bytes l.wanted.items) (lane_in key l).state next)
     → AnswersAt seen i content result (lanes_in key (set lanes i m))
 answered key lanes seen i l old m next content result view lt here there e h =
     let at : Lane = get_or lanes i l in
-    let one = subst (λ (o : Lane). Answers (lane_in key o) content result (next_in (shares_in o.recalled.bytes o.wanted.items) (lane_in key o).state next)) here h in
+    let one = subst (λ (o : Lane). AnswersLane (lane_in key o) content result (next_in (shares_in o.recalled.bytes o.wanted.items) (lane_in key o).state next)) here h in
     let same : m ≡ moved_to at next = e ∙ ap (λ (o : Lane). moved_to o next) (there ∙ get_or_default lanes i old l lt) in
     subst (λ (xs : List LaneView). AnswersAt xs i content result (lanes_in key (set lanes i m))) view
     (answers_in key lanes i l m content result (next_in (shares_in at.recalled.bytes at.wanted.items) (lane_in key at).state next) lt one
     (subst (λ (o : Lane). Moves key at o (next_in (shares_in at.recalled.bytes at.wanted.items) (lane_in key at).state next)) (sym same) (moves_to key at next)))
 
 -- a lane that has a request has its shares
-held : (w : Work) (all : List (List ℕ)) (stage : LaneStage) (shares recalled : List ℕ) → IsSome (lane_request w (state_in all stage)) → HasShares stage shares recalled → shares ≡ recalled
+held : (w : Work) (all : List (List ℕ)) (stage : LaneStage) (shares recalled : List ℕ) → IsSome (lane_request w (state_in all stage)) → HasRecalledShares stage shares recalled → shares ≡ recalled
 held w all (stages.Bringing from) shares recalled some has = has
 held w all (stages.Sending from flags) shares recalled some has = has
 held w all stages.Done shares recalled some has = absurd (let no : false ≡ true = some in cc)

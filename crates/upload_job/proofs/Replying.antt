@@ -11,8 +11,8 @@ use Rattle.upload_job.specs.declared.news.LaneNews.{LaneNews}
 use Rattle.upload_job.specs.declared.news.LaneErr.{LaneErr}
 use Rattle.upload_job.specs.Upload.{Work}
 use Rattle.upload_job.specs.Lane.{LaneState, Asking, Sending, Committing, Done, Refused, IsAnswer}
-use Rattle.upload_job.specs.Lanes.{LaneView, IsReplyToLane, Answers}
-use Rattle.upload_job.specs.Index.{IsOneReply, IsNoReply, StepIs, TurnsBy, next_in}
+use Rattle.upload_job.specs.Lanes.{LaneView, IsReplyToLane, AnswersLane}
+use Rattle.upload_job.specs.Index.{IsOneReply, IsNoReply, StepIsByReply, TurnsBy, next_in}
 
 no_recipe : (w : Work) (state : LaneState) (bytes : List ℕ) → IsAnswer w state (replies.Recipe bytes) → ⊥
 no_recipe w (Asking batch rest) bytes h = h
@@ -66,19 +66,19 @@ pub strange_step : (lane : LaneView) (content : List ℕ) (reply : Reply) → Is
 strange_step lane content reply read none other says = none (subst (IsAnswer lane.work lane.state) (read.one other says.is) says.answers)
 
 refused_turn : (w : Work) (all : List (List ℕ)) (state : LaneState) (content : List ℕ) (turn : Turn) → ((other : Reply) → IsReplyToLane (record { work = w; state = state }) content other → ⊥) → TurnsBy content None turn
-    → Answers (record { work = w; state = state }) content turn.result (next_in all state turn.next)
+    → AnswersLane (record { work = w; state = state }) content turn.result (next_in all state turn.next)
 refused_turn w all state content turn none by =
-    subst (λ (r : Result LaneNews LaneErr). Answers (record { work = w; state = state }) content r (next_in all state turn.next)) (sym by.0)
+    subst (λ (r : Result LaneNews LaneErr). AnswersLane (record { work = w; state = state }) content r (next_in all state turn.next)) (sym by.0)
     (record { none = none; first = refl; refused = ap (next_in all state) by.1 })
 
 -- a step that was made by the reply
-pub turn_by_step : (w : Work) (all : List (List ℕ)) (state : LaneState) (content : List ℕ) (reply : Reply) (step : Option Step) (turn : Turn) → IsOneReply content reply → StepIs w all state reply step → TurnsBy content step turn
-    → Answers (record { work = w; state = state }) content turn.result (next_in all state turn.next)
+pub turn_by_step : (w : Work) (all : List (List ℕ)) (state : LaneState) (content : List ℕ) (reply : Reply) (step : Option Step) (turn : Turn) → IsOneReply content reply → StepIsByReply w all state reply step → TurnsBy content step turn
+    → AnswersLane (record { work = w; state = state }) content turn.result (next_in all state turn.next)
 turn_by_step w all state content reply None turn read step by = refused_turn w all state content turn (strange_step (record { work = w; state = state }) content reply read step) by
 turn_by_step w all state content reply (Some made) turn read step by =
-    subst (λ (r : Result LaneNews LaneErr). Answers (record { work = w; state = state }) content r (next_in all state turn.next)) (sym by.0)
+    subst (λ (r : Result LaneNews LaneErr). AnswersLane (record { work = w; state = state }) content r (next_in all state turn.next)) (sym by.0)
     (reply, record { says = record { is = read.is; answers = step.0 }; told = step.1.0; moves = ap (next_in all state) by.1 ∙ step.1.1 })
 
 pub turn_by_none : (w : Work) (all : List (List ℕ)) (state : LaneState) (content : List ℕ) (turn : Turn) → IsNoReply content → TurnsBy content None turn
-    → Answers (record { work = w; state = state }) content turn.result (next_in all state turn.next)
+    → AnswersLane (record { work = w; state = state }) content turn.result (next_in all state turn.next)
 turn_by_none w all state content turn none by = refused_turn w all state content turn (none (record { work = w; state = state })) by

@@ -88,15 +88,15 @@ abbrev pub lanes_in : VersionKey → List Lane → List LaneView
 lanes_in key lanes = map (lane_in key) lanes
 
 -- a lane that may still send shares has them
-abbrev pub HasShares : LaneStage → List ℕ → List ℕ → Type 0
-HasShares (stages.Bringing from) shares recalled = shares ≡ recalled
-HasShares (stages.Sending from flags) shares recalled = shares ≡ recalled
-HasShares stages.Done shares recalled = Unit {0}
-HasShares stages.Refused shares recalled = Unit {0}
+abbrev pub HasRecalledShares : LaneStage → List ℕ → List ℕ → Type 0
+HasRecalledShares (stages.Bringing from) shares recalled = shares ≡ recalled
+HasRecalledShares (stages.Sending from flags) shares recalled = shares ≡ recalled
+HasRecalledShares stages.Done shares recalled = Unit {0}
+HasRecalledShares stages.Refused shares recalled = Unit {0}
 
 -- the wanted shares lie in those that the lane had at its beginning, and up to its end it has them
 abbrev pub IsLane : Lane → Type 0
-IsLane lane = AreIn lane.recalled.bytes lane.wanted.items × HasShares lane.stage lane.shares lane.recalled.bytes
+IsLane lane = AreIn lane.recalled.bytes lane.wanted.items × HasRecalledShares lane.stage lane.shares lane.recalled.bytes
 
 abbrev pub AreLanes : List Lane → Type 0
 AreLanes [] = Unit {0}
@@ -145,9 +145,9 @@ done_at lanes [] = lanes
 done_at lanes (cloud ∷ clouds) = done_at (staged_at lanes cloud stages.Done) clouds
 
 -- a step is made by a reply to the lane's request, and none by another
-abbrev pub StepIs : Work → List (List ℕ) → LaneState → Reply → Option Step → Type 0
-StepIs w all state reply None = ¬ (IsAnswer w state reply)
-StepIs w all state reply (Some step) = IsAnswer w state reply × ((news_of state reply ≡ Some step.news) × (next_in all state step.next ≡ lane_after w state reply))
+abbrev pub StepIsByReply : Work → List (List ℕ) → LaneState → Reply → Option Step → Type 0
+StepIsByReply w all state reply None = ¬ (IsAnswer w state reply)
+StepIsByReply w all state reply (Some step) = IsAnswer w state reply × ((news_of state reply ≡ Some step.news) × (next_in all state step.next ≡ lane_after w state reply))
 
 -- the lane of a cloud's file at its beginning
 pub record IsBegun (k : ℕ) (f : CloudFile) (lane : Lane) : Type 0 where

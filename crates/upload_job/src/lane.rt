@@ -8,7 +8,7 @@ ghost use Rattle.upload_job.specs.Lane.{Asking, Sending, Committing, past_known,
 ghost use Rattle.user_dedup.specs.Messages.reply.Reply.TheVariants.{Known, Stored, Lacking};
 ghost use Rattle.upload_job.specs.declared.lane.LaneStage.TheVariants as stages;
 ghost use Rattle.user_dedup.specs.CdBase.Numbers.{numbers_of};
-ghost use Rattle.upload_job.specs.Index.{ends_at, state_in, moved_to, staged_at, done_at, StepIs};
+ghost use Rattle.upload_job.specs.Index.{ends_at, state_in, moved_to, staged_at, done_at, StepIsByReply};
 
 use crate::LaneNews;
 use crate::recalled::Recalled;
@@ -122,7 +122,8 @@ fn past(from: usize, next: usize, flags: Bytes) -> LaneStage
 fn after_known(from: usize, next: usize, asked: u16, flags: Bytes) -> Option<Step>
     ensures { (w : Work) (all : List (List ℕ)) → length (take batch_limit (drop from all)) ≡ asked
         → drop next all ≡ drop batch_limit (drop from all)
-        → StepIs w all (Asking (take batch_limit (drop from all)) (in_batches (drop batch_limit (drop from all))))
+        → StepIsByReply w all (Asking (take batch_limit (drop from all))
+        (in_batches (drop batch_limit (drop from all))))
         (Known flags) result }
 {
     if flags.len() != asked as usize {
@@ -136,7 +137,7 @@ fn after_known(from: usize, next: usize, asked: u16, flags: Bytes) -> Option<Ste
 fn after_query(from: usize, next: usize, asked: u16, reply: Reply) -> Option<Step>
     ensures { (w : Work) (all : List (List ℕ)) → length (take batch_limit (drop from all)) ≡ asked
         → drop next all ≡ drop batch_limit (drop from all)
-        → StepIs w all (Asking (take batch_limit (drop from all))
+        → StepIsByReply w all (Asking (take batch_limit (drop from all))
         (in_batches (drop batch_limit (drop from all)))) reply result }
 {
     match reply {
@@ -165,7 +166,7 @@ fn after_query(from: usize, next: usize, asked: u16, reply: Reply) -> Option<Ste
 fn after_stored(next: usize, sent: u16, new: u16) -> Option<Step>
     ensures { (w : Work) (all batch : List (List ℕ)) (flags : List ℕ) (rest : List (List (List ℕ)))
         → length (unflagged batch flags) ≡ sent → in_batches (drop next all) ≡ rest
-        → StepIs w all (Sending batch flags rest) (Stored new) result }
+        → StepIsByReply w all (Sending batch flags rest) (Stored new) result }
 {
     if new <= sent {
         moves(
@@ -181,7 +182,7 @@ fn after_stored(next: usize, sent: u16, new: u16) -> Option<Step>
 fn after_put(next: usize, sent: u16, reply: Reply) -> Option<Step>
     ensures { (w : Work) (all batch : List (List ℕ)) (flags : List ℕ) (rest : List (List (List ℕ)))
         → length (unflagged batch flags) ≡ sent → in_batches (drop next all) ≡ rest
-        → StepIs w all (Sending batch flags rest) reply result }
+        → StepIsByReply w all (Sending batch flags rest) reply result }
 {
     match reply {
         Reply::Stored { new } => after_stored(next, sent, new),
@@ -221,7 +222,7 @@ fn after_put(next: usize, sent: u16, reply: Reply) -> Option<Step>
 // After the place of an item that the cloud lacks: back to the first batch.
 fn after_lacking(items: u32, place: u32) -> Option<Step>
     ensures { (w : Work) (all : List (List ℕ)) → w.items ≡ items → w.batches ≡ in_batches all
-        → StepIs w all Committing (Lacking place) result }
+        → StepIsByReply w all Committing (Lacking place) result }
 {
     if place < items {
         moves(LaneNews::Lacking { place }, LaneStage::Bringing { from: 0 })
@@ -233,7 +234,7 @@ fn after_lacking(items: u32, place: u32) -> Option<Step>
 // What a reply does to the lane that enters a recipe of so many items.
 fn after_commit(items: u32, reply: Reply) -> Option<Step>
     ensures { (w : Work) (all : List (List ℕ)) → w.items ≡ items → w.batches ≡ in_batches all
-        → StepIs w all Committing reply result }
+        → StepIsByReply w all Committing reply result }
 {
     match reply {
         Reply::Committed => moves(LaneNews::Committed, LaneStage::Done),
@@ -276,7 +277,7 @@ fn after_commit(items: u32, reply: Reply) -> Option<Step>
 fn after_bringing(wanted: &[WantedShare], items: u32, from: usize, reply: Reply) -> Option<Step>
     ensures { (w : Work) (all : List (List ℕ)) → length all ≡ length wanted.now → w.items ≡ items
         → w.batches ≡ in_batches all
-        → StepIs w all (state_in all (stages.Bringing from)) reply result }
+        → StepIsByReply w all (state_in all (stages.Bringing from)) reply result }
 {
     if from < wanted.len() {
         let batch = batch_at(wanted, from);
@@ -289,7 +290,7 @@ fn after_bringing(wanted: &[WantedShare], items: u32, from: usize, reply: Reply)
 // The step of a lane that sends.
 fn after_sending(wanted: &[WantedShare], from: usize, flags: &[u8], reply: Reply) -> Option<Step>
     ensures { (w : Work) (all : List (List ℕ)) → length all ≡ length wanted.now
-        → StepIs w all (state_in all (stages.Sending from flags.now)) reply result }
+        → StepIsByReply w all (state_in all (stages.Sending from flags.now)) reply result }
 {
     let batch = batch_at(wanted, from);
     let sent = zeros(batch.len(), flags) as u16;
@@ -300,7 +301,7 @@ fn after_sending(wanted: &[WantedShare], from: usize, flags: &[u8], reply: Reply
 pub fn step_of(lane: &Lane, reply: Reply) -> Option<Step>
     ensures { (w : Work) (all : List (List ℕ)) → length all ≡ vec_len lane.now.wanted → w.items ≡ lane.now.items
         → w.batches ≡ in_batches all
-        → StepIs w all (state_in all lane.now.stage) reply result }
+        → StepIsByReply w all (state_in all lane.now.stage) reply result }
 {
     match &lane.stage {
         LaneStage::Bringing { from } => {

@@ -3,7 +3,7 @@
 ghost use Rattle.std.specs.Prelude.{◌≡◌, ◌≢◌, ℕ, List, false, length, vec_len, IfOk, IsOk, Err};
 ghost use Rattle.user_dedup.specs.Messages.ReplyReading.{reply_at, is_of_entries};
 ghost use Rattle.upload_job.specs.Upload.{Work, in_batches};
-ghost use Rattle.upload_job.specs.Lanes.{Answers, first_byte};
+ghost use Rattle.upload_job.specs.Lanes.{AnswersLane, first_byte};
 ghost use Rattle.upload_job.specs.Index.{state_in, next_in, IsReplyRead, TurnsBy};
 
 use crate::lane::{Lane, LaneStage, Step, step_of};
@@ -66,7 +66,7 @@ fn turn_by(content: &[u8], step: Option<Step>) -> Turn
 pub fn turn_of(alloc: Global, lane: &Lane, content: &[u8]) -> Turn
     ensures turns { (w : Work) (all : List (List ℕ)) → length all ≡ vec_len lane.now.wanted → w.items ≡ lane.now.items
         → w.batches ≡ in_batches all
-        → Answers (record { work = w; state = state_in all lane.now.stage }) content.now result.result
+        → AnswersLane (record { work = w; state = state_in all lane.now.stage }) content.now result.result
         (next_in all (state_in all lane.now.stage) result.next) }
     ensures malformed { (at : ℕ) → reply_at content.now ≡ Err at → is_of_entries content.now ≡ false
         → result.result ≢ Err LaneErr.NoMemory }

@@ -31,9 +31,9 @@ use Rattle.commit_journal.proofs.JournalHalves.Current.{begun_half, one_chain, o
 use Rattle.commit_journal.proofs.Kept.{record_off}
 use Rattle.upload_job.specs.Lanes.{LaneView, lanes_resumed}
 use Rattle.upload_job.specs.Upload.{FileVersion}
-use Rattle.upload_spool.specs.Opens.{Notes, Say, HasReadSpool, HasAll, IsChainDamage, IsWrongNext, IsDamagedAt, OpensIs, FindsAgain, gate_of, rest_behind, with_record, kept_file, version_in, rising, first_notes, more_notes}
+use Rattle.upload_spool.specs.Opens.{Notes, Say, HasReadSpool, HasAllNotes, IsChainDamage, IsWrongNext, IsDamagedAt, OpensSpoolIs, FindsAgain, gate_of, rest_behind, with_record, kept_file, version_in, rising, first_notes, more_notes}
 use Rattle.upload_spool.specs.Reading.{JobFields, fields_for, is_lane}
-use Rattle.upload_spool.specs.Spools.{AreJobLanes, FitsKept, SpoolFor, spool_chain, spool_start, lane_bytes, job_bytes}
+use Rattle.upload_spool.specs.Spools.{AreJobLanes, FitsFileVersion, SpoolFor, spool_chain, spool_start, lane_bytes, job_bytes}
 use Rattle.upload_spool.specs.States.{SpoolState, IsOf}
 use Rattle.upload_spool.specs.declared.error.SpoolErr.{SpoolErr}
 use Rattle.upload_spool.specs.declared.error.SpoolErr.TheVariants as errors
@@ -79,7 +79,7 @@ notes_for v lanes = record { job = fields_for v; lanes = lanes }
 abbrev bodies_for : FileVersion → List CloudNo → List (List ℕ)
 bodies_for v lanes = job_bytes v ∷ map lane_bytes lanes
 
-spool_says : (shape : Shape) (v : FileVersion) (lanes : List CloudNo) → FitsKept v → AreJobLanes shape lanes → Say shape None (bodies_for v lanes) (Some (notes_for v lanes))
+spool_says : (shape : Shape) (v : FileVersion) (lanes : List CloudNo) → FitsFileVersion v → AreJobLanes shape lanes → Say shape None (bodies_for v lanes) (Some (notes_for v lanes))
 spool_says shape v lanes fits are = (notes_for v [], ap first_notes (job_read v fits), lanes_say shape (fields_for v) [] lanes are)
 
 -- what records say of a front, and of the others behind it
@@ -99,7 +99,7 @@ one_said shape (body ∷ bodies) before one two s t =
     one_said shape bodies (Some s.0) one two s.2 (subst (λ (n : Notes). Say shape (Some n) bodies two) (sym (same_good s.0 t.0 (sym s.1 ∙ t.1))) t.2)
 
 -- no record of a spool is wrong
-record_right : (shape : Shape) (v : FileVersion) (lanes : List CloudNo) → FitsKept v → AreJobLanes shape lanes → (front : List (List ℕ)) (body : List ℕ) (more : List (List ℕ)) → front ++ body ∷ more ≡ bodies_for v lanes → (notes : Option Notes)
+record_right : (shape : Shape) (v : FileVersion) (lanes : List CloudNo) → FitsFileVersion v → AreJobLanes shape lanes → (front : List (List ℕ)) (body : List ℕ) (more : List (List ℕ)) → front ++ body ∷ more ≡ bodies_for v lanes → (notes : Option Notes)
     → Say shape None front notes → (fault : RecordFault) → with_record shape notes body ≡ Err fault → ⊥
 record_right shape v lanes fits are front body more same notes say fault e =
     let all = subst (λ (l : List (List ℕ)). Say shape None l (Some (notes_for v lanes))) (sym same) (spool_says shape v lanes fits are) in
@@ -214,7 +214,7 @@ shorter_part half journal = at_most (length (part_of half journal)) (length (hal
     at_most : (part all : ℕ) → part ≡ min half_len all → part ≤ half_len
     at_most part all is = omega (arith, is)
 
-module _ (image : Image) (shape : Shape) (v : FileVersion) (lanes : List CloudNo) (fits : FitsKept v) (spool : SpoolFor image shape v lanes) where
+module _ (image : Image) (shape : Shape) (v : FileVersion) (lanes : List CloudNo) (fits : FitsFileVersion v) (spool : SpoolFor image shape v lanes) where
   abbrev journal : List ℕ
   journal = image Journal
 
@@ -228,13 +228,13 @@ module _ (image : Image) (shape : Shape) (v : FileVersion) (lanes : List CloudNo
   none_begun none = current_begun journal 0 (spool_start shape) spool.has.current none
 
   -- what all records say
-  said_all : (notes : Option Notes) → HasAll shape journal notes → Say shape None (bodies_for v lanes) notes
+  said_all : (notes : Option Notes) → HasAllNotes shape journal notes → Say shape None (bodies_for v lanes) notes
   said_all notes all = subst (λ (x : Where). Say shape None x.bodies notes) (one_chain journal all.w w all.has spool.has) all.say
 
-  not_none : HasAll shape journal None → ⊥
+  not_none : HasAllNotes shape journal None → ⊥
   not_none all = some_or_none (notes_for v lanes) (one_said shape (bodies_for v lanes) None (Some (notes_for v lanes)) None (spool_says shape v lanes fits spool.apart) (said_all None all))
 
-  notes_are : (notes : Notes) → HasAll shape journal (Some notes) → notes ≡ notes_for v lanes
+  notes_are : (notes : Notes) → HasAllNotes shape journal (Some notes) → notes ≡ notes_for v lanes
   notes_are notes all = all_said shape v lanes notes fits (said_all (Some notes) all)
 
   -- open records are the first of the spool's, with the others behind them
@@ -270,10 +270,10 @@ module _ (image : Image) (shape : Shape) (v : FileVersion) (lanes : List CloudNo
     | inr wrong ↦ no_wrong_next d.0 d.1 at byte d.2 wrong
   ]
 
-  file_is : (notes : Notes) → HasAll shape journal (Some notes) → kept_file image notes ≡ v.file
+  file_is : (notes : Notes) → HasAllNotes shape journal (Some notes) → kept_file image notes ≡ v.file
   file_is notes all = ap (λ (n : Notes). kept_file image n) (notes_are notes all) ∙ spool.file
 
-  version_is : (notes : Notes) → HasAll shape journal (Some notes) → version_in image notes ≡ v
+  version_is : (notes : Notes) → HasAllNotes shape journal (Some notes) → version_in image notes ≡ v
   version_is notes all = λ i. record {
     user = record { 0 = (notes_are notes all i).job.user };
     path = (notes_are notes all i).job.path;
@@ -284,12 +284,12 @@ module _ (image : Image) (shape : Shape) (v : FileVersion) (lanes : List CloudNo
   same_print : (a b : Fp) → a.0 ≡ b.0 → a ≡ b
   same_print a b e = λ i. record { 0 = e i }
 
-  not_rotten : (notes : Notes) (named found : Fp) → HasAll shape journal (Some notes) → named.0 ≡ notes.job.digest → found.0 ≡ sha256_of (kept_file image notes) → (length (kept_file image notes) ≢ notes.job.len) ⊎ (found ≢ named) → ⊥
+  not_rotten : (notes : Notes) (named found : Fp) → HasAllNotes shape journal (Some notes) → named.0 ≡ notes.job.digest → found.0 ≡ sha256_of (kept_file image notes) → (length (kept_file image notes) ≢ notes.job.len) ⊎ (found ≢ named) → ⊥
   not_rotten notes named found all named_is found_is (inl other) = other (ap (λ (l : List ℕ). length l) (file_is notes all) ∙ ap (λ (n : Notes). n.job.len) (sym (notes_are notes all)))
   not_rotten notes named found all named_is found_is (inr other) =
       other (same_print found named (found_is ∙ ap sha256_of (file_is notes all) ∙ ap (λ (n : Notes). n.job.digest) (sym (notes_are notes all)) ∙ sym named_is))
 
-  pub found_here : (answer : Result (Option (SpoolState × List LaneView)) SpoolErr) → OpensIs shape image answer → FindsAgain shape v lanes answer
+  pub found_here : (answer : Result (Option (SpoolState × List LaneView)) SpoolErr) → OpensSpoolIs shape image answer → FindsAgain shape v lanes answer
   found_here (Ok None) (inl none) = none_begun none
   found_here (Ok None) (inr all) = not_none all
   found_here (Ok (Some x)) is =
@@ -309,6 +309,6 @@ module _ (image : Image) (shape : Shape) (v : FileVersion) (lanes : List CloudNo
       is.2 (sym is.1.header_is ∙ ap (λ (s : Start). s.header) (one_current journal is.0 0 is.1.start (spool_start shape) is.1.is_current spool.has.current))
   found_here (Err (errors.Rotten named found)) is = not_rotten is.0 named found is.1 is.2 is.3 is.4
 
-pub found_again : (image : Image) (shape : Shape) (v : FileVersion) (lanes : List CloudNo) → FitsKept v → SpoolFor image shape v lanes → (answer : Result (Option (SpoolState × List LaneView)) SpoolErr) → OpensIs shape image answer
+pub found_again : (image : Image) (shape : Shape) (v : FileVersion) (lanes : List CloudNo) → FitsFileVersion v → SpoolFor image shape v lanes → (answer : Result (Option (SpoolState × List LaneView)) SpoolErr) → OpensSpoolIs shape image answer
     → FindsAgain shape v lanes answer
 found_again image shape v lanes fits spool = found_here image shape v lanes fits spool

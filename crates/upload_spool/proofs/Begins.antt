@@ -25,7 +25,7 @@ use Rattle.commit_journal.specs.JournalHalves.errors.RecordErr.TheVariants as je
 use Rattle.commit_journal.proofs.JournalHalves.Current.{one_start, begun_half, one_chain}
 use Rattle.commit_journal.specs.declared.errors.OpenErr.{OpenErr}
 use Rattle.commit_journal.specs.declared.errors.OpenErr.TheVariants as opens
-use Rattle.commit_journal.specs.Openings.{MayBecome, OpensIs, IsOpened}
+use Rattle.commit_journal.specs.Openings.{MayBeBegun, OpensIs, IsOpened}
 use Rattle.commit_journal.specs.declared.journal.Stage.{Stage}
 use Rattle.commit_journal.specs.declared.journal.Stage.TheVariants.{AtEnd, Shut}
 use Rattle.commit_journal.specs.Outcomes.{NextIs, IsDamaged}
@@ -36,7 +36,7 @@ use Rattle.upload_job.specs.Upload.{FileVersion}
 use Rattle.upload_spool.specs.Spools.{HasOpenJob, IsBegunOr, spool_header, job_bytes}
 use Rattle.upload_spool.proofs.Chains.{used}
 use Rattle.upload_spool.proofs.Lanes.{no_lanes}
-use Rattle.upload_spool.specs.States.{chosen, first_filled, Along, IsKept, HasFile, NoOpenJob, HasNone, IsNewSpool, IsNewRead, IsNewJobOr, HasJob, IsOkOrFault, spool_error, SpoolState, IsOf, IsSpool}
+use Rattle.upload_spool.specs.States.{chosen, first_filled, IsWrittenSoFar, IsJournalKept, HasFile, NoOpenJob, HasNoOpenJob, IsNewSpool, IsNewRead, IsNewJobOr, HasJob, IsSpoolOkOrFault, spool_error, SpoolState, IsOf, IsSpool}
 use Rattle.upload_spool.proofs.Notes.{both, shares≢journal, still_alone}
 
 -- ---- which area isn't empty
@@ -82,23 +82,23 @@ appended old piece at e =
     overwritten_within old at piece (omega (arith, e)) ∙ ap (λ (l : List ℕ). l ++ piece ++ drop (at + length piece) old) (take_past at old e)
     ∙ ap (λ (l : List ℕ). old ++ piece ++ l) (drop_past (at + length piece) old (omega (arith, e))) ∙ append-nil (old ++ piece)
 
-pub begun_along : (c : Cloud) (file : List ℕ) → Along c c 0 file
+pub begun_along : (c : Cloud) (file : List ℕ) → IsWrittenSoFar c c 0 file
 begun_along c file = record {
   leaves = started c _ (λ image now. now Journal);
   others = λ other ne. refl;
   held = λ empty. (empty, inl refl);
 }
 
-kept_on : (start old new : Cloud) (Q : List ℕ → Type 0) → IsKept start old → old.now Journal ≡ start.now Journal → LeavesOnly old new (IsAtArea old.now Shares Q) → IsKept start new
+kept_on : (start old new : Cloud) (Q : List ℕ → Type 0) → IsJournalKept start old → old.now Journal ≡ start.now Journal → LeavesOnly old new (IsAtArea old.now Shares Q) → IsJournalKept start new
 kept_on start old new Q run same next = joined start old new _ run (weaker old new _ _ next (λ image at.
     subst (λ (s : Store). MayLeave s (image Journal)) same (at.others Journal journal≢shares)))
 
-pub one_piece : (start old new : Cloud) (at : ℕ) (file piece : List ℕ) → Along start old at file → LeavesOnly old new (IsAtArea old.now Shares (MayLeave (wrote (old.now Shares) at piece))) → IsKept start new
+pub one_piece : (start old new : Cloud) (at : ℕ) (file piece : List ℕ) → IsWrittenSoFar start old at file → LeavesOnly old new (IsAtArea old.now Shares (MayLeave (wrote (old.now Shares) at piece))) → IsJournalKept start new
 one_piece start old new at file piece along run = kept_on start old new _ along.leaves (along.others Journal journal≢shares) run
 
-pub further : (start old new : Cloud) (at : ℕ) (file piece : List ℕ) (count : ℕ) → at ≤ length file → Along start old at file → piece ≡ take count (drop at file)
+pub further : (start old new : Cloud) (at : ℕ) (file piece : List ℕ) (count : ℕ) → at ≤ length file → IsWrittenSoFar start old at file → piece ≡ take count (drop at file)
     → LeavesOnly old new (IsAtArea old.now Shares (MayLeave (wrote (old.now Shares) at piece))) → new.now Shares ≡ stable (overwritten (old.now Shares).read at piece)
-    → ((other : Area) → other ≢ Shares → new.now other ≡ old.now other) → Along start new (at + count) file
+    → ((other : Area) → other ≢ Shares → new.now other ≡ old.now other) → IsWrittenSoFar start new (at + count) file
 further start old new at file piece count within along is run written others = record {
   leaves = one_piece start old new at file piece along run;
   others = λ other ne. others other ne ∙ along.others other ne;
@@ -111,7 +111,7 @@ further start old new at file piece count within along is run written others = r
       (ap (λ (s : Store). s.read) store, inr store);
 }
 
-pub file_written : (start now : Cloud) (at : ℕ) (file : List ℕ) → Along start now at file → at ≡ length file → (start.now Shares).read ≡ [] → HasFile file (now.now Shares)
+pub file_written : (start now : Cloud) (at : ℕ) (file : List ℕ) → IsWrittenSoFar start now at file → at ≡ length file → (start.now Shares).read ≡ [] → HasFile file (now.now Shares)
 file_written start now at file along all empty = λ image left.
     elim (along.held empty).1 [
       | inl none ↦ let no : length file ≡ 0 = sym all ∙ none in subst (λ (l : List ℕ). take (length l) image ≡ l) (sym (nothing file no)) refl
@@ -138,14 +138,14 @@ new_none journal header has job =
     let lt = job.there.1 in
     omega (arith, same, lt)
 
-become_none : (old : Areas) (header : Header) → NoOpenJob (old Journal) → (image : Image) → MayBecome old header true image → HasNone old image
+become_none : (old : Areas) (header : Header) → NoOpenJob (old Journal) → (image : Image) → MayBeBegun old header true image → HasNoOpenJob old image
 become_none old header nojob image (inl left) = record { none = nojob (image Journal) (left Journal); shares = left Shares }
 become_none old header nojob image (inr new) = record {
   none = elim new.2.area [ inl unbegun ↦ unbegun_none (image Journal) unbegun | inr has ↦ new_none (image Journal) header has ];
   shares = new.2.others Shares shares≢journal;
 }
 
-pub reopened_none : (c0 c1 : Cloud) (header : Header) → NoOpenJob (c0.now Journal) → LeavesOnly c0 c1 (MayBecome c0.now header true) → LeavesOnly c0 c1 (HasNone c0.now)
+pub reopened_none : (c0 c1 : Cloud) (header : Header) → NoOpenJob (c0.now Journal) → LeavesOnly c0 c1 (MayBeBegun c0.now header true) → LeavesOnly c0 c1 (HasNoOpenJob c0.now)
 reopened_none c0 c1 header nojob run = weaker c0 c1 _ _ run (become_none c0.now header nojob)
 
 pub still_none : (c0 c1 c2 : Cloud) (P : Image → Type 0) → LeavesOnly c0 c1 P → Stays c1 c2 → LeavesOnly c0 c2 P
@@ -158,7 +158,7 @@ found_none journal at byte (InFirst begun damage) none = false≢true (sym none.
 found_none journal at byte (InSecond place sound begun damage is) none = false≢true (sym none.second ∙ begun)
 found_none journal at byte (Epochs equal) none = false≢true (sym none.first ∙ begun_half journal 0 equal.first equal.has_first)
 
-pub opens_well : (T : Type 0) (journal : List ℕ) (header : Header) (e : OpenErr) → IsUnbegun journal → OpensIs journal header true (Err e) → IsOkOrFault {T = T} (Err (spool_error e))
+pub opens_well : (T : Type 0) (journal : List ℕ) (header : Header) (e : OpenErr) → IsUnbegun journal → OpensIs journal header true (Err e) → IsSpoolOkOrFault {T = T} (Err (spool_error e))
 opens_well T journal header opens.Fault none is = tt
 opens_well T journal header (opens.NotBegun len) none is = false≢true (sym is.1)
 opens_well T journal header (opens.Damaged at byte) none is = found_none journal at byte is none
@@ -231,10 +231,10 @@ next_wrong before after cloud header at byte is next = no_damage before (cloud.n
 
 -- ---- all of it
 
-pub first_step : (c0 c1 : Cloud) (header : Header) (file body : List ℕ) → NoOpenJob (c0.now Journal) → IsKept c0 c1 → LeavesOnly c0 c1 (IsNewJobOr header file body)
+pub first_step : (c0 c1 : Cloud) (header : Header) (file body : List ℕ) → NoOpenJob (c0.now Journal) → IsJournalKept c0 c1 → LeavesOnly c0 c1 (IsNewJobOr header file body)
 first_step c0 c1 header file body nojob run = weaker c0 c1 _ _ run (λ image left. inl (nojob (image Journal) left))
 
-pub second_step : (c0 c1 c2 : Cloud) (header : Header) (file body : List ℕ) → NoOpenJob (c0.now Journal) → IsKept c0 c1 → LeavesOnly c1 c2 (HasNone c1.now) → LeavesOnly c0 c2 (IsNewJobOr header file body)
+pub second_step : (c0 c1 c2 : Cloud) (header : Header) (file body : List ℕ) → NoOpenJob (c0.now Journal) → IsJournalKept c0 c1 → LeavesOnly c1 c2 (HasNoOpenJob c1.now) → LeavesOnly c0 c2 (IsNewJobOr header file body)
 second_step c0 c1 c2 header file body nojob run next = joined c0 c1 c2 _ (first_step c0 c1 header file body nojob run) (weaker c1 c2 _ _ next (λ image at. inl at.none))
 
 pub third_step : (c0 c2 c3 : Cloud) (header : Header) (file body : List ℕ) → LeavesOnly c0 c2 (IsNewJobOr header file body) → is_half_begun 1 (c2.now Journal).read ≡ false → HasFile file (c2.now Shares)

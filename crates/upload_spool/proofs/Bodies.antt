@@ -7,7 +7,7 @@ use Rattle.sha2.specs.Sha256.{sha256 as sha256_of}
 use Rattle.sha2.proofs.Facts256.{length-sha256}
 use Rattle.grammar.specs.CdBase.ids.CloudNo.{CloudNo}
 use Rattle.upload_job.specs.Upload.{FileVersion}
-use Rattle.upload_spool.specs.Spools.{FitsKept, job_bytes, lane_bytes}
+use Rattle.upload_spool.specs.Spools.{FitsFileVersion, job_bytes, lane_bytes}
 
 -- fronts of one length are one, and so is what is behind them
 pub fronts : {A : Type 0} (a b x y : List A) → length a ≡ length b → a ++ x ≡ b ++ y → (a ≡ b) × (x ≡ y)
@@ -42,7 +42,7 @@ number_4 m n p q e = sym (from_be_bytes-to_be_bytes_4 m p) ∙ ap (from_be_bytes
 number_8 : (m n : ℕ) → m < 2 ^ 64 → n < 2 ^ 64 → to_be_bytes w64 m ≡ to_be_bytes w64 n → m ≡ n
 number_8 m n p q e = sym (from_be_bytes-to_be_bytes_8 m p) ∙ ap (from_be_bytes w64) e ∙ from_be_bytes-to_be_bytes_8 n q
 
-pub same_job : (v u : FileVersion) → FitsKept v → FitsKept u → job_bytes v ≡ job_bytes u → SameFields v u
+pub same_job : (v u : FileVersion) → FitsFileVersion v → FitsFileVersion u → job_bytes v ≡ job_bytes u → SameFields v u
 same_job v u f g e =
     let behind = tails 1 1 _ _ e in
     let a = fronts (to_be_bytes w32 v.user.0) (to_be_bytes w32 u.user.0) (to_be_bytes w64 v.number.0 ++ behind_version v) (to_be_bytes w64 u.number.0 ++ behind_version u) refl behind in

@@ -12,7 +12,7 @@ use Rattle.commit_journal.specs.JournalStart.Spelling.{start_bytes}
 use Rattle.commit_journal.specs.JournalHalves.Halves.{is_half_begun}
 use Rattle.commit_journal.specs.JournalHalves.Journals.{Where, HasChain, IsEither, used_by, with_body}
 use Rattle.upload_job.specs.Upload.{FileVersion}
-use Rattle.upload_spool.specs.Spools.{FitsKept, AreJobLanes, SpoolFor, HasOpenJob, IsNotedOr, spool_chain, spool_start, lane_bytes, job_bytes}
+use Rattle.upload_spool.specs.Spools.{FitsFileVersion, AreJobLanes, SpoolFor, HasOpenJob, IsNotedOr, spool_chain, spool_start, lane_bytes, job_bytes}
 use Rattle.upload_spool.proofs.Bodies.{SameFields, same_job, job_len, same_lane}
 use Rattle.upload_spool.proofs.Lanes.{lanes_more}
 
@@ -42,7 +42,7 @@ used shape v lanes =
       lanes_len lanes,
     )
 
-pub within : (shape : Shape) (v : FileVersion) (lanes : List CloudNo) → FitsKept v → length lanes ≤ 16 → used_by (spool_chain shape v lanes) ≤ 1238
+pub within : (shape : Shape) (v : FileVersion) (lanes : List CloudNo) → FitsFileVersion v → length lanes ≤ 16 → used_by (spool_chain shape v lanes) ≤ 1238
 within shape v lanes fits few = let short = fits.path.few in omega (arith, used shape v lanes, short)
 
 -- ---- a note
@@ -88,7 +88,7 @@ same_kept v u same file = λ i. record {
 }
 
 pub one_spool : ((journal : List ℕ) (w u : Where) → HasChain journal w → HasChain journal u → w ≡ u)
-    → (image : Image) (shape other : Shape) (v u : FileVersion) (lanes notes : List CloudNo) → FitsKept v → FitsKept u
+    → (image : Image) (shape other : Shape) (v u : FileVersion) (lanes notes : List CloudNo) → FitsFileVersion v → FitsFileVersion u
     → SpoolFor image shape v lanes → SpoolFor image other u notes → (v ≡ u) × (lanes ≡ notes)
 one_spool one_chain image shape other v u lanes notes f g s t =
     let bodies : job_bytes v ∷ map lane_bytes lanes ≡ job_bytes u ∷ map lane_bytes notes

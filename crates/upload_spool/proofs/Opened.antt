@@ -18,11 +18,11 @@ use Rattle.commit_journal.specs.States.{IsJournalEnded}
 use Rattle.commit_journal.specs.States as half
 use Rattle.upload_job.specs.Lanes.{LaneView, lanes_resumed}
 use Rattle.upload_job.specs.Upload.{FileVersion}
-use Rattle.upload_spool.specs.Opens.{Notes, Say, HasAll, OpensIs, IsOpenedSpool, answer_of, kept_file, rising, first_notes, more_notes}
+use Rattle.upload_spool.specs.Opens.{Notes, Say, HasAllNotes, OpensSpoolIs, IsOpenedSpool, answer_of, kept_file, rising, first_notes, more_notes}
 use Rattle.upload_spool.specs.Reading.{JobFields, fields_for, is_lane, lane_at, lane_in, wrong_at}
-use Rattle.upload_spool.specs.Spools.{AreJobLanes, FitsKept, SpoolFor, spool_chain, spool_limit, lane_bytes, job_bytes}
+use Rattle.upload_spool.specs.Spools.{AreJobLanes, FitsFileVersion, SpoolFor, spool_chain, spool_limit, lane_bytes, job_bytes}
 use Rattle.upload_spool.specs.States.{IsOf, IsSpool, state_of}
-use Rattle.upload_spool.specs.Steps.{AreRecordsKept, FoundIs, HasSpoolEnded, IsBrought, BringsIs, notes_in, fields_kept}
+use Rattle.upload_spool.specs.Steps.{AreRecordsKept, FoundIs, HasSpoolEnded, IsSpoolBrought, BringsIs, notes_in, fields_kept}
 use Rattle.upload_spool.specs.declared.error.SpoolErr.{SpoolErr}
 use Rattle.upload_spool.specs.declared.error.SpoolErr.TheVariants.{NotEmpty, Fault, Damaged, OtherStore, Rotten, NoMemory}
 use Rattle.upload_spool.specs.declared.opening.Records.{Records}
@@ -48,10 +48,10 @@ journal_read c0 c1 s = ap (λ (x : Store). x.read) s.journal
 shares_read : (c0 c1 : Cloud) → IsSyncedShares c0 c1 → (c1.now Shares).read ≡ (c0.now Shares).read
 shares_read c0 c1 s = ap (λ (x : Store). x.read) s.shares
 
-pub none_opens : (shape : Shape) (c0 c1 : Cloud) → IsSyncedShares c0 c1 → FoundIs shape (c1.now Journal).read (Ok None) → OpensIs shape (reads c0.now) (Ok None)
+pub none_opens : (shape : Shape) (c0 c1 : Cloud) → IsSyncedShares c0 c1 → FoundIs shape (c1.now Journal).read (Ok None) → OpensSpoolIs shape (reads c0.now) (Ok None)
 none_opens shape c0 c1 s is = subst (λ (l : List ℕ). FoundIs shape l (Ok None)) (journal_read c0 c1 s) is
 
-err_opens_at : (shape : Shape) (image : Image) (e : SpoolErr) → FoundIs shape (image Journal) (Err e) → OpensIs shape image (Err e)
+err_opens_at : (shape : Shape) (image : Image) (e : SpoolErr) → FoundIs shape (image Journal) (Err e) → OpensSpoolIs shape image (Err e)
 err_opens_at shape image (Damaged at byte) is = is
 err_opens_at shape image (OtherStore found asked) is = is
 err_opens_at shape image Fault is = tt
@@ -59,15 +59,15 @@ err_opens_at shape image NoMemory is = tt
 err_opens_at shape image (NotEmpty area len) is = is
 err_opens_at shape image (Rotten named found) is = absurd is
 
-pub err_opens : (shape : Shape) (c0 c1 : Cloud) (e : SpoolErr) → IsSyncedShares c0 c1 → FoundIs shape (c1.now Journal).read (Err e) → OpensIs shape (reads c0.now) (Err e)
+pub err_opens : (shape : Shape) (c0 c1 : Cloud) (e : SpoolErr) → IsSyncedShares c0 c1 → FoundIs shape (c1.now Journal).read (Err e) → OpensSpoolIs shape (reads c0.now) (Err e)
 err_opens shape c0 c1 e s is = err_opens_at shape (reads c0.now) e (subst (λ (l : List ℕ). FoundIs shape l (Err e)) (journal_read c0 c1 s) is)
 
 -- the records' notes
 abbrev pub notes_by : Records → Notes
 notes_by records = record { job = fields_kept records.job; lanes = records.noted.items }
 
-ok_opens_at : (shape : Shape) (image : Image) (records : Records) (state : half.JournalState) (bytes : List ℕ) (x : Spool × List LaneView) → HasAll shape (image Journal) (notes_in (Some records)) → IsBrought shape records state bytes x
-    → bytes ≡ kept_file image (notes_by records) → OpensIs shape image (answer_of (Ok (Some x)))
+ok_opens_at : (shape : Shape) (image : Image) (records : Records) (state : half.JournalState) (bytes : List ℕ) (x : Spool × List LaneView) → HasAllNotes shape (image Journal) (notes_in (Some records)) → IsSpoolBrought shape records state bytes x
+    → bytes ≡ kept_file image (notes_by records) → OpensSpoolIs shape image (answer_of (Ok (Some x)))
 ok_opens_at shape image records state bytes x has b same = (
   notes_by records,
   has,
@@ -84,17 +84,17 @@ same_bytes : (c0 c1 c2 : Cloud) (records : Records) (bytes : List ℕ) → IsSyn
 same_bytes c0 c1 c2 records bytes s shares is = is ∙ ap (λ (x : Store). take records.job.len x.read) shares ∙ ap (take records.job.len) (shares_read c0 c1 s)
 
 pub ok_opens : (shape : Shape) (c0 c1 c2 : Cloud) (records : Records) (state : half.JournalState) (x : Spool × List LaneView) → IsSyncedShares c0 c1 → FoundIs shape (c1.now Journal).read (Ok (Some records)) → HasSpoolEnded shape state c1 c2 records
-    → IsTrue c2.told → BringsIs shape records state c2 (Ok x) → OpensIs shape (reads c0.now) (answer_of (Ok (Some x)))
+    → IsTrue c2.told → BringsIs shape records state c2 (Ok x) → OpensSpoolIs shape (reads c0.now) (answer_of (Ok (Some x)))
 ok_opens shape c0 c1 c2 records state x s found ended told b =
-    ok_opens_at shape (reads c0.now) records state b.0 x (subst (λ (l : List ℕ). HasAll shape l (notes_in (Some records))) (journal_read c0 c1 s) found) b.1 (same_bytes c0 c1 c2 records b.0 s ended.shares (b.2 told))
+    ok_opens_at shape (reads c0.now) records state b.0 x (subst (λ (l : List ℕ). HasAllNotes shape l (notes_in (Some records))) (journal_read c0 c1 s) found) b.1 (same_bytes c0 c1 c2 records b.0 s ended.shares (b.2 told))
 
 pub unbrought_opens : (shape : Shape) (c0 c1 c2 : Cloud) (records : Records) (state : half.JournalState) (e : SpoolErr) → IsSyncedShares c0 c1 → FoundIs shape (c1.now Journal).read (Ok (Some records)) → HasSpoolEnded shape state c1 c2 records
-    → IsTrue c2.told → BringsIs shape records state c2 (Err e) → OpensIs shape (reads c0.now) (Err e)
+    → IsTrue c2.told → BringsIs shape records state c2 (Err e) → OpensSpoolIs shape (reads c0.now) (Err e)
 unbrought_opens shape c0 c1 c2 records state (Rotten named found) s has ended told b =
     let same = same_bytes c0 c1 c2 records b.0 s ended.shares (b.2 told) in
     let r = b.1 in (
       notes_by records,
-      subst (λ (l : List ℕ). HasAll shape l (notes_in (Some records))) (journal_read c0 c1 s) has,
+      subst (λ (l : List ℕ). HasAllNotes shape l (notes_in (Some records))) (journal_read c0 c1 s) has,
       ap (λ (f : Fp). f.0) r.named_is,
       r.found_is ∙ ap sha256_of same,
       elim r.other [ inl short ↦ inl (λ is. short (ap (λ (l : List ℕ). length l) same ∙ is)) | inr differs ↦ inr differs ],
@@ -150,13 +150,13 @@ lanes_said shape (lane ∷ lanes) notes last say =
     let more = lanes_said shape lanes say.0 last say.2 in
     more ∙ ap (λ (n : Notes). record { job = n.job; lanes = n.lanes ++ lanes }) one ∙ ap (λ (l : List CloudNo). record { job = notes.job; lanes = l }) (append_assoc notes.lanes (lane ∷ []) lanes)
 
-pub all_said : (shape : Shape) (v : FileVersion) (lanes : List CloudNo) (last : Notes) → FitsKept v → Say shape None (job_bytes v ∷ map lane_bytes lanes) (Some last) → last ≡ record { job = fields_for v; lanes = lanes }
+pub all_said : (shape : Shape) (v : FileVersion) (lanes : List CloudNo) (last : Notes) → FitsFileVersion v → Say shape None (job_bytes v ∷ map lane_bytes lanes) (Some last) → last ≡ record { job = fields_for v; lanes = lanes }
 all_said shape v lanes last fits say =
     let first : say.0 ≡ record { job = fields_for v; lanes = [] } = sym (same_good (record { job = fields_for v; lanes = [] }) say.0 (ap first_notes (sym (job_read v fits)) ∙ say.1)) in
     lanes_said shape lanes say.0 last say.2 ∙ ap (λ (n : Notes). record { job = n.job; lanes = n.lanes ++ lanes }) first
 
 pub spool_opened : (shape : Shape) (c0 c1 c2 c3 : Cloud) (records : Records) (state : half.JournalState) (x : Spool × List LaneView) → IsSyncedShares c0 c1 → HasSpoolEnded shape state c1 c2 records → Stays c2 c3
-    → BringsIs shape records state c2 (Ok x) → (v : FileVersion) (lanes : List CloudNo) → FitsKept v → SpoolFor (reads c0.now) shape v lanes → IsSpool (state_of x.0) v lanes c3
+    → BringsIs shape records state c2 (Ok x) → (v : FileVersion) (lanes : List CloudNo) → FitsFileVersion v → SpoolFor (reads c0.now) shape v lanes → IsSpool (state_of x.0) v lanes c3
 spool_opened shape c0 c1 c2 c3 records state x s ended stays b v lanes fits spool =
     let is = b.1 in
     let all = ended.all in

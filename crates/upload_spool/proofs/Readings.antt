@@ -11,7 +11,7 @@ use Rattle.grammar.specs.CdBase.shape.Shape.{Shape}
 use Rattle.grammar.proofs.FieldLaws.{lawful_bytes, lawful_checked, wide16, wide64}
 use Rattle.upload_job.proofs.MessageFields.PartLaws.{lawful_kept, lawful_u32, lawful_u64}
 use Rattle.upload_job.specs.Upload.{FileVersion}
-use Rattle.upload_spool.specs.Spools.{FitsKept, job_fields, job_bytes, lane_bytes}
+use Rattle.upload_spool.specs.Spools.{FitsFileVersion, job_fields, job_bytes, lane_bytes}
 use Rattle.upload_spool.specs.Reading.{fields_for, is_path_len, has_no_zero, is_file_len, is_lane, path_at, job_at, lane_at, judged, job_in, lane_in}
 
 not_zero : (x : ℕ) → x ≢ 0 → (b : Bool) → eqb x 0 ≡ b → not (eqb x 0) ≡ true
@@ -44,7 +44,7 @@ path_again path rest some few all =
 abbrev ends_in : FileVersion → List ℕ → List ℕ
 ends_in v digest = job_fields v.user v.number v.path (length v.file) digest
 
-job_again : (v : FileVersion) → FitsKept v → job_at (ends_in v (sha256_of v.file ++ [])) ≡ Ok (fields_for v, [])
+job_again : (v : FileVersion) → FitsFileVersion v → job_at (ends_in v (sha256_of v.file ++ [])) ≡ Ok (fields_for v, [])
 unfolding job_at
 job_again v fits =
     let digest = sha256_of v.file in
@@ -56,7 +56,7 @@ job_again v fits =
     let a = lawful_u32.again v.user.0 (to_be_bytes w64 v.number.0 ++ (to_be_bytes w16 (length v.path) ++ (v.path ++ (to_be_bytes w64 (length v.file) ++ (digest ++ []))))) fits.user tt in
     rw (a, b, c, d, e) refl
 
-pub job_read : (v : FileVersion) → FitsKept v → job_in (job_bytes v) ≡ Ok (fields_for v)
+pub job_read : (v : FileVersion) → FitsFileVersion v → job_in (job_bytes v) ≡ Ok (fields_for v)
 job_read v fits = ap (judged (job_bytes v)) (ap (λ (digest : List ℕ). job_at (ends_in v digest)) (sym (append-nil (sha256_of v.file))) ∙ job_again v fits)
 
 pub lane_read : (shape : Shape) (noted : List CloudNo) (lane : CloudNo) → is_lane shape noted lane.0 ≡ true → lane_in shape noted (lane_bytes lane) ≡ Ok lane.0

@@ -21,16 +21,16 @@ use Rattle.commit_journal.specs.JournalHalves.Journals.{Where, HasChain, all_bod
 use Rattle.commit_journal.specs.JournalHalves.Outcomes as halves
 use Rattle.commit_journal.specs.Outcomes.{IsDamaged, records_place}
 use Rattle.commit_journal.specs.Outcomes as journal
-use Rattle.commit_journal.specs.Openings.{IsOpened, OpensIs, MayBecome}
+use Rattle.commit_journal.specs.Openings.{IsOpened, OpensIs, MayBeBegun}
 use Rattle.commit_journal.specs.declared.errors.OpenErr.TheVariants as opens
 use Rattle.commit_journal.specs.declared.journal.Stage.TheVariants.{AtEnd}
 use Rattle.commit_journal.specs.JournalHalves.Beginnings.{IsUnbegun}
 use Rattle.commit_journal.specs.States.{IsJournalReading, IsJournalEnded}
 use Rattle.commit_journal.specs.States as half
-use Rattle.upload_spool.specs.Opens.{Notes, Say, HasReadSpool, HasAll, IsDamagedAt, IsChainDamage, IsFaultAt, gate_of, with_record, first_notes, more_notes}
+use Rattle.upload_spool.specs.Opens.{Notes, Say, HasReadSpool, HasAllNotes, IsDamagedAt, IsChainDamage, IsRecordFaultAt, gate_of, with_record, first_notes, more_notes}
 use Rattle.upload_spool.specs.Reading.{JobFields, job_in, lane_in}
 use Rattle.upload_spool.specs.Spools.{spool_header}
-use Rattle.upload_spool.specs.Steps.{IsSpoolRead, IsPending, IsAllRead, NextIs, LaneIs, LaneStepIs, MoreNoted, JobIs, IsRefused, Gives, AreNoted, AreRecordsKept, FoundIs, HasSpoolEnded, fields_kept, notes_of, notes_in, shown_fault, last_place}
+use Rattle.upload_spool.specs.Steps.{IsSpoolRead, IsPending, IsAllRead, NextNoteIs, LaneIs, LaneStepIs, MoreNoted, JobIs, IsSpoolRefused, HasValueOrRefusal, AreNoted, AreRecordsKept, FoundIs, HasSpoolEnded, fields_kept, notes_of, notes_in, shown_fault, last_place}
 use Rattle.upload_spool.specs.declared.opening.Records.{Records}
 use Rattle.upload_spool.specs.declared.error.SpoolErr.{SpoolErr}
 use Rattle.upload_spool.specs.declared.error.SpoolErr.TheVariants.{NotEmpty, Fault, Damaged, OtherStore, Rotten, NoMemory}
@@ -101,7 +101,7 @@ pub next_damaged : (shape : Shape) (state : half.JournalState) (store : Store) (
 next_damaged shape state store notes at byte is damaged = (is.w, notes, has_read shape state store notes is, inl (chain_damage state store is.w at byte is.reading damaged))
 
 pub next_ok : (shape : Shape) (before after : half.JournalState) (store : Store) (notes : Option Notes) (more : Bool) (is : IsSpoolRead shape before store notes) → journal.NextIs before after store is.w (Ok more)
-    → halves.StepIs before.current after.current (Ok more) → NextIs shape after store notes (Ok more)
+    → halves.StepIs before.current after.current (Ok more) → NextNoteIs shape after store notes (Ok more)
 next_ok shape before after store notes true is next step = record {
   w = is.w;
   header_is = is.header_is;
@@ -124,7 +124,7 @@ pending_more shape state store notes more p e = record {
 damage_is : (a b : SpoolErr) → a ≡ b → (at byte bt cyte : ℕ) → a ≡ Damaged at byte → b ≡ Damaged bt cyte → (at ≡ bt) × (byte ≡ cyte)
 damage_is a b same at byte bt cyte e f = let h : Damaged at byte ≡ Damaged bt cyte = sym e ∙ same ∙ f in (cc, cc)
 
-fault_place : (place at byte : ℕ) (fault : RecordFault) (body : List ℕ) → IsWithin body fault → place + 4 + length body < last_place → Damaged at byte ≡ shown_fault place fault → IsFaultAt place fault at byte
+fault_place : (place at byte : ℕ) (fault : RecordFault) (body : List ℕ) → IsWithin body fault → place + 4 + length body < last_place → Damaged at byte ≡ shown_fault place fault → IsRecordFaultAt place fault at byte
 fault_place place at byte faults.Short body within few e = let two = damage_is (Damaged at byte) (Damaged place 0) e at byte place 0 refl refl in two
 fault_place place at byte (faults.Wrong wrong found) body within few e =
     let two = damage_is (Damaged at byte) (shown_fault place (faults.Wrong wrong found)) e at byte (min (min (place + 4) last_place + wrong) last_place) found refl refl in
@@ -177,7 +177,7 @@ lane_refused shape job noted more state store p (OtherStore found asked) is = ab
 lane_refused shape job noted more state store p (Rotten named found) is = absurd is
 
 -- a record that isn't there
-pub lane_unread : (shape : Shape) (job : JobFields) (noted : List CloudNo) (state : half.JournalState) (store : Store) (e : SpoolErr) → NextIs shape state store (notes_of job noted) (Err e) → LaneStepIs shape job state store noted (Err e)
+pub lane_unread : (shape : Shape) (job : JobFields) (noted : List CloudNo) (state : half.JournalState) (store : Store) (e : SpoolErr) → NextNoteIs shape state store (notes_of job noted) (Err e) → LaneStepIs shape job state store noted (Err e)
 lane_unread shape job noted state store (Damaged at byte) is = is
 lane_unread shape job noted state store Fault is = tt
 lane_unread shape job noted state store NoMemory is = absurd is
@@ -196,7 +196,7 @@ lane_step shape noted more lane before after e same gate =
 
 -- ---- all records
 
-pub unread : (shape : Shape) (state : half.JournalState) (store : Store) (notes : Option Notes) (e : SpoolErr) → NextIs shape state store notes (Err e) → IsRefused shape store.read e
+pub unread : (shape : Shape) (state : half.JournalState) (store : Store) (notes : Option Notes) (e : SpoolErr) → NextNoteIs shape state store notes (Err e) → IsSpoolRefused shape store.read e
 unread shape state store notes (Damaged at byte) is = is
 unread shape state store notes Fault is = tt
 unread shape state store notes NoMemory is = tt
@@ -204,7 +204,7 @@ unread shape state store notes (NotEmpty area len) is = is
 unread shape state store notes (OtherStore found asked) is = is
 unread shape state store notes (Rotten named found) is = is
 
-pub job_refused : (shape : Shape) (state : half.JournalState) (store : Store) → IsPending shape state store None → (e : SpoolErr) → JobIs state.current.body state.current.body_at (Err e) → IsRefused shape store.read e
+pub job_refused : (shape : Shape) (state : half.JournalState) (store : Store) → IsPending shape state store None → (e : SpoolErr) → JobIs state.current.body state.current.body_at (Err e) → IsSpoolRefused shape store.read e
 job_refused shape state store p (Damaged at byte) is = job_wrong shape state store at byte p is
 job_refused shape state store p NoMemory is = tt
 job_refused shape state store p Fault is = tt
@@ -249,7 +249,7 @@ opened_read shape header state store head o = record {
 pub all_chain : (shape : Shape) (state : half.JournalState) (store : Store) (notes : Option Notes) (a : IsAllRead shape state store notes) → HasChain store.read a.w
 all_chain shape state store notes a = record { current = a.ended.is_current; chain_is = subst (λ (h : ℕ). IsJournal (all_bodies a.w) (half_of h store.read)) a.ended.half a.ended.read.chain_is }
 
-pub has_all : (shape : Shape) (state : half.JournalState) (store : Store) (notes : Option Notes) → IsAllRead shape state store notes → HasAll shape store.read notes
+pub has_all : (shape : Shape) (state : half.JournalState) (store : Store) (notes : Option Notes) → IsAllRead shape state store notes → HasAllNotes shape store.read notes
 has_all shape state store notes a = record {
   w = a.w;
   header_is = a.header_is;
@@ -257,7 +257,7 @@ has_all shape state store notes a = record {
   say = a.say;
 }
 
-refused_found : (shape : Shape) (journal : List ℕ) (e : SpoolErr) → IsRefused shape journal e → FoundIs shape journal (Err e)
+refused_found : (shape : Shape) (journal : List ℕ) (e : SpoolErr) → IsSpoolRefused shape journal e → FoundIs shape journal (Err e)
 refused_found shape journal (Damaged at byte) is = inr is
 refused_found shape journal Fault is = tt
 refused_found shape journal NoMemory is = tt
@@ -265,7 +265,7 @@ refused_found shape journal (NotEmpty area len) is = is
 refused_found shape journal (OtherStore found asked) is = absurd is
 refused_found shape journal (Rotten named found) is = is
 
-pub gives_found : (shape : Shape) (state : half.JournalState) (store : Store) (r : Result (Option Records) SpoolErr) → Gives shape store.read (λ found. IsAllRead shape state store (notes_in found)) r → FoundIs shape store.read r
+pub gives_found : (shape : Shape) (state : half.JournalState) (store : Store) (r : Result (Option Records) SpoolErr) → HasValueOrRefusal shape store.read (λ found. IsAllRead shape state store (notes_in found)) r → FoundIs shape store.read r
 gives_found shape state store (Ok None) is = inr (has_all shape state store None is)
 gives_found shape state store (Ok (Some records)) is = has_all shape state store (notes_in (Some records)) is
 gives_found shape state store (Err e) is = refused_found shape store.read e is
@@ -276,14 +276,14 @@ begun_before journal header (inl new) none = false≢true new.1
 begun_before journal header (inr has) none = current_begun journal has.0 has.1.start has.1.is_current none
 
 pub found_here : (shape : Shape) (header : Header) (before after : half.JournalState) (c0 c1 : Cloud) (r : Result (Option Records) SpoolErr) → header ≡ spool_header shape → IsOpened before (c1.now Journal) header → (c1.now Journal).read ≡ (c0.now Journal).read
-    → IsTrue c1.told → (IsTrue c1.told → IsSpoolRead shape before (c1.now Journal) None → Gives shape (c1.now Journal).read (λ found. IsAllRead shape after (c1.now Journal) (notes_in found)) r)
+    → IsTrue c1.told → (IsTrue c1.told → IsSpoolRead shape before (c1.now Journal) None → HasValueOrRefusal shape (c1.now Journal).read (λ found. IsAllRead shape after (c1.now Journal) (notes_in found)) r)
     → FoundIs shape (c0.now Journal).read r
 found_here shape header before after c0 c1 r head opened same told reads =
     subst (λ (l : List ℕ). FoundIs shape l r) same (gives_found shape after (c1.now Journal) r (reads told (opened_read shape header before (c1.now Journal) head opened)))
 
 pub ended_here : (shape : Shape) (header : Header) (before after : half.JournalState) (c0 c1 c2 : Cloud) (r : Result (Option Records) SpoolErr) → header ≡ spool_header shape → IsOpened before (c1.now Journal) header
     → (c1.now Journal).read ≡ (c0.now Journal).read → c1.now Shares ≡ c0.now Shares → Stays c1 c2
-    → IsTrue c1.told → (IsTrue c1.told → IsSpoolRead shape before (c1.now Journal) None → Gives shape (c1.now Journal).read (λ found. IsAllRead shape after (c1.now Journal) (notes_in found)) r)
+    → IsTrue c1.told → (IsTrue c1.told → IsSpoolRead shape before (c1.now Journal) None → HasValueOrRefusal shape (c1.now Journal).read (λ found. IsAllRead shape after (c1.now Journal) (notes_in found)) r)
     → IfOk r (λ found. IfSome found (HasSpoolEnded shape after c0 c2))
 ended_here shape header before after c0 c1 c2 (Ok None) head opened same shares stays told reads = tt
 ended_here shape header before after c0 c1 c2 (Ok (Some records)) head opened same shares stays told reads =
@@ -310,11 +310,11 @@ kept_near shape gate state (Ok (Some records)) le kept = record {
 }
 kept_near shape gate state (Err e) le kept = tt
 
-not_begun : (old : Areas) (header : Header) (image : Image) → MayBecome old header false image → IsImage old image
+not_begun : (old : Areas) (header : Header) (image : Image) → MayBeBegun old header false image → IsImage old image
 not_begun old header image (inl is) = is
 not_begun old header image (inr new) = absurd (false≢true new.0)
 
-pub spared : (c0 c1 : Cloud) (header : Header) → LeavesOnly c0 c1 (MayBecome c0.now header false) → LeavesOnly c0 c1 (IsImage c0.now)
+pub spared : (c0 c1 : Cloud) (header : Header) → LeavesOnly c0 c1 (MayBeBegun c0.now header false) → LeavesOnly c0 c1 (IsImage c0.now)
 spared c0 c1 header run = weaker c0 c1 _ _ run (not_begun c0.now header)
 
 pub other_store : (shape : Shape) (journal : List ℕ) (header found asked : Header) (at : ℕ) → header ≡ spool_header shape → OpensIs journal header false (Err (opens.OtherStore found asked at)) → FoundIs shape journal (Err (OtherStore found asked))

@@ -12,7 +12,7 @@ use Rattle.commit_journal.specs.CdEdges.Shelf.{Stays}
 use Rattle.commit_journal.proofs.CdEdges.Moments.{told_on}
 use Rattle.commit_journal.specs.States as half
 use Rattle.upload_spool.specs.Reading.{JobFields}
-use Rattle.upload_spool.specs.Steps.{IsSpoolRead, LaneStepIs, ReadsLane, MoreNoted, AreNoted, notes_of, IsRefused}
+use Rattle.upload_spool.specs.Steps.{IsSpoolRead, LaneStepIs, ReadsLane, MoreNoted, AreNoted, notes_of, IsSpoolRefused}
 use Rattle.upload_spool.specs.declared.error.SpoolErr.{SpoolErr}
 use Rattle.upload_spool.specs.declared.error.SpoolErr.TheVariants.{NotEmpty, Fault, Damaged, OtherStore, Rotten, NoMemory}
 use Rattle.upload_spool.proofs.Lanes.{few_lanes, distinct_more, below_more, none_distinct, none_below}
@@ -60,7 +60,7 @@ lane_walk shape job mid after c0 c1 noted more r s same stays told_is told reads
     let step = reads (told_on c0 c1 told_is told) job here in
     subst (λ (a : Areas). LaneStepIs shape job after (a Journal) more s) stays.now (subst (λ (x : Result Bool SpoolErr). LaneStepIs shape job after (c1.now Journal) more x) same step)
 
-pub walk_refused : (shape : Shape) (job : JobFields) (after : half.JournalState) (store : Store) (more : List CloudNo) (e : SpoolErr) → LaneStepIs shape job after store more (Err e) → IsRefused shape store.read e
+pub walk_refused : (shape : Shape) (job : JobFields) (after : half.JournalState) (store : Store) (more : List CloudNo) (e : SpoolErr) → LaneStepIs shape job after store more (Err e) → IsSpoolRefused shape store.read e
 walk_refused shape job after store more (Damaged at byte) is = is
 walk_refused shape job after store more Fault is = tt
 walk_refused shape job after store more NoMemory is = tt

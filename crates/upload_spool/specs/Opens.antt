@@ -53,9 +53,9 @@ Say shape before [] after = before ≡ after
 Say shape before (body ∷ bodies) after = (notes : Notes) × (with_record shape before body ≡ Ok notes) × Say shape (Some notes) bodies after
 
 -- where a fault of a body stands, whose record's length begins at that place: its own place, or the length's, whose byte is 0
-abbrev pub IsFaultAt : ℕ → RecordFault → ℕ → ℕ → Type 0
-IsFaultAt place faults.Short at byte = (at ≡ place) × (byte ≡ 0)
-IsFaultAt place (faults.Wrong wrong found) at byte = (at ≡ place + 4 + wrong) × (byte ≡ found)
+abbrev pub IsRecordFaultAt : ℕ → RecordFault → ℕ → ℕ → Type 0
+IsRecordFaultAt place faults.Short at byte = (at ≡ place) × (byte ≡ 0)
+IsRecordFaultAt place (faults.Wrong wrong found) at byte = (at ≡ place + 4 + wrong) × (byte ≡ found)
 
 -- ---- a chain that was read so far
 
@@ -84,14 +84,14 @@ IsChainDamage journal w at byte =
 -- the next record is there, and its body is wrong
 abbrev pub IsWrongNext : Shape → List ℕ → Where → Option Notes → ℕ → ℕ → Type 0
 IsWrongNext shape journal w notes at byte = (body : List ℕ) × (fault : RecordFault) × (with_record shape notes body ≡ Err fault)
-    × (rest : List ℕ) × (part_of w.half journal ≡ chain (all_bodies (with_body w body)) ++ rest) × IsFaultAt (gate_of w + 1) fault at byte
+    × (rest : List ℕ) × (part_of w.half journal ≡ chain (all_bodies (with_body w body)) ++ rest) × IsRecordFaultAt (gate_of w + 1) fault at byte
 
 -- behind the records that were read one is damaged, or its body is wrong
 abbrev pub IsDamagedAt : Shape → List ℕ → ℕ → ℕ → Type 0
 IsDamagedAt shape journal at byte = (w : Where) × (notes : Option Notes) × HasReadSpool shape journal w notes × (IsChainDamage journal w at byte ⊎ IsWrongNext shape journal w notes at byte)
 
 -- all records are read, and they say this
-pub record HasAll (shape : Shape) (journal : List ℕ) (notes : Option Notes) : Type 0 where
+pub record HasAllNotes (shape : Shape) (journal : List ℕ) (notes : Option Notes) : Type 0 where
   pub w : Where
   pub header_is : w.start.header ≡ spool_header shape
   pub has : HasChain journal w
@@ -109,18 +109,18 @@ abbrev pub rising : Shape → List CloudNo → List ℕ
 rising shape lanes = filter (λ (cloud : ℕ). list_any (λ (lane : CloudNo). lane.0 == cloud) lanes) (range_with_len 0 shape.n)
 
 -- what is answered of what is kept, where a spool is seen as its state and a job as its lanes
-abbrev pub OpensIs : Shape → Image → Result (Option (SpoolState × List LaneView)) SpoolErr → Type 0
-OpensIs shape image (Ok None) = IsUnbegun (image Journal) ⊎ HasAll shape (image Journal) None
-OpensIs shape image (Ok (Some x)) = (notes : Notes) × HasAll shape (image Journal) (Some notes) × (length (kept_file image notes) ≡ notes.job.len)
+abbrev pub OpensSpoolIs : Shape → Image → Result (Option (SpoolState × List LaneView)) SpoolErr → Type 0
+OpensSpoolIs shape image (Ok None) = IsUnbegun (image Journal) ⊎ HasAllNotes shape (image Journal) None
+OpensSpoolIs shape image (Ok (Some x)) = (notes : Notes) × HasAllNotes shape (image Journal) (Some notes) × (length (kept_file image notes) ≡ notes.job.len)
     × (sha256_of (kept_file image notes) ≡ notes.job.digest) × (x.0.shape ≡ shape) × (x.0.noted ≡ notes.lanes) × IsOf x.0 (version_in image notes)
     × (x.1 ≡ lanes_resumed shape (version_in image notes) (rising shape notes.lanes))
-OpensIs shape image (Err (OtherStore found asked)) = (half : ℕ) × HasHeader (image Journal) half found × (found ≢ spool_header shape) × (asked ≡ spool_header shape)
-OpensIs shape image (Err (Damaged at byte)) = IsFoundDamage (image Journal) at byte ⊎ IsDamagedAt shape (image Journal) at byte
-OpensIs shape image (Err (Rotten named found)) = (notes : Notes) × HasAll shape (image Journal) (Some notes) × (named.0 ≡ notes.job.digest) × (found.0 ≡ sha256_of (kept_file image notes))
+OpensSpoolIs shape image (Err (OtherStore found asked)) = (half : ℕ) × HasHeader (image Journal) half found × (found ≢ spool_header shape) × (asked ≡ spool_header shape)
+OpensSpoolIs shape image (Err (Damaged at byte)) = IsFoundDamage (image Journal) at byte ⊎ IsDamagedAt shape (image Journal) at byte
+OpensSpoolIs shape image (Err (Rotten named found)) = (notes : Notes) × HasAllNotes shape (image Journal) (Some notes) × (named.0 ≡ notes.job.digest) × (found.0 ≡ sha256_of (kept_file image notes))
     × ((length (kept_file image notes) ≢ notes.job.len) ⊎ (found ≢ named))
-OpensIs shape image (Err Fault) = Unit {0}
-OpensIs shape image (Err NoMemory) = Unit {0}
-OpensIs shape image (Err (NotEmpty area len)) = ⊥
+OpensSpoolIs shape image (Err Fault) = Unit {0}
+OpensSpoolIs shape image (Err NoMemory) = Unit {0}
+OpensSpoolIs shape image (Err (NotEmpty area len)) = ⊥
 
 -- what is answered of the spool of this version and these lanes: it, and the job that goes on; or a device call or memory failed
 abbrev pub FindsAgain : Shape → FileVersion → List CloudNo → Result (Option (SpoolState × List LaneView)) SpoolErr

@@ -19,7 +19,7 @@ use Rattle.commit_journal.specs.JournalHalves.Journals.{Where, HasChain, used_by
 use Rattle.upload_job.specs.Upload.{FileVersion}
 
 -- Each field is in its range: a path has 1 to 1,024 bytes, none of them zero, and a file 67,108,864 at most.
-pub record FitsKept (v : FileVersion) : Type 0 where
+pub record FitsFileVersion (v : FileVersion) : Type 0 where
   pub user : v.user.0 < 2 ^ 32
   pub number : v.number.0 < 2 ^ 64
   pub path : IsPath v.path

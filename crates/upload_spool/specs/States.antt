@@ -113,8 +113,8 @@ abbrev pub LeavesJob : Shape → FileVersion → Cloud → Cloud → Type 0
 LeavesJob shape v old new = IsTrue old.told → first_filled (reads old.now) ≡ None → NoOpenJob (old.now Journal)
     → LeavesOnly old new (IsBegunOr shape v)
 
-abbrev pub HasBegun : FileVersion → Cloud → Cloud → Result Spool SpoolErr → Type 0
-HasBegun v old new result = IsTrue old.told → first_filled (reads old.now) ≡ None → IfOk result (λ spool. IsSpool (state_of spool) v [] new)
+abbrev pub HasBegunSpool : FileVersion → Cloud → Cloud → Result Spool SpoolErr → Type 0
+HasBegunSpool v old new result = IsTrue old.told → first_filled (reads old.now) ≡ None → IfOk result (λ spool. IsSpool (state_of spool) v [] new)
 
 -- the spool is that of this version, no lane is noted, and it is open
 pub record IsBegunSpool (shape : Shape) (v : FileVersion) (spool : Spool) : Type 0 where
@@ -126,46 +126,46 @@ pub record IsBegunSpool (shape : Shape) (v : FileVersion) (spool : Spool) : Type
 -- ---- the steps of a beginning
 
 -- each image since that state of a cloud has in Journal what a crash might have left there then
-abbrev pub IsKept : Cloud → Cloud → Type 0
-IsKept start now = LeavesOnly start now (λ image. MayLeave (start.now Journal) (image Journal))
+abbrev pub IsJournalKept : Cloud → Cloud → Type 0
+IsJournalKept start now = LeavesOnly start now (λ image. MayLeave (start.now Journal) (image Journal))
 
 -- the area has so many of the file's bytes, which a crash leaves
-abbrev pub Holds : ℕ → List ℕ → Store → Type 0
-Holds at file store = (store.read ≡ take at file) × ((at ≡ 0) ⊎ (store ≡ stable (take at file)))
+abbrev pub HoldsFileFront : ℕ → List ℕ → Store → Type 0
+HoldsFileFront at file store = (store.read ≡ take at file) × ((at ≡ 0) ⊎ (store ≡ stable (take at file)))
 
 -- So many of the file's bytes are written since that state of a cloud.
-pub record Along (start now : Cloud) (at : ℕ) (file : List ℕ) : Type 0 where
-  pub leaves : IsKept start now
+pub record IsWrittenSoFar (start now : Cloud) (at : ℕ) (file : List ℕ) : Type 0 where
+  pub leaves : IsJournalKept start now
   pub others : (other : Area) → other ≢ Shares → now.now other ≡ start.now other
-  pub held : (start.now Shares).read ≡ [] → Holds at file (now.now Shares)
+  pub held : (start.now Shares).read ≡ [] → HoldsFileFront at file (now.now Shares)
 
 -- each image since has in Journal what a crash might have left there before
-abbrev pub KeepsJournal : Cloud → Cloud → Type 0
-KeepsJournal old new = IsTrue old.told → IsKept old new
+abbrev pub KeepsJournalSince : Cloud → Cloud → Type 0
+KeepsJournalSince old new = IsTrue old.told → IsJournalKept old new
 
 -- Shares, which was empty, has the file
-abbrev pub HasWritten : {T E : Type 0} → List ℕ → Cloud → Cloud → Result T E → Type 0
-HasWritten file old new result = IsTrue old.told → (old.now Shares).read ≡ [] → OnOk result (HasFile file (new.now Shares))
+abbrev pub HasWrittenFile : {T E : Type 0} → List ℕ → Cloud → Cloud → Result T E → Type 0
+HasWrittenFile file old new result = IsTrue old.told → (old.now Shares).read ≡ [] → OnOk result (HasFile file (new.now Shares))
 
 -- the areas but this one are as they were
-abbrev pub OthersStay : {T E : Type 0} → Area → Cloud → Cloud → Result T E → Type 0
-OthersStay area old new result = IsTrue old.told → OnOk result ((other : Area) → other ≢ area → new.now other ≡ old.now other)
+abbrev pub AllButAreaStay : {T E : Type 0} → Area → Cloud → Cloud → Result T E → Type 0
+AllButAreaStay area old new result = IsTrue old.told → OnOk result ((other : Area) → other ≢ area → new.now other ≡ old.now other)
 
 -- where no half was begun, each image since has no open job, and Shares as a crash might have left it before
-pub record HasNone (old : Areas) (image : Image) : Type 0 where
+pub record HasNoOpenJob (old : Areas) (image : Image) : Type 0 where
   pub none : ¬ (HasOpenJob (image Journal))
   pub shares : MayLeave (old Shares) (image Shares)
 
 abbrev pub LeavesNone : Cloud → Cloud → Type 0
-LeavesNone old new = IsTrue old.told → IsUnbegun (old.now Journal).read → NoOpenJob (old.now Journal) → LeavesOnly old new (HasNone old.now)
+LeavesNone old new = IsTrue old.told → IsUnbegun (old.now Journal).read → NoOpenJob (old.now Journal) → LeavesOnly old new (HasNoOpenJob old.now)
 
 -- half 0 has the header and no record, and half 1 isn't begun
 pub record IsNewSpool (state : half.JournalState) (header : Header) (cloud : Cloud) : Type 0 where
   pub ended : IsJournalEnded state (cloud.now Journal) (new_of header)
   pub alone : is_half_begun 1 (cloud.now Journal).read ≡ false
 
-abbrev pub HasNew : {T E : Type 0} → half.JournalState → Header → Cloud → Cloud → Result T E → Type 0
-HasNew after header old new result = IsTrue old.told → IsUnbegun (old.now Journal).read → OnOk result (IsNewSpool after header new)
+abbrev pub HasNewSpool : {T E : Type 0} → half.JournalState → Header → Cloud → Cloud → Result T E → Type 0
+HasNewSpool after header old new result = IsTrue old.told → IsUnbegun (old.now Journal).read → OnOk result (IsNewSpool after header new)
 
 -- such a journal, read up to its start
 pub record IsNewRead (state : half.JournalState) (header : Header) (cloud : Cloud) : Type 0 where
@@ -214,14 +214,14 @@ spool_error (opens.Damaged at byte) = Damaged at byte
 spool_error (opens.OtherStore found asked at) = OtherStore found asked
 
 -- nothing but a fault comes
-abbrev pub IsOkOrFault : {T : Type 0} → Result T SpoolErr → Type 0
-IsOkOrFault (Ok value) = Unit {0}
-IsOkOrFault (Err Fault) = Unit {0}
-IsOkOrFault (Err NoMemory) = ⊥
-IsOkOrFault (Err (NotEmpty area len)) = ⊥
-IsOkOrFault (Err (Damaged at byte)) = ⊥
-IsOkOrFault (Err (OtherStore found asked)) = ⊥
-IsOkOrFault (Err (Rotten named found)) = ⊥
+abbrev pub IsSpoolOkOrFault : {T : Type 0} → Result T SpoolErr → Type 0
+IsSpoolOkOrFault (Ok value) = Unit {0}
+IsSpoolOkOrFault (Err Fault) = Unit {0}
+IsSpoolOkOrFault (Err NoMemory) = ⊥
+IsSpoolOkOrFault (Err (NotEmpty area len)) = ⊥
+IsSpoolOkOrFault (Err (Damaged at byte)) = ⊥
+IsSpoolOkOrFault (Err (OtherStore found asked)) = ⊥
+IsSpoolOkOrFault (Err (Rotten named found)) = ⊥
 
 -- a note ends well, or a device call or memory failed
 abbrev pub IsNoteAnswer : {T : Type 0} → Result T SpoolErr → Type 0
@@ -247,11 +247,11 @@ HasNoted before after lane old new result = IsTrue old.told → (v : FileVersion
 -- ---- answers
 
 -- one fact where a device call failed, and another for every other answer
-abbrev pub OnFault : {T : Type 0} → Result T SpoolErr → Type 0 → Type 0 → Type 0
-OnFault (Ok value) failed other = other
-OnFault (Err Fault) failed other = failed
-OnFault (Err NoMemory) failed other = other
-OnFault (Err (NotEmpty area len)) failed other = other
-OnFault (Err (Damaged at byte)) failed other = other
-OnFault (Err (OtherStore found asked)) failed other = other
-OnFault (Err (Rotten named found)) failed other = other
+abbrev pub OnSpoolFault : {T : Type 0} → Result T SpoolErr → Type 0 → Type 0 → Type 0
+OnSpoolFault (Ok value) failed other = other
+OnSpoolFault (Err Fault) failed other = failed
+OnSpoolFault (Err NoMemory) failed other = other
+OnSpoolFault (Err (NotEmpty area len)) failed other = other
+OnSpoolFault (Err (Damaged at byte)) failed other = other
+OnSpoolFault (Err (OtherStore found asked)) failed other = other
+OnSpoolFault (Err (Rotten named found)) failed other = other

@@ -15,7 +15,7 @@ use Rattle.commit_journal.specs.Openings.{HasHeader}
 use Rattle.commit_journal.specs.States.{IsJournalReading, IsJournalEnded}
 use Rattle.commit_journal.specs.States as half
 use Rattle.commit_journal.specs.declared.journal.Stage.TheVariants.{AtEnd}
-use Rattle.upload_spool.specs.Opens.{Notes, Say, IsDamagedAt, HasAll, gate_of, rising}
+use Rattle.upload_spool.specs.Opens.{Notes, Say, IsDamagedAt, HasAllNotes, gate_of, rising}
 use Rattle.upload_spool.specs.Reading.{JobFields, job_in, lane_in, is_lane}
 use Rattle.upload_spool.specs.Spools.{spool_header}
 use Rattle.upload_spool.specs.declared.error.SpoolErr.{SpoolErr}
@@ -53,19 +53,19 @@ pub record IsAllRead (shape : Shape) (state : half.JournalState) (store : Store)
 
 -- ---- the next record
 
-abbrev pub NextIs : Shape → half.JournalState → Store → Option Notes → Result Bool SpoolErr → Type 0
-NextIs shape after store notes (Ok true) = IsPending shape after store notes
-NextIs shape after store notes (Ok false) = IsAllRead shape after store notes
-NextIs shape after store notes (Err (Damaged at byte)) = IsDamagedAt shape store.read at byte
-NextIs shape after store notes (Err Fault) = Unit {0}
-NextIs shape after store notes (Err NoMemory) = ⊥
-NextIs shape after store notes (Err (NotEmpty area len)) = ⊥
-NextIs shape after store notes (Err (OtherStore found asked)) = ⊥
-NextIs shape after store notes (Err (Rotten named found)) = ⊥
+abbrev pub NextNoteIs : Shape → half.JournalState → Store → Option Notes → Result Bool SpoolErr → Type 0
+NextNoteIs shape after store notes (Ok true) = IsPending shape after store notes
+NextNoteIs shape after store notes (Ok false) = IsAllRead shape after store notes
+NextNoteIs shape after store notes (Err (Damaged at byte)) = IsDamagedAt shape store.read at byte
+NextNoteIs shape after store notes (Err Fault) = Unit {0}
+NextNoteIs shape after store notes (Err NoMemory) = ⊥
+NextNoteIs shape after store notes (Err (NotEmpty area len)) = ⊥
+NextNoteIs shape after store notes (Err (OtherStore found asked)) = ⊥
+NextNoteIs shape after store notes (Err (Rotten named found)) = ⊥
 
 -- whatever was read so far
-abbrev pub ReadsNext : half.JournalState → half.JournalState → Cloud → Result Bool SpoolErr → Type 0
-ReadsNext before after old result = IsTrue old.told → (shape : Shape) (notes : Option Notes) → IsSpoolRead shape before (old.now Journal) notes → NextIs shape after (old.now Journal) notes result
+abbrev pub ReadsNextNote : half.JournalState → half.JournalState → Cloud → Result Bool SpoolErr → Type 0
+ReadsNextNote before after old result = IsTrue old.told → (shape : Shape) (notes : Option Notes) → IsSpoolRead shape before (old.now Journal) notes → NextNoteIs shape after (old.now Journal) notes result
 
 -- how far the gate goes
 abbrev pub GateIs : half.JournalState → half.JournalState → Result Bool SpoolErr → Type 0
@@ -140,18 +140,18 @@ pub record AreNoted (shape : Shape) (gate after : ℕ) (noted : List CloudNo) : 
 -- ---- all records
 
 -- why records aren't read to their end
-abbrev pub IsRefused : Shape → List ℕ → SpoolErr → Type 0
-IsRefused shape journal (Damaged at byte) = IsDamagedAt shape journal at byte
-IsRefused shape journal Fault = Unit {0}
-IsRefused shape journal NoMemory = Unit {0}
-IsRefused shape journal (NotEmpty area len) = ⊥
-IsRefused shape journal (OtherStore found asked) = ⊥
-IsRefused shape journal (Rotten named found) = ⊥
+abbrev pub IsSpoolRefused : Shape → List ℕ → SpoolErr → Type 0
+IsSpoolRefused shape journal (Damaged at byte) = IsDamagedAt shape journal at byte
+IsSpoolRefused shape journal Fault = Unit {0}
+IsSpoolRefused shape journal NoMemory = Unit {0}
+IsSpoolRefused shape journal (NotEmpty area len) = ⊥
+IsSpoolRefused shape journal (OtherStore found asked) = ⊥
+IsSpoolRefused shape journal (Rotten named found) = ⊥
 
 -- the value has P, or the records aren't read to their end
-abbrev pub Gives : {T : Type 0} → Shape → List ℕ → (T → Type 0) → Result T SpoolErr → Type 0
-Gives shape journal P (Ok value) = P value
-Gives shape journal P (Err e) = IsRefused shape journal e
+abbrev pub HasValueOrRefusal : {T : Type 0} → Shape → List ℕ → (T → Type 0) → Result T SpoolErr → Type 0
+HasValueOrRefusal shape journal P (Ok value) = P value
+HasValueOrRefusal shape journal P (Err e) = IsSpoolRefused shape journal e
 
 -- what the records say
 abbrev pub notes_in : Option Records → Option Notes
@@ -169,8 +169,8 @@ pub record AreRecordsKept (shape : Shape) (gate : ℕ) (state : half.JournalStat
 
 -- what a journal of these bytes is found to keep
 abbrev pub FoundIs : Shape → List ℕ → Result (Option Records) SpoolErr → Type 0
-FoundIs shape journal (Ok None) = IsUnbegun journal ⊎ HasAll shape journal None
-FoundIs shape journal (Ok (Some records)) = HasAll shape journal (notes_in (Some records))
+FoundIs shape journal (Ok None) = IsUnbegun journal ⊎ HasAllNotes shape journal None
+FoundIs shape journal (Ok (Some records)) = HasAllNotes shape journal (notes_in (Some records))
 FoundIs shape journal (Err (OtherStore found asked)) = (half : ℕ) × HasHeader journal half found × (found ≢ spool_header shape) × (asked ≡ spool_header shape)
 FoundIs shape journal (Err (Damaged at byte)) = IsFoundDamage journal at byte ⊎ IsDamagedAt shape journal at byte
 FoundIs shape journal (Err Fault) = Unit {0}
@@ -198,7 +198,7 @@ IsReadAnswer (Err (OtherStore found asked)) = ⊥
 IsReadAnswer (Err (Rotten named found)) = ⊥
 
 -- The spool and the job are those of the records and of these bytes of a file.
-pub record IsBrought (shape : Shape) (records : Records) (state : half.JournalState) (bytes : List ℕ) (x : Spool × List LaneView) : Type 0 where
+pub record IsSpoolBrought (shape : Shape) (records : Records) (state : half.JournalState) (bytes : List ℕ) (x : Spool × List LaneView) : Type 0 where
   pub shape_is : x.0.shape ≡ shape
   pub noted : x.0.noted.items ≡ records.noted.items
   pub journal : (state_of x.0).journal ≡ state
@@ -214,7 +214,7 @@ pub record IsSpoolRotten (records : Records) (bytes : List ℕ) (named found : F
   pub other : (length bytes ≢ records.job.len) ⊎ (found ≢ named)
 
 abbrev pub BringsIs : Shape → Records → half.JournalState → Cloud → Result (Spool × List LaneView) SpoolErr → Type 0
-BringsIs shape records state cloud (Ok x) = (bytes : List ℕ) × IsBrought shape records state bytes x × (IsTrue cloud.told → bytes ≡ take records.job.len (cloud.now Shares).read)
+BringsIs shape records state cloud (Ok x) = (bytes : List ℕ) × IsSpoolBrought shape records state bytes x × (IsTrue cloud.told → bytes ≡ take records.job.len (cloud.now Shares).read)
 BringsIs shape records state cloud (Err (Rotten named found)) = (bytes : List ℕ) × IsSpoolRotten records bytes named found × (IsTrue cloud.told → bytes ≡ take records.job.len (cloud.now Shares).read)
 BringsIs shape records state cloud (Err Fault) = Unit {0}
 BringsIs shape records state cloud (Err NoMemory) = Unit {0}

@@ -12,7 +12,7 @@ ghost use Rattle.commit_journal.specs.JournalHalves.Beginnings.{IsUnbegun};
 ghost use Rattle.commit_journal.specs.declared.journal.Stage.{Stage};
 ghost use Rattle.commit_journal.specs.States as half;
 ghost use Rattle.upload_spool.specs.Spools.{spool_header, job_fields};
-ghost use Rattle.upload_spool.specs.States.{state_of, chosen, first_filled, Along, IsKept, IsNewSpool, IsNewRead, spool_error, KeepsJournal, HasWritten, OthersStay, LeavesNone, HasNew, IsOkOrFault, KeepsNewJob, HasNewJob, IsDraft, BeginsIs, LeavesJob, HasBegun, IsBegunSpool, OnFault};
+ghost use Rattle.upload_spool.specs.States.{state_of, chosen, first_filled, IsWrittenSoFar, IsJournalKept, IsNewSpool, IsNewRead, spool_error, KeepsJournalSince, HasWrittenFile, AllButAreaStay, LeavesNone, HasNewSpool, IsSpoolOkOrFault, KeepsNewJob, HasNewJob, IsDraft, BeginsIs, LeavesJob, HasBegunSpool, IsBegunSpool, OnSpoolFault};
 
 use crate::spool::{SPOOL_CLOUD, SPOOL_LIMIT};
 use crate::{Spool, SpoolErr};
@@ -63,10 +63,10 @@ fn write_piece<V: Shelf>(shelf: &mut V, bytes: &[u8], at: usize) -> Result<usize
     ensures further { IfOk result (λ end. at < end) }
     ensures within { IfOk result (λ end. end ≤ length bytes.now) }
     ensures along { IsTrue (V.cloud_at shelf.old 0).told → (start : Cloud)
-        → Along start (V.cloud_at shelf.old 0) at bytes.now
-        → IfOk result (λ end. Along start (V.cloud_at shelf.new 0) end bytes.now) }
+        → IsWrittenSoFar start (V.cloud_at shelf.old 0) at bytes.now
+        → IfOk result (λ end. IsWrittenSoFar start (V.cloud_at shelf.new 0) end bytes.now) }
     ensures any_moment { IsTrue (V.cloud_at shelf.old 0).told → (start : Cloud)
-        → Along start (V.cloud_at shelf.old 0) at bytes.now → IsKept start (V.cloud_at shelf.new 0) }
+        → IsWrittenSoFar start (V.cloud_at shelf.old 0) at bytes.now → IsJournalKept start (V.cloud_at shelf.new 0) }
     ensures call { IsCall (V.cloud_at shelf.old) (V.cloud_at shelf.new) 0 (V.faults shelf.old) (V.faults shelf.new) }
     ensures failed { OnErr result
         (HasFailed (V.cloud_at shelf.old 0) (V.cloud_at shelf.new 0) (V.faults shelf.old) (V.faults shelf.new)) }
@@ -82,9 +82,9 @@ fn write_piece<V: Shelf>(shelf: &mut V, bytes: &[u8], at: usize) -> Result<usize
 
 // Writes the file into Shares from place 0 on, in pieces of 4 MiB, each with a sync.
 fn write_file<V: Shelf>(shelf: &mut V, bytes: &[u8]) -> Result<(), Failed>
-    ensures any_moment { KeepsJournal (V.cloud_at shelf.old 0) (V.cloud_at shelf.new 0) }
-    ensures written { HasWritten bytes.now (V.cloud_at shelf.old 0) (V.cloud_at shelf.new 0) result }
-    ensures others { OthersStay Area.Shares (V.cloud_at shelf.old 0) (V.cloud_at shelf.new 0) result }
+    ensures any_moment { KeepsJournalSince (V.cloud_at shelf.old 0) (V.cloud_at shelf.new 0) }
+    ensures written { HasWrittenFile bytes.now (V.cloud_at shelf.old 0) (V.cloud_at shelf.new 0) result }
+    ensures others { AllButAreaStay Area.Shares (V.cloud_at shelf.old 0) (V.cloud_at shelf.new 0) result }
     ensures call { IsCall (V.cloud_at shelf.old) (V.cloud_at shelf.new) 0 (V.faults shelf.old) (V.faults shelf.new) }
     ensures failed { OnErr result
         (HasFailed (V.cloud_at shelf.old 0) (V.cloud_at shelf.new 0) (V.faults shelf.old) (V.faults shelf.new)) }
@@ -115,13 +115,14 @@ fn read_to_end<V: Shelf>(journal: &mut Journal, shelf: &mut V) -> Result<(), Spo
     requires { (half.state_of journal.old).stage ≡ Stage.Reading }
     ensures ended { IsTrue (V.cloud_at shelf.old 0).told → (header : Header)
         → IsNewRead (half.state_of journal.old) header (V.cloud_at shelf.old 0)
-        → IsOkOrFault result × OnOk result (IsNewSpool (half.state_of journal.new) header (V.cloud_at shelf.new 0)) }
+        → IsSpoolOkOrFault result
+        × OnOk result (IsNewSpool (half.state_of journal.new) header (V.cloud_at shelf.new 0)) }
     ensures stage { OnOk result ((half.state_of journal.new).stage ≡ Stage.AtEnd) }
     ensures gate { OnOk result ((half.state_of journal.new).current.gate ≡ (half.state_of journal.old).current.gate) }
     ensures limit { (half.state_of journal.new).limit ≡ (half.state_of journal.old).limit }
     ensures stays { Stays (V.cloud_at shelf.old 0) (V.cloud_at shelf.new 0) }
     ensures call { IsCall (V.cloud_at shelf.old) (V.cloud_at shelf.new) 0 (V.faults shelf.old) (V.faults shelf.new) }
-    ensures counts { OnFault result
+    ensures counts { OnSpoolFault result
         (HasFailed (V.cloud_at shelf.old 0) (V.cloud_at shelf.new 0) (V.faults shelf.old) (V.faults shelf.new))
         (KeepsCounts (V.cloud_at shelf.old 0) (V.cloud_at shelf.new 0) (V.faults shelf.old) (V.faults shelf.new)) }
 {
@@ -144,16 +145,16 @@ fn begin_journal<V: Shelf>(
 ) -> Result<(), SpoolErr>
     requires { IsHeader header.now }
     ensures any_moment { LeavesNone (V.cloud_at shelf.old 0) (V.cloud_at shelf.new 0) }
-    ensures begun { HasNew (half.state_of journal.new) header.now
+    ensures begun { HasNewSpool (half.state_of journal.new) header.now
         (V.cloud_at shelf.old 0) (V.cloud_at shelf.new 0) result }
     ensures answers { IsTrue (V.cloud_at shelf.old 0).told
-        → IsUnbegun ((V.cloud_at shelf.old 0).now Area.Journal).read → IsOkOrFault result }
-    ensures others { OthersStay Area.Journal (V.cloud_at shelf.old 0) (V.cloud_at shelf.new 0) result }
+        → IsUnbegun ((V.cloud_at shelf.old 0).now Area.Journal).read → IsSpoolOkOrFault result }
+    ensures others { AllButAreaStay Area.Journal (V.cloud_at shelf.old 0) (V.cloud_at shelf.new 0) result }
     ensures stage { OnOk result ((half.state_of journal.new).stage ≡ Stage.AtEnd) }
     ensures gate { OnOk result ((half.state_of journal.new).current.gate ≤ 62) }
     ensures limit { (half.state_of journal.new).limit ≡ (half.state_of journal.old).limit }
     ensures call { IsCall (V.cloud_at shelf.old) (V.cloud_at shelf.new) 0 (V.faults shelf.old) (V.faults shelf.new) }
-    ensures counts { OnFault result
+    ensures counts { OnSpoolFault result
         (HasFailed (V.cloud_at shelf.old 0) (V.cloud_at shelf.new 0) (V.faults shelf.old) (V.faults shelf.new))
         (KeepsCounts (V.cloud_at shelf.old 0) (V.cloud_at shelf.new 0) (V.faults shelf.old) (V.faults shelf.new)) }
 {
@@ -179,12 +180,12 @@ fn keep<V: Shelf>(
     ensures kept { HasNewJob (half.state_of journal.new) header.now bytes.now body.now
         (V.cloud_at shelf.old 0) (V.cloud_at shelf.new 0) result }
     ensures answers { IsTrue (V.cloud_at shelf.old 0).told
-        → first_filled (reads (V.cloud_at shelf.old 0).now) ≡ None → IsOkOrFault result }
+        → first_filled (reads (V.cloud_at shelf.old 0).now) ≡ None → IsSpoolOkOrFault result }
     ensures stage { OnOk result ((half.state_of journal.new).stage ≡ Stage.AtEnd) }
     ensures gate { OnOk result ((half.state_of journal.new).current.gate ≤ 67 + length body.now) }
     ensures limit { (half.state_of journal.new).limit ≡ (half.state_of journal.old).limit }
     ensures call { IsCall (V.cloud_at shelf.old) (V.cloud_at shelf.new) 0 (V.faults shelf.old) (V.faults shelf.new) }
-    ensures counts { OnFault result
+    ensures counts { OnSpoolFault result
         (HasFailed (V.cloud_at shelf.old 0) (V.cloud_at shelf.new 0) (V.faults shelf.old) (V.faults shelf.new))
         (KeepsCounts (V.cloud_at shelf.old 0) (V.cloud_at shelf.new 0) (V.faults shelf.old) (V.faults shelf.new)) }
 {
@@ -294,7 +295,7 @@ impl Spool {
         ensures any_moment { LeavesJob shape
             (record { user = user; path = path.now; number = version; file = bytes.now })
             (V.cloud_at shelf.old 0) (V.cloud_at shelf.new 0) }
-        ensures begun { HasBegun (record { user = user; path = path.now; number = version; file = bytes.now })
+        ensures begun { HasBegunSpool (record { user = user; path = path.now; number = version; file = bytes.now })
             (V.cloud_at shelf.old 0) (V.cloud_at shelf.new 0) result }
         ensures spared { IsTrue (V.cloud_at shelf.old 0).told
             → first_filled (reads (V.cloud_at shelf.old 0).now) ≢ None
@@ -303,7 +304,7 @@ impl Spool {
             (record { user = user; path = path.now; number = version; file = bytes.now })) }
         ensures call { IsCall (V.cloud_at shelf.old) (V.cloud_at shelf.new) 0
             (V.faults shelf.old) (V.faults shelf.new) }
-        ensures counts { OnFault result
+        ensures counts { OnSpoolFault result
             (HasFailed (V.cloud_at shelf.old 0) (V.cloud_at shelf.new 0) (V.faults shelf.old) (V.faults shelf.new))
             (KeepsCounts (V.cloud_at shelf.old 0) (V.cloud_at shelf.new 0) (V.faults shelf.old) (V.faults shelf.new)) }
     {

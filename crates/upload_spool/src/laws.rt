@@ -12,16 +12,16 @@ ghost use Rattle.upload_job.specs.declared.news.LaneErr.{LaneErr};
 ghost use Rattle.upload_job.specs.Lanes.{LaneView, lanes_begun, lanes_resumed, AnswersAt};
 ghost use Rattle.upload_job.specs.Upload.{FileVersion};
 ghost use Rattle.upload_spool.specs.declared.error.SpoolErr.{SpoolErr};
-ghost use Rattle.upload_spool.specs.Opens.{OpensIs, FindsAgain};
+ghost use Rattle.upload_spool.specs.Opens.{OpensSpoolIs, FindsAgain};
 ghost use Rattle.upload_spool.specs.States.{SpoolState, IsJobOf};
 ghost use Rattle.upload_spool.specs.Reading.{fields_for, is_lane, job_in, lane_in};
-ghost use Rattle.upload_spool.specs.Spools.{FitsKept, AreJobLanes, SpoolFor, HasOpenJob, IsNotedOr, spool_chain, spool_start, lane_bytes, job_bytes};
+ghost use Rattle.upload_spool.specs.Spools.{FitsFileVersion, AreJobLanes, SpoolFor, HasOpenJob, IsNotedOr, spool_chain, spool_start, lane_bytes, job_bytes};
 
 /// How long a spool's chain is, so that there is always room for a note.
 pub fn law_of_room()
     ensures used { (shape : Shape) (v : FileVersion) (lanes : List CloudNo)
         → used_by (spool_chain shape v lanes) ≡ 102 + length v.path + 7 * length lanes }
-    ensures within { (shape : Shape) (v : FileVersion) (lanes : List CloudNo) → FitsKept v → length lanes ≤ 16
+    ensures within { (shape : Shape) (v : FileVersion) (lanes : List CloudNo) → FitsFileVersion v → length lanes ≤ 16
         → used_by (spool_chain shape v lanes) ≤ 1238 }
 {}
 
@@ -41,7 +41,7 @@ pub fn law_of_notes()
 pub fn law_of_spools()
     ensures one { ((journal : List ℕ) (w u : Where) → HasChain journal w → HasChain journal u → w ≡ u)
         → (image : Image) (shape other : Shape) (v u : FileVersion) (lanes notes : List CloudNo)
-        → FitsKept v → FitsKept u → SpoolFor image shape v lanes
+        → FitsFileVersion v → FitsFileVersion u → SpoolFor image shape v lanes
         → SpoolFor image other u notes → (v ≡ u) × (lanes ≡ notes) }
     ensures open_job { (image : Image) (shape : Shape) (v : FileVersion) (lanes : List CloudNo)
         → SpoolFor image shape v lanes → HasOpenJob (image Journal) }
@@ -50,9 +50,9 @@ pub fn law_of_spools()
 /// A kept spool is found: an opening of an image that is the spool of a version with some lanes answers with these, or a
 /// device call or memory failed.
 pub fn law_of_kept_spools()
-    ensures { (image : Image) (shape : Shape) (v : FileVersion) (lanes : List CloudNo) → FitsKept v
+    ensures { (image : Image) (shape : Shape) (v : FileVersion) (lanes : List CloudNo) → FitsFileVersion v
         → SpoolFor image shape v lanes → (answer : Result (Option (SpoolState × List LaneView)) SpoolErr)
-        → OpensIs shape image answer → FindsAgain shape v lanes answer }
+        → OpensSpoolIs shape image answer → FindsAgain shape v lanes answer }
 {}
 
 /// A job stays that of its version, whatever is answered, and one that goes on is its version's too.
@@ -67,7 +67,7 @@ pub fn law_of_jobs()
 
 /// A record is read as it is spelled: what a version's job record says, and a lane that is below n and wasn't noted.
 pub fn law_of_records()
-    ensures job { (v : FileVersion) → FitsKept v → job_in (job_bytes v) ≡ Ok (fields_for v) }
+    ensures job { (v : FileVersion) → FitsFileVersion v → job_in (job_bytes v) ≡ Ok (fields_for v) }
     ensures lane { (shape : Shape) (noted : List CloudNo) (lane : CloudNo) → is_lane shape noted lane.0 ≡ true
         → lane_in shape noted (lane_bytes lane) ≡ Ok lane.0 }
 {}

@@ -9,10 +9,10 @@ ghost use Rattle.commit_journal.specs.declared.journal.Stage.{Stage};
 ghost use Rattle.commit_journal.specs.Outcomes.{stage_of};
 ghost use Rattle.commit_journal.specs.States as half;
 ghost use Rattle.upload_job.specs.Upload.{FileVersion};
-ghost use Rattle.upload_spool.specs.Spools.{FitsKept, SpoolFor};
-ghost use Rattle.upload_spool.specs.States.{OnFault, IsSpool, state_of};
-ghost use Rattle.upload_spool.specs.Steps.{ReadsNext, GateIs, shown_fault, JobIs, LaneIs, ReadsLane, MoreNoted, AreNoted};
-ghost use Rattle.upload_spool.specs.Steps.{IsSpoolRead, IsAllRead, Gives, notes_of, notes_in, AreRecordsKept, FoundIs, HasSpoolEnded, IsReadAnswer, BringsIs};
+ghost use Rattle.upload_spool.specs.Spools.{FitsFileVersion, SpoolFor};
+ghost use Rattle.upload_spool.specs.States.{OnSpoolFault, IsSpool, state_of};
+ghost use Rattle.upload_spool.specs.Steps.{ReadsNextNote, GateIs, shown_fault, JobIs, LaneIs, ReadsLane, MoreNoted, AreNoted};
+ghost use Rattle.upload_spool.specs.Steps.{IsSpoolRead, IsAllRead, HasValueOrRefusal, notes_of, notes_in, AreRecordsKept, FoundIs, HasSpoolEnded, IsReadAnswer, BringsIs};
 ghost use Rattle.upload_spool.specs.Reading.{JobFields};
 ghost use Rattle.upload_spool.specs.Opens as opens;
 ghost use Rattle.upload_job.specs.Lanes.{lanes_resumed};
@@ -59,13 +59,14 @@ fn fault_at(fault: RecordFault, place: u64) -> SpoolErr
 // The next record, or the end.
 fn next<V: Shelf>(journal: &mut Journal, shelf: &mut V) -> Result<bool, SpoolErr>
     requires { (half.state_of journal.old).stage ≡ Stage.Reading }
-    ensures reads { ReadsNext (half.state_of journal.old) (half.state_of journal.new) (V.cloud_at shelf.old 0) result }
+    ensures reads { ReadsNextNote (half.state_of journal.old) (half.state_of journal.new)
+        (V.cloud_at shelf.old 0) result }
     ensures gate { GateIs (half.state_of journal.old) (half.state_of journal.new) result }
     ensures stage { IfOk result (λ more. (half.state_of journal.new).stage ≡ stage_of (Ok more)) }
     ensures limit { (half.state_of journal.new).limit ≡ (half.state_of journal.old).limit }
     ensures stays { Stays (V.cloud_at shelf.old 0) (V.cloud_at shelf.new 0) }
     ensures call { IsCall (V.cloud_at shelf.old) (V.cloud_at shelf.new) 0 (V.faults shelf.old) (V.faults shelf.new) }
-    ensures counts { OnFault result
+    ensures counts { OnSpoolFault result
         (HasFailed (V.cloud_at shelf.old 0) (V.cloud_at shelf.new 0) (V.faults shelf.old) (V.faults shelf.new))
         (KeepsCounts (V.cloud_at shelf.old 0) (V.cloud_at shelf.new 0) (V.faults shelf.old) (V.faults shelf.new)) }
 {
@@ -130,7 +131,7 @@ fn next_lane<V: Shelf>(
     ensures limit { (half.state_of journal.new).limit ≡ (half.state_of journal.old).limit }
     ensures stays { Stays (V.cloud_at shelf.old 0) (V.cloud_at shelf.new 0) }
     ensures call { IsCall (V.cloud_at shelf.old) (V.cloud_at shelf.new) 0 (V.faults shelf.old) (V.faults shelf.new) }
-    ensures counts { OnFault result
+    ensures counts { OnSpoolFault result
         (HasFailed (V.cloud_at shelf.old 0) (V.cloud_at shelf.new 0) (V.faults shelf.old) (V.faults shelf.new))
         (KeepsCounts (V.cloud_at shelf.old 0) (V.cloud_at shelf.new 0) (V.faults shelf.old) (V.faults shelf.new)) }
 {
@@ -154,7 +155,7 @@ fn lanes_in<V: Shelf>(
     requires { (half.state_of journal.old).stage ≡ Stage.Reading }
     ensures reads { IsTrue (V.cloud_at shelf.old 0).told → (job : JobFields)
         → IsSpoolRead shape (half.state_of journal.old) ((V.cloud_at shelf.old 0).now Area.Journal) (notes_of job [])
-        → Gives shape ((V.cloud_at shelf.old 0).now Area.Journal).read (λ noted. IsAllRead shape
+        → HasValueOrRefusal shape ((V.cloud_at shelf.old 0).now Area.Journal).read (λ noted. IsAllRead shape
         (half.state_of journal.new) ((V.cloud_at shelf.old 0).now Area.Journal) (notes_of job noted.items)) result }
     ensures noted { IfOk result (λ noted. AreNoted shape
         (half.state_of journal.old).current.gate (half.state_of journal.new).current.gate noted.items) }
@@ -162,7 +163,7 @@ fn lanes_in<V: Shelf>(
     ensures limit { (half.state_of journal.new).limit ≡ (half.state_of journal.old).limit }
     ensures stays { Stays (V.cloud_at shelf.old 0) (V.cloud_at shelf.new 0) }
     ensures call { IsCall (V.cloud_at shelf.old) (V.cloud_at shelf.new) 0 (V.faults shelf.old) (V.faults shelf.new) }
-    ensures counts { OnFault result
+    ensures counts { OnSpoolFault result
         (HasFailed (V.cloud_at shelf.old 0) (V.cloud_at shelf.new 0) (V.faults shelf.old) (V.faults shelf.new))
         (KeepsCounts (V.cloud_at shelf.old 0) (V.cloud_at shelf.new 0) (V.faults shelf.old) (V.faults shelf.new)) }
 {
@@ -181,14 +182,14 @@ fn records_in<V: Shelf>(
     requires { (half.state_of journal.old).stage ≡ Stage.Reading }
     ensures reads { IsTrue (V.cloud_at shelf.old 0).told
         → IsSpoolRead shape (half.state_of journal.old) ((V.cloud_at shelf.old 0).now Area.Journal) None
-        → Gives shape ((V.cloud_at shelf.old 0).now Area.Journal).read (λ found. IsAllRead shape
+        → HasValueOrRefusal shape ((V.cloud_at shelf.old 0).now Area.Journal).read (λ found. IsAllRead shape
         (half.state_of journal.new) ((V.cloud_at shelf.old 0).now Area.Journal) (notes_in found)) result }
     ensures kept { IfOk result (λ found. IfSome found
         (AreRecordsKept shape (half.state_of journal.old).current.gate (half.state_of journal.new))) }
     ensures limit { (half.state_of journal.new).limit ≡ (half.state_of journal.old).limit }
     ensures stays { Stays (V.cloud_at shelf.old 0) (V.cloud_at shelf.new 0) }
     ensures call { IsCall (V.cloud_at shelf.old) (V.cloud_at shelf.new) 0 (V.faults shelf.old) (V.faults shelf.new) }
-    ensures counts { OnFault result
+    ensures counts { OnSpoolFault result
         (HasFailed (V.cloud_at shelf.old 0) (V.cloud_at shelf.new 0) (V.faults shelf.old) (V.faults shelf.new))
         (KeepsCounts (V.cloud_at shelf.old 0) (V.cloud_at shelf.new 0) (V.faults shelf.old) (V.faults shelf.new)) }
 {
@@ -222,7 +223,7 @@ fn kept_in<V: Shelf>(
     ensures kept { IfOk result (λ found. IfSome found (AreRecordsKept shape 62 (half.state_of journal.new))) }
     ensures limit { (half.state_of journal.new).limit ≡ (half.state_of journal.old).limit }
     ensures call { IsCall (V.cloud_at shelf.old) (V.cloud_at shelf.new) 0 (V.faults shelf.old) (V.faults shelf.new) }
-    ensures counts { OnFault result
+    ensures counts { OnSpoolFault result
         (HasFailed (V.cloud_at shelf.old 0) (V.cloud_at shelf.new 0) (V.faults shelf.old) (V.faults shelf.new))
         (KeepsCounts (V.cloud_at shelf.old 0) (V.cloud_at shelf.new 0) (V.faults shelf.old) (V.faults shelf.new)) }
 {
@@ -244,7 +245,7 @@ fn file_in<V: Shelf>(alloc: Global, shelf: &mut V, len: u64) -> Result<Bytes, Sp
     ensures answers { IsReadAnswer result }
     ensures stays { Stays (V.cloud_at shelf.old 0) (V.cloud_at shelf.new 0) }
     ensures call { IsCall (V.cloud_at shelf.old) (V.cloud_at shelf.new) 0 (V.faults shelf.old) (V.faults shelf.new) }
-    ensures counts { OnFault result
+    ensures counts { OnSpoolFault result
         (HasFailed (V.cloud_at shelf.old 0) (V.cloud_at shelf.new 0) (V.faults shelf.old) (V.faults shelf.new))
         (KeepsCounts (V.cloud_at shelf.old 0) (V.cloud_at shelf.new 0) (V.faults shelf.old) (V.faults shelf.new)) }
 {
@@ -326,7 +327,7 @@ fn bring<V: Shelf>(
     ensures brings { BringsIs shape records (half.state_of journal) (V.cloud_at shelf.old 0) result }
     ensures stays { Stays (V.cloud_at shelf.old 0) (V.cloud_at shelf.new 0) }
     ensures call { IsCall (V.cloud_at shelf.old) (V.cloud_at shelf.new) 0 (V.faults shelf.old) (V.faults shelf.new) }
-    ensures counts { OnFault result
+    ensures counts { OnSpoolFault result
         (HasFailed (V.cloud_at shelf.old 0) (V.cloud_at shelf.new 0) (V.faults shelf.old) (V.faults shelf.new))
         (KeepsCounts (V.cloud_at shelf.old 0) (V.cloud_at shelf.new 0) (V.faults shelf.old) (V.faults shelf.new)) }
 {
@@ -383,19 +384,20 @@ impl Spool {
         shape: Shape,
     ) -> Result<Option<(Spool, Job)>, SpoolErr>
         ensures found { IsTrue (V.cloud_at shelf.old 0).told
-            → opens.OpensIs shape (reads (V.cloud_at shelf.old 0).now) (opens.answer_of result) }
-        ensures kept { IsTrue (V.cloud_at shelf.old 0).told → (v : FileVersion) (lanes : List CloudNo) → FitsKept v
+            → opens.OpensSpoolIs shape (reads (V.cloud_at shelf.old 0).now) (opens.answer_of result) }
+        ensures kept { IsTrue (V.cloud_at shelf.old 0).told → (v : FileVersion) (lanes : List CloudNo)
+            → FitsFileVersion v
             → SpoolFor (reads (V.cloud_at shelf.old 0).now) shape v lanes
             → IfOk result (λ opened. IfSome opened (λ x. IsSpool (state_of x.0) v lanes (V.cloud_at shelf.new 0))) }
         ensures found_again { IsTrue (V.cloud_at shelf.old 0).told → (v : FileVersion) (lanes : List CloudNo)
-            → FitsKept v → SpoolFor (reads (V.cloud_at shelf.old 0).now) shape v lanes
+            → FitsFileVersion v → SpoolFor (reads (V.cloud_at shelf.old 0).now) shape v lanes
             → opens.FindsAgain shape v lanes (opens.answer_of result) }
         ensures spool { IfOk result (λ opened. IfSome opened (opens.IsOpenedSpool shape)) }
         ensures spared { IsTrue (V.cloud_at shelf.old 0).told
             → LeavesOnly (V.cloud_at shelf.old 0) (V.cloud_at shelf.new 0) (IsImage (V.cloud_at shelf.old 0).now) }
         ensures call { IsCall (V.cloud_at shelf.old) (V.cloud_at shelf.new) 0
             (V.faults shelf.old) (V.faults shelf.new) }
-        ensures counts { OnFault result
+        ensures counts { OnSpoolFault result
             (HasFailed (V.cloud_at shelf.old 0) (V.cloud_at shelf.new 0) (V.faults shelf.old) (V.faults shelf.new))
             (KeepsCounts (V.cloud_at shelf.old 0) (V.cloud_at shelf.new 0) (V.faults shelf.old) (V.faults shelf.new)) }
     {

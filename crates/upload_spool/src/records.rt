@@ -5,7 +5,7 @@ ghost use Rattle.std.specs.List.{list_any};
 ghost use Rattle.std.specs.Int.{w16, w64};
 ghost use Rattle.grammar.specs.Fields.{number_at, checked};
 ghost use Rattle.upload_job.specs.MessageFields.Parts.{kept};
-ghost use Rattle.upload_job.specs.MessageFields.Readings.{IsReading};
+ghost use Rattle.upload_job.specs.MessageFields.Readings.{IsReadingSeenBy};
 ghost use Rattle.upload_spool.specs.Reading.{one_byte, is_kind, is_lane, is_path_len, has_no_zero, is_file_len, path_at, job_at, lane_at, wrong_at, job_in, lane_in, fields_of};
 
 use grammar::{CloudNo, Fp, Shape, UserId, Version};
@@ -37,7 +37,7 @@ pub struct JobRecord<'a> {
 
 // A kind, and what follows it. Another kind is wrong.
 fn kind_of(bytes: &[u8], kind: u8) -> Result<(u8, &[u8]), Left>
-    ensures { IsReading (λ x. (x.0, x.1.now)) result (kept (is_kind kind) one_byte bytes.now) }
+    ensures { IsReadingSeenBy (λ x. (x.0, x.1.now)) result (kept (is_kind kind) one_byte bytes.now) }
 {
     let (byte, rest) = byte_of(bytes)?;
     if byte == kind {
@@ -56,7 +56,7 @@ fn are_not_zero(bytes: &[u8]) -> bool
 
 // The length of a path, 1 to 1,024, and what follows it.
 fn path_len_of(bytes: &[u8]) -> Result<(u16, &[u8]), Left>
-    ensures { IsReading (λ x. (x.0, x.1.now)) result (checked is_path_len (number_at w16) bytes.now) }
+    ensures { IsReadingSeenBy (λ x. (x.0, x.1.now)) result (checked is_path_len (number_at w16) bytes.now) }
 {
     let (len, rest) = u16_of(bytes)?;
     if 1 <= len && len <= 1_024 {
@@ -69,7 +69,7 @@ fn path_len_of(bytes: &[u8]) -> Result<(u16, &[u8]), Left>
 // A path with its length, and what follows it. One with a zero is wrong at its first place.
 #[tactic(auto, unfolding(crate::specs::Reading::path_at))]
 fn path_of(bytes: &[u8]) -> Result<(&[u8], &[u8]), Left>
-    ensures { IsReading (λ x. (x.0.now, x.1.now)) result (path_at bytes.now) }
+    ensures { IsReadingSeenBy (λ x. (x.0.now, x.1.now)) result (path_at bytes.now) }
 {
     let (len, rest) = path_len_of(bytes)?;
     let (path, after) = bytes_of(rest, len as usize)?;
@@ -82,7 +82,7 @@ fn path_of(bytes: &[u8]) -> Result<(&[u8], &[u8]), Left>
 
 // The length of a file, at most 67,108,864, and what follows it.
 fn file_len_of(bytes: &[u8]) -> Result<(u64, &[u8]), Left>
-    ensures { IsReading (λ x. (x.0, x.1.now)) result (checked is_file_len (number_at w64) bytes.now) }
+    ensures { IsReadingSeenBy (λ x. (x.0, x.1.now)) result (checked is_file_len (number_at w64) bytes.now) }
 {
     let (len, rest) = u64_of(bytes)?;
     if len <= 67_108_864 {
@@ -95,7 +95,7 @@ fn file_len_of(bytes: &[u8]) -> Result<(u64, &[u8]), Left>
 // What a job's record says, and what follows it.
 #[tactic(auto, unfolding(crate::specs::Reading::job_at))]
 fn job_of(bytes: &[u8]) -> Result<(JobRecord<'_>, &[u8]), Left>
-    ensures { IsReading (λ x. (fields_of x.0, x.1.now)) result (job_at bytes.now) }
+    ensures { IsReadingSeenBy (λ x. (fields_of x.0, x.1.now)) result (job_at bytes.now) }
 {
     let (_, rest) = kind_of(bytes, 1)?;
     let (user, rest) = user_of(rest)?;
@@ -129,7 +129,7 @@ fn is_new(shape: Shape, noted: &[CloudNo], cloud: u8) -> bool
 
 // A cloud below n that wasn't noted, and what follows it.
 fn new_lane_of<'a>(bytes: &'a [u8], shape: Shape, noted: &[CloudNo]) -> Result<(u8, &'a [u8]), Left>
-    ensures { IsReading (λ x. (x.0, x.1.now)) result (kept (is_lane shape noted.now) one_byte bytes.now) }
+    ensures { IsReadingSeenBy (λ x. (x.0, x.1.now)) result (kept (is_lane shape noted.now) one_byte bytes.now) }
 {
     let (cloud, rest) = byte_of(bytes)?;
     if is_new(shape, noted, cloud) {
@@ -142,7 +142,7 @@ fn new_lane_of<'a>(bytes: &'a [u8], shape: Shape, noted: &[CloudNo]) -> Result<(
 // The cloud of a lane's record, and what follows it.
 #[tactic(auto, unfolding(crate::specs::Reading::lane_at))]
 fn lane_of<'a>(bytes: &'a [u8], shape: Shape, noted: &[CloudNo]) -> Result<(u8, &'a [u8]), Left>
-    ensures { IsReading (λ x. (x.0, x.1.now)) result (lane_at shape noted.now bytes.now) }
+    ensures { IsReadingSeenBy (λ x. (x.0, x.1.now)) result (lane_at shape noted.now bytes.now) }
 {
     let (_, rest) = kind_of(bytes, 2)?;
     new_lane_of(rest, shape, noted)

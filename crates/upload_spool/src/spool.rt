@@ -43,7 +43,7 @@ pub struct Spool {
 
 impl Spool {
     ghost use Rattle.upload_job.specs.Lanes.{IsDoneAt};
-    ghost use Rattle.upload_spool.specs.States.{state_of, IsOf, IsJobOf, KeepsOrNotes, HasNoted, IsNoteAnswer, IsOkOrFault, OthersStay, OnFault};
+    ghost use Rattle.upload_spool.specs.States.{state_of, IsOf, IsJobOf, KeepsOrNotes, HasNoted, IsNoteAnswer, IsSpoolOkOrFault, AllButAreaStay, OnSpoolFault};
     ghost use Rattle.commit_journal.specs.CdEdges.area.Area.{Area};
 
     /// The lanes that were noted, in the order in which they were.
@@ -101,16 +101,16 @@ impl Spool {
         ensures added { OnOk result ((state_of self.new).noted ≡ (state_of self.old).noted ++ lane ∷ []) }
         ensures of { (v : FileVersion) → IsOf (state_of self.old) v → IsOf (state_of self.new) v }
         ensures shape { (state_of self.new).shape ≡ (state_of self.old).shape }
-        ensures stage { OnFault result ((state_of self.new).journal.stage ≡ Stage.Shut)
+        ensures stage { OnSpoolFault result ((state_of self.new).journal.stage ≡ Stage.Shut)
             ((state_of self.new).journal.stage ≡ Stage.AtEnd) }
         ensures memory { result ≡ Err SpoolErr.NoMemory → (state_of self.new ≡ state_of self.old)
             × (V.cloud_at shelf.new 0 ≡ V.cloud_at shelf.old 0) }
         ensures answers { IsNoteAnswer result }
-        ensures others { OthersStay Area.Journal (V.cloud_at shelf.old 0) (V.cloud_at shelf.new 0) result }
+        ensures others { AllButAreaStay Area.Journal (V.cloud_at shelf.old 0) (V.cloud_at shelf.new 0) result }
         ensures moments { IsLater 4 (V.cloud_at shelf.old 0) (V.cloud_at shelf.new 0) result }
         ensures call { IsCall (V.cloud_at shelf.old) (V.cloud_at shelf.new) 0
             (V.faults shelf.old) (V.faults shelf.new) }
-        ensures counts { OnFault result
+        ensures counts { OnSpoolFault result
             (HasFailed (V.cloud_at shelf.old 0) (V.cloud_at shelf.new 0) (V.faults shelf.old) (V.faults shelf.new))
             (KeepsCounts (V.cloud_at shelf.old 0) (V.cloud_at shelf.new 0) (V.faults shelf.old) (V.faults shelf.new)) }
     {
@@ -129,10 +129,10 @@ impl Spool {
     pub fn finish<V: Shelf>(self, shelf: &mut V) -> Result<(), SpoolErr>
         ensures emptied { IsTrue (V.cloud_at shelf.old 0).told
             → Refreshes (V.cloud_at shelf.old 0) (V.cloud_at shelf.new 0) result }
-        ensures answers { IsOkOrFault result }
+        ensures answers { IsSpoolOkOrFault result }
         ensures call { IsCall (V.cloud_at shelf.old) (V.cloud_at shelf.new) 0
             (V.faults shelf.old) (V.faults shelf.new) }
-        ensures counts { OnFault result
+        ensures counts { OnSpoolFault result
             (HasFailed (V.cloud_at shelf.old 0) (V.cloud_at shelf.new 0) (V.faults shelf.old) (V.faults shelf.new))
             (KeepsCounts (V.cloud_at shelf.old 0) (V.cloud_at shelf.new 0) (V.faults shelf.old) (V.faults shelf.new)) }
     {

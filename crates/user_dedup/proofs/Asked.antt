@@ -14,7 +14,7 @@ use Rattle.messages.specs.Requests.{request_bytes}
 use Rattle.messages.specs.RequestReading.{request_at, request_left}
 use Rattle.messages.proofs.RequestLaws.{request_law}
 use Rattle.messages.specs.Parts.{placed}
-use Rattle.user_dedup.specs.Requests.{HasRecipe, IsAsked, recipe_read, whole_read, asked_at}
+use Rattle.user_dedup.specs.Requests.{HasRecipe, AsksOfStore, recipe_read, whole_read, asked_at}
 
 abbrev read : Request → Result Request ℕ
 read r = Ok r
@@ -77,14 +77,14 @@ whole_has shape (requests.GetShares user fps) known has = refl
 whole_has shape (requests.List user after) known has = refl
 whole_has shape (requests.Delete user tag version) known has = refl
 
-asked_from : (shape : Shape) (content : List ℕ) (r : Request) (found : Result Request ℕ) → request_at content ≡ found → AreBytes content → whole_read shape found ≡ Ok r → IsAsked shape content r
+asked_from : (shape : Shape) (content : List ℕ) (r : Request) (found : Result Request ℕ) → request_at content ≡ found → AreBytes content → whole_read shape found ≡ Ok r → AsksOfStore shape content r
 asked_from shape content r (Err at) is known e = absurd (let f : Err at ≡ read r = e in cc)
 asked_from shape content r (Ok q) is known e =
     let asked = (request_law content q known).0 is in
     let w = whole_from shape q r (recipe_bytes content q known asked.spelled) e in
-    subst (IsAsked shape content) w.0 (record { asked = asked; recipe = w.1 })
+    subst (AsksOfStore shape content) w.0 (record { asked = asked; recipe = w.1 })
 
-pub asked_law : (shape : Shape) (content : List ℕ) (r : Request) → AreBytes content → (asked_at shape content ≡ Ok r → IsAsked shape content r) × (IsAsked shape content r → asked_at shape content ≡ Ok r)
+pub asked_law : (shape : Shape) (content : List ℕ) (r : Request) → AreBytes content → (asked_at shape content ≡ Ok r → AsksOfStore shape content r) × (AsksOfStore shape content r → asked_at shape content ≡ Ok r)
 asked_law shape content r known = (
   asked_from shape content r (request_at content) refl known,
   λ is. ap (whole_read shape) ((request_law content r known).1 is.asked) ∙ whole_has shape r (recipe_bytes content r known is.asked.spelled) is.recipe,

@@ -21,7 +21,7 @@ use Rattle.user_dedup.proofs.EntryLists.{found_entry}
 use Rattle.user_dedup.specs.declared.command.Command.{Command}
 use Rattle.user_dedup.specs.declared.command.Command.TheVariants as commands
 use Rattle.user_dedup.specs.Cloud.{user_of, view_after, user_view, named_in, named_by, without_key, without_entry, deletion, IsNamedBeside}
-use Rattle.user_dedup.specs.Dedup.{Ends}
+use Rattle.user_dedup.specs.Dedup.{TakesVersionOut}
 use Rattle.user_dedup.proofs.Filtered.{from_filter, in_filter, get_filter, in_flat, from_flat}
 use Rattle.user_dedup.proofs.Views.{own_adds, others_stay}
 
@@ -123,20 +123,20 @@ deleted_view shape list user key = own_adds shape list (deletion user key) user 
 found_more : (files more : List FileEntry) (key : Tag × Version) (entry : FileEntry) → entry_at files key ≡ Some entry → entry_at (files ++ more) key ≡ Some entry
 found_more files more key entry e = find-append (is_at key) files more ∙ ap (λ o. option_or o (entry_at more key)) e
 
-version_in : (shape : Shape) (v : View) (command : Command) (key : Tag × Version) (entry : FileEntry) → (Ends (user_of command) key command → ⊥)
+version_in : (shape : Shape) (v : View) (command : Command) (key : Tag × Version) (entry : FileEntry) → (TakesVersionOut (user_of command) key command → ⊥)
     → entry_at v.files key ≡ Some entry → entry_at (view_after shape v command).files key ≡ Some entry
 version_in shape v (commands.Put user shares) key entry stays e = e
 version_in shape v (commands.Commit user tag version recipe) key entry stays e = found_more v.files (record { tag = tag; version = version; recipe = recipe } ∷ []) key entry e
 version_in shape v (commands.Delete user tag version) key entry stays e = entry_stays shape (tag, version) key v (λ same. stays (refl, sym same)) ∙ e
 
-pub version_stays : (shape : Shape) (list : List Command) (command : Command) (user : UserId) (key : Tag × Version) (entry : FileEntry) → (Ends user key command → ⊥)
+pub version_stays : (shape : Shape) (list : List Command) (command : Command) (user : UserId) (key : Tag × Version) (entry : FileEntry) → (TakesVersionOut user key command → ⊥)
     → entry_at (user_view shape list user).files key ≡ Some entry → entry_at (user_view shape (list ++ command ∷ []) user).files key ≡ Some entry
 version_stays shape list command user key entry stays e =
     elim (cases_eq (user_of command).0 user.0) [
       | inl same ↦
           let user_is : user_of command ≡ user = λ i. record { 0 = same i } in
           ap (λ (v : View). entry_at v.files key) (own_adds shape list command user same)
-          ∙ version_in shape (user_view shape list user) command key entry (subst (λ (u : UserId). Ends u key command → ⊥) (sym user_is) stays) e
+          ∙ version_in shape (user_view shape list user) command key entry (subst (λ (u : UserId). TakesVersionOut u key command → ⊥) (sym user_is) stays) e
       | inr other ↦ ap (λ (v : View). entry_at v.files key) (others_stay shape list command user other) ∙ e
     ]
 

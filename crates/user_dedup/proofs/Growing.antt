@@ -16,7 +16,7 @@ use Rattle.user_dedup.specs.Cloud.{user_view}
 use Rattle.user_dedup.specs.Owning.{first_lacking, new_strings}
 use Rattle.user_dedup.specs.Pages.{entry_at}
 use Rattle.user_dedup.specs.Requests.{fps_of}
-use Rattle.user_dedup.specs.Dedup.{Outcome, FullRoom, Ends, answer_over, room_for, by_room}
+use Rattle.user_dedup.specs.Dedup.{Outcome, FullRoom, TakesVersionOut, answer_over, room_for, by_room}
 use Rattle.user_dedup.specs.Exec.{Peer, MaySettleAs, Exec, ExecTold, served}
 use Rattle.user_dedup.proofs.Deleting.{version_stays}
 use Rattle.user_dedup.proofs.Sound.{put_adds, commit_adds}
@@ -95,7 +95,7 @@ answered_quiet shape serve old new request reply answers x =
 -- ---- versions
 
 -- a version stays where none of the commands ends it
-pub version_more : (shape : Shape) (list more : List Command) (user : UserId) (key : Tag × Version) (entry : FileEntry) → Each (λ c. ¬ (Ends user key c)) more
+pub version_more : (shape : Shape) (list more : List Command) (user : UserId) (key : Tag × Version) (entry : FileEntry) → Each (λ c. ¬ (TakesVersionOut user key c)) more
     → entry_at (user_view shape list user).files key ≡ Some entry → entry_at (user_view shape (list ++ more) user).files key ≡ Some entry
 version_more shape list [] user key entry all h = subst (λ (l : List Command). entry_at (user_view shape l user).files key ≡ Some entry) (sym (append-nil list)) h
 version_more shape list (c ∷ more) user key entry all h =
@@ -156,7 +156,7 @@ adds_no_delete shape cloud full request asks list =
     roomed outcome (room_for (full list) outcome.adds) (by_all outcome.adds (λ c e. answered_none shape cloud list request c asks e))
 
 -- a command that is no Delete ends no version
-pub ends_none : (user : UserId) (key : Tag × Version) (c : Command) → ¬ (IsDelete c) → ¬ (Ends user key c)
+pub ends_none : (user : UserId) (key : Tag × Version) (c : Command) → ¬ (IsDelete c) → ¬ (TakesVersionOut user key c)
 ends_none user key (commands.Put sender shares) isnt ends = ends
 ends_none user key (commands.Commit sender tag version recipe) isnt ends = ends
 ends_none user key (commands.Delete sender tag version) isnt ends = isnt tt

@@ -22,7 +22,7 @@ use Rattle.user_dedup.proofs.EntryLists.{apart_push}
 use Rattle.user_dedup.specs.declared.command.Command.{Command}
 use Rattle.user_dedup.specs.declared.command.Command.TheVariants as commands
 use Rattle.user_dedup.specs.Cloud.{fingerprint, no_view, user_of, view_after, user_view, without_entry, deletion}
-use Rattle.user_dedup.specs.Dedup.{put_outcome, commit_outcome, delete_outcome, answer_over, IsSound, Begun, Added, IsAdded}
+use Rattle.user_dedup.specs.Dedup.{put_outcome, commit_outcome, delete_outcome, answer_over, IsSound, Begun, Added, IsAddedCommand}
 use Rattle.user_dedup.proofs.Views.{own_adds, others_stay}
 use Rattle.user_dedup.proofs.Deleting.{entries_left, apart_left, own_named}
 
@@ -142,14 +142,14 @@ last_same (a ∷ xs) (b ∷ ys) x y e =
     ((λ i. head i ∷ rest.0 i), rest.1)
 
 -- the last command of a sound list was added to those before it
-pub sound_before : (shape : Shape) (cloud : ℕ) (list : List Command) (command : Command) → IsSound shape cloud (list ++ command ∷ []) → IsAdded shape cloud list command
+pub sound_before : (shape : Shape) (cloud : ℕ) (list : List Command) (command : Command) → IsSound shape cloud (list ++ command ∷ []) → IsAddedCommand shape cloud list command
 sound_before shape cloud list command sound = go (list ++ command ∷ []) sound refl
   where
-    go : (l : List Command) → IsSound shape cloud l → l ≡ list ++ command ∷ [] → IsAdded shape cloud list command
+    go : (l : List Command) → IsSound shape cloud l → l ≡ list ++ command ∷ [] → IsAddedCommand shape cloud list command
     go l Begun e = absurd (nothing_behind list command e)
     go l (Added before request last sound fits recipe adds) e =
         let s = last_same before list last command e in
-        subst (IsAdded shape cloud list) s.1 (subst (λ (l : List Command). IsAdded shape cloud l last) s.0
+        subst (IsAddedCommand shape cloud list) s.1 (subst (λ (l : List Command). IsAddedCommand shape cloud l last) s.0
         (record { sound = sound; request = request; fits = fits; recipe = recipe; adds = adds }))
 
 -- what a sound list takes out was there

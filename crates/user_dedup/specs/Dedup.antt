@@ -93,7 +93,7 @@ pub data IsSound (shape : Shape) (cloud : ℕ) : List Command → Type 0 where
       → IsSound shape cloud (list ++ command ∷ [])
 
 -- The command is one that the cloud adds for some request after a sound list.
-pub record IsAdded (shape : Shape) (cloud : ℕ) (list : List Command) (command : Command) : Type 0 where
+pub record IsAddedCommand (shape : Shape) (cloud : ℕ) (list : List Command) (command : Command) : Type 0 where
   pub sound : IsSound shape cloud list
   pub request : Request
   pub fits : FitsRequest request
@@ -101,10 +101,10 @@ pub record IsAdded (shape : Shape) (cloud : ℕ) (list : List Command) (command 
   pub adds : (answer_over shape cloud list request).adds ≡ Some command
 
 -- the command takes the version of the user's file out
-abbrev pub Ends : UserId → Tag × Version → Command → Type 0
-Ends user key (commands.Put u shares) = ⊥
-Ends user key (commands.Commit u tag version recipe) = ⊥
-Ends user key (commands.Delete u tag version) = (u ≡ user) × (◌≡◌ {A = Tag × Version} (tag, version) key)
+abbrev pub TakesVersionOut : UserId → Tag × Version → Command → Type 0
+TakesVersionOut user key (commands.Put u shares) = ⊥
+TakesVersionOut user key (commands.Commit u tag version recipe) = ⊥
+TakesVersionOut user key (commands.Delete u tag version) = (u ≡ user) × (◌≡◌ {A = Tag × Version} (tag, version) key)
 
 -- a room that a command would pass: how much of it is used, how much more the command needs, and its limit
 pub record FullRoom : Type 0 where

@@ -96,8 +96,8 @@ abbrev pub IsReading : List ℕ → Type 0
 IsReading content = (request : Request) × IsRequest content request × AddsNothing request
 
 -- one of these clouds was asked, for what adds nothing
-abbrev pub ReadsFrom : List ℕ → Exchange → Type 0
-ReadsFrom clouds e = Contains clouds e.cloud × IsReading e.content
+abbrev pub ReadsOneOf : List ℕ → Exchange → Type 0
+ReadsOneOf clouds e = Contains clouds e.cloud × IsReading e.content
 
 -- ---- what is said with a cloud
 
@@ -120,8 +120,9 @@ abbrev pub said : Talk → List ℕ → Talk
 said talk request = record { asked = talk.asked ++ request ∷ []; coming = later_replies talk.coming }
 
 -- An ask that wasn't lost sent the request and took the first reply that was to come.
-abbrev pub Says : {L E : Type 0} → (L → ℕ → Talk → Type 0) → ℕ → L → List ℕ → List ℕ → Result (Unit {0}) E → L → Type 0
-Says talk cloud old request reply result new =
+abbrev pub TakesFirstReply : {L E : Type 0} → (L → ℕ → Talk → Type 0) → ℕ → L → List ℕ → List ℕ → Result (Unit {0}) E
+    → L → Type 0
+TakesFirstReply talk cloud old request reply result new =
     (before : Talk) → talk old cloud before → OnOk result ((reply ≡ first_reply before.coming) × talk new cloud (said before request))
 
 -- what was said with the other clouds stays

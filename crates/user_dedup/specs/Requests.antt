@@ -32,7 +32,7 @@ HasRecipe shape (requests.List user after) = Unit {0}
 HasRecipe shape (requests.Delete user tag version) = Unit {0}
 
 -- The content asks this of a store of this shape.
-pub record IsAsked (shape : Shape) (content : List ℕ) (request : Request) : Type 0 where
+pub record AsksOfStore (shape : Shape) (content : List ℕ) (request : Request) : Type 0 where
   pub asked : IsRequest content request
   pub recipe : HasRecipe shape request
 

@@ -15,12 +15,12 @@ ghost use Rattle.user_dedup.specs.Cloud.{fingerprint, user_of, no_view, view_aft
 ghost use Rattle.user_dedup.specs.Owning.{is_among, new_strings, AreNew};
 ghost use Rattle.user_dedup.specs.Pages.{key_of, entry_at, AreApart, page_of, IsPage};
 ghost use Rattle.user_dedup.specs.declared.file_list.FileEntry.{FileEntry};
-ghost use Rattle.user_dedup.specs.Requests.{asker, fps_of, HasRecipe, IsAsked, asked_at};
+ghost use Rattle.user_dedup.specs.Requests.{asker, fps_of, HasRecipe, AsksOfStore, asked_at};
 ghost use Rattle.user_dedup.specs.Exec.{Suits, Peer, Exec, StandsSound, items_of, served};
 ghost use Rattle.messages.specs.Answering.{IsReplyTo};
 ghost use Rattle.messages.specs.declared.reply.Reply.{Reply};
 ghost use Rattle.user_dedup.specs.declared.view.View.{View};
-ghost use Rattle.user_dedup.specs.Dedup.{answer_over, HeldAlike, IsSound, IsAdded, FullRoom, Ends};
+ghost use Rattle.user_dedup.specs.Dedup.{answer_over, HeldAlike, IsSound, IsAddedCommand, FullRoom, TakesVersionOut};
 
 /// A user's view is made of that user's commands alone, each in its turn.
 pub fn law_of_views()
@@ -62,7 +62,8 @@ pub fn law_of_deletions()
 /// A version of a user's file stays, with its recipe, until a command takes it out.
 pub fn law_of_versions()
     ensures { (shape : Shape) (list : List Command) (command : Command) (user : UserId) (key : Tag × Version)
-        (entry : FileEntry) → ¬ (Ends user key command) → entry_at (user_view shape list user).files key ≡ Some entry
+        (entry : FileEntry) → ¬ (TakesVersionOut user key command)
+        → entry_at (user_view shape list user).files key ≡ Some entry
         → entry_at (user_view shape (list ++ command ∷ []) user).files key ≡ Some entry }
 {}
 
@@ -141,7 +142,7 @@ pub fn law_of_sound_lists()
         → IsSound shape cloud list → FitsRequest request → HasRecipe shape request
         → (answer_over shape cloud list request).adds ≡ Some command → IsSound shape cloud (list ++ command ∷ []) }
     ensures before { (shape : Shape) (cloud : ℕ) (list : List Command) (command : Command)
-        → IsSound shape cloud (list ++ command ∷ []) → IsAdded shape cloud list command }
+        → IsSound shape cloud (list ++ command ∷ []) → IsAddedCommand shape cloud list command }
     // What is deleted was there.
     ensures there { (shape : Shape) (cloud : ℕ) (list : List Command) (user : UserId) (key : Tag × Version)
         → IsSound shape cloud (list ++ deletion user key ∷ [])
@@ -163,5 +164,5 @@ pub fn law_of_pages()
 /// Content asks a request exactly where it is the request's one spelling, with the recipe of a Commit the one spelling of a recipe.
 pub fn law_of_asking()
     ensures { (shape : Shape) (content : List ℕ) (request : Request) → AreBytes content
-        → (asked_at shape content ≡ Ok request) ↔ IsAsked shape content request }
+        → (asked_at shape content ≡ Ok request) ↔ AsksOfStore shape content request }
 {}

@@ -5,7 +5,7 @@ ghost use Rattle.cd_edges.specs.Causes.{Rose};
 ghost use Rattle.messages.specs.Frames.Frames.{frame_limit};
 ghost use Rattle.messages.specs.declared.request.Request.{Request};
 ghost use Rattle.user_dedup.specs.Requests.{asked_at};
-ghost use Rattle.user_dedup.specs.Link.{LinkTelling, Talk, Asks, AsksNothing, TellsSound, LeavesOthers, Says, SaysNothingElse, exchange_of};
+ghost use Rattle.user_dedup.specs.Link.{LinkTelling, Talk, Asks, AsksNothing, TellsSound, LeavesOthers, TakesFirstReply, SaysNothingElse, exchange_of};
 
 use journal_start::CloudNo;
 use messages::ReplyBuf;
@@ -41,7 +41,7 @@ pub trait Link {
         // What else the link says of an ask.
         ensures passes { tells.passes self.old (exchange_of cloud.0 request.now result reply.new) self.new }
         // What was said with the clouds.
-        ensures says { Says talk cloud.0 self.old request.now reply.new result self.new }
+        ensures says { TakesFirstReply talk cloud.0 self.old request.now reply.new result self.new }
         ensures says_else { SaysNothingElse talk cloud.0 self.old self.new };
 
     // Each told cloud stands for sound lists.

@@ -3,7 +3,7 @@ use Rattle.std.proofs.lemmas.Bool.{cases_lt}
 use Rattle.std.proofs.lemmas.Simd.{get_or-replicate}
 use Rattle.std.specs.Prelude.{slice_index_or, slice_set}
 use Rattle.aes256.specs.Cipher.{round_key}
-use Rattle.aes256.specs.Planes.{IsKey, IsRoundKey, no_planes}
+use Rattle.aes256.specs.Planes.{AreRoundKeyPlanes, IsRoundKey, no_planes}
 use Rattle.aes256.proofs.Keys.{round_key-length, round_key-at, length-key_words, loaded}
 use Rattle.aes256.proofs.schedule.round_keys.Goals as goal
 
@@ -43,7 +43,7 @@ rounds-preserved c =
 pub returns : goal.returns
 returns c =
     let done : c.rounds.r ≡ 15 = omega (arith, c.rounds.auto.r-end (omega arith)) in
-    subst (IsKey c.rounds.rounds) c.expand-words.ensures (record {
+    subst (AreRoundKeyPlanes c.rounds.rounds) c.expand-words.ensures (record {
       first = c.rounds.invariant.1;
       others = λ r k pos lt small. c.rounds.invariant.2 r k pos (omega arith) small;
     })

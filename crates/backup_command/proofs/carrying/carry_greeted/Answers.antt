@@ -3,7 +3,7 @@ use Rattle.transcript.specs.CdBase.ids.CloudNo.{CloudNo}
 use Rattle.transcript.specs.CdEdges.Ports.{Telling}
 use Rattle.lane_steps.specs.UploadJob.Lanes.{LaneView, lanes_begun}
 use Rattle.transcript.specs.declared.line.Line.TheVariants as lines
-use Rattle.backup_command.specs.Lanes.{LanesGo, numbered}
+use Rattle.backup_command.specs.Lanes.{LanesGoOnPorts, numbered}
 use Rattle.backup_command.specs.BackedUp.{version_of}
 use Rattle.backup_command.specs.Texts.{text_of, end_lines}
 use Rattle.backup_command.proofs.Joining.{joined}
@@ -21,16 +21,16 @@ returns-in-Ok-put_end-clause-carries g c = λ call dialled user path version aft
     let stored = c.stored-stored.result in (
       w.answers,
       last,
-      subst (λ (t : Telling). LanesGo old t (numbered 0 dialled) (lanes_begun shape (version_of call c.args.file))
+      subst (λ (t : Telling). LanesGoOnPorts old t (numbered 0 dialled) (lanes_begun shape (version_of call c.args.file))
           (Ok tt) w.answers last) (sym after)
-          (subst (λ (ls : List (CloudNo × ℕ)). LanesGo old (g.P.Ports.tells c.bring_all.new.ports) ls
+          (subst (λ (ls : List (CloudNo × ℕ)). LanesGoOnPorts old (g.P.Ports.tells c.bring_all.new.ports) ls
           (lanes_begun shape (version_of call c.args.file)) (Ok tt) w.answers last)
           on.lines_are
           (at_call call c.args.named.now.user c.args.named.now.path.now c.args.named.now.version c.args.file shape user path version
-          (λ views. LanesGo old (g.P.Ports.tells c.bring_all.new.ports) c.args.greeted.now.lines.items views
+          (λ views. LanesGoOnPorts old (g.P.Ports.tells c.bring_all.new.ports) c.args.greeted.now.lines.items views
           (Ok tt) w.answers
           last)
-          (subst (λ (views : List LaneView). LanesGo old (g.P.Ports.tells c.bring_all.new.ports)
+          (subst (λ (views : List LaneView). LanesGoOnPorts old (g.P.Ports.tells c.bring_all.new.ports)
           c.args.greeted.now.lines.items views (Ok tt) w.answers last) c.in-Ok.ensures.begun w.go))),
       c.stored-stored.ensures,
       joined [] c.bring_all.new.text c.put_end.new.text (lines.Job 1 ∷ w.answers) (end_lines stored)

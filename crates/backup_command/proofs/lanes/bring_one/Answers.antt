@@ -3,7 +3,7 @@ use Rattle.lane_steps.specs.UploadJob.news.LaneNews.{LaneNews}
 use Rattle.lane_steps.specs.Steps.{Finishes}
 use Rattle.lane_steps.proofs.Reaching.{reached_len}
 use Rattle.ports_link.specs.Tells.{telling}
-use Rattle.backup_command.specs.Steps.{Talked, Puts}
+use Rattle.backup_command.specs.Steps.{Talked, PutsLaneLines}
 use Rattle.backup_command.proofs.LaneAsks.{reached_own}
 use Rattle.backup_command.proofs.Pieces.{sends_all}
 use Rattle.backup_command.proofs.Walking.{goes, leaves_all, talks_all, lost_all}
@@ -27,7 +27,7 @@ returns-clause-goes g c behind port same ready =
     c.finish_lane-came.result c.finish_lane-came.new.told.items c.put_lane.result c.args.text.now c.put_lane.new.text
     (subst (λ (n : ℕ). c.args.lane.0 < n) (sym (reached_len c.args.link.now.shape c.args.job.now c.requires.reached))
     c.requires.below) f
-    (subst (λ (l : List LaneNews). Puts c.args.lane.0 c.finish_lane-came.result l c.put_lane.result c.args.text.now
+    (subst (λ (l : List LaneNews). PutsLaneLines c.args.lane.0 c.finish_lane-came.result l c.put_lane.result c.args.text.now
     c.put_lane.new.text) c.as_slice.ensures.value c.put_lane.ensures) same ready
 
 pub returns-clause-leaves : goal.returns-clause-leaves
@@ -41,7 +41,7 @@ returns-clause-talks g c =
     talks_all g.P.Ports.tells g.P.Ports.faults c.args.lane.0 c.args.job.now c.finish_lane-came.new.job c.args.link.now
     c.finish_lane-came.new.link c.finish_lane-came.result c.clear.new.self.items c.finish_lane-came.new.told.items
     c.put_lane.result c.args.text.now c.put_lane.new.text c.finish_lane-came.ensures.finishes
-    (subst (λ (l : List LaneNews). Puts c.args.lane.0 c.finish_lane-came.result l c.put_lane.result c.args.text.now
+    (subst (λ (l : List LaneNews). PutsLaneLines c.args.lane.0 c.finish_lane-came.result l c.put_lane.result c.args.text.now
     c.put_lane.new.text) c.as_slice.ensures.value c.put_lane.ensures)
 
 pub returns-clause-lost : goal.returns-clause-lost
@@ -49,7 +49,7 @@ returns-clause-lost g c =
     lost_all g.P.Ports.tells g.P.Ports.faults c.args.lane.0 c.args.job.now c.finish_lane-came.new.job c.args.link.now
     c.finish_lane-came.new.link c.finish_lane-came.result c.clear.new.self.items c.finish_lane-came.new.told.items
     c.put_lane.result c.args.text.now c.put_lane.new.text c.finish_lane-came.ensures.finishes
-    (subst (λ (l : List LaneNews). Puts c.args.lane.0 c.finish_lane-came.result l c.put_lane.result c.args.text.now
+    (subst (λ (l : List LaneNews). PutsLaneLines c.args.lane.0 c.finish_lane-came.result l c.put_lane.result c.args.text.now
     c.put_lane.new.text) c.as_slice.ensures.value c.put_lane.ensures)
 
 pub returns-clause-works : goal.returns-clause-works

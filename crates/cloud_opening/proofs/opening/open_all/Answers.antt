@@ -4,7 +4,7 @@ use Rattle.cloud_disk.proofs.CdEdges.Calls.{called_twice}
 use Rattle.cloud_disk.proofs.CdEdges.Moments.{told_on}
 use Rattle.cloud_disk.specs.JournalStart.start.Start.{Start}
 use Rattle.cloud_disk.specs.JournalStart.Spelling.{region_of}
-use Rattle.cloud_disk.specs.CommitJournal.Openings.{MayBecome}
+use Rattle.cloud_disk.specs.CommitJournal.Openings.{MayBeBegun}
 use Rattle.cloud_disk.specs.CommitJournal.States.{state_of}
 use Rattle.record_laws.specs.RecordChecks.CloudMemory.Rooms.{memory_of}
 use Rattle.cloud_opening.proofs.Opened.{opens_err, opens_ok, then_stays, spares_err, spares_ok, keeps, read_whole, stands_after}
@@ -44,7 +44,7 @@ returns-in-Ok-clause-kept g c told =
     let c2 = g.V.Shelf.cloud_at c.load.new.shelf number in
     let s = c.in-Ok.ensures.started told in let law = c.law_of_standing.ensures in
     keeps header c.args.begin c0 c2 (g.met.V.Shelf.reads_image c.args.shelf.now number told) law.unbegun law.started law.only
-    (then_stays c0 c1 c2 (MayBecome c0.now header c.args.begin) s.any_moment c.load.ensures.stays)
+    (then_stays c0 c1 c2 (MayBeBegun c0.now header c.args.begin) s.any_moment c.load.ensures.stays)
 
 pub returns-in-Ok-clause-spares : goal.returns-in-Ok-clause-spares
 returns-in-Ok-clause-spares g c told =

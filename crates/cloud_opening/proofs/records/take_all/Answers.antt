@@ -5,7 +5,7 @@ use Rattle.cloud_disk.specs.JournalStart.Spelling.{records_of}
 use Rattle.cloud_disk.specs.CommitJournal.errors.OpenErr.{OpenErr}
 use Rattle.cloud_disk.specs.CommitJournal.States.{state_of, IsJournalReading}
 use Rattle.record_laws.specs.RecordChecks.CloudMemory.Rooms.{memory_of}
-use Rattle.cloud_opening.specs.Steps.{IsTraced, OnTrue, AllAs, stage_of}
+use Rattle.cloud_opening.specs.Steps.{IsTraced, OnTrue, AllRecordsAs, stage_of}
 use Rattle.cloud_opening.specs.declared.window.Window.{Window}
 use Rattle.cloud_opening.proofs.Looking.{shows_none}
 use Rattle.cloud_opening.proofs.Along.{with_bodies, further, all_taken, not_taken, StepAs}
@@ -75,7 +75,7 @@ returns-in_err-take_next-clause-exact g c told w reading none =
     let is : c.take_next.result ≡ Err error = c.in_err-take_next.was in
     let p = err_from_is_err_and c.from_residual.result c.from_residual.ensures.1 in
     let residual : c.from_residual.result ≡ Err error = p.1 ∙ ap Err p.2 in
-    subst (λ (r : Result ℕ OpenErr). AllAs ground ((c0 number).now Recipes).read ((c0 number).now Journal) w start (memory_of first) t0 new (memory_of after) u r) (sym residual)
+    subst (λ (r : Result ℕ OpenErr). AllRecordsAs ground ((c0 number).now Recipes).read ((c0 number).now Journal) w start (memory_of first) t0 new (memory_of after) u r) (sym residual)
     (not_taken c0 c1 c2 number before mid now ground start old new first memory after t0 t u records long len len2 of of_is along error (subst (StepAs c0 c1 c2 number before mid now ground start old new first memory after t0 t u records long len len2 of of_is along) is c.take_next.ensures.exact) told w reading none)
 
 pub returns-clause-traced : goal.returns-clause-traced

@@ -2,7 +2,7 @@ use Rattle.std.proofs.Common.{IsTrue, sym, subst}
 use Rattle.backup_command.specs.CdEdges.area.Area.TheVariants.{Journal}
 use Rattle.backup_command.specs.CdEdges.Disk.{Cloud}
 use Rattle.backup_command.proofs.CdEdges.Calls.{called_twice}
-use Rattle.serve_command.specs.Served.{HasRooms}
+use Rattle.serve_command.specs.Served.{HasJournalRooms}
 use Rattle.command_cloud.proofs.Reopened.{unchanged, behind_search, unfound}
 use Rattle.command_cloud.proofs.opening.open_cloud.Goals as goal
 
@@ -11,7 +11,7 @@ open_in-requires g c =
     let f = c.in-Ok-rooms_of.ensures in record {
       cloud = c.requires.cloud;
       allowed = f.allowed;
-      found = subst (λ (k : Cloud). IsTrue k.told → HasRooms (k.now Journal).read c.in-Ok-rooms_of.rooms)
+      found = subst (λ (k : Cloud). IsTrue k.told → HasJournalRooms (k.now Journal).read c.in-Ok-rooms_of.rooms)
           (sym (unchanged _ _ c.args.cloud.0 _ _ f.call f.stays f.counts)) f.found;
     }
 

@@ -1,7 +1,7 @@
 use Rattle.std.proofs.Common.{rules, ◌+◌, ◌<◌, List, sym, subst, arith}
 use Rattle.checkpoints.specs.FileIndex.Files.{key_of}
 use Rattle.checkpoints.specs.SpentTable.Spent.{Spent}
-use Rattle.compact_memories.specs.Passes.{AreSmall, KeptSoFar, row_of}
+use Rattle.compact_memories.specs.Passes.{AreRowsSmall, KeptSoFar, row_of}
 use Rattle.compact_memories.proofs.Passing.{entry_none, entry_one, still_small}
 use Rattle.compact_memories.proofs.rows.add_entry.Goals as goal
 
@@ -23,7 +23,7 @@ returns-in-None-clause-so_far c shares so = entry_none shares c.args.files.now c
 pub returns-in-Some-clause-small : goal.returns-in-Some-clause-small
 returns-in-Some-clause-small c =
     let few : c.in-Some.entry.len < 4294967296 = search rules in
-    subst (λ (rows : List Spent). AreSmall rows (c.args.slot + 1)) (sym c.add_recipe.ensures)
+    subst (λ (rows : List Spent). AreRowsSmall rows (c.args.slot + 1)) (sym c.add_recipe.ensures)
     (still_small c.args.rows.now c.in-Some.user.0 c.in-Some.entry.len c.args.slot c.requires.small few)
 
 pub returns-in-None-clause-small : goal.returns-in-None-clause-small

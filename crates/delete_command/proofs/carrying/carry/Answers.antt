@@ -6,7 +6,7 @@ use Rattle.delete_command.specs.declared.carrying.DeleteErr.{DeleteErr}
 use Rattle.delete_command.specs.Deleted.{DeleteCall, IsAskToDelete, delete_bytes}
 use Rattle.ports_link.specs.Hellos.{hello}
 use Rattle.ports_link.proofs.Sending.{sends_none, sends_twice, sends_weaker}
-use Rattle.delete_command.specs.Steps.{Carries, IfLost, Went}
+use Rattle.delete_command.specs.Steps.{CarriesDeletion, IfAskLost, Went}
 use Rattle.delete_command.proofs.Ending.{carried}
 use Rattle.delete_command.proofs.carrying.carry.Goals as goal
 
@@ -34,10 +34,10 @@ returns-clause-carries g c =
     subst (λ (r : List ℕ). Went r behind greeted.lines.items came c.args.text.now text call.after) request
     (subst (λ (ls : List (CloudNo × ℕ)). Went c.as_slice.result.now behind ls came c.args.text.now text call.after)
     c.as_slice-lines.ensures.value c.ask_each-came.ensures.went) in
-    subst (λ (r : Result Bool DeleteErr). Carries call r text) (sym c.behind_hellos.ensures)
+    subst (λ (r : Result Bool DeleteErr). CarriesDeletion call r text) (sym c.behind_hellos.ensures)
     (carried call greeted behind came c.args.text.now text c.in-Ok-meet_all.ensures.meets c.in-Ok-meet_all.ensures.told
     c.requires.empty went
-    (subst (λ (n : ℕ). IfLost came (Rose n (faults c.ask_each-came.new.ports))) c.in-Ok-meet_all.ensures.cause
+    (subst (λ (n : ℕ). IfAskLost came (Rose n (faults c.ask_each-came.new.ports))) c.in-Ok-meet_all.ensures.cause
     c.ask_each-came.ensures.lost))
 
 pub returns-in-Err-clause-sends : goal.returns-in-Err-clause-sends

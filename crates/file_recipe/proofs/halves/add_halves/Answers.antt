@@ -1,6 +1,6 @@
 use Rattle.std.proofs.Common.{ℕ, ◌+◌, List, length, sym, ◌∙◌, subst}
 use Rattle.std.proofs.lemmas.Result.{on_ok_weaker}
-use Rattle.file_recipe.specs.Progress.{AreEnds, parts_behind, EachWithSecrets}
+use Rattle.file_recipe.specs.Progress.{AreEndsOfParts, parts_behind, EachWithSecrets}
 use Rattle.file_recipe.proofs.Parting.{middle_within, front_ends, back_ends, halves_given}
 use Rattle.file_recipe.proofs.halves.add_halves.Goals as goal
 
@@ -9,13 +9,13 @@ split-requires c = middle_within c.args.file c.args.ends.now c.in_first_half-cou
 
 pub add_secrets-requires-clause-ends : goal.add_secrets-requires-clause-ends
 add_secrets-requires-clause-ends c =
-    subst (AreEnds (0 + length c.as_slice.result.now) 0) (sym c.split_at.ensures.front)
+    subst (AreEndsOfParts (0 + length c.as_slice.result.now) 0) (sym c.split_at.ensures.front)
     (front_ends c.args.file c.args.ends.now c.as_slice.result.now c.in_first_half-count.result c.end_of-middle.result c.requires.ends c.in_first_half-count.ensures c.end_of-middle.ensures
     (c.as_slice.ensures ∙ c.in_ok-front.ensures.front))
 
 pub add_secrets-requires-2-clause-ends : goal.add_secrets-requires-2-clause-ends
 add_secrets-requires-2-clause-ends c =
-    subst (AreEnds (c.end_of-middle.result + length c.as_slice-2.result.now) c.end_of-middle.result) (sym c.split_at.ensures.back)
+    subst (AreEndsOfParts (c.end_of-middle.result + length c.as_slice-2.result.now) c.end_of-middle.result) (sym c.split_at.ensures.back)
     (back_ends c.args.file c.args.ends.now c.as_slice-2.result.now c.in_first_half-count.result c.end_of-middle.result c.requires.ends c.in_first_half-count.ensures c.end_of-middle.ensures
     (c.as_slice-2.ensures ∙ c.in_ok-front.ensures.back))
 

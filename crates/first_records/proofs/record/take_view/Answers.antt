@@ -8,10 +8,10 @@ use Rattle.record_checks.proofs.RecordBody.FirstSpelled.{length-commit}
 use Rattle.first_records.specs.declared.errors.Fault.{Fault}
 use Rattle.first_records.specs.declared.errors.Fault.TheVariants.{Field, Passes}
 use Rattle.first_records.specs.Judging.{IsForeign}
-use Rattle.first_records.specs.Steps.{IsWithin}
+use Rattle.first_records.specs.Steps.{IsFaultWithin}
 use Rattle.first_records.proofs.record.take_view.Goals as goal
 
-within_more : (a b : ℕ) (r : Result Unit Fault) → a ≤ b → IfErr r (IsWithin a) → IfErr r (IsWithin b)
+within_more : (a b : ℕ) (r : Result Unit Fault) → a ≤ b → IfErr r (IsFaultWithin a) → IfErr r (IsFaultWithin b)
 within_more a b (Ok u) more within = tt
 within_more a b (Err (Field place)) more within = omega (arith, more, within)
 within_more a b (Err (Passes room)) more within = tt
@@ -23,7 +23,7 @@ unreachable-requires c =
 pub returns-in-Put-clause-within : goal.returns-in-Put-clause-within
 returns-in-Put-clause-within c =
     let starts = subst (StartsIn c.args.body.now) c.in-Put.is c.requires.starts in
-    subst (λ (l : List ℕ). IfErr c.take_put.result (IsWithin (length l))) starts.0 c.take_put.ensures.within
+    subst (λ (l : List ℕ). IfErr c.take_put.result (IsFaultWithin (length l))) starts.0 c.take_put.ensures.within
 
 pub returns-in-Commit-clause-within : goal.returns-in-Commit-clause-within
 returns-in-Commit-clause-within c =
@@ -40,4 +40,4 @@ returns-in-Delete-clause-within c =
 pub returns-in-Kept-clause-within : goal.returns-in-Kept-clause-within
 returns-in-Kept-clause-within c =
     let starts = subst (StartsIn c.args.body.now) c.in-Kept.is c.requires.starts in
-    subst (λ (l : List ℕ). IfErr c.take_kept.result (IsWithin (length l))) starts.0 c.take_kept.ensures.within
+    subst (λ (l : List ℕ). IfErr c.take_kept.result (IsFaultWithin (length l))) starts.0 c.take_kept.ensures.within

@@ -7,7 +7,7 @@ use Rattle.replay_core.specs.ScriptLines.Finishing.{FinishedPart}
 use Rattle.replay_core.proofs.ScriptLines.Going.{leaves_all, leaves_join}
 use Rattle.replay_core.proofs.ScriptLines.Lines.{on_err}
 use Rattle.replay_core.proofs.ScriptLines.Bringing.{part_longer, range_more, range_at}
-use Rattle.generated_session.specs.Progress.{Brings, Grows}
+use Rattle.generated_session.specs.Progress.{Brings, GrowsByLanes}
 use Rattle.generated_session.proofs.Lanes.{brings_none, brings_join, brings_cut}
 use Rattle.generated_session.proofs.Growing.{grows_none, grows_more, grows_within, room_for}
 use Rattle.generated_session.proofs.carrying.finish_lanes.Goals as goal

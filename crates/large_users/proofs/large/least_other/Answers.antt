@@ -11,7 +11,7 @@ use Rattle.compact_memories.specs.ShareIndex.Order.{owner_exact}
 use Rattle.compact_memories.specs.ShareIndex.Shares.{Shares}
 use Rattle.compact_memories.proofs.ShareIndexLaws.Owning.{owner_total}
 use Rattle.compact_memories.specs.CloudMemory.Rooms.{memory_of}
-use Rattle.large_users.specs.Counting.{IsSeen, IsFound, AreSeen}
+use Rattle.large_users.specs.Counting.{IsSeen, IsUserFound, AreSeen}
 use Rattle.large_users.specs.Large.{OfEach, IsOwnerSized, IsEntrySized}
 use Rattle.large_users.proofs.Counts.{none_of, some_of}
 use Rattle.large_users.proofs.Passed.{owner_found, file_found}
@@ -38,8 +38,8 @@ returns-clause-found c m users is =
     let owner = c.least_owner-owner in let other = c.least_with-other in
     let owners = subst (λ (s : Shares). IsListed s.owners s.owner_slots) c.shares-2.ensures owner.ensures.each in
     let entries = subst (λ (f : Files). IsListed f.files f.slots) c.files.ensures other.ensures.each in
-    let found = subst (λ (s : Shares). IsFound (λ (k : Owner). k.user) c.args.from s.owner_slots owner.result) c.shares-2.ensures owner.ensures.found in
-    let had = subst (λ (f : Files). IsFound (λ (k : FileKey). k.user) c.args.from f.slots other.result) c.files.ensures other.ensures.found in
+    let found = subst (λ (s : Shares). IsUserFound (λ (k : Owner). k.user) c.args.from s.owner_slots owner.result) c.shares-2.ensures owner.ensures.found in
+    let had = subst (λ (f : Files). IsUserFound (λ (k : FileKey). k.user) c.args.from f.slots other.result) c.files.ensures other.ensures.found in
     elim c.least_of.ensures.which [
       | inl same ↦
           subst (λ (o : Option ℕ). IfSome o (λ (user : ℕ). (c.args.from ≤ user) × ((1 ≤ keys_of (λ (k : Owner). k.user) m.owners user) ⊎ (1 ≤ keys_of (λ (k : FileKey). k.user) m.files user)))) (sym same)

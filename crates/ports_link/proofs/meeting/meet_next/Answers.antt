@@ -1,7 +1,7 @@
 use Rattle.std.proofs.Common.{◌≡◌, ◌∷◌, [], ℕ, List, Err, subst, sym, ◌∙◌}
 use Rattle.transcript.specs.CdEdges.Ports.{Telling}
 use Rattle.ports_link.specs.declared.meeting.MeetErr.TheVariants as errors
-use Rattle.ports_link.specs.Greetings.{IsRefused}
+use Rattle.ports_link.specs.Greetings.{IsGreetingRefused}
 use Rattle.ports_link.specs.Meeting.{Meets, Refuses, Loses, Undials}
 use Rattle.ports_link.specs.Hellos.{hello}
 use Rattle.ports_link.specs.Sending.{SendsOnly}
@@ -46,7 +46,7 @@ returns-in-Err-judge-clause-meets g c =
         content = c.ask_hello.new.reply;
         hears = λ told. c.in-Ok-ask_hello.ensures.hears (rw c.in-Ok.ensures.told told);
         told = c.in-Ok-ask_hello.ensures.told ∙ c.in-Ok.ensures.told;
-        refused = subst (λ (l : List ℕ). IsRefused c.args.asked c.args.count before l why) c.content.ensures.value
+        refused = subst (λ (l : List ℕ). IsGreetingRefused c.args.asked c.args.count before l why) c.content.ensures.value
             c.in-Err-judge.ensures.refused;
       }),
     )

@@ -1,11 +1,11 @@
 use Rattle.std.proofs.Common.{◌-◌, ◌≤◌, ◌+◌}
-use Rattle.rabin_chunker.specs.Lanes.{AreLanes, IsUnmarked}
+use Rattle.rabin_chunker.specs.Lanes.{AreLanesAt, IsUnmarked}
 use Rattle.rabin_chunker.proofs.scan.pass.Given as goal
 
 abbrev pub invariant-loop-count : goal.invariant-loop-count
 invariant-loop-count l = record {
   within : l.count ≤ 256;
-  lanes : AreLanes l.piece (l.at + l.count) l.lanes;
+  lanes : AreLanesAt l.piece (l.at + l.count) l.lanes;
   first : IsUnmarked l.piece l.at (l.at + l.count + 1);
   second : IsUnmarked l.piece (l.at + 256) (l.at + l.count + 256 + 1);
   third : IsUnmarked l.piece (l.at + 512) (l.at + l.count + 512 + 1);

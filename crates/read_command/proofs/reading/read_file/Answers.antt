@@ -2,8 +2,8 @@ use Rattle.std.proofs.Common.{rules, ◌≡◌, ℕ, List, [], refl, subst}
 use Rattle.cloud_areas.specs.UserDedup.command.Command.{Command}
 use Rattle.commit_journal.specs.JournalStart.rooms.UserRooms.{UserRooms}
 use Rattle.read_command.specs.Disks.{AreReadable}
-use Rattle.read_command.specs.Opening.{EndsOpening, IsFree}
-use Rattle.read_command.specs.Ends.{Outside, IsWritten, Restored}
+use Rattle.read_command.specs.Opening.{EndsOpening, IsFailedOrNoMemory}
+use Rattle.read_command.specs.Ends.{Outside, IsReadWritten, Restored}
 use Rattle.read_command.specs.declared.end.ReadEnd.{ReadEnd}
 use Rattle.read_command.specs.declared.end.ReadEnd.TheVariants as ends
 use Rattle.read_command.proofs.Disks.{spared_still}
@@ -35,7 +35,7 @@ returns-in-Ok-came-clause-reads g c =
     reads_whole (around c.args.shelf.now c.shelf-1.given.0) r came file old new c.write_came.result
     (subst (λ (a : g.row.V.Denot). Restored (around a c.shelf-1.given.0) r came file) c.of-link.ensures.shelf
     (subst (λ (b : g.row.V.Denot). Restored (around first b) r came file) back c.in-Ok-came.ensures.came))
-    (subst (λ (bytes : List ℕ). IsWritten came bytes old new c.write_came.result) c.as_slice.ensures c.write_came.ensures.written)
+    (subst (λ (bytes : List ℕ). IsReadWritten came bytes old new c.write_came.result) c.as_slice.ensures c.write_came.ensures.written)
 
 pub returns-clause-reads : goal.returns-clause-reads
 returns-clause-reads g c =
@@ -53,7 +53,7 @@ returns-clause-reads g c =
     let ended = λ (a b : g.row.V.Denot). EndsOpening r.shape r.clouds.now (g.V.Shelf.cloud_at a) (g.V.Shelf.cloud_at b) (g.V.Shelf.faults a) (g.V.Shelf.faults b) end in
     reads_stopped (around c.args.shelf.now c.shelf-1.given.0) r (g.K.Sink.written c.args.sink.now) end
     (subst (λ (a : g.row.V.Denot). ended a c.shelf-1.given.0) c.of-link.ensures.shelf (subst (λ (b : g.row.V.Denot). ended first b) back c.in-Err.ensures.end))
-    (subst (λ (a : g.row.V.Denot). (rooms : ℕ → UserRooms) (lists : ℕ → List Command) → AreReadable r.shape r.clouds.now (g.V.Shelf.cloud_at a) rooms lists → IsFree end) c.of-link.ensures.shelf c.in-Err.ensures.free)
+    (subst (λ (a : g.row.V.Denot). (rooms : ℕ → UserRooms) (lists : ℕ → List Command) → AreReadable r.shape r.clouds.now (g.V.Shelf.cloud_at a) rooms lists → IsFailedOrNoMemory end) c.of-link.ensures.shelf c.in-Err.ensures.free)
 
 pub returns-in_default-clause-areas : goal.returns-in_default-clause-areas
 returns-in_default-clause-areas g c = λ cloud told.
@@ -90,7 +90,7 @@ returns-in-Ok-came-clause-anyway g c =
     whole_anyway (around c.args.shelf.now c.shelf-1.given.0) r came file old new c.write_came.result
     (subst (λ (a : g.row.V.Denot). Restored (around a c.shelf-1.given.0) r came file) c.of-link.ensures.shelf
     (subst (λ (b : g.row.V.Denot). Restored (around first b) r came file) back c.in-Ok-came.ensures.came))
-    (subst (λ (bytes : List ℕ). IsWritten came bytes old new c.write_came.result) c.as_slice.ensures c.write_came.ensures.written)
+    (subst (λ (bytes : List ℕ). IsReadWritten came bytes old new c.write_came.result) c.as_slice.ensures c.write_came.ensures.written)
 
 pub returns-clause-anyway : goal.returns-clause-anyway
 returns-clause-anyway g c rooms lists chosen file has are given free is =

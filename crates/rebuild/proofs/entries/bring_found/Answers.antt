@@ -7,7 +7,7 @@ use Rattle.rebuild.specs.declared.error.SkipWhy.{SkipWhy}
 use Rattle.rebuild.specs.declared.error.RebuildErr.{RebuildErr}
 use Rattle.lane_steps.specs.UserDedup.Link.{serves}
 use Rattle.lane_steps.specs.UploadJob.Upload.{FileVersion}
-use Rattle.rebuild.specs.Over.{Leads}
+use Rattle.rebuild.specs.Over.{LeadsWithTarget}
 use Rattle.rebuild.specs.Entering.{EntryBrought, entered_as}
 use Rattle.rebuild.specs.Filling.{BringHolds}
 use Rattle.rebuild.specs.Turns.{EndsLane, OwnLanes}
@@ -36,7 +36,7 @@ returns-in-Ok-clause-brings g c tag =
     let serve = serves t old target in
     let key : Tag × Version = (tag, c.args.version) in
     let v : FileVersion = record { user = c.args.refill.user; path = c.as_slice.result.now; number = c.args.version; file = c.as_slice-in-Version.result.now } in
-    let clause : Result FileVersion SkipWhy → Option SkipWhy → Type 0 = λ f s. Leads t talk target [] old new (ok s) (λ turns before after. BringHolds (t.told old target) (OwnLanes c.args.refill.shape c.args.refill.user target) (EndsLane c.args.refill.shape c.args.refill.user target) (ok s) turns (before target) (after target))
+    let clause : Result FileVersion SkipWhy → Option SkipWhy → Type 0 = λ f s. LeadsWithTarget t talk target [] old new (ok s) (λ turns before after. BringHolds (t.told old target) (OwnLanes c.args.refill.shape c.args.refill.user target) (EndsLane c.args.refill.shape c.args.refill.user target) (ok s) turns (before target) (after target))
     (λ turns before at after. EntryBrought c.args.refill.shape target serve key f (ok s) turns (before target) at (after target)) in
     subst (λ (f : Result FileVersion SkipWhy). clause f c.skip_of.result) (sym (ap (found_of c.args.refill.user key) c.in-Version.is ∙ version_is c.args.refill.user c.args.version _ _ _ _ c.as_slice.ensures c.as_slice-in-Version.ensures))
     (subst (λ (s : Option SkipWhy). clause (Ok v) s) (sym c.skip_of.ensures)
@@ -56,7 +56,7 @@ returns-in-Err-clause-brings g c tag =
     let e : RebuildErr = c.in-Err.e in
     let r : Result (Option SkipWhy) RebuildErr = Err e in
     let v : FileVersion = record { user = c.args.refill.user; path = c.as_slice.result.now; number = c.args.version; file = c.as_slice-in-Version.result.now } in
-    let clause : Result FileVersion SkipWhy → Type 0 = λ f. Leads t talk target [] old new r (λ turns before after. BringHolds (t.told old target) (OwnLanes c.args.refill.shape c.args.refill.user target) (EndsLane c.args.refill.shape c.args.refill.user target) r turns (before target) (after target))
+    let clause : Result FileVersion SkipWhy → Type 0 = λ f. LeadsWithTarget t talk target [] old new r (λ turns before after. BringHolds (t.told old target) (OwnLanes c.args.refill.shape c.args.refill.user target) (EndsLane c.args.refill.shape c.args.refill.user target) r turns (before target) (after target))
     (λ turns before at after. EntryBrought c.args.refill.shape target serve key f r turns (before target) at (after target)) in
     subst clause (sym (ap (found_of c.args.refill.user key) c.in-Version.is ∙ version_is c.args.refill.user c.args.version _ _ _ _ c.as_slice.ensures c.as_slice-in-Version.ensures))
     (leads_as t talk target [] old new (refused e) r _ _ _ _ (c.in-Err.ensures.brings [] (λ has. contains_nothing target has)) (λ last p q x. then_err Bool (Option SkipWhy) t target last new p q e x)
@@ -72,7 +72,7 @@ returns-in-Skipped-clause-brings g c tag =
     let serve = serves t link target in
     let key : Tag × Version = (tag, c.args.version) in
     let r : Result (Option SkipWhy) RebuildErr = Ok (Some c.in-Skipped.why) in
-    let clause : Result FileVersion SkipWhy → Type 0 = λ f. Leads t talk target [] link link r (λ turns before after. BringHolds (t.told link target) (OwnLanes c.args.refill.shape c.args.refill.user target) (EndsLane c.args.refill.shape c.args.refill.user target) r turns (before target) (after target))
+    let clause : Result FileVersion SkipWhy → Type 0 = λ f. LeadsWithTarget t talk target [] link link r (λ turns before after. BringHolds (t.told link target) (OwnLanes c.args.refill.shape c.args.refill.user target) (EndsLane c.args.refill.shape c.args.refill.user target) r turns (before target) (after target))
     (λ turns before at after. EntryBrought c.args.refill.shape target serve key f r turns (before target) at (after target)) in
     subst clause (sym (ap (found_of c.args.refill.user key) c.in-Skipped.is)) (skipped_leads t talk target link (t.told link target) c.args.refill.shape c.args.refill.user serve key c.in-Skipped.why)
 

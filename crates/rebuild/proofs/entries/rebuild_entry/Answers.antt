@@ -12,7 +12,7 @@ use Rattle.rebuild.specs.declared.error.SkipWhy.{SkipWhy}
 use Rattle.rebuild.specs.Entering.{EntryBrought, EntryTold, stopped_as}
 use Rattle.rebuild.specs.Filling.{BringHolds}
 use Rattle.rebuild.specs.Turns.{EndsLane, OwnLanes}
-use Rattle.rebuild.specs.Over.{HasRebuildCause, Leads, is_lost}
+use Rattle.rebuild.specs.Over.{HasRebuildCause, LeadsWithTarget, is_lost}
 use Rattle.rebuild.specs.Steps.{found_of}
 use Rattle.rebuild.proofs.Joining.{read_then, read_stops, then_stopped, stopped_holds, stopped_told, own_holds, found_brought, serves_same}
 use Rattle.rebuild.proofs.Joining.{stopped_lost}
@@ -39,7 +39,7 @@ returns-in-Ok-clause-rebuilt g c =
     let asked = c.in-Ok.ensures.asked in
     let own = c.bring_found.ensures.own in
     let apart = c.requires.apart in
-    let second = subst (λ (serve : List Command → Request → Outcome). Leads t talk target [] mid new r (λ turns before after. BringHolds (t.told mid target) (OwnLanes c.args.refill.shape c.args.refill.user target) (EndsLane c.args.refill.shape c.args.refill.user target) r turns (before target) (after target))
+    let second = subst (λ (serve : List Command → Request → Outcome). LeadsWithTarget t talk target [] mid new r (λ turns before after. BringHolds (t.told mid target) (OwnLanes c.args.refill.shape c.args.refill.user target) (EndsLane c.args.refill.shape c.args.refill.user target) r turns (before target) (after target))
     (λ turns before at after. EntryBrought c.args.refill.shape target serve key (found_of c.args.refill.user key c.in-Ok.found) r turns (before target) at (after target))) (serves_same t target old mid asked.shape asked.full)
     (c.bring_found.ensures.brings c.args.tag) in
     read_then t talk target from old mid new r _ _ _ _ _ _ apart (asked.asks, asked.passed) asked.told c.in-Ok.ensures.told second
@@ -59,7 +59,7 @@ returns-in-Err-clause-rebuilt g c =
     let e = c.in-Err.e in
     let asked = c.in-Err.ensures.asked in
     let apart = c.requires.apart in
-    subst (λ (x : RebuildErr). Leads t talk target from old new (bad x) (HasRebuildCause t old c.args.refill.shape c.args.refill.user target (bad x)) (EntryTold c.args.refill.shape c.args.refill.user target serve from key (bad x))) (sym c.stopped.ensures)
+    subst (λ (x : RebuildErr). LeadsWithTarget t talk target from old new (bad x) (HasRebuildCause t old c.args.refill.shape c.args.refill.user target (bad x)) (EntryTold c.args.refill.shape c.args.refill.user target serve from key (bad x))) (sym c.stopped.ensures)
     (read_stops t talk target from old new (bad (stopped_as e)) _ _ _ _ apart (asked.asks, asked.passed) c.in-Err.ensures.told (λ p q same. then_stopped (Option SkipWhy) t target new p q e same)
     (λ a b one x. stopped_holds (Option SkipWhy) t old c.args.refill.shape c.args.refill.user target e a b x) (λ a b one x. stopped_told c.args.refill.shape c.args.refill.user target serve from key e a b (one.others target apart) x))
 

@@ -12,7 +12,7 @@ use Rattle.lane_steps.specs.Steps.{Heard}
 use Rattle.lane_steps.specs.declared.error.StepErr.{StepErr}
 use Rattle.lane_steps.proofs.Finishing.{no_others}
 use Rattle.rebuild.specs.declared.error.RebuildErr.{RebuildErr}
-use Rattle.rebuild.specs.Over.{Leads, is_lost}
+use Rattle.rebuild.specs.Over.{LeadsWithTarget, is_lost}
 use Rattle.rebuild.specs.Turns.{LaneEnded, LaneGoes}
 use Rattle.rebuild.specs.Filling.{BringHolds, BringsTold, EndsBy, OfTarget, failed_as, last_of}
 use Rattle.rebuild.proofs.Joining.{ends_own, failed_own, failed_found}
@@ -77,7 +77,7 @@ returns-clause-brings g c =
     λ from apart.
     let result : Result Bool RebuildErr = Err c.failed.result in
     let due : result ≡ Err (failed_as e) = ap (λ (x : RebuildErr). bad x) c.failed.ensures in
-    let clause : Result Bool RebuildErr → Type 0 = λ r. Leads t talk target from old new r (λ turns before after. BringHolds (t.told old target) (LaneGoes (lane_of shape target v)) (LaneEnded (lane_of shape target v)) r turns (before target) (after target)) (λ turns before at after. BringsTold shape target (serves t old target) v r turns (before target) at (after target)) in
+    let clause : Result Bool RebuildErr → Type 0 = λ r. LeadsWithTarget t talk target from old new r (λ turns before after. BringHolds (t.told old target) (LaneGoes (lane_of shape target v)) (LaneEnded (lane_of shape target v)) r turns (before target) (after target)) (λ turns before at after. BringsTold shape target (serves t old target) v r turns (before target) at (after target)) in
     subst clause (sym due)
     (target_leads t talk target from old new (Err (failed_as e)) _ _ c.in-Err-finish_any.ensures.others
     (λ p stands. step_moves t talk shape target from v c.requires.path few old c.requires.shape f.3 new (with_state c.in-Ok.job target f.1.lane.state) c.finish_any.new.job (starting (lane_at c.in-Ok.job target)) f.1 f.0 f.2 p e here f.7 is f.4 f.5 stands f.8))

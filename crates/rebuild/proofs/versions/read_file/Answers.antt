@@ -1,6 +1,6 @@
 use Rattle.std.proofs.Common.{ℕ, List, Ok, subst}
 use Rattle.lane_steps.specs.CdBase.Numbers.{numbers_of}
-use Rattle.kept_files.specs.RestoreJob.Brought.{Appends}
+use Rattle.kept_files.specs.RestoreJob.Brought.{AppendsSecrets}
 use Rattle.kept_files.specs.RestoreJob.Reading.{Ends}
 use Rattle.kept_files.specs.RestoreJob.Restored.{agreed}
 use Rattle.kept_files.specs.RestoreJob.Steps.{givens}
@@ -21,7 +21,7 @@ pub returns-in-Ok-clause-fit : goal.returns-in-Ok-clause-fit
 returns-in-Ok-clause-fit g c = (
   c.requires.path,
   file_fits c.args.shape (numbers_of c.args.clouds.now) c.args.recipes.now c.restore_agreed-came.new.out c.requires.fits
-      (subst (λ (l : List ℕ). Appends c.args.shape (numbers_of c.args.clouds.now) c.args.recipes.now l c.restore_agreed-came.new.out) c.new-file.ensures c.in-Ok.ensures.brought.1),
+      (subst (λ (l : List ℕ). AppendsSecrets c.args.shape (numbers_of c.args.clouds.now) c.args.recipes.now l c.restore_agreed-came.new.out) c.new-file.ensures c.in-Ok.ensures.brought.1),
 )
 
 pub returns-in-Err-clause-told : goal.returns-in-Err-clause-told

@@ -1,7 +1,7 @@
 use Rattle.std.specs.Prelude.{Err}
 use Rattle.std.proofs.Common.{rules, ◌≡◌, [], refl, sym, ap, subst, ◌∙◌, arith}
 use Rattle.share_server.specs.CdBase.shape.Shape.{Shape}
-use Rattle.replay_core.specs.Opening.{IsEmpty, OpensTo}
+use Rattle.replay_core.specs.Opening.{IsEmpty, OpensClouds}
 use Rattle.replay_core.proofs.Clouds.{empty_stands, on_err, if_err, ends_unopened}
 use Rattle.replay_core.proofs.Links.{none_opened, one_opened, stops_opening}
 use Rattle.replay_core.proofs.opening.open_clouds.Goals as goal
@@ -50,4 +50,4 @@ pub returns-clause-opens : goal.returns-clause-opens
 returns-clause-opens g c =
     let n : c.loop-number.number ≡ c.args.link.now.servers.shape.n =
     (let e = ap (λ (s : Shape). s.n) c.shape-shape.ensures in let a = c.loop-number.auto.number-end in let b = c.loop-number-test.false in omega arith) in
-    subst (OpensTo g.V.Shelf.cloud_at c.args.link.now c.loop-number.link) n c.loop-number.invariant.to
+    subst (OpensClouds g.V.Shelf.cloud_at c.args.link.now c.loop-number.link) n c.loop-number.invariant.to

@@ -2,7 +2,7 @@ use Rattle.std.proofs.Common.{◌≡◌, ◌+◌, ◌-◌, ◌<◌, ◌≤◌, �
 use Rattle.user_dedup.specs.CdBase.shape.Shape.{Shape}
 use Rattle.user_dedup.specs.Recipe.items.Item.{Item}
 use Rattle.restore_job.specs.Restored.{Unrestored, Given, of_secret, secret_opened, secrets_opened}
-use Rattle.restore_job.specs.Steps.{OpensTo}
+use Rattle.restore_job.specs.Steps.{OpensSecretsTo}
 use Rattle.restore_job.specs.Brought.{Extends, HasShares}
 use Rattle.restore_job.proofs.Bringing.{extends_none, extends_more, opened_here}
 use Rattle.restore_job.proofs.Taking.{opening_none, opening_is, opening_more, opening_stops, opening_all, secrets_next, secrets_done, secret_is, grows_on, grows_none}
@@ -54,7 +54,7 @@ returns-in-Err-clause-opens c all points rooms =
     let secret = secret_is c.args.shape c.args.firsts.now all c.args.points.now c.get.result.now i points (c.get.ensures ∙ rooms c.loop-j.j c.loop-j-test.true) in
     opening_stops due (of_secret i (secret_opened c.args.shape c.args.firsts.now all i)) _ c.in-Err.e c.args.out.now c.loop-j.out c.open_secret.new.out
     (opening_is due _ _ c.args.out.now c.loop-j.out (secrets_next c.args.shape c.args.firsts.now all c.args.place c.args.count c.loop-j.j c.loop-j-test.true) (c.loop-j.invariant.opening all points rooms))
-    (subst (λ (r : Result (List ℕ) Unrestored). OpensTo r (Err c.in-Err.e) c.loop-j.out c.open_secret.new.out) (ap (of_secret i) secret) c.in-Err.ensures.opens)
+    (subst (λ (r : Result (List ℕ) Unrestored). OpensSecretsTo r (Err c.in-Err.e) c.loop-j.out c.open_secret.new.out) (ap (of_secret i) secret) c.in-Err.ensures.opens)
 
 pub returns-in-Err-clause-grows : goal.returns-in-Err-clause-grows
 returns-in-Err-clause-grows c = grows_on c.args.out.now c.loop-j.out c.open_secret.new.out c.loop-j.invariant.grows c.in-Err.ensures.grows

@@ -10,7 +10,7 @@ use Rattle.user_dedup.specs.Recipe.items.Item.{Item}
 use Rattle.user_dedup.specs.Recipe.recipe.Recipe.{Recipe}
 use Rattle.restore_job.specs.Refusals.{Names}
 use Rattle.restore_job.specs.Steps.{AreItemsAt}
-use Rattle.restore_job.specs.Brought.{AreSecrets, Agree, Appends}
+use Rattle.restore_job.specs.Brought.{AreSecrets, Agree, AppendsSecrets}
 use Rattle.restore_job.proofs.Bringing.{none_differs}
 use Rattle.restore_job.specs.Asking.{is_loss}
 use Rattle.restore_job.proofs.Causing.{compared_found, compared_names}
@@ -106,19 +106,19 @@ returns-in-Err-clause-named g c =
 
 pub returns-in_default-clause-brought : goal.returns-in_default-clause-brought
 returns-in_default-clause-brought g c =
-    subst (λ (l : List Recipe). Agree l × Appends c.args.shape (numbers_of c.args.clouds.now) l c.args.out.now c.args.out.now) (sym c.in_default.ensures.recipes) (tt, ([], sym (append-nil c.args.out.now), refl))
+    subst (λ (l : List Recipe). Agree l × AppendsSecrets c.args.shape (numbers_of c.args.clouds.now) l c.args.out.now c.args.out.now) (sym c.in_default.ensures.recipes) (tt, ([], sym (append-nil c.args.out.now), refl))
 
 pub returns-in-Ok-restore_items-clause-brought : goal.returns-in-Ok-restore_items-clause-brought
 returns-in-Ok-restore_items-clause-brought g c =
     let items = c.in-Ok-restore_items.ensures.brought in
     let firsts = c.as_slice-firsts.ensures in
-    let appends : Appends c.args.shape (numbers_of c.args.clouds.now) (c.in-Some.recipe.now ∷ c.in-Some.rest.now) c.args.out.now c.restore_items.new.out = (
+    let appends : AppendsSecrets c.args.shape (numbers_of c.args.clouds.now) (c.in-Some.recipe.now ∷ c.in-Some.rest.now) c.args.out.now c.restore_items.new.out = (
       items.0,
       items.1,
       subst (λ (l : List Recipe). AreSecrets c.args.shape (numbers_of c.args.clouds.now) c.in-Some.recipe.now.items l (length c.in-Some.recipe.now.items) items.0) c.in-Some.ensures.recipes
           (subst (λ (l : List Item). AreSecrets c.args.shape (numbers_of c.args.clouds.now) l c.args.recipes.now (length l) items.0) firsts items.2),
     ) in
-    subst (λ (l : List Recipe). Agree l × Appends c.args.shape (numbers_of c.args.clouds.now) l c.args.out.now c.restore_items.new.out) (sym c.in-Some.ensures.recipes) (
+    subst (λ (l : List Recipe). Agree l × AppendsSecrets c.args.shape (numbers_of c.args.clouds.now) l c.args.out.now c.restore_items.new.out) (sym c.in-Some.ensures.recipes) (
       none_differs c.in-Some.first.0 c.in-Some.recipe.now (numbers_of c.in-Some.others.now) c.in-Some.rest.now
           (others_long c.args.clouds.now c.in-Some.others.now c.args.recipes.now c.in-Some.rest.now c.in-Some.first c.in-Some.recipe.now c.in-Some.ensures.clouds c.in-Some.ensures.recipes c.requires.pairs) c.in-Ok.ensures.compares,
       appends,

@@ -1,7 +1,7 @@
 use Rattle.std.proofs.Common.{List, ℕ, Ok, Err, sym, subst, ◌∙◌}
 use Rattle.std.proofs.lemmas.List.{length-map}
 use Rattle.user_dedup.specs.CdBase.ids.CloudNo.{CloudNo}
-use Rattle.restore_job.specs.Brought.{Agree, Appends}
+use Rattle.restore_job.specs.Brought.{Agree, AppendsSecrets}
 use Rattle.user_dedup.specs.CdBase.Numbers.{numbers_of}
 use Rattle.caont_rs.specs.Package.{tag as tag_at}
 use Rattle.user_dedup.specs.Messages.request.Request.TheVariants as requests
@@ -50,7 +50,7 @@ pub returns-in-Ok-restore_agreed-clause-brought : goal.returns-in-Ok-restore_agr
 returns-in-Ok-restore_agreed-clause-brought g c =
     let recipes = c.in-Ok-fetch_recipes.recipes in
     let same = c.as_slice-in-Ok-fetch_recipes.ensures in
-    let agreed = subst (λ (l : List Recipe). Agree l × Appends c.args.shape (numbers_of c.args.clouds.now) l c.args.out.now c.restore_agreed.new.out) same c.in-Ok-restore_agreed.ensures.brought in
+    let agreed = subst (λ (l : List Recipe). Agree l × AppendsSecrets c.args.shape (numbers_of c.args.clouds.now) l c.args.out.now c.restore_agreed.new.out) same c.in-Ok-restore_agreed.ensures.brought in
     record {
       recipes = recipes;
       count = c.in-Ok-fetch_recipes.ensures.pairs ∙ sym (length-map c.args.clouds.now (λ (cloud : CloudNo). cloud.0));

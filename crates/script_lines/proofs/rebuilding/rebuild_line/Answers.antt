@@ -1,4 +1,4 @@
-use Rattle.session_model.specs.Rebuild.Over.{AsksFor}
+use Rattle.session_model.specs.Rebuild.Over.{AsksTargetOrReads}
 use Rattle.script_lines.proofs.Lines.{on_ok, on_err}
 use Rattle.script_lines.proofs.Turned.{asks_leave}
 use Rattle.script_lines.proofs.Rebuilt.{came_by, rebuild_goes, rebuild_cut}
@@ -32,8 +32,8 @@ returns-clause-cut g c =
 
 pub returns-clause-leaves : goal.returns-clause-leaves
 returns-clause-leaves g c =
-    (asks_leave g.V.Shelf.cloud_at (AsksFor c.args.target.0 c.args.from.now) c.rebuild-came.ensures.asked.asks c.args.link.now c.rebuild-came.new.link c.rebuild-came.ensures.asked.passed).0
+    (asks_leave g.V.Shelf.cloud_at (AsksTargetOrReads c.args.target.0 c.args.from.now) c.rebuild-came.ensures.asked.asks c.args.link.now c.rebuild-came.new.link c.rebuild-came.ensures.asked.passed).0
 
 pub returns-clause-same_reference : goal.returns-clause-same_reference
 returns-clause-same_reference g c =
-    (asks_leave g.V.Shelf.cloud_at (AsksFor c.args.target.0 c.args.from.now) c.rebuild-came.ensures.asked.asks c.args.link.now c.rebuild-came.new.link c.rebuild-came.ensures.asked.passed).1
+    (asks_leave g.V.Shelf.cloud_at (AsksTargetOrReads c.args.target.0 c.args.from.now) c.rebuild-came.ensures.asked.asks c.args.link.now c.rebuild-came.new.link c.rebuild-came.ensures.asked.passed).1

@@ -1,7 +1,7 @@
 use Rattle.std.proofs.Common.{rules, ℕ, ◌≡◌, ◌+◌, ◌^◌, List, [], subst, sym, ◌∙◌, ap, arith}
 use Rattle.ports_link.specs.Frames.Frames.{IsRefused}
 use Rattle.serve_command.specs.declared.served.Served.{Served}
-use Rattle.serve_command.specs.Connection.{Serves}
+use Rattle.serve_command.specs.Connection.{ServesConnection}
 use Rattle.serve_command.specs.Framing.{IsAlongFrames, ended_with}
 use Rattle.serve_command.proofs.PassingOn.{none_refused}
 use Rattle.serve_command.proofs.Ending.{begun, ends_at_end, ends_spent, ends_by_stop}
@@ -23,7 +23,7 @@ loop-received-init g c = record {
 pub returns-in-Ok-eq0-clause-serves : goal.returns-in-Ok-eq0-clause-serves
 returns-in-Ok-eq0-clause-serves g c =
     let along = c.in-Ok-eq0.ensures.along c.args.responder.now (g.P.Ports.tells c.args.ports.now) c.loop-received.received c.loop-received.invariant.told c.loop-received.invariant.along in
-    subst (λ (s : Served). Serves g.R.Responder.step (g.P.Ports.tells c.args.ports.now) (g.P.Ports.tells c.serve_some.new.ports) c.args.port c.args.responder.now c.serve_some.new.responder s)
+    subst (λ (s : Served). ServesConnection g.R.Responder.step (g.P.Ports.tells c.args.ports.now) (g.P.Ports.tells c.serve_some.new.ports) c.args.port c.args.responder.now c.serve_some.new.responder s)
     (sym (c.ended.ensures ∙ ap ended_with c.len.ensures))
     (ends_at_end g.R.Responder.step (g.P.Ports.tells c.args.ports.now) (g.P.Ports.tells c.serve_some.new.ports) c.args.port c.args.responder.now c.serve_some.new.responder c.serve_some.new.framer
     (c.loop-received.received + c.in-Ok-eq0.field-0) (omega (arith, c.loop-received-test.true, c.in-Ok-eq0.field-0-test))
@@ -31,7 +31,7 @@ returns-in-Ok-eq0-clause-serves g c =
 
 pub returns-in-Err-clause-serves : goal.returns-in-Err-clause-serves
 returns-in-Err-clause-serves g c =
-    subst (λ (s : Served). Serves g.R.Responder.step (g.P.Ports.tells c.args.ports.now) (g.P.Ports.tells c.serve_some.new.ports) c.args.port c.args.responder.now c.serve_some.new.responder s)
+    subst (λ (s : Served). ServesConnection g.R.Responder.step (g.P.Ports.tells c.args.ports.now) (g.P.Ports.tells c.serve_some.new.ports) c.args.port c.args.responder.now c.serve_some.new.responder s)
     (sym c.stopped.ensures)
     (ends_by_stop g.R.Responder.step (g.P.Ports.tells c.args.ports.now) (g.P.Ports.tells c.serve_some.new.ports) c.args.port c.args.responder.now c.serve_some.new.responder c.in-Err.stop
     (c.in-Err.ensures.stops c.args.responder.now (g.P.Ports.tells c.args.ports.now) c.loop-received.received c.loop-received.invariant.told c.loop-received.invariant.along))

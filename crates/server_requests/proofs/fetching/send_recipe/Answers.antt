@@ -2,7 +2,7 @@ use Rattle.std.proofs.Common.{◌≡◌, refl}
 use Rattle.server_commands.specs.FileIndex.Files.{key_of}
 use Rattle.server_commands.specs.Messages.request.Request.TheVariants as requests
 use Rattle.server_commands.specs.ServerReads.CloudMemory.Rooms.{memory_of}
-use Rattle.server_commands.specs.ServerReads.Found.{IsNamed, HasNone, IsFoundRecipe}
+use Rattle.server_commands.specs.ServerReads.Found.{AreEntryBytes, HasNone, IsFoundRecipe}
 use Rattle.server_commands.proofs.ServerReads.Plain.{recipe_plain}
 use Rattle.server_commands.proofs.ServerReads.Rotting.{recipe_rotten}
 use Rattle.server_requests.proofs.Contents.{gives_plain, missing_leaves, is_of_entry, recipe_by}
@@ -20,9 +20,9 @@ returns-in-Ok-clause-does g c =
     was_read (new.shelf ≡ c.args.shelf.now) old new.disk (at c.args.shelf.now) (at new.shelf) (faults c.args.shelf.now) (faults new.shelf) request new.reply
     c.requires.ready e.disk e.stays e.call e.uncounted (λ list. refl)
     (λ list chain serves. let known = serves.known in e.value known.on.read.told known.on.recipes.agrees old.header.shape list known.on.read.sound known.remembers known.stand)
-    (λ named other is. recipe_rotten (IsNamed m key) (HasNone m key) found new.reply named other e.kind is)
+    (λ named other is. recipe_rotten (AreEntryBytes m key) (HasNone m key) found new.reply named other e.kind is)
     (λ answer leaves is. missing_leaves new.reply ((new.shelf ≡ c.args.shelf.now) × (new.disk ≡ old.disk)) e.untouched answer leaves is)
-    (gives_plain old.header.shape request new.reply _ e.kind (recipe_plain c.args.user c.args.tag.now c.args.version (IsNamed m key) (HasNone m key) found))
+    (gives_plain old.header.shape request new.reply _ e.kind (recipe_plain c.args.user c.args.tag.now c.args.version (AreEntryBytes m key) (HasNone m key) found))
     (λ answer adds. adds)
 
 pub returns-in-Ok-clause-hashed : goal.returns-in-Ok-clause-hashed

@@ -10,7 +10,7 @@ use Rattle.server_requests.specs.CloudStore.Store.{ServesSome}
 use Rattle.server_requests.specs.ServerCommands.Leaving.{IsFound}
 use Rattle.server_requests.specs.ServerCommands.Serving.{serves}
 use Rattle.server_requests.specs.Asking.{request_of}
-use Rattle.share_server.specs.Serving.{ServesAs, Answered, ChangesBehind, EntersBy, GrowsOn, RottenLeaves}
+use Rattle.share_server.specs.Serving.{ServesAs, IsAnsweredContent, ChangesBehind, EntersBy, GrowsOn, RottenLeaves}
 use Rattle.share_server.specs.Steps.{HasDoneRequest}
 use Rattle.share_server.proofs.Executed.{opened_executes, opened_images, shut_images, refused_executes}
 use Rattle.share_server.proofs.Refusing.{not_rotten, refused_answered, answered_behind, refused_hashed}
@@ -62,7 +62,7 @@ returns-in-Ok-clause-answered g c =
     let at = g.V.Shelf.cloud_at in let faults = g.V.Shelf.faults in
     let between = c.ensure_open.new.shelf in let after = c.serve.new.shelf in let new = c.serve.new.store in let r = request_of c.args.asked.now in
     answered_behind old.header.shape r new (at c.args.shelf.now number) (at between number) (at after number) (faults c.args.shelf.now) (faults between) (faults after) c.serve.new.reply d.counts
-    (subst (λ (h : Header). Answered h.shape r new (at between h.cloud.0) (at after h.cloud.0) (faults between) (faults after) c.serve.new.reply) d.header c.serve.ensures.answered)
+    (subst (λ (h : Header). IsAnsweredContent h.shape r new (at between h.cloud.0) (at after h.cloud.0) (faults between) (faults after) c.serve.new.reply) d.header c.serve.ensures.answered)
 
 pub returns-in-Ok-clause-found : goal.returns-in-Ok-clause-found
 returns-in-Ok-clause-found g c named found rotten =

@@ -3,7 +3,7 @@ use Rattle.std.specs.Prelude.{IfSome, Option, Result}
 use Rattle.upload_spool.specs.CdEdges.Causes.{Rose}
 use Rattle.upload_spool.specs.CdEdges.Disk.{reads}
 use Rattle.upload_spool.specs.UploadJob.Lanes.{LaneView}
-use Rattle.upload_spool.specs.Opens.{OpensIs, IsOpenedSpool, answer_of}
+use Rattle.upload_spool.specs.Opens.{OpensSpoolIs, IsOpenedSpool, answer_of}
 use Rattle.upload_spool.specs.declared.spool.Spool.{Spool}
 use Rattle.spool_command.specs.declared.writing.Unspooled.{Unspooled}
 use Rattle.spool_command.specs.Resumed.{GoesKept}
@@ -21,7 +21,7 @@ returns-in-Ok-None-clause-goes g c = λ dialled on.
     let c1 = g.V.Shelf.cloud_at c.open.new.shelf 0 in
     let c2 = g.V.Shelf.cloud_at c.clear.new.shelf 0 in
     let opened = c.in-Ok-None.ensures in
-    let found = subst (λ (o : Option (Spool × List LaneView)). IsTrue c0.told → OpensIs shape (reads c0.now) (answer_of (Ok o))) c.in-Ok-None.field-0-is opened.found in
+    let found = subst (λ (o : Option (Spool × List LaneView)). IsTrue c0.told → OpensSpoolIs shape (reads c0.now) (answer_of (Ok o))) c.in-Ok-None.field-0-is opened.found in
     elim c.match-clear.branch [
       | in-Ok w ↦ subst (λ (r : Result (Option Bool) Unspooled). GoesKept shape behind behind faults faults items c0 c2 r c.args.text.now) (sym w.result-is)
           (refl, no_job shape c0 c1 c2 opened.call.told opened.spared found w.in-Ok.ensures.clears)

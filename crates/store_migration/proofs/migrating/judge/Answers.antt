@@ -1,7 +1,7 @@
 use Rattle.std.proofs.Common.{◌≡◌, ◌≤◌, length, Err, refl, sym, subst, arith}
 use Rattle.fresh_checkpoints.specs.CloudMemory.Rooms.{memory_of}
 use Rattle.store_migration.specs.declared.errors.MigrateErr.{MigrateErr}
-use Rattle.store_migration.specs.Judging.{JudgedAs, JudgedBy}
+use Rattle.store_migration.specs.Judging.{MemoryJudgedAs, JudgedBy}
 use Rattle.store_migration.proofs.Answering.{is_counted}
 use Rattle.store_migration.proofs.NextKept.{next_kept}
 use Rattle.store_migration.proofs.migrating.judge.Goals as goal
@@ -10,7 +10,7 @@ pub returns-in-Some-clause-judged : goal.returns-in-Some-clause-judged
 returns-in-Some-clause-judged c =
     let old = c.args.memory.now in let new = c.take_out-commands.new.memory in
     let counted = is_counted old new c.take_out-commands.ensures.compacted c.requires.first.users in
-    subst (λ (e : MigrateErr). JudgedAs c.args.rooms.now (memory_of old) (Err e)) (sym c.refusal.ensures) (c.in-Some.ensures.first (memory_of old) 256 counted c.requires.rooms.few)
+    subst (λ (e : MigrateErr). MemoryJudgedAs c.args.rooms.now (memory_of old) (Err e)) (sym c.refusal.ensures) (c.in-Some.ensures.first (memory_of old) 256 counted c.requires.rooms.few)
 
 pub returns-in-Some-clause-by_list : goal.returns-in-Some-clause-by_list
 returns-in-Some-clause-by_list c shape cloud list table sound r =

@@ -7,7 +7,7 @@ use Rattle.fresh_checkpoints.specs.CloudMemory.Fitting.{FitsRecords}
 use Rattle.fresh_checkpoints.specs.CloudMemory.Rooms.{memory_of}
 use Rattle.cloud_opening.proofs.Along.{with_bodies}
 use Rattle.store_migration.specs.declared.errors.MigrateErr.{MigrateErr}
-use Rattle.store_migration.specs.Steps.{OnTrue, AllAs, stage_of}
+use Rattle.store_migration.specs.Steps.{OnRecordTaken, AllFirstRecordsAs, stage_of}
 use Rattle.store_migration.proofs.Along.{further, all_taken, not_taken, StepAs}
 use Rattle.store_migration.proofs.records.take_all.Goals as goal
 
@@ -41,7 +41,7 @@ loop-records-preserved g c =
     let records = c.loop-records.records in let long = length c.args.buffer.now in let len = length c.loop-records.buffer in let len2 = length c.take_next.new.buffer in
     let of = c.from-of_checkpoint.result in let of_is : of ≡ records_of start.start.checkpoint = c.from-of_checkpoint.ensures ∙ c.records.ensures in let along = c.loop-records.invariant in
     let is : c.take_next.result ≡ Ok true = c.in_ok-take_next.was ∙ ap Ok c.if-branch.true in
-    let gate : old.current.gate + 6 ≤ new.current.gate = subst (λ (r : Result Bool MigrateErr). OnTrue r (old.current.gate + 6 ≤ new.current.gate)) is c.take_next.ensures.gate in
+    let gate : old.current.gate + 6 ≤ new.current.gate = subst (λ (r : Result Bool MigrateErr). OnRecordTaken r (old.current.gate + 6 ≤ new.current.gate)) is c.take_next.ensures.gate in
     let stage = c.take_next.ensures.stage ∙ ap stage_of is in
     let unspent : after.spent ≡ memory.spent = c.in_ok-take_next.ensures.unspent in
     let fit : FitsRecords (memory_of memory) → FitsRecords (memory_of after) = c.in_ok-take_next.ensures.fit in
@@ -71,7 +71,7 @@ returns-in_err-take_next-clause-exact g c told w reading none =
     let is : c.take_next.result ≡ Err error = c.in_err-take_next.was in
     let p = err_from_is_err_and c.from_residual.result c.from_residual.ensures.1 in
     let residual : c.from_residual.result ≡ Err error = p.1 ∙ ap Err p.2 in
-    subst (λ (r : Result (Unit {0}) MigrateErr). AllAs ground ((c0 number).now Recipes).read ((c0 number).now Journal) w start (memory_of first) new (memory_of after) r) (sym residual)
+    subst (λ (r : Result (Unit {0}) MigrateErr). AllFirstRecordsAs ground ((c0 number).now Recipes).read ((c0 number).now Journal) w start (memory_of first) new (memory_of after) r) (sym residual)
     (not_taken c0 c1 c2 number before mid now ground start old new first memory after records long len len2 of of_is along error (subst (StepAs c0 c1 c2 number before mid now ground start old new first memory after records long len len2 of of_is along) is c.take_next.ensures.exact) told w reading none)
 
 pub returns-clause-fit : goal.returns-clause-fit

@@ -9,8 +9,8 @@ use Rattle.cloud_opening.specs.CommitJournal.Outcomes as journals
 use Rattle.fresh_checkpoints.specs.CloudMemory.Rooms.{memory_of}
 use Rattle.store_migration.specs.declared.errors.OldErr.{OldErr}
 use Rattle.store_migration.specs.declared.errors.OldErr.TheVariants.{Damaged}
-use Rattle.store_migration.specs.Answers.{OnFault}
-use Rattle.store_migration.specs.Steps.{From, IsFirstOneAs, NextAs}
+use Rattle.store_migration.specs.Answers.{OnMigrateFault}
+use Rattle.store_migration.specs.Steps.{ReplaysFirstFrom, IsFirstOneAs, NextFirstAs}
 use Rattle.store_migration.proofs.Stepping.{as_taken, as_refused, as_ended, as_damaged}
 use Rattle.store_migration.proofs.records.take_next.Goals as goal
 
@@ -23,7 +23,7 @@ returns-in-Ok-clause-exact g c told w reading is =
     let further = subst (λ (r : Result Bool RecordErr). journals.NextIs old mid store w r) (c.in-Ok-true.is ∙ ap Ok c.in-Ok-true.field-0-test) (c.next.ensures.reads told w reading) in
     let over = subst (λ (r : Result Bool RecordErr). StepIs old.current mid.current r) (c.in-Ok-true.is ∙ ap Ok c.in-Ok-true.field-0-test) c.next.ensures.step in
     let one = subst (λ (a : Areas). IsFirstOneAs ground c.args.inside (a Recipes).read before mid.current.body_at mid.current.body m (Ok tt)) back (c.in-Ok.ensures.judged (told_on c0 c1 c.next.ensures.call.told told)) in
-    subst (λ (s : JournalState). NextAs ground recipes store w old before s m (Ok true)) (sym c.in-Ok.ensures.journal)
+    subst (λ (s : JournalState). NextFirstAs ground recipes store w old before s m (Ok true)) (sym c.in-Ok.ensures.journal)
     (as_taken ground recipes store old mid w before reading c.args.inside is further over mid.stage m c.next.ensures.start one)
 
 pub returns-in-Err-clause-exact : goal.returns-in-Err-clause-exact
@@ -34,7 +34,7 @@ returns-in-Err-clause-exact g c told w reading is =
     let m = memory_of c.take_record.new.memory in let error = c.in-Err.error in
     let further = subst (λ (r : Result Bool RecordErr). journals.NextIs old mid store w r) (c.in-Ok-true.is ∙ ap Ok c.in-Ok-true.field-0-test) (c.next.ensures.reads told w reading) in
     let over = subst (λ (r : Result Bool RecordErr). StepIs old.current mid.current r) (c.in-Ok-true.is ∙ ap Ok c.in-Ok-true.field-0-test) c.next.ensures.step in
-    let one = subst (λ (a : Areas). OnFault {T = Unit {0}} (Err error) (Unit {0}) (IsFirstOneAs ground c.args.inside (a Recipes).read before mid.current.body_at mid.current.body m (Err error))) back
+    let one = subst (λ (a : Areas). OnMigrateFault {T = Unit {0}} (Err error) (Unit {0}) (IsFirstOneAs ground c.args.inside (a Recipes).read before mid.current.body_at mid.current.body m (Err error))) back
     (c.in-Err.ensures.judged (told_on c0 c1 c.next.ensures.call.told told)) in
     as_refused ground recipes store old mid w before reading c.args.inside is further over (state_of c.take_record.new.journal) m error one
 
@@ -54,6 +54,6 @@ returns-in-Err-Damaged-clause-exact g c told w reading is new =
     let old = state_of c.args.journal.now in let mid = state_of c.next.new.self in
     let damage = subst (λ (r : Result Bool RecordErr). journals.NextIs old mid store w r) (c.in-Err-Damaged.is ∙ ap Err c.in-Err-Damaged.field-0-is) (c.next.ensures.reads told w reading) in
     let ground = c.args.ground.now in let before = memory_of c.args.memory.now in
-    let from : From ground recipes store new old (length w.bodies) before (Err (Damaged c.in-Err-Damaged.at c.in-Err-Damaged.byte)) =
+    let from : ReplaysFirstFrom ground recipes store new old (length w.bodies) before (Err (Damaged c.in-Err-Damaged.at c.in-Err-Damaged.byte)) =
     as_damaged ground recipes store old mid w before reading c.in-Err-Damaged.at c.in-Err-Damaged.byte damage new in
-    subst (λ (e : OldErr). From ground recipes store new old (length w.bodies) before (Err e)) (λ i. Damaged (sym c.in-Err-Damaged.at-is i) (sym c.in-Err-Damaged.byte-is i)) from
+    subst (λ (e : OldErr). ReplaysFirstFrom ground recipes store new old (length w.bodies) before (Err e)) (λ i. Damaged (sym c.in-Err-Damaged.at-is i) (sym c.in-Err-Damaged.byte-is i)) from

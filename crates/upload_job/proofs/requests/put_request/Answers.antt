@@ -6,7 +6,7 @@ use Rattle.upload_job.specs.declared.wanted.WantedShare.{WantedShare}
 use Rattle.upload_job.specs.declared.lane.LaneStage.{LaneStage}
 use Rattle.upload_job.specs.Lane.{lane_request, unflagged}
 use Rattle.upload_job.specs.Lanes.{IsAsked}
-use Rattle.upload_job.specs.Index.{IsInShares, AreIn, HasShares, shares_in, work_in, state_in}
+use Rattle.upload_job.specs.Index.{IsInShares, AreIn, HasRecalledShares, shares_in, work_in, state_in}
 use Rattle.upload_job.proofs.Batches.{batch_few}
 use Rattle.upload_job.proofs.Sending.{batch_shares, into_none}
 use Rattle.upload_job.proofs.requests.put_request.Goals as goal
@@ -22,7 +22,7 @@ put_put-requires-clause-inside c =
     let ws : List WantedShare = c.args.lane.now.wanted.items in
     let from = c.in-Sending.from in
     let has : c.args.lane.now.shares ≡ c.args.lane.now.recalled.bytes =
-    subst (λ (s : LaneStage). HasShares s c.args.lane.now.shares c.args.lane.now.recalled.bytes) c.in-Sending.is c.requires.is.1 in
+    subst (λ (s : LaneStage). HasRecalledShares s c.args.lane.now.shares c.args.lane.now.recalled.bytes) c.in-Sending.is c.requires.is.1 in
     subst (λ (xs : List ℕ). AreIn xs c.batch_at-batch.result.now) (sym (c.as_slice-shares.ensures ∙ has))
     (subst (AreIn c.args.lane.now.recalled.bytes) (sym (c.batch_at-batch.ensures ∙ ap (λ (xs : List WantedShare). take 256 (drop from xs)) c.as_slice.ensures.value))
     (All-take (IsInShares c.args.lane.now.recalled.bytes) 256 (drop from ws) (All-drop (IsInShares c.args.lane.now.recalled.bytes) from ws c.requires.is.0)))
@@ -33,7 +33,7 @@ returns-in_ok-put_put-in-Sending c =
     let key = c.args.key.now in
     let from = c.in-Sending.from in
     let flags = c.as_slice-in-Sending.result.now in
-    let has : lane.shares ≡ lane.recalled.bytes = subst (λ (s : LaneStage). HasShares s lane.shares lane.recalled.bytes) c.in-Sending.is c.requires.is.1 in
+    let has : lane.shares ≡ lane.recalled.bytes = subst (λ (s : LaneStage). HasRecalledShares s lane.shares lane.recalled.bytes) c.in-Sending.is c.requires.is.1 in
     let all : List (List ℕ) = shares_in lane.recalled.bytes lane.wanted.items in
     let batch : shares_in c.as_slice-shares.result.now c.batch_at-batch.result.now ≡ take 256 (drop from all) =
     ap (λ (xs : List ℕ). shares_in xs c.batch_at-batch.result.now) (c.as_slice-shares.ensures ∙ has)

@@ -5,14 +5,14 @@ use Rattle.commit_journal.specs.CdEdges.Disk.{Areas}
 use Rattle.commit_journal.proofs.CdEdges.Moments.{told_on}
 use Rattle.commit_journal.specs.States as half
 use Rattle.upload_spool.specs.declared.error.SpoolErr.{SpoolErr}
-use Rattle.upload_spool.specs.States.{HasNone, IsOkOrFault}
+use Rattle.upload_spool.specs.States.{HasNoOpenJob, IsSpoolOkOrFault}
 use Rattle.upload_spool.proofs.Begins.{still_none, reopened_none, new_read, opens_well, on_all}
 use Rattle.upload_spool.proofs.beginning.begin_journal.Goals as goal
 
 pub returns-in-Ok-clause-any_moment : goal.returns-in-Ok-clause-any_moment
 returns-in-Ok-clause-any_moment g c told unbegun nojob =
     let c0 = g.V.Shelf.cloud_at c.args.shelf.now 0 in let c1 = g.V.Shelf.cloud_at c.reopen.new.shelf 0 in let c2 = g.V.Shelf.cloud_at c.read_to_end.new.shelf 0 in
-    still_none c0 c1 c2 (HasNone c0.now) (reopened_none c0 c1 c.args.header.now nojob (c.reopen.ensures.opens told).any_moment) c.read_to_end.ensures.stays
+    still_none c0 c1 c2 (HasNoOpenJob c0.now) (reopened_none c0 c1 c.args.header.now nojob (c.reopen.ensures.opens told).any_moment) c.read_to_end.ensures.stays
 
 pub returns-in-Ok-clause-begun : goal.returns-in-Ok-clause-begun
 returns-in-Ok-clause-begun g c told unbegun =
@@ -37,5 +37,5 @@ returns-in-Err-clause-any_moment g c told unbegun nojob =
 
 pub returns-in-Err-clause-answers : goal.returns-in-Err-clause-answers
 returns-in-Err-clause-answers g c told unbegun =
-    subst (λ (e : SpoolErr). IsOkOrFault {T = Unit {0}} (Err e)) (sym c.opening_error.ensures)
+    subst (λ (e : SpoolErr). IsSpoolOkOrFault {T = Unit {0}} (Err e)) (sym c.opening_error.ensures)
     (opens_well (Unit {0}) ((g.V.Shelf.cloud_at c.args.shelf.now 0).now Journal).read c.args.header.now c.in-Err.error unbegun (c.in-Err.ensures.opens told).answer)

@@ -1,6 +1,6 @@
 use Rattle.std.proofs.Common.{◌≤◌, ◌-◌, IsTrue, length}
 use Rattle.commit_journal.specs.CdEdges.Shelf.{IsCall, KeepsCounts}
-use Rattle.upload_spool.specs.States.{Along}
+use Rattle.upload_spool.specs.States.{IsWrittenSoFar}
 use Rattle.upload_spool.proofs.beginning.write_file.Given as goal
 
 abbrev pub invariant-loop-at : goal.invariant-loop-at
@@ -9,7 +9,7 @@ invariant-loop-at g l =
       within : l.at ≤ length l.bytes;
       call : IsCall (g.V.Shelf.cloud_at l.fn.shelf) (g.V.Shelf.cloud_at l.shelf) 0 (g.V.Shelf.faults l.fn.shelf) (g.V.Shelf.faults l.shelf);
       counts : KeepsCounts (g.V.Shelf.cloud_at l.fn.shelf 0) (g.V.Shelf.cloud_at l.shelf 0) (g.V.Shelf.faults l.fn.shelf) (g.V.Shelf.faults l.shelf);
-      along : IsTrue (g.V.Shelf.cloud_at l.fn.shelf 0).told → Along (g.V.Shelf.cloud_at l.fn.shelf 0) (g.V.Shelf.cloud_at l.shelf 0) l.at l.bytes;
+      along : IsTrue (g.V.Shelf.cloud_at l.fn.shelf 0).told → IsWrittenSoFar (g.V.Shelf.cloud_at l.fn.shelf 0) (g.V.Shelf.cloud_at l.shelf 0) l.at l.bytes;
     }
 
 abbrev pub decreases-loop-at : goal.decreases-loop-at

@@ -10,7 +10,7 @@ use Rattle.cloud_areas.specs.Placing.{shares_in}
 use Rattle.cloud_areas.specs.Chains.{laid_shares}
 use Rattle.cloud_areas.specs.Standing.{where_of}
 use Rattle.cloud_disk.specs.Held.{flush_moments}
-use Rattle.cloud_disk.specs.Disk.{Disk, IsPrepared, KeepsOrGrows, HasGrown, KeepsFronts, SameRooms}
+use Rattle.cloud_disk.specs.Disk.{Disk, IsPrepared, KeepsDiskOrGrows, HasDiskGrown, KeepsFronts, SameRooms}
 use Rattle.cloud_disk.proofs.Both.{moments_after, failed_later, counts_kept}
 use Rattle.cloud_disk.proofs.Standing.{logs_hold}
 use Rattle.cloud_disk.proofs.Adding.{OneMore, while_flushed, while_added, still_ended, added_on}
@@ -122,7 +122,7 @@ returns-in-Err-clause-chain g c =
     let number = c.args.cloud.0 in let inside = c.self.inside in
     let disk : Disk = record { journal = journals.state_of inside.journal; shares = inside.shares; recipes = inside.recipes } in
     let c0 = g.V.Shelf.cloud_at c.args.shelf.now number in let c1 = g.V.Shelf.cloud_at c.flush_both.new.shelf number in
-    subst (λ (d : Disk). KeepsOrGrows d c.args.body.now c0 c1) c.self.view_is
+    subst (λ (d : Disk). KeepsDiskOrGrows d c.args.body.now c0 c1) c.self.view_is
     (λ told is_shares is_recipes w ended. grown_flushed disk c.args.body.now c0 w ended c1 (c.flush_both.ensures.fronts told is_shares is_recipes))
 
 pub returns-in-Ok-clause-chain : goal.returns-in-Ok-clause-chain
@@ -130,7 +130,7 @@ returns-in-Ok-clause-chain g c =
     let number = c.args.cloud.0 in let inside = c.self.inside in let body = c.args.body.now in
     let disk : Disk = record { journal = journals.state_of inside.journal; shares = inside.shares; recipes = inside.recipes } in
     let c0 = g.V.Shelf.cloud_at c.args.shelf.now number in let c1 = g.V.Shelf.cloud_at c.flush_both.new.shelf number in let c2 = g.V.Shelf.cloud_at c.append.new.shelf number in
-    subst (λ (d : Disk). KeepsOrGrows d body c0 c2) c.self.view_is
+    subst (λ (d : Disk). KeepsDiskOrGrows d body c0 c2) c.self.view_is
     (λ told is_shares is_recipes w ended.
     let told1 = told_on c0 c1 c.flush_both.ensures.call.told told in
     let same = c.in-Ok.ensures.journal told is_shares is_recipes in
@@ -143,7 +143,7 @@ returns-in-Ok-clause-grown g c =
     let disk : Disk = record { journal = journals.state_of inside.journal; shares = inside.shares; recipes = inside.recipes } in
     let new : Disk = record { journal = journals.state_of c.append.new.self; shares = c.flush_both.new.shares; recipes = c.flush_both.new.recipes } in
     let c0 = g.V.Shelf.cloud_at c.args.shelf.now number in let c1 = g.V.Shelf.cloud_at c.flush_both.new.shelf number in let c2 = g.V.Shelf.cloud_at c.append.new.shelf number in
-    subst (λ (d : Disk). HasGrown d new body c0 c2 c.append.result) c.self.view_is
+    subst (λ (d : Disk). HasDiskGrown d new body c0 c2 c.append.result) c.self.view_is
     (λ told is_shares is_recipes.
     let told1 = told_on c0 c1 c.flush_both.ensures.call.told told in
     grown_by c.append.result disk new body c0 c1 c2 (c.in-Ok.ensures.whole told is_shares is_recipes) (c.in-Ok.ensures.journal told is_shares is_recipes)

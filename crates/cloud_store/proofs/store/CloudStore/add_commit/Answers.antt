@@ -15,7 +15,7 @@ use Rattle.checkpoints.specs.CloudMemory.Rooms.{memory_of, full_commit}
 use Rattle.checkpoints.specs.declared.whole.Unsettled.{Unsettled}
 use Rattle.checkpoints.specs.Known.{IfLong}
 use Rattle.cloud_store.specs.declared.store.CloudStore.{CloudStore}
-use Rattle.cloud_store.specs.Store.{Serves, Fits, chain_with_room}
+use Rattle.cloud_store.specs.Store.{Serves, FitsHalf, chain_with_room}
 use Rattle.cloud_store.proofs.Rooming.{chain_next}
 use Rattle.cloud_store.proofs.Next.{images_both, images_kept}
 use Rattle.checkpoints.specs.ContainerLog.Laying.{Placed}
@@ -32,7 +32,7 @@ use Rattle.checkpoints.specs.CdEdges.Disk.{moment}
 use Rattle.checkpoints.proofs.CdEdges.Moments.{told_on}
 use Rattle.checkpoints.specs.ContainerLog.States as logs
 use Rattle.checkpoints.specs.CloudDisk.Held.{flush_moments}
-use Rattle.checkpoints.specs.CloudDisk.Disk.{KeepsOrGrows as GrowsBy}
+use Rattle.checkpoints.specs.CloudDisk.Disk.{KeepsDiskOrGrows as GrowsBy}
 use Rattle.cloud_store.proofs.Growing.{grows_both, grown_both, DiskHasGrown, grows_sums, grows_still}
 use Rattle.checkpoints.specs.CloudDisk.Disk.{Disk}
 use Rattle.cloud_store.proofs.Keeping.{serves_on}
@@ -174,7 +174,7 @@ returns-in-Ok-add_roomy-clause-checkpoint_first g c list chain bytes p not =
     let few : len ≤ container_len = omega (arith, small, p.len_is) in
     let fits = commit_fits header.shape number list user tag version bytes fp len store.memory.recipes_end p.sound p.fp_is c.requires.some few near.1 in
     let len_is = sym (length-commit (commit_body store user tag version fp len) fits) in
-    let fresh = chain_next store list chain 89 (λ fits. not (subst (λ (n : ℕ). Fits store n) len_is fits)) in
+    let fresh = chain_next store list chain 89 (λ fits. not (subst (λ (n : ℕ). FitsHalf store n) len_is fits)) in
     record {
       at = at number;
       disk = mid.disk;

@@ -15,7 +15,7 @@ use Rattle.checkpoints.specs.CloudDisk.Disk.{IsOn, KeepsOrAdds}
 use Rattle.checkpoints.specs.declared.whole.Unsettled.{Unsettled}
 use Rattle.checkpoints.specs.Known.{IfLong}
 use Rattle.cloud_store.specs.declared.store.CloudStore.{CloudStore}
-use Rattle.cloud_store.specs.Store.{Serves, Fits, chain_with_room}
+use Rattle.cloud_store.specs.Store.{Serves, FitsHalf, chain_with_room}
 use Rattle.cloud_store.proofs.Rooming.{chain_next}
 use Rattle.cloud_store.proofs.Next.{images_both, images_kept}
 use Rattle.checkpoints.proofs.RecordBody.Spelled.{length-delete}
@@ -25,7 +25,7 @@ use Rattle.checkpoints.specs.CdEdges.Disk.{moment}
 use Rattle.checkpoints.proofs.CdEdges.Moments.{told_on}
 use Rattle.checkpoints.specs.ContainerLog.States as logs
 use Rattle.checkpoints.specs.CloudDisk.Held.{flush_moments}
-use Rattle.checkpoints.specs.CloudDisk.Disk.{KeepsOrGrows as GrowsBy}
+use Rattle.checkpoints.specs.CloudDisk.Disk.{KeepsDiskOrGrows as GrowsBy}
 use Rattle.cloud_store.proofs.Growing.{grows_both, grown_both, DiskHasGrown, grows_sums}
 use Rattle.cloud_store.proofs.store.CloudStore.add_delete.Goals as goal
 
@@ -94,7 +94,7 @@ returns-in-Ok-add_roomy-clause-checkpoint_first g c list chain entry p not =
     let serves = subst (λ (h : Header). Serves list d mid (at h.cloud.0)) (sym header_is) (c.in-Ok.ensures.serves list chain s) in
     let moved = delete_moved list chain d store mid c0 c1 keeps serves user tag version entry c.args.recipe.now p in
     let len_is = sym (length-delete (record { user = user; tag = tag; version = version }) (delete_fits header.shape number list user tag version p.sound)) in
-    let fresh = chain_next store list chain 45 (λ fits. not (subst (λ (n : ℕ). Fits store n) len_is fits)) in
+    let fresh = chain_next store list chain 45 (λ fits. not (subst (λ (n : ℕ). FitsHalf store n) len_is fits)) in
     record {
       at = at number;
       disk = mid.disk;

@@ -13,7 +13,7 @@ use Rattle.checkpoints.specs.CloudMemory.Rooms.{memory_of}
 use Rattle.checkpoints.specs.declared.whole.Unsettled.{Unsettled}
 use Rattle.checkpoints.specs.Known.{IfLong}
 use Rattle.cloud_store.specs.declared.store.CloudStore.{CloudStore}
-use Rattle.cloud_store.specs.Store.{Serves, Fits, chain_with_room}
+use Rattle.cloud_store.specs.Store.{Serves, FitsHalf, chain_with_room}
 use Rattle.cloud_store.proofs.Rooming.{chain_next}
 use Rattle.cloud_store.proofs.Next.{images_both, images_kept}
 use Rattle.checkpoints.proofs.MemoryProofs.FullRooms.{full_put_is}
@@ -27,7 +27,7 @@ use Rattle.checkpoints.proofs.CdEdges.Calls.{called_twice}
 use Rattle.checkpoints.proofs.CdEdges.Moments.{told_on}
 use Rattle.checkpoints.specs.ContainerLog.States as logs
 use Rattle.checkpoints.specs.CloudDisk.Held.{flush_moments}
-use Rattle.checkpoints.specs.CloudDisk.Disk.{KeepsOrGrows as GrowsBy}
+use Rattle.checkpoints.specs.CloudDisk.Disk.{KeepsDiskOrGrows as GrowsBy}
 use Rattle.cloud_store.proofs.Growing.{grows_both, grown_both, DiskHasGrown, grows_sums, grows_still}
 use Rattle.checkpoints.specs.CloudDisk.Disk.{Disk}
 use Rattle.cloud_store.proofs.Keeping.{serves_on}
@@ -165,7 +165,7 @@ returns-in-Ok-add_roomy-clause-checkpoint_first g c list chain strings p not =
     let serves = subst (λ (h : Header). Serves list d mid (at h.cloud.0)) (sym header_is) (c.in-Ok.ensures.serves list chain s) in
     let moved = put_moved list chain d store mid c0 c1 keeps serves user news strings p in
     let len_is = c.put_len-len.ensures.len user c.requires.new in
-    let fresh = chain_next store list chain c.put_len-len.result (λ fits. not (subst (λ (n : ℕ). Fits store n) len_is fits)) in
+    let fresh = chain_next store list chain c.put_len-len.result (λ fits. not (subst (λ (n : ℕ). FitsHalf store n) len_is fits)) in
     record {
       at = at number;
       disk = mid.disk;
@@ -246,7 +246,7 @@ pub returns-in-Ok-add_roomy-clause-moments : goal.returns-in-Ok-add_roomy-clause
 returns-in-Ok-add_roomy-clause-moments g c told fits =
     let number = c.args.self.now.header.cloud.0 in let later = g.V.Shelf.cloud_at c.add_roomy.new.shelf in let disk = c.args.self.now.disk in
     let at = g.V.Shelf.cloud_at c.have_room.new.shelf in
-    let still = c.have_room.ensures.untouched (subst (λ (n : ℕ). Fits c.args.self.now n) (sym (c.put_len-len.ensures.len c.args.user c.requires.new)) fits) in
+    let still = c.have_room.ensures.untouched (subst (λ (n : ℕ). FitsHalf c.args.self.now n) (sym (c.put_len-len.ensures.len c.args.user c.requires.new)) fits) in
     let run = subst (λ (x : CloudStore). IsTrue (at x.header.cloud.0).told → moment (later x.header.cloud.0) ≡ moment (at x.header.cloud.0) + flush_moments x.disk.shares + flush_moments x.disk.recipes + 4) still.0
     c.in-Ok-add_roomy.ensures.moments in
     subst (λ sh. IsTrue (g.V.Shelf.cloud_at sh number).told → moment (later number) ≡ moment (g.V.Shelf.cloud_at sh number) + flush_moments disk.shares + flush_moments disk.recipes + 4) still.1 run told

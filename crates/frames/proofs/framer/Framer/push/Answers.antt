@@ -1,6 +1,6 @@
 use Rattle.std.proofs.Common.{refl, ◌≡◌, ℕ, ◌+◌, ◌-◌, List, ◌++◌, length, take, drop, min, arith, subst, sym, ◌∙◌, ap}
 use Rattle.frames.specs.Frames.{IsLength, length_in}
-use Rattle.frames.specs.Steps.{Refuses}
+use Rattle.frames.specs.Steps.{RefusesLength}
 use Rattle.frames.proofs.FrameLaws.{rest_is}
 use Rattle.frames.proofs.PushLaws.{refuses, finishes, Finishes}
 use Rattle.frames.proofs.framer.Framer.push.Goals as goal
@@ -12,7 +12,7 @@ returns-then-not-is_length-clause-err c =
     let found : c.length_at-found.result ≡ length_in new = c.length_at-found.ensures ∙ ap length_in c.as_slice.ensures.value in
     let wrong : IsLength (length_in new) → ⊥ = λ lawful. let k = c.if-not-is_length.ensures.1 (subst IsLength (sym found) lawful) in cc in
     let step = refuses old c.args.piece.now c.fill-head.result new c.fill-head.ensures.count c.fill-head.ensures.items (omega (arith, ap length c.as_slice.ensures.value)) wrong in
-    rw (← c.self.view_is) (subst (λ (n : ℕ). Refuses old c.args.piece.now n new) (sym found) step)
+    rw (← c.self.view_is) (subst (λ (n : ℕ). RefusesLength old c.args.piece.now n new) (sym found) step)
 
 -- what stands at the end
 finished : (c : goal.After-fill-body) → Finishes c.self.inside.standing.items c.args.piece.now (c.fill-head.result + c.fill-body.result) c.fill-body.new.standing.items

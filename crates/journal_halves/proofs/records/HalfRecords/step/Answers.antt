@@ -1,6 +1,6 @@
 use Rattle.std.proofs.Common.{◌≡◌, ◌≤◌, ◌+◌, ◌-◌, ℕ, List, length, take, drop, refl, sym, ◌∙◌, ap, subst, arith}
 use Rattle.journal_halves.specs.Records.{IsJournalBody}
-use Rattle.journal_halves.specs.Frames.{IsRecord}
+use Rattle.journal_halves.specs.Frames.{IsRecordAhead}
 use Rattle.journal_halves.proofs.Taken.{record_on, body_ahead, length_ahead, part_of, window_on, length_window}
 use Rattle.journal_halves.proofs.records.HalfRecords.step.Goals as goal
 
@@ -35,7 +35,7 @@ returns-clause-found c rest window =
     let on = window_on buffer rest from filled (len + 5) further (window ∙ ap (λ (n : ℕ). take n rest) long) in
     let left : length (take (filled - (from + (len + 5))) (drop (from + (len + 5)) buffer)) ≡ filled - (from + (len + 5)) = length_window buffer (from + (len + 5)) filled inside in
     let k : len + 5 ≡ 5 + length (take len (drop (from + 5) buffer)) = omega (arith, size) in (
-      subst (λ (b : List ℕ). IsRecord rest b) (sym is) (record_on ahead rest window body r),
+      subst (λ (b : List ℕ). IsRecordAhead rest b) (sym is) (record_on ahead rest window body r),
       on ∙ ap (λ (n : ℕ). take n (drop (len + 5) rest)) (sym left) ∙ ap (λ (n : ℕ). take (length (take (filled - (from + (len + 5))) (drop (from + (len + 5)) buffer))) (drop n rest)) k,
     )
 
