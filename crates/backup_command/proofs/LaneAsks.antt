@@ -18,7 +18,7 @@ use Rattle.lane_steps.specs.UploadJob.Upload.{Work, FileVersion, work_of}
 use Rattle.lane_steps.specs.Reached.{IsReached, Begun, Answered}
 use Rattle.lane_steps.specs.Runs.{lane_at, no_lane}
 use Rattle.backup_command.specs.Sends.{IsRequestOf, AsksForBatch, BringsOfBatch, EntersVersion, IsAskOf}
-use Rattle.backup_command.proofs.Working.{works}
+use Rattle.lane_steps.proofs.UploadJob.Laning.{works}
 
 -- the batches that are still to bring are the last ones
 abbrev StillBrings : Work → List (List (List ℕ)) → Type 0

@@ -25,7 +25,7 @@ use Rattle.backup_command.specs.Steps.{KeepsOtherPorts, Talked}
 use Rattle.backup_command.proofs.LaneAsks.{IsAtOwn, own_ask, after_own, same_work}
 use Rattle.backup_command.proofs.Leaving.{Goes, leaves_ask, on_along}
 use Rattle.backup_command.proofs.Walking.{work_kept}
-use Rattle.backup_command.proofs.Working.{works}
+use Rattle.lane_steps.proofs.UploadJob.Laning.{works}
 use Rattle.ports_link.proofs.UserDedup.Owned.{contains_here, contains_later}
 
 -- ---- ports
