@@ -11,5 +11,4 @@ pub mod LaneSteps
 pub mod UserDedup
 pub mod Transcript
 pub mod CdEdges
-pub mod PortLaws
 pub mod PortsLinkLaws

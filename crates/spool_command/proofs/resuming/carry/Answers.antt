@@ -1,7 +1,7 @@
 use Rattle.std.proofs.Common.{◌≡◌, [], length, IsTrue, refl, sym, ◌∙◌, subst, inl}
 use Rattle.backup_command.specs.PortsLink.Hellos.{hello}
 use Rattle.backup_command.specs.PortsLink.Meeting.{Lacks}
-use Rattle.backup_command.proofs.PortLaws.Sending.{sends_none}
+use Rattle.backup_command.proofs.PortsLinkLaws.Sending.{sends_none}
 use Rattle.backup_command.proofs.Finishing.{are_numbered, greeted_on, only_dialled}
 use Rattle.spool_command.specs.Spooled.{SpoolOutside}
 use Rattle.spool_command.proofs.Kept.{met_and_went, resumed, sent_kept}

@@ -6,7 +6,7 @@ use Rattle.upload_spool.specs.States.{IsJobOf, state_of}
 use Rattle.upload_spool.proofs.Jobs.{job_begun}
 use Rattle.backup_command.specs.BackedUp.{BackupCall}
 use Rattle.backup_command.specs.PortsLink.Hellos.{hello}
-use Rattle.backup_command.proofs.PortLaws.Sending.{sends_none}
+use Rattle.backup_command.proofs.PortsLinkLaws.Sending.{sends_none}
 use Rattle.backup_command.proofs.Finishing.{are_numbered, greeted_on, have_met, only_dialled, sent_at_call}
 use Rattle.spool_command.specs.declared.writing.Unspooled.{Unspooled}
 use Rattle.spool_command.specs.Noted.{IfPorts}

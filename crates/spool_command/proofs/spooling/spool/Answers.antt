@@ -1,6 +1,6 @@
 use Rattle.std.proofs.Common.{◌≡◌, inl, refl}
 use Rattle.backup_command.specs.PortsLink.Hellos.{hello}
-use Rattle.backup_command.proofs.PortLaws.Sending.{sends_none}
+use Rattle.backup_command.proofs.PortsLinkLaws.Sending.{sends_none}
 use Rattle.backup_command.proofs.Finishing.{sent_of_file}
 use Rattle.spool_command.specs.Spooled.{Carried, ReadTooMuch}
 use Rattle.spool_command.proofs.Carried.{untouched_spared}

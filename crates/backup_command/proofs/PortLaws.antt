@@ -1,2 +1,0 @@
--- What ports_link has proved, for callers.
-pub use Rattle.ports_link.proofs.Sending
