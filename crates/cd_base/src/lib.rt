@@ -23,7 +23,7 @@ pub use ends::Ends;
 pub use fps::Fps;
 pub use ids::{CloudNo, Fp, NoMemory, Tag, UserId, Version};
 pub use lengths::share_len;
-pub use limits::{FILE_LIMIT, RECIPE_LIMIT, SECRET_LIMIT};
+pub use limits::{FILE_LIMIT, PATH_LIMIT, RECIPE_LIMIT, SECRET_LIMIT};
 pub use path::is_path;
 pub use place::Place;
 pub use rooms::{Room, Rooms};

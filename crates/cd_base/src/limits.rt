@@ -3,6 +3,9 @@
 /// The most bytes of a file: 64 MiB.
 pub const FILE_LIMIT: usize = 67_108_864;
 
+/// The most bytes of a path.
+pub const PATH_LIMIT: usize = 1024;
+
 /// The most bytes of a secret.
 pub const SECRET_LIMIT: u32 = 16_384;
 

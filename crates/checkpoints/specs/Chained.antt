@@ -2,6 +2,7 @@
 use Rattle.std.specs.Prelude.{◌≡◌, ℕ, ◌+◌, ◌<◌, ◌≤◌, min, List, length, Option, None, true, is_some, slice_index_or}
 use Rattle.cloud_memory.specs.PoolMap.Slots.{slot_of}
 use Rattle.cloud_memory.specs.ShareIndex.key.Owner.{Owner}
+use Rattle.checkpoints.specs.Marked.{slots_limit}
 use Rattle.checkpoints.specs.Records.{owned_at}
 use Rattle.checkpoints.specs.declared.chains.OwnerChains.{OwnerChains}
 
@@ -38,4 +39,4 @@ HasChains slots chains = AreChained slots chains.firsts.items chains.nexts.items
 -- There are places for the slots and the users of all rooms.
 pub record HasPlaces (chains : OwnerChains) : Type 0 where
   pub users : length chains.firsts.items ≡ 256
-  pub slots : length chains.nexts.items ≡ 524288
+  pub slots : length chains.nexts.items ≡ slots_limit

@@ -3,12 +3,13 @@
 ghost use Rattle.std.specs.Prelude.{◌≡◌, IfOk, false, true, length, replicate, slice_set, slice_index_or};
 ghost use Rattle.checkpoints.specs.Marked.{slots_limit, AreAllUnmarked};
 
+use cloud_disk::MOST_OWNERS;
 use cloud_memory::NoMemory;
 use std::alloc::Global;
 use std::marker::Model;
 
 /// As many slots as a memory may have for places.
-pub(crate) const SLOTS: usize = 524_288;
+pub(crate) const SLOTS: usize = MOST_OWNERS as usize;
 
 /// A mark for each slot that a memory may have for places. Contracts see a list of `bool`s.
 #[derive(Drop)]
@@ -22,10 +23,11 @@ impl Model for Marks {
     ghost Value = { List Bool };
 
     ghost use Rattle.std.specs.Prelude.{◌≡◌, length};
+    ghost use Rattle.checkpoints.specs.Marked.{slots_limit};
 
     ghost view = { λ m. m.marks.items };
 
-    ghost invariant = { λ m. length m.marks.items ≡ 524288 };
+    ghost invariant = { λ m. length m.marks.items ≡ slots_limit };
 }
 
 // No slot is marked.

@@ -4,6 +4,7 @@ ghost use Rattle.std.specs.Prelude.{◌≡◌, ◌<◌, ◌≤◌, length, false
 ghost use Rattle.cloud_memory.specs.declared.cloud.CloudMemory.{CloudMemory};
 ghost use Rattle.checkpoints.specs.Chained.{HasChains};
 ghost use Rattle.checkpoints.specs.Laying.{IsNextInBuffer};
+ghost use Rattle.checkpoints.specs.Marked.{slots_limit};
 ghost use Rattle.checkpoints.specs.Records.{coming, records_of};
 ghost use Rattle.cloud_memory.specs.Rooms.{memory_of};
 ghost use Rattle.cloud_memory.specs.Fitting.{FitsRecords};
@@ -82,7 +83,7 @@ impl<'a> MemoryRecords<'a> {
         requires chained { HasChains memory.now.shares.owner_slots chains.now }
         requires fit { FitsRecords (memory_of memory.now) }
         requires users { length memory.now.spent ≤ 256 }
-        requires slots { length memory.now.shares.place_slots ≤ 524288 }
+        requires slots { length memory.now.shares.place_slots ≤ slots_limit }
         ensures records { coming result.shares.now result.files.now result.spent.now result.at ≡ records_of memory.now }
         ensures ready { IsReadyToWrite result.shares.now result.files.now result.spent.now result.chains.now
             result.marks.now result.at }

@@ -10,6 +10,7 @@ ghost use Rattle.cloud_disk.specs.CommitJournal.journal.Stage.TheVariants.{AtEnd
 ghost use Rattle.cloud_memory.specs.UserDedup.command.Command.{Command};
 ghost use Rattle.cloud_disk.specs.CloudAreas.Standing.{Chain};
 ghost use Rattle.checkpoints.specs.Laying.{records_len, longest_record, KeepsOrSettles, HasSettled};
+ghost use Rattle.checkpoints.specs.Marked.{slots_limit};
 ghost use Rattle.checkpoints.specs.Settling.{KeepsList, KeepsOthers};
 ghost use Rattle.checkpoints.specs.Records.{coming, records_of};
 ghost use Rattle.cloud_memory.specs.Rooms.{memory_of, HasRooms};
@@ -115,7 +116,7 @@ pub fn checkpoint_of_memory<V: Shelf>(
     requires region { region ≤ 1 }
     requires fit { FitsRecords (memory_of memory.now) }
     requires users { length memory.now.spent ≤ 256 }
-    requires slots { length memory.now.shares.place_slots ≤ 524288 }
+    requires slots { length memory.now.shares.place_slots ≤ slots_limit }
 
     ensures any_moment { (list : List Command) (c : Chain)
         → IsDiskKnown header.now list c commands region memory.now disk.old (V.cloud_at shelf.old cloud.0)

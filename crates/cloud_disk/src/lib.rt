@@ -16,8 +16,8 @@ pub use cloud_areas::{
     BodyBuf, CommitBody, DeleteBody, LEAST_RECIPES, LEAST_SHARES, Log, LogFull, PutItem, REGION_LEN,
 };
 pub use commit_journal::{
-    Area, Bytes, CloudNo, Failed, FindErr, Found, HALF_LEN, Header, Journal, NoMemory, OpenErr,
-    Place, RECIPE_LIMIT, RecordErr, Room, Shape, Shelf, Sink, Stage, Start, UserId, UserRooms,
-    WINDOW, find, half_limit,
+    Area, Bytes, CloudNo, Failed, FindErr, Found, HALF_LEN, Header, Journal, MOST_OWNERS, NoMemory,
+    OpenErr, Place, RECIPE_LIMIT, RecordErr, Room, Shape, Shelf, Sink, Stage, Start, UserId,
+    UserRooms, WINDOW, find, half_limit,
 };
 pub use disk::CloudDisk;

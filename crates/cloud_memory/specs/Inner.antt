@@ -60,12 +60,16 @@ pub record HasShareRoom (cloud : CloudMemory) (user : UserId) (fp : Fp) : Type 0
   pub owners : owners_used cloud.shares user.0 < limit_for cloud.shares.accounts user.0
   pub fps : get cloud.shares.places fp.0 ≡ None → len cloud.shares.places < cloud.shares.fps
 
+-- how much further on the shares end with one more, at most: its bytes, whatever their number, and those that lie unused in front of it
+abbrev pub reach_limit : ℕ
+reach_limit = 2 ^ 33
+
 -- The share is added with its part of the record.
 pub record HasAddedShare (old new : CloudMemory) (user : UserId) (n : New) (item : PutItem) : Type 0 where
   pub part : item ≡ part_in (memory_of old) n
   pub taken : memory_of new ≡ with_item user (memory_of old) item
   pub lacks : get old.shares.owners (owner_of user.0 n.fp.0) ≡ None
-  pub near : new.shares_end ≤ old.shares_end + 8589934592
+  pub near : new.shares_end ≤ old.shares_end + reach_limit
   pub limits : KeepsLimits old new
 
 -- The shares are added, one behind another.
@@ -84,7 +88,7 @@ pub record MayAdd (cloud : CloudMemory) (user : UserId) (news : List New) : Type
   pub known : user.0 < users
   pub owners : keys_of (λ k. k.user) cloud.shares.owners user.0 + length news ≤ limit
   pub fps : len cloud.shares.places + length news ≤ cloud.shares.fps
-  pub end : cloud.shares_end + 8589934592 * length news < 2 ^ 63
+  pub end : cloud.shares_end + reach_limit * length news < 2 ^ 63
 
 -- The user's rooms are wide enough for a Put of so many shares with so many bytes, and the indexes have room for it.
 pub record FitsPut (rooms : UserRooms) (m : Memory) (user : UserId) (count more : ℕ) : Type 0 where

@@ -12,6 +12,7 @@ ghost use Rattle.cloud_areas.specs.ContainerLog.Places.{place_of};
 ghost use Rattle.file_index.specs.declared.key.FileKey.{FileKey};
 ghost use Rattle.file_index.specs.Files.{key_of};
 ghost use Rattle.cloud_areas.specs.JournalStart.rooms.UserRooms.{UserRooms};
+ghost use Rattle.cloud_areas.specs.JournalStart.Ranges.{most_files};
 ghost use Rattle.cloud_areas.specs.MessageFields.Shares.{share_limit};
 ghost use Rattle.cloud_areas.specs.RecordBody.body.CommitBody.{CommitBody};
 ghost use Rattle.cloud_areas.specs.RecordBody.body.PutItem.{PutItem};
@@ -56,7 +57,7 @@ pub fn law_of_commits()
         (recipe : List ℕ) (at : ℕ) (m : Memory)
         → Remembers shape list m → get m.files (key_of user.0 tag.0 version.0) ≡ None
         → AreOwned m.owners user (fps_of shape recipe)
-        → files_of shape list user ≤ 16384 → user.0 < length m.spent
+        → files_of shape list user ≤ most_files → user.0 < length m.spent
         → Remembers shape (list ++ commands.Commit user tag version recipe ∷ [])
         (with_commit (fps_of shape recipe) (commit_of user tag version recipe at) m) }
 {}

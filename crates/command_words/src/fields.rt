@@ -7,7 +7,8 @@ ghost use Rattle.session.specs.Reading.{each_room, needed, sources};
 ghost use Rattle.command_words.specs.Reading.{GivesOrNone, any, path, rooms_at, shape_at, word_at};
 
 use session::{
-    CloudNo, Clouds, NoMemory, Shape, UserRooms, after, before, is_path, len_to, number_of,
+    CloudNo, Clouds, MOST_FILES, MOST_OWNERS, MOST_RECIPES, MOST_SHARES, NoMemory, Shape,
+    UserRooms, after, before, is_path, len_to, number_of,
 };
 use std::alloc::Global;
 
@@ -105,15 +106,6 @@ pub fn shape_words(words: &[String]) -> Option<(Shape, &[String])>
     let (n, words) = number_word(words, 0, 255)?;
     needed_word(n as u8, words)
 }
-
-// The most that all users of a cloud hold together.
-const MOST_SHARES: u64 = 8_589_934_592;
-
-const MOST_RECIPES: u64 = 1_073_741_824;
-
-const MOST_OWNERS: u64 = 524_288;
-
-const MOST_FILES: u64 = 16_384;
 
 // How many users there are: 1 to 256.
 #[tactic(auto, using(crate::proofs::RoomWords::some_users))]

@@ -16,9 +16,9 @@ mod writing;
 pub use errors::OpenErr;
 pub use journal::{Journal, Stage};
 pub use journal_halves::{
-    Area, Bytes, Checkpoint, CloudNo, Clouds, Failed, FindErr, Found, HALF_LEN, Header, NoMemory,
-    Place, Ports, RECIPE_LIMIT, RecordErr, Room, Shape, Shelf, Sink, Source, Start, UserId,
-    UserRooms, Version, WINDOW, find, half_limit, write_all, write_synced,
+    Area, Bytes, Checkpoint, CloudNo, Clouds, Failed, FindErr, Found, HALF_LEN, Header,
+    MOST_OWNERS, NoMemory, Place, Ports, RECIPE_LIMIT, RecordErr, Room, Shape, Shelf, Sink, Source,
+    Start, UserId, UserRooms, Version, WINDOW, find, half_limit, write_all, write_synced,
 };
 pub use piece::PIECE;
 pub use writer::CheckpointWriter;

@@ -2,6 +2,7 @@
 pub use Rattle.checkpoints.specs.CloudDisk
 pub use Rattle.checkpoints.specs.Known
 pub use Rattle.checkpoints.specs.Laying
+pub use Rattle.checkpoints.specs.Marked
 pub use Rattle.checkpoints.specs.Picking
 pub use Rattle.checkpoints.specs.Ready
 pub use Rattle.checkpoints.specs.Records

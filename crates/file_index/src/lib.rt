@@ -6,6 +6,7 @@
 ghost use Rattle.std.specs.Prelude.{ℕ, ◌≡◌, ◌≤◌, ◌<◌, ◌*◌, ◌^◌, ◌↔◌, IfOk, IfErr, OnOk, OnErr, IsErr, IsSome};
 ghost use Rattle.std.specs.Prelude.{MatchOption, None, option_map, length};
 ghost use Rattle.std.specs.FinMap as map;
+ghost use Rattle.cd_base.specs.Limits.{greatest_rooms};
 ghost use Rattle.pool_map.specs.declared.accounts.Accounts.TheVariants.{Shared, PerUser};
 ghost use Rattle.pool_map.specs.declared.accounts.IndexErr.TheVariants.{Full};
 ghost use Rattle.pool_map.specs.Accounts.{IsKnown, limit_for, slots_of};
@@ -68,7 +69,7 @@ impl FileIndex {
 
     /// An index without files, for so many of each user below the number of users. It takes all its memory here.
     pub fn for_users(alloc: Global, users: u32, files: u32) -> Result<FileIndex, NoMemory>
-        requires { users * files ≤ 16384 }
+        requires { users * files ≤ greatest_rooms.files }
         ensures empty { IfOk result (λ index. index.files ≡ map.empty) }
         ensures accounts { IfOk result (λ index. index.accounts ≡ PerUser users files) }
         ensures slots { IfOk result (λ index. length index.slots ≡ users * files) }

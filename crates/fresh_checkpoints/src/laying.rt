@@ -13,6 +13,7 @@ ghost use Rattle.cloud_disk.specs.UserDedup.command.Command.{Command};
 ghost use Rattle.cloud_disk.specs.CloudAreas.Standing.{Chain};
 ghost use Rattle.cloud_disk.specs.Disk.{IsRead};
 ghost use Rattle.compact_memories.specs.Checkpoints.Laying.{records_len, KeepsOrSettles, HasSettled};
+ghost use Rattle.compact_memories.specs.Checkpoints.Marked.{slots_limit};
 ghost use Rattle.compact_memories.specs.Checkpoints.Records.{coming, records_of};
 ghost use Rattle.compact_memories.specs.Checkpoints.Ready.{IsReadyToWrite};
 ghost use Rattle.compact_memories.specs.Checkpoints.Known.{checkpoint_in, CountsWithin, stage_behind};
@@ -82,7 +83,7 @@ pub fn lay_fresh<V: Shelf>(
     requires region { next.region ≤ 1 }
     requires fit { FitsRecords (memory_of memory.now) }
     requires users { length memory.now.spent ≤ 256 }
-    requires slots { length memory.now.shares.place_slots ≤ 524288 }
+    requires slots { length memory.now.shares.place_slots ≤ slots_limit }
 
     // where the cloud stands for a list by the chain
     ensures any_moment { (one : OfStore) (list other : List Command) (c : Chain)

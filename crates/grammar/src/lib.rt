@@ -8,8 +8,8 @@ mod stop;
 mod words;
 
 pub use cd_base::{
-    Bytes, CloudNo, Clouds, FILE_LIMIT, Fp, Fps, NoMemory, Place, RECIPE_LIMIT, Room, Rooms,
-    SECRET_LIMIT, Shape, Tag, UserId, Version, is_path, sha256, share_len,
+    Bytes, CloudNo, Clouds, FILE_LIMIT, Fp, Fps, NoMemory, PATH_LIMIT, Place, RECIPE_LIMIT, Room,
+    Rooms, SECRET_LIMIT, Shape, Tag, UserId, Version, is_path, sha256, share_len,
 };
 pub use fields::{bytes_of, u16_of, u32_of, u64_of};
 pub use hexadecimal::{decode, encode};

@@ -30,7 +30,8 @@ fn begins(bytes: &[u8]) -> bool
 // What a half begins with, by what was read of it.
 fn judge(half: u8, ahead: &[u8]) -> Result<Option<Start>, FindErr>
     requires { half ≤ 1 }
-    ensures looks { (journal : List ℕ) → ahead.now ≡ take window_len (half_of half journal) → LookIs journal half result }
+    ensures looks { (journal : List ℕ) → ahead.now ≡ take window_len (half_of half journal)
+        → LookIs journal half result }
     ensures start { IfOk result (λ found. IfSome found (IsStart half)) }
     ensures handled { OnFindFault result ⊥ (Unit {0}) }
 {

@@ -20,6 +20,6 @@ pub use errors::RecordErr;
 pub use finding::find;
 pub use found::{FindErr, Found};
 pub use frame::{Frame, GREATEST, WINDOW, frame_of};
-pub use journal_start::{Checkpoint, Header, Start, UserRooms};
+pub use journal_start::{Checkpoint, Header, MOST_OWNERS, Start, UserRooms};
 pub use limit::{HALF_LEN, half_limit};
 pub use records::HalfRecords;

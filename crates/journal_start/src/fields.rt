@@ -5,7 +5,7 @@ ghost use Rattle.std.specs.Int.{w32, w64};
 ghost use Rattle.message_fields.specs.Grammar.Fields.{number_at};
 ghost use Rattle.message_fields.specs.Parts.{kept};
 ghost use Rattle.message_fields.specs.Readings.{IsReadingSeenBy};
-ghost use Rattle.journal_start.specs.Ranges.{is_users, is_within};
+ghost use Rattle.journal_start.specs.Ranges.{most_shares, is_users, is_within};
 ghost use Rattle.journal_start.specs.Reading.{byte_at, letter_at, letters_at, is_format, is_shape, shape_at, cloud_at, front_at, rooms_at, is_epoch, is_region, counts_at, first_checkpoint_at, second_checkpoint_at, plain_or};
 
 use crate::rooms::{MOST_FILES, MOST_OWNERS, MOST_RECIPES, MOST_SHARES, are_users, are_within};
@@ -98,7 +98,7 @@ fn users_of(bytes: &[u8]) -> Result<(u32, &[u8]), Left>
 
 // A room of 8 bytes, and what follows.
 fn long_room_of(bytes: &[u8], most: u64, users: u32) -> Result<(u64, &[u8]), Left>
-    requires { most ≤ 8589934592 }
+    requires { most ≤ most_shares }
     ensures { IsReadingSeenBy (λ x. (x.0, x.1.now)) result (kept (is_within most users) (number_at w64) bytes.now) }
 {
     let (each, rest) = u64_of(bytes)?;
@@ -111,7 +111,7 @@ fn long_room_of(bytes: &[u8], most: u64, users: u32) -> Result<(u64, &[u8]), Lef
 
 // A room of 4 bytes, and what follows.
 fn room_of(bytes: &[u8], most: u64, users: u32) -> Result<(u32, &[u8]), Left>
-    requires { most ≤ 8589934592 }
+    requires { most ≤ most_shares }
     ensures { IsReadingSeenBy (λ x. (x.0, x.1.now)) result (kept (is_within most users) (number_at w32) bytes.now) }
 {
     let (each, rest) = u32_of(bytes)?;

@@ -19,6 +19,6 @@ pub use message_fields::{
     before, byte_of, bytes_of, capped_field, cut_word, decode, encode, fp_of, is_key_above,
     is_path, len_to, number_of, sha256, share_len, u16_of, u32_field, u64_field, u64_of, user_of,
 };
-pub use rooms::{RoomsField, UserRooms};
+pub use rooms::{MOST_FILES, MOST_OWNERS, MOST_RECIPES, MOST_SHARES, RoomsField, UserRooms};
 pub use start::{Checkpoint, Header, Start};
 pub use writing::StartBytes;

@@ -1,7 +1,7 @@
 //! How many users a cloud has, and how much each of them may hold.
 
 ghost use Rattle.std.specs.Prelude.{◌≡◌, ◌≤◌, Some, nat_le, MatchResult, IsTrue, ◌↔◌};
-ghost use Rattle.journal_start.specs.Ranges.{AreRooms, is_users, is_within, first_broken, usual_rooms, least_rooms};
+ghost use Rattle.journal_start.specs.Ranges.{AreRooms, most_shares, is_users, is_within, first_broken, usual_rooms, least_rooms};
 
 /// How many users a cloud may have, and how much each of them may hold: bytes of shares and of recipes, owned fingerprints,
 /// and files. There are 1 to 256 users, and together they may hold at most 8,589,934,592 bytes of shares, 1,073,741,824
@@ -30,14 +30,17 @@ pub enum RoomsField {
     Files,
 }
 
-// The most that all users may hold together.
-pub(crate) const MOST_SHARES: u64 = 8_589_934_592;
+/// The most bytes of shares of all users of a cloud together.
+pub const MOST_SHARES: u64 = 8_589_934_592;
 
-pub(crate) const MOST_RECIPES: u64 = 1_073_741_824;
+/// The most bytes of recipes of all users of a cloud together.
+pub const MOST_RECIPES: u64 = 1_073_741_824;
 
-pub(crate) const MOST_OWNERS: u64 = 524_288;
+/// The most fingerprints that all users of a cloud together own.
+pub const MOST_OWNERS: u64 = 524_288;
 
-pub(crate) const MOST_FILES: u64 = 16_384;
+/// The most files of all users of a cloud together.
+pub const MOST_FILES: u64 = 16_384;
 
 // Whether a cloud may have so many users.
 pub(crate) fn are_users(users: u32) -> bool
@@ -48,7 +51,7 @@ pub(crate) fn are_users(users: u32) -> bool
 
 // Whether so many users hold no more than the most together.
 pub(crate) fn are_within(most: u64, users: u32, each: u64) -> bool
-    requires { most ≤ 8589934592 }
+    requires { most ≤ most_shares }
     ensures { result ≡ is_within most users each }
 {
     (users as u64).saturating_mul(each) <= most

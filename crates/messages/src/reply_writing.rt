@@ -56,7 +56,7 @@ pub fn append_share(out: &mut ReplyBuf, share: &[u8])
 
 fn append_each_share(out: &mut ReplyBuf, shares: &[Bytes])
     requires few { All (λ share. length share ≤ share_limit) shares.now }
-    requires room { length out.old + length shares.now * 8212 ≤ frame_limit }
+    requires room { length out.old + length shares.now * (4 + share_limit) ≤ frame_limit }
     ensures { out.new ≡ out.old ++ flat_map share_bytes shares.now }
 {
     for share in shares {

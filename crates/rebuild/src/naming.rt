@@ -4,7 +4,7 @@ ghost use Rattle.std.specs.Prelude.{◌≡◌, ◌==◌, ◌*◌, ◌≤◌, ◌
 ghost use Rattle.std.specs.Prelude.{All, IfOk, OnOk, IfSome, ◌<◌};
 ghost use Rattle.std.specs.List.{flat_map};
 ghost use Rattle.lane_steps.specs.CdBase.Lengths.{share_len_of};
-ghost use Rattle.lane_steps.specs.CdBase.Limits.{IsPath};
+ghost use Rattle.lane_steps.specs.CdBase.Limits.{IsPath, path_limit};
 ghost use Rattle.lane_steps.specs.CdBase.Numbers.{numbers_of};
 ghost use Rattle.lane_steps.specs.CdBase.ids.Version.{Version};
 ghost use Rattle.lane_steps.specs.CaontRs.Opening.{opened};
@@ -55,7 +55,7 @@ fn open_name(
     shares: &[u8],
 ) -> Result<Bytes, NameErr>
     requires some { 1 ≤ name_len }
-    requires few { name_len ≤ 1024 }
+    requires few { name_len ≤ path_limit }
     requires choice { AreChoice shape points.now }
     requires whole { length shares.now ≡ shape.k * share_len_of shape.k name_len }
     ensures opens { NameOpens (opened shape name_len points.now shares.now) result }
@@ -103,7 +103,7 @@ fn test_tag(alloc: Global, shape: Shape, tag: Tag, path: &[u8]) -> Result<(), Na
 // Tests what the shares of a name gave: the first zero byte, and the tag.
 fn test_path(alloc: Global, shape: Shape, tag: Tag, path: &[u8]) -> Result<(), NameErr>
     requires some { 1 ≤ length path.now }
-    requires few { length path.now ≤ 1024 }
+    requires few { length path.now ≤ path_limit }
     ensures judges { (version : Version)
         → NameIs (path_judged shape (tag, version) path.now (position (λ byte. byte == 0) path.now))
         (tested path.now result) }
@@ -125,7 +125,7 @@ fn path_of(
     recipes: &[Recipe],
 ) -> Result<Bytes, NameErr>
     requires some { 1 ≤ name_len }
-    requires few { name_len ≤ 1024 }
+    requires few { name_len ≤ path_limit }
     requires choice { AreChoice shape points.now }
     requires whole { length (flat_map (λ recipe. recipe.name_share) recipes.now)
         ≡ shape.k * share_len_of shape.k name_len }

@@ -4,7 +4,7 @@ ghost use Rattle.std.specs.Prelude.{◌≡◌, ◌==◌, length, IsTrue, ◌↔�
 ghost use Rattle.recipe.specs.Spelling.{is_name_len, is_file_len, is_count, is_len, AreRecipeItems, total};
 
 use crate::Item;
-use grammar::{FILE_LIMIT, SECRET_LIMIT};
+use grammar::{FILE_LIMIT, PATH_LIMIT, SECRET_LIMIT};
 
 /// The most secrets of a file.
 pub const ITEM_LIMIT: usize = 32_768;
@@ -13,7 +13,7 @@ pub const ITEM_LIMIT: usize = 32_768;
 pub fn is_name_len_of(n: u16) -> bool
     ensures { result ≡ is_name_len n }
 {
-    1 <= n && n <= 1024
+    1 <= n && n as usize <= PATH_LIMIT
 }
 
 /// A file has at most 67,108,864 bytes.

@@ -2,6 +2,7 @@
 use Rattle.std.specs.Prelude.{ℕ, ◌≡◌, ◌-◌, ◌/◌, Bool, true, ◌&&◌, not, List, [], ◌∷◌, length, Option, Some, None, Result, Ok, Err, nat_lt, nat_le, ◌==◌, if◌then◌else◌, slice_get, codes}
 use Rattle.std.specs.List.{find, list_all, slice_split}
 use Rattle.std.specs.Str.{bytes_eq}
+use Rattle.journal_start.specs.CdBase.Limits.{path_limit}
 use Rattle.journal_start.specs.CdBase.shape.Shape.{Shape}
 use Rattle.journal_start.specs.Ranges.{usual_rooms, most_shares, most_recipes, most_owners, most_files}
 pub use Rattle.journal_start.specs.Reading.{make_rooms}
@@ -38,7 +39,7 @@ unfoldable pub literal : List ℕ → List ℕ → Option (Unit {0})
 literal name text = if bytes_eq text name then Some tt else None
 
 abbrev pub names_file : List ℕ → Bool
-names_file bytes = nat_le 1 (length bytes) && (nat_le (length bytes) 1024 && list_all (λ byte. not (byte == 0)) bytes)
+names_file bytes = nat_le 1 (length bytes) && (nat_le (length bytes) path_limit && list_all (λ byte. not (byte == 0)) bytes)
 
 unfoldable pub path : List ℕ → Option (List ℕ)
 path text = keep names_file (unhex text)

@@ -14,8 +14,9 @@ mod reading;
 pub use event::Event;
 pub use header::shape_field;
 pub use journal_start::{
-    Bytes, CloudNo, Clouds, Fp, NoMemory, Shape, Stop, Tag, UserId, UserRooms, Version, after,
-    before, cut_word, encode, is_path, len_to, number_of, u32_field, u64_field,
+    Bytes, CloudNo, Clouds, Fp, MOST_FILES, MOST_OWNERS, MOST_RECIPES, MOST_SHARES, NoMemory,
+    Shape, Stop, Tag, UserId, UserRooms, Version, after, before, cut_word, encode, is_path, len_to,
+    number_of, u32_field, u64_field,
 };
 pub use kinds::{cloud_field, literal_field};
 pub use laws::law_of_scripts;

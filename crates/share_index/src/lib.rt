@@ -5,6 +5,7 @@
 
 ghost use Rattle.std.specs.Prelude.{◌≡◌, ◌≤◌, ◌<◌, ◌+◌, ◌-◌, ◌*◌, ◌^◌, ◌↔◌, IfOk, IfErr, OnOk, OnErr, IsErr, IfSome, IsSome, IsTrue, None, is_some, option_map, length};
 ghost use Rattle.std.specs.FinMap as map;
+ghost use Rattle.cd_base.specs.Limits.{greatest_rooms};
 ghost use Rattle.pool_map.specs.declared.accounts.Accounts.TheVariants.{Shared, PerUser};
 ghost use Rattle.pool_map.specs.declared.accounts.IndexErr.TheVariants.{Full};
 ghost use Rattle.pool_map.specs.Accounts.{limit_for, slots_of, keys_of};
@@ -72,7 +73,7 @@ impl ShareIndex {
     /// An index without shares, for so many owners of each user below the number of users, and as many placed fingerprints as
     /// these are together. It takes all its memory here.
     pub fn for_users(alloc: Global, users: u32, owners: u32) -> Result<ShareIndex, NoMemory>
-        requires { users * owners ≤ 524288 }
+        requires { users * owners ≤ greatest_rooms.owners }
         ensures places { IfOk result (λ index. index.places ≡ map.empty) }
         ensures owners { IfOk result (λ index. index.owners ≡ map.empty) }
         ensures fps { IfOk result (λ index. index.fps ≡ users * owners) }

@@ -1,5 +1,6 @@
 -- What stands after a journal of format 1 was read.
 use Rattle.std.specs.Prelude.{List}
+use Rattle.cd_base.specs.Limits.{greatest_rooms}
 use Rattle.fresh_checkpoints.specs.CdBase.ids.CloudNo.{CloudNo}
 use Rattle.fresh_checkpoints.specs.CdBase.shape.Shape.{Shape}
 use Rattle.fresh_checkpoints.specs.CdEdges.area.Area.TheVariants.{Shares, Recipes}
@@ -25,4 +26,4 @@ pub record IsReadFirst (shape : Shape) (cloud_no : CloudNo) (list : List Command
   pub table : List Row
   pub remembers : Remembers shape list (with_table table m)
   pub stand : Stand shape (reads cloud.now Shares) (reads cloud.now Recipes) list m
-  pub lie : PlacesLie 0 8589934592 1073741824 m
+  pub lie : PlacesLie 0 greatest_rooms.shares greatest_rooms.recipes m

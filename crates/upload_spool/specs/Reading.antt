@@ -3,6 +3,7 @@
 use Rattle.std.specs.Prelude.{ℕ, zero, suc, ◌-◌, ◌==◌, ◌&&◌, not, Bool, List, [], ◌∷◌, length, slice_index, Some, Result, Ok, Err, nat_le, nat_lt}
 use Rattle.std.specs.List.{list_all, list_any}
 use Rattle.std.specs.Int.{w16, w32, w64}
+use Rattle.grammar.specs.CdBase.Limits.{path_limit, file_limit}
 use Rattle.grammar.specs.CdBase.ids.CloudNo.{CloudNo}
 use Rattle.grammar.specs.CdBase.shape.Shape.{Shape}
 use Rattle.grammar.specs.Readers.{◌▷◌, ◌▷▷◌}
@@ -38,13 +39,13 @@ abbrev pub is_kind : ℕ → ℕ → Bool
 is_kind kind byte = byte == kind
 
 abbrev pub is_path_len : ℕ → Bool
-is_path_len n = nat_le 1 n && nat_le n 1024
+is_path_len n = nat_le 1 n && nat_le n path_limit
 
 abbrev pub has_no_zero : List ℕ → Bool
 has_no_zero path = list_all (λ byte. not (byte == 0)) path
 
 abbrev pub is_file_len : ℕ → Bool
-is_file_len n = nat_le n 67108864
+is_file_len n = nat_le n file_limit
 
 -- a cloud below n that wasn't noted
 abbrev pub is_lane : Shape → List CloudNo → ℕ → Bool

@@ -2,7 +2,7 @@
 
 ghost use Rattle.std.specs.Prelude.{◌≡◌, ◌≢◌, ◌⊎◌, ℕ, ◌+◌, ◌<◌, ◌≤◌, List, [], ◌∷◌, ◌++◌, length, None, IsTrue, IfOk, OnOk, OnErr};
 ghost use Rattle.sha2.specs.Sha256.{sha256 as sha256_of};
-ghost use Rattle.grammar.specs.CdBase.Limits.{IsPath, file_limit};
+ghost use Rattle.grammar.specs.CdBase.Limits.{IsPath, file_limit, path_limit};
 ghost use Rattle.commit_journal.specs.CdEdges.area.Area.{Area};
 ghost use Rattle.commit_journal.specs.CdEdges.Disk.{Cloud, reads};
 ghost use Rattle.commit_journal.specs.CdEdges.Shelf.{IsCall, HasFailed, KeepsCounts, Stays};
@@ -17,13 +17,10 @@ ghost use Rattle.upload_spool.specs.States.{state_of, chosen, first_filled, IsWr
 use crate::spool::{SPOOL_CLOUD, SPOOL_LIMIT};
 use crate::{Spool, SpoolErr};
 use commit_journal::{
-    Area, Failed, Header, Journal, OpenErr, RecordErr, Shelf, UserRooms, write_synced,
+    Area, Failed, Header, Journal, OpenErr, PIECE, RecordErr, Shelf, UserRooms, write_synced,
 };
 use grammar::{Bytes, Fp, NoMemory, Shape, UserId, Version, sha256};
 use std::alloc::Global;
-
-/// The most bytes of the file that are written at once.
-const PIECE: usize = 4_194_304;
 
 // The first of three lengths that isn't 0.
 fn choose(journal: u64, shares: u64, recipes: u64) -> Option<(Area, u64)>
@@ -212,7 +209,7 @@ fn job_body(
     len: u64,
     digest: Fp,
 ) -> Result<Bytes, NoMemory>
-    requires { length path.now ≤ 1024 }
+    requires { length path.now ≤ path_limit }
     ensures { IfOk result (λ body. body ≡ job_fields user version path.now len digest.0) }
 {
     let mut body = Bytes::new(alloc);

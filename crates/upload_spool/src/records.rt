@@ -8,7 +8,7 @@ ghost use Rattle.upload_job.specs.MessageFields.Parts.{kept};
 ghost use Rattle.upload_job.specs.MessageFields.Readings.{IsReadingSeenBy};
 ghost use Rattle.upload_spool.specs.Reading.{one_byte, is_kind, is_lane, is_path_len, has_no_zero, is_file_len, path_at, job_at, lane_at, wrong_at, job_in, lane_in, fields_of};
 
-use grammar::{CloudNo, Fp, Shape, UserId, Version};
+use grammar::{CloudNo, FILE_LIMIT, Fp, PATH_LIMIT, Shape, UserId, Version};
 use upload_job::{Left, byte_of, bytes_of, fp_of, u16_of, u64_of, user_of};
 
 /// Why a body isn't that of a spool's next record.
@@ -59,7 +59,7 @@ fn path_len_of(bytes: &[u8]) -> Result<(u16, &[u8]), Left>
     ensures { IsReadingSeenBy (λ x. (x.0, x.1.now)) result (checked is_path_len (number_at w16) bytes.now) }
 {
     let (len, rest) = u16_of(bytes)?;
-    if 1 <= len && len <= 1_024 {
+    if 1 <= len && len as usize <= PATH_LIMIT {
         Ok((len, rest))
     } else {
         Err(Left(bytes.len()))
@@ -85,7 +85,7 @@ fn file_len_of(bytes: &[u8]) -> Result<(u64, &[u8]), Left>
     ensures { IsReadingSeenBy (λ x. (x.0, x.1.now)) result (checked is_file_len (number_at w64) bytes.now) }
 {
     let (len, rest) = u64_of(bytes)?;
-    if len <= 67_108_864 {
+    if len <= FILE_LIMIT as u64 {
         Ok((len, rest))
     } else {
         Err(Left(bytes.len()))
