@@ -6,6 +6,7 @@ pub mod Items
 pub mod Lines
 pub mod Lists
 pub mod Passing
+pub mod Recalled
 pub mod Runs
 pub mod Saying
 pub mod Talks

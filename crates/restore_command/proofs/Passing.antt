@@ -38,14 +38,14 @@ still_open old new port before after request reply answer (Deaf dead same none s
 
 module _ {P : Type 0} (tells : P → Telling) (faults : P → ℕ) where
   -- the same ports, and for each cloud the same one of them
-  pub record Kept (old new : PortsLink P) : Type 0 where
+  pub record KeepsPorts (old new : PortsLink P) : Type 0 where
     pub same_reference : new.ports.ghost_name ≡ old.ports.ghost_name
     pub told : (tells new.ports.now).told ≡ (tells old.ports.now).told
     pub lines : (cloud : ℕ)
         → (line_of new.lines.items.items cloud).port ≡ (line_of old.lines.items.items cloud).port
 
   pub kept : (named : List ℕ) (es : List Exchange) (old new : PortsLink P)
-      → Passes (telling tells faults) (ReadsOneOf named) old es new → Kept old new
+      → Passes (telling tells faults) (ReadsOneOf named) old es new → KeepsPorts old new
   kept named [] old new same = record {
     same_reference = ap (λ (l : PortsLink P). l.ports.ghost_name) same;
     told = ap (λ (l : PortsLink P). (tells l.ports.now).told) same;

@@ -2,6 +2,7 @@ pub mod Calls
 pub mod Came
 pub mod Ends
 pub mod Fetched
+pub mod Recalling
 pub mod Spoken
 pub mod Stopped
 pub mod Talks

@@ -1,10 +1,12 @@
 -- Restores over ports from one choice of the clouds after another.
-use Rattle.std.specs.Prelude.{◌≡◌, ◌≤◌, ◌⊎◌, ℕ, Bool, true, IsTrue, List, [], ◌∷◌, ◌++◌, length, Result, Ok, Err, All}
+use Rattle.std.specs.Prelude.{◌≡◌, ◌≢◌, ◌≤◌, ◌⊎◌, ℕ, false, true, IsTrue, List, [], ◌∷◌, ◌++◌, length, Result, Ok, Err, All}
 use Rattle.std.specs.List.{Contains}
 use Rattle.ports_link.specs.CdBase.ids.CloudNo.{CloudNo}
 use Rattle.ports_link.specs.CdBase.shape.Shape.{Shape}
 use Rattle.ports_link.specs.CdEdges.Causes.{Rose}
 use Rattle.ports_link.specs.CdEdges.Ports.{Telling}
+use Rattle.ports_link.specs.Messages.Requests.{request_bytes}
+use Rattle.ports_link.specs.Messages.request.Request.TheVariants as requests
 use Rattle.subset_restore.specs.RestoreJob.Asking.{is_loss}
 use Rattle.subset_restore.specs.RestoreJob.Brought.{Brought}
 use Rattle.subset_restore.specs.RestoreJob.Exchanges.{Unlost}
@@ -18,45 +20,69 @@ use Rattle.restore_command.specs.Stopped.{Stopped}
 use Rattle.ports_link.specs.declared.greeting.Greeted.{Greeted}
 use Rattle.ports_link.specs.Hellos.{clouds_of}
 use Rattle.restore_command.specs.Calls.{RestoreCall, named_in, ports_of, tag_in}
-use Rattle.restore_command.specs.Spoken.{HaveTalked, none_ended}
+use Rattle.restore_command.specs.Spoken.{HasSaid, HaveTalked, KeptReply, none_ended, none_kept}
 
 -- ---- one restore
 
--- What was said with these clouds is how a file is fetched, and these are its bytes.
-pub record IsFetch (call : RestoreCall) (shape : Shape) (lines : List (CloudNo × ℕ)) (before after : Telling)
-    (bytes : List ℕ) : Type 0 where
+-- the request for the recipe of the version
+abbrev pub recipe_request : RestoreCall → Shape → List ℕ
+recipe_request call shape = request_bytes (requests.GetRecipe call.user (tag_in shape call.path) call.version)
+
+-- What was said with these clouds is how a file is fetched, and these are its bytes. No recipe was asked for on a port that
+-- is kept.
+pub record IsFetch (call : RestoreCall) (shape : Shape) (lines : List (CloudNo × ℕ)) (kept : KeptReply)
+    (before after : Telling) (bytes : List ℕ) : Type 0 where
   pub sent : ℕ → List (List ℕ)
   pub received : ℕ → List (List ℕ)
-  pub talked : HaveTalked before after lines none_ended sent received
+  pub kept_after : KeptReply
+  pub talked : HaveTalked before after lines none_ended (recipe_request call shape) kept kept_after sent received
   pub fetched : Fetched shape call.user (tag_in shape call.path) call.version (named_in lines) sent received bytes
 
--- What was said with these clouds is how a file is fetched, up to one reply or comparison, which the error names.
-pub record IsStop (call : RestoreCall) (shape : Shape) (lines : List (CloudNo × ℕ)) (had_ended : ℕ → Bool)
-    (before after : Telling) (e : RestoreErr) : Type 0 where
+-- What was said with these clouds is how a file is fetched, up to one reply or comparison, which the error names. No recipe
+-- was asked for on a port that is kept, and those that came are kept from now on.
+pub record IsStop (call : RestoreCall) (shape : Shape) (lines : List (CloudNo × ℕ)) (kept : KeptReply)
+    (before after : Telling) (kept_after : KeptReply) (e : RestoreErr) : Type 0 where
   pub sent : ℕ → List (List ℕ)
   pub received : ℕ → List (List ℕ)
-  pub talked : HaveTalked before after lines had_ended sent received
+  pub talked : HaveTalked before after lines none_ended (recipe_request call shape) kept kept_after sent received
   pub stopped : Stopped shape call.user (tag_in shape call.path) call.version (named_in lines) sent received e
 
 -- unless an ask was lost
 abbrev pub IfHeard : RestoreErr → Type 0 → Type 0
 IfHeard e P = let came : Result (Unit {0}) RestoreErr = Err e in Unlost came P
 
+-- where an ask was lost, of the cloud on which it was
+abbrev pub IfLost : RestoreErr → (ℕ → Type 0) → Type 0
+IfLost (errors.Lost c) P = P c.0
+IfLost e P = Unit {0}
+
+-- Each of these clouds but one was asked something and replied, on its port but for what is kept.
+abbrev pub HaveSaidBeside : RestoreCall → Shape → List (CloudNo × ℕ) → KeptReply → Telling → Telling → KeptReply → ℕ
+    → Type 0
+HaveSaidBeside call shape lines kept before after kept_after lost = (line : CloudNo × ℕ) → Contains lines line
+    → line.0.0 ≢ lost → (sent : List (List ℕ)) × (received : List (List ℕ))
+    × HasSaid before after line.1 false (recipe_request call shape) (kept line.0.0) (kept_after line.0.0) sent received
+
 -- A restore from a choice of the clouds was refused: by what was said with these, none of whose lines had ended before;
--- or since an ask was lost. Every port but theirs is as it was.
-pub record IsRestoreRefused (call : RestoreCall) (greeted : Greeted) (before : Telling) (x : Try) (after : Telling)
-    : Type 0 where
+-- or since an ask was lost, and then each reply of the other ones came or is kept. Every port but theirs is as it was, and
+-- of every cloud but them the same reply is kept.
+pub record IsRestoreRefused (call : RestoreCall) (greeted : Greeted) (before : Telling) (kept : KeptReply) (x : Try)
+    (after : Telling) (kept_after : KeptReply) : Type 0 where
   pub lines : List (CloudNo × ℕ)
   pub clouds : clouds_of lines ≡ x.subset
   pub among : All (Contains greeted.lines.items) lines
-  pub stopped : IfHeard x.refusal (IsStop call greeted.shape lines none_ended before after x.refusal)
+  pub stopped : IfHeard x.refusal (IsStop call greeted.shape lines kept before after kept_after x.refusal)
+  pub beside : IfLost x.refusal (HaveSaidBeside call greeted.shape lines kept before after kept_after)
   pub others : (port : ℕ) → ¬ Contains (ports_of lines) port → after.port port ≡ before.port port
+  pub rest : (cloud : ℕ) → ¬ Contains x.subset cloud → kept_after cloud ≡ kept cloud
 
 -- one such restore after another
-abbrev pub AreRefused : RestoreCall → Greeted → Telling → List Try → Telling → Type 0
-AreRefused call greeted before [] after = after ≡ before
-AreRefused call greeted before (x ∷ tries) after =
-    (mid : Telling) × IsRestoreRefused call greeted before x mid × AreRefused call greeted mid tries after
+abbrev pub AreRefused : RestoreCall → Greeted → Telling → KeptReply → List Try → Telling → KeptReply → Type 0
+AreRefused call greeted before kept [] after kept_after =
+    (after ≡ before) × ((cloud : ℕ) → kept_after cloud ≡ kept cloud)
+AreRefused call greeted before kept (x ∷ tries) after kept_after =
+    (mid : Telling) × (kept_mid : KeptReply) × IsRestoreRefused call greeted before kept x mid kept_mid
+    × AreRefused call greeted mid kept_mid tries after kept_after
 
 -- ---- counts
 
@@ -88,14 +114,15 @@ pub record FileFrom (call : RestoreCall) (greeted : Greeted) (behind : Telling) 
   pub free : HoldsRefuser tries (clouds_of chosen) → ⊥
   pub brought : Brought greeted.shape (clouds_of chosen) [] bytes
   pub from : Telling
+  pub kept : KeptReply
   pub count : ℕ
   pub named : AreTriesNamed tries
   pub counted : AreCounted call.faults_before tries count
   pub later : count ≤ call.faults_after
-  pub refused : IsTrue call.before.told → AreRefused call greeted behind tries from
-  pub fetched : IsTrue call.before.told → IsFetch call greeted.shape chosen from call.after bytes
+  pub refused : IsTrue call.before.told → AreRefused call greeted behind none_kept tries from kept
+  pub fetched : IsTrue call.before.told → IsFetch call greeted.shape chosen kept from call.after bytes
   pub exact : IsTrue call.before.told → length greeted.lines.items ≡ greeted.shape.k
-      → IsFetch call greeted.shape greeted.lines.items behind call.after bytes
+      → IsFetch call greeted.shape greeted.lines.items none_kept behind call.after bytes
 
 -- The file came from no k of the clouds: each choice was refused or holds a cloud that had refused, and the error is
 -- that of the first one. The ports' count of faults rose in each that was lost. Where the ports tell their bytes: what was
@@ -112,9 +139,10 @@ pub record NotFrom (call : RestoreCall) (greeted : Greeted) (behind : Telling) (
       (subsets greeted.shape.k (clouds_of greeted.lines.items))
   pub named : AreTriesNamed tries
   pub counted : AreCounted call.faults_before tries call.faults_after
-  pub refused : IsTrue call.before.told → AreRefused call greeted behind tries call.after
+  pub kept : KeptReply
+  pub refused : IsTrue call.before.told → AreRefused call greeted behind none_kept tries call.after kept
   pub exact : IsTrue call.before.told → length greeted.lines.items ≡ greeted.shape.k
-      → IfHeard e (IsStop call greeted.shape greeted.lines.items none_ended behind call.after e)
+      → IfHeard e (IsStop call greeted.shape greeted.lines.items none_kept behind call.after kept e)
 
 -- What a restore from any k of the clouds came to. Nothing is said where memory ran out.
 abbrev pub CameBy : RestoreCall → Greeted → Telling → Result (Unit {0}) RestoreErr → List ℕ → Type 0

@@ -8,12 +8,11 @@ ghost use Rattle.ports_link.specs.CdBase.ids.Tag.{Tag};
 ghost use Rattle.ports_link.specs.CdBase.ids.UserId.{UserId};
 ghost use Rattle.ports_link.specs.CdBase.ids.Version.{Version};
 ghost use Rattle.ports_link.specs.CdBase.shape.Shape.{Shape};
-ghost use Rattle.ports_link.specs.UserDedup.Link.{Talk};
-ghost use Rattle.subset_restore.specs.RestoreJob.Exchanges.{AreReplies, CloudExchange, RestoreRun, behind_all};
+ghost use Rattle.subset_restore.specs.RestoreJob.Exchanges.{CloudExchange, RestoreRun};
 ghost use Rattle.subset_restore.specs.RestoreJob.error.RestoreErr.{RestoreErr};
 ghost use Rattle.restore_command.specs.Fetched.{Fetched};
 ghost use Rattle.restore_command.specs.Stopped.{Stopped};
-ghost use Rattle.restore_command.specs.Talks.{HasHeard, received_in, sent_in};
+ghost use Rattle.restore_command.specs.Talks.{received_in, sent_in};
 
 /// What the exchanges of a restore from rising clouds say. Where it answered Ok the version was fetched, and its bytes
 /// were appended. With an error the fetch stopped at the reply or comparison that the error names.
@@ -27,11 +26,4 @@ pub fn law_of_fetched_files()
         (log : List CloudExchange) (old new : List ℕ) (e : RestoreErr)
         → IsStrictlyIncreasing (numbers_of clouds) → RestoreRun shape user tag version clouds log old new (Err e)
         → Stopped shape user tag version clouds (sent_in log) (received_in log) e }
-{}
-
-/// What the exchanges say of the talk with one cloud: its requests were sent, and its replies are the next that were to
-/// come.
-pub fn law_of_talks()
-    ensures { (cloud : ℕ) (log : List CloudExchange) (before : Talk) → AreReplies cloud log before
-        → HasHeard before (behind_all cloud log before) (sent_in log cloud) (received_in log cloud) }
 {}

@@ -7,16 +7,21 @@ ghost use Rattle.ports_link.specs.CdBase.Limits.{IsPath};
 ghost use Rattle.ports_link.specs.CdEdges.Causes.{Rose};
 ghost use Rattle.ports_link.specs.declared.judging.AskedClouds.TheVariants as asked;
 ghost use Rattle.ports_link.specs.Hellos.{AreCloudsReached, HasClouds, HaveTalks, clouds_of};
+ghost use Rattle.ports_link.specs.Messages.Requests.{request_bytes};
+ghost use Rattle.ports_link.specs.Messages.request.Request.TheVariants as requests;
+ghost use Rattle.subset_restore.specs.CaontRs.Package.{tag as tag_at};
 ghost use Rattle.subset_restore.specs.RestoreJob.Asking.{is_lost};
 ghost use Rattle.subset_restore.specs.RestoreJob.Refusals.{Names};
 ghost use Rattle.restore_command.specs.Calls.{OnlyReads, RestoreCall, ports_of};
 ghost use Rattle.restore_command.specs.Tried.{CameBy};
 
+use crate::recalling::{KeptReplies, RecallingLink};
 use ports_link::{
-    Bytes, CloudNo, Clouds, Greeted, NoMemory, Ports, PortsLink, UserId, Version, lines_of,
+    Bytes, CloudNo, Clouds, Greeted, NoMemory, Ports, PortsLink, Request, Shape, UserId, Version,
+    lines_of,
 };
 use std::alloc::Global;
-use subset_restore::{RestoreErr, restore_any};
+use subset_restore::{RestoreErr, restore_any, tag_of};
 
 // The first line and the others.
 fn next_line(lines: &[(CloudNo, u32)]) -> Option<(CloudNo, u32, &[(CloudNo, u32)])>
@@ -47,7 +52,25 @@ fn clouds_in(alloc: Global, lines: &[(CloudNo, u32)]) -> Result<Clouds, NoMemory
     }
 }
 
-/// Appends a version of a file from any k of the clouds that were greeted.
+// The content of the request for a version's recipe.
+fn wanted_request(
+    alloc: Global,
+    shape: Shape,
+    user: UserId,
+    path: &[u8],
+    version: Version,
+) -> Result<Bytes, NoMemory>
+    requires { IsPath path.now }
+    ensures { IfOk result (λ content. content ≡ request_bytes (requests.GetRecipe user
+        (record { 0 = tag_at shape path.now }) version)) }
+{
+    let tag = tag_of(alloc, shape, path)?;
+    let mut content = Bytes::new(alloc);
+    Request::GetRecipe { user, tag, version }.write(&mut content)?;
+    Ok(content)
+}
+
+/// Appends a version of a file from any k of the clouds that were greeted. No cloud is asked again for a recipe that came.
 pub fn restore_greeted<P: Ports>(
     alloc: Global,
     user: UserId,
@@ -83,7 +106,20 @@ pub fn restore_greeted<P: Ports>(
         Ok(lines) => lines,
         Err(NoMemory) => return Err(RestoreErr::NoMemory),
     };
-    let mut link = PortsLink::of(ports, greeted.shape, lines);
+    let wanted = match wanted_request(alloc, greeted.shape, user, path, version) {
+        Ok(wanted) => wanted,
+        Err(NoMemory) => return Err(RestoreErr::NoMemory),
+    };
+    let kept = match KeptReplies::make(alloc, greeted.shape.n as usize) {
+        Ok(kept) => kept,
+        Err(NoMemory) => return Err(RestoreErr::NoMemory),
+    };
+    let below = PortsLink::of(ports, greeted.shape, lines);
+    let mut link = RecallingLink {
+        link: below,
+        wanted,
+        kept,
+    };
     let came = restore_any(
         alloc,
         &mut link,

@@ -4,8 +4,9 @@
 mod fetching;
 mod following;
 mod greeted;
+mod recalling;
 mod restoring;
 mod writing;
 
-pub use following::{law_of_fetched_files, law_of_talks};
+pub use following::law_of_fetched_files;
 pub use restoring::restore;

@@ -194,6 +194,37 @@ fn passes_over(alloc: Global, link: &mut LocalLink<'_, MemShelf>) -> Result<bool
     Ok(first && is_so(alloc, link, &plan, (8, b"refused strange 1 00\n"))?)
 }
 
+// What a restore sends on its first port.
+fn sent_first(
+    alloc: Global,
+    link: &mut LocalLink<'_, MemShelf>,
+    plan: &Plan<'_>,
+) -> Result<Bytes, Fail> {
+    let streams = streams_of(alloc, link, plan)?;
+    let mut ports = ports_of(alloc, streams.as_slice(), &[])?;
+    let mut sink = MemSink::of(alloc, 1_000, 100, &[])?;
+    let _ = outcome(
+        alloc,
+        plan.version,
+        plan.clouds.len(),
+        &mut ports,
+        &mut sink,
+    )?;
+    let mut sent = Bytes::new(alloc);
+    sent.extend(ports.sent(0))?;
+    Ok(sent)
+}
+
+// Whether a restore past a cloud that says nothing behind its Hello asks a good one what it is asked without that cloud, and
+// nothing more: its recipe came before, and isn't asked for again.
+fn asks_once(alloc: Global, link: &mut LocalLink<'_, MemShelf>) -> Result<bool, Fail> {
+    let mut plan = plain(1, &[0, 1, 2, 3]);
+    plan.silent = &[2];
+    let past = sent_first(alloc, link, &plan)?;
+    let without = sent_first(alloc, link, &plain(1, &[0, 1, 3]))?;
+    Ok(past.len() > 54 && past.as_slice() == without.as_slice())
+}
+
 // Whether the first call that fails behind the Hellos of four clouds loses an ask that is passed over: each before it
 // ends the restore.
 fn loses_well(alloc: Global, link: &mut LocalLink<'_, MemShelf>) -> Result<bool, Fail> {
@@ -270,7 +301,9 @@ fn is_as_told(alloc: Global, link: &mut LocalLink<'_, MemShelf>, case: Case) -> 
     }
     match case {
         Case::Restores => are_so(alloc, link),
-        Case::PassedOver => Ok(passes_over(alloc, link)? && loses_well(alloc, link)?),
+        Case::PassedOver => Ok(
+            passes_over(alloc, link)? && asks_once(alloc, link)? && loses_well(alloc, link)?,
+        ),
         Case::Failing => fails_well(alloc, link),
     }
 }
