@@ -3,7 +3,7 @@
 use share_server::Fp;
 
 /// Why a certificate isn't written. Nothing was appended.
-#[derive(Clone, Copy, Debug, PartialEq, Eq)]
+#[derive(Clone, Copy)]
 pub enum AuditErr {
     /// A device failed.
     Fault,

@@ -10,7 +10,7 @@ use grammar::{Bytes, NoMemory};
 use std::alloc::Global;
 
 /// Why no certificate was read.
-#[derive(Clone, Copy, Debug, PartialEq, Eq)]
+#[derive(Clone, Copy)]
 pub enum CertificateReadErr {
     /// The source failed.
     Failed,

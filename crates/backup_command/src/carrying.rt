@@ -22,7 +22,7 @@ use std::alloc::Global;
 use transcript::{Bytes, Line, NoMemory, Ports, Shape, UserId, Version};
 
 /// Why a file wasn't carried to the clouds.
-#[derive(Clone, Copy, Debug, PartialEq, Eq)]
+#[derive(Clone, Copy)]
 pub enum BackupErr {
     /// An address couldn't be dialled.
     Undialled,

@@ -1,7 +1,7 @@
 //! Why lanes are not brought on.
 
 /// Why lanes are not brought on.
-#[derive(Clone, Copy, Debug, PartialEq, Eq)]
+#[derive(Clone, Copy)]
 pub enum Halt {
     /// The ports failed in an ask.
     Lost,

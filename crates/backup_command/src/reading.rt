@@ -9,7 +9,7 @@ use std::alloc::Global;
 use transcript::{FILE_LIMIT, Failed, NoMemory, Source};
 
 /// Why no file was read.
-#[derive(Clone, Copy, Debug, PartialEq, Eq)]
+#[derive(Clone, Copy)]
 pub enum FileReadErr {
     /// The source failed.
     Failed,

@@ -3,7 +3,7 @@
 use audit_base::Fp;
 
 /// Why not all blobs were read and found as they were stored.
-#[derive(Clone, Copy, Debug, PartialEq, Eq)]
+#[derive(Clone, Copy)]
 pub enum ReadErr {
     /// A device failed.
     Fault,

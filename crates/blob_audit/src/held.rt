@@ -10,7 +10,7 @@ use crate::pieces::{WINDOW, read_piece};
 use audit_base::{Area, CloudNo, Place, Shelf};
 
 /// What a window has in front: what was asked for, and how many bytes of it are there.
-#[derive(Clone, Copy, Debug)]
+#[derive(Clone, Copy)]
 pub(crate) struct Held {
     pub(crate) at: u64,
     pub(crate) asked: u32,

@@ -102,7 +102,7 @@ fn files_in_order(alloc: Global, memory: &CloudMemory) -> Result<Vec<(u64, u32)>
 }
 
 /// The slots of both tables, each in the order of places.
-#[derive(Debug, Drop)]
+#[derive(Drop)]
 pub(crate) struct Orders {
     pub(crate) shares: Vec<(u64, u32)>,
     pub(crate) files: Vec<(u64, u32)>,

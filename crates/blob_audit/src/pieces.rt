@@ -15,7 +15,7 @@ use sha2::{Digest, Sha256};
 pub(crate) const WINDOW: usize = CONTAINER as usize;
 
 /// What lies at a place: how many bytes, and their SHA-256.
-#[derive(Clone, Copy, Debug)]
+#[derive(Clone, Copy)]
 pub(crate) struct Found {
     pub(crate) len: usize,
     pub(crate) fp: Fp,

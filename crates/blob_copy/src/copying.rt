@@ -4,7 +4,7 @@ use compact_lists::Fp;
 
 /// How many slots of the memory's tables were gone over: of places and of entries. The copies lie in the other region, one
 /// behind another, in the order of the slots.
-#[derive(Clone, Copy, Debug, PartialEq, Eq)]
+#[derive(Clone, Copy)]
 pub struct Copying {
     /// The next slot of places.
     pub place_slot: u32,
@@ -13,7 +13,7 @@ pub struct Copying {
 }
 
 /// Why nothing more was copied, or why the copies weren't switched to.
-#[derive(Clone, Copy, Debug, PartialEq, Eq)]
+#[derive(Clone, Copy)]
 pub enum CopyErr {
     /// A device failed. The journal is shut.
     Fault,

@@ -5,7 +5,7 @@ use std::alloc::Global;
 use std::marker::Model;
 
 /// Clouds, strictly rising. Contracts see the list of their numbers.
-#[derive(Debug, Drop)]
+#[derive(Drop)]
 pub struct Clouds {
     items: Vec<CloudNo>,
 }

@@ -4,7 +4,7 @@ use byteorder::{BigEndian, ByteOrder};
 use std::marker::Model;
 
 /// Bytes, and how many of them were taken. Contracts see both, as `bytes` and `at`.
-#[derive(Debug, Drop)]
+#[derive(Drop)]
 pub struct Cursor<'a> {
     bytes: &'a [u8],
     taken: usize,

@@ -8,7 +8,7 @@ use std::alloc::Global;
 use std::marker::Model;
 
 /// Places in a file, counted from 0: the ends of its secrets. The list keeps its allocator.
-#[derive(Debug, Drop)]
+#[derive(Drop)]
 pub struct Ends {
     items: Vec<u64>,
 }

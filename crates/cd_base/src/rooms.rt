@@ -16,7 +16,7 @@ pub enum Room {
 
 /// How much a cloud may hold of each kind: bytes of shares, recipes and journal, numbers of fingerprints, owners and
 /// files.
-#[derive(Clone, Copy, Debug, PartialEq, Eq)]
+#[derive(Clone, Copy)]
 pub struct Rooms {
     pub shares: u64,
     pub recipes: u64,

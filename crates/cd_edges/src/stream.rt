@@ -10,7 +10,7 @@ ghost use Rattle.cd_edges.specs.Causes.{HasCause};
 pub struct Failed;
 
 /// So many bytes went out before the device failed.
-#[derive(Clone, Copy, Debug, PartialEq, Eq)]
+#[derive(Clone, Copy)]
 pub struct SinkFault {
     /// The length of the prefix that went out, in bytes.
     pub sent: u64,

@@ -9,7 +9,7 @@ use crate::CertificateLine;
 use session::{Stop, cut_word};
 
 /// Which lines may come: the first; shares, files or the last; files or the last; none.
-#[derive(Clone, Copy, Debug, PartialEq, Eq)]
+#[derive(Clone, Copy)]
 pub enum LineStage {
     First,
     Shares,
@@ -18,7 +18,7 @@ pub enum LineStage {
 }
 
 /// The first word of a line.
-#[derive(Clone, Copy, Debug, PartialEq, Eq)]
+#[derive(Clone, Copy)]
 pub enum LineKind {
     Heading,
     Share,

@@ -3,7 +3,7 @@
 use session::{CloudNo, Fp, Shape, Tag, UserId, Version};
 
 /// Which cloud a certificate is of.
-#[derive(Clone, Copy, Debug, PartialEq, Eq)]
+#[derive(Clone, Copy, PartialEq, Eq)]
 pub struct Heading {
     pub shape: Shape,
     /// Below the number of the shape's clouds.
@@ -11,7 +11,7 @@ pub struct Heading {
 }
 
 /// Where a share lies that some user owns: so many bytes of Shares from a place on, which hash to its fingerprint.
-#[derive(Clone, Copy, Debug, PartialEq, Eq)]
+#[derive(Clone, Copy)]
 pub struct ShareLine {
     pub fp: Fp,
     pub at: u64,
@@ -20,7 +20,7 @@ pub struct ShareLine {
 
 /// Where the recipe of a version of a user's file lies: so many bytes of Recipes from a place on, which hash to a
 /// fingerprint.
-#[derive(Clone, Copy, Debug, PartialEq, Eq)]
+#[derive(Clone, Copy)]
 pub struct FileLine {
     pub user: UserId,
     pub tag: Tag,
@@ -31,7 +31,7 @@ pub struct FileLine {
 }
 
 /// A line of a certificate.
-#[derive(Clone, Copy, Debug, PartialEq, Eq)]
+#[derive(Clone, Copy)]
 pub enum CertificateLine {
     /// `audit 1 N K CLOUD`: the first.
     Heading(Heading),

@@ -15,7 +15,7 @@ use crate::{CertificateLine, Heading};
 use session::{Stop, after, before, len_to};
 
 /// Where a text is no certificate.
-#[derive(Clone, Copy, Debug, PartialEq, Eq)]
+#[derive(Clone, Copy, PartialEq, Eq)]
 pub struct WrongLine {
     /// The first wrong line, counted from 1.
     pub line: u64,

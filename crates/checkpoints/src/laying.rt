@@ -14,7 +14,7 @@ use cloud_disk::{Failed, Header, Journal, Shelf};
 use cloud_memory::{BodyBuf, CloudNo};
 
 /// What a checkpoint says of itself.
-#[derive(Clone, Copy, Debug, PartialEq, Eq)]
+#[derive(Clone, Copy)]
 pub struct CheckpointHead {
     /// How many commands it stands for.
     pub commands: u64,

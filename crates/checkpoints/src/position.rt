@@ -5,7 +5,7 @@ ghost use Rattle.checkpoints.specs.Records.{first_of};
 
 /// Where the next record of a checkpoint comes from: the user whose fingerprints are listed and the slot of the next one, how
 /// many users are left with it, and the slots of the next share that no user owns, of the next entry, and of the next row.
-#[derive(Clone, Copy, Debug, PartialEq, Eq)]
+#[derive(Clone, Copy)]
 pub struct Position {
     pub user: u32,
     pub left: u32,

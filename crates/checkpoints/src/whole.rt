@@ -26,7 +26,7 @@ use cloud_disk::{CloudDisk, Header, Shelf, law_of_checkpoints, law_of_places};
 use cloud_memory::{BodyBuf, CloudMemory, CloudNo};
 
 /// Why there is no checkpoint.
-#[derive(Clone, Copy, Debug, PartialEq, Eq)]
+#[derive(Clone, Copy)]
 pub enum Unsettled {
     /// The records are longer than a half of the journal may be. Nothing was done.
     Long,

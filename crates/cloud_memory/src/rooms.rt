@@ -9,7 +9,7 @@ use cloud_areas::UserRooms;
 use spent_table::{Fp, Room, UserId};
 
 /// A share that is new to its user: its fingerprint, and its length in bytes.
-#[derive(Clone, Copy, Debug, PartialEq, Eq)]
+#[derive(Clone, Copy)]
 pub struct New {
     pub fp: Fp,
     pub len: u32,

@@ -18,7 +18,7 @@ use recipe::NoMemory;
 use std::alloc::Global;
 
 /// Why a command isn't added.
-#[derive(Clone, Copy, Debug, PartialEq, Eq)]
+#[derive(Clone, Copy)]
 pub enum Unadded {
     /// This room of the user's is too small. Nothing changed, but that nothing is staged.
     Full(Full),

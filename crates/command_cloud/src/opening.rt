@@ -15,7 +15,7 @@ use serve_command::{OpenErr, Server, rooms_of};
 use std::alloc::Global;
 
 /// Why a cloud isn't opened.
-#[derive(Clone, Copy, Debug, PartialEq, Eq)]
+#[derive(Clone, Copy)]
 pub enum Unopened {
     /// Its rooms weren't found, or the opening in them ended, with this error.
     Refused(OpenErr),

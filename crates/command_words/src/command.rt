@@ -3,7 +3,7 @@
 use session::{CloudNo, Clouds, Shape, UserId, UserRooms, Version};
 
 /// What the words ask for.
-#[derive(Debug, Drop)]
+#[derive(Drop)]
 pub enum AskedCommand<'a> {
     /// The script in the source, over empty clouds in the directory.
     Replay { directory: &'a str },
@@ -34,7 +34,7 @@ pub enum AskedCommand<'a> {
 }
 
 /// `read DIR N K USER PATH VERSION CLOUDS`.
-#[derive(Debug, Drop)]
+#[derive(Drop)]
 pub struct ReadWords<'a> {
     /// Where the clouds lie: any word.
     pub directory: &'a str,
@@ -51,7 +51,7 @@ pub struct ReadWords<'a> {
 }
 
 /// `serve DIR CLOUD N K ADDR COUNT`.
-#[derive(Clone, Copy, Debug)]
+#[derive(Clone, Copy)]
 pub struct ServeWords<'a> {
     /// Where the cloud lies: any word.
     pub directory: &'a str,
@@ -66,7 +66,7 @@ pub struct ServeWords<'a> {
 }
 
 /// `backup USER PATH VERSION ADDR..`.
-#[derive(Clone, Copy, Debug)]
+#[derive(Clone, Copy)]
 pub struct BackupWords<'a> {
     /// Whose file it is.
     pub user: UserId,
@@ -79,7 +79,7 @@ pub struct BackupWords<'a> {
 }
 
 /// `restore USER PATH VERSION ADDR..`.
-#[derive(Clone, Copy, Debug)]
+#[derive(Clone, Copy)]
 pub struct RestoreWords<'a> {
     /// Whose file it is.
     pub user: UserId,
@@ -92,7 +92,7 @@ pub struct RestoreWords<'a> {
 }
 
 /// `delete USER PATH VERSION ADDR..`.
-#[derive(Clone, Copy, Debug)]
+#[derive(Clone, Copy)]
 pub struct DeleteWords<'a> {
     /// Whose file it is.
     pub user: UserId,
@@ -105,7 +105,7 @@ pub struct DeleteWords<'a> {
 }
 
 /// `spool DIR USER PATH VERSION ADDR..`.
-#[derive(Clone, Copy, Debug)]
+#[derive(Clone, Copy)]
 pub struct SpoolWords<'a> {
     /// Where the file and what is done of it are kept: any word.
     pub directory: &'a str,
@@ -114,7 +114,7 @@ pub struct SpoolWords<'a> {
 }
 
 /// `resume DIR ADDR..`.
-#[derive(Clone, Copy, Debug)]
+#[derive(Clone, Copy)]
 pub struct ResumeWords<'a> {
     /// Where a spool kept its file: any word.
     pub directory: &'a str,
@@ -123,7 +123,7 @@ pub struct ResumeWords<'a> {
 }
 
 /// `audit DIR CLOUD N K`, `check DIR CLOUD N K` and `reclaim DIR CLOUD N K`.
-#[derive(Clone, Copy, Debug)]
+#[derive(Clone, Copy)]
 pub struct CloudWords<'a> {
     /// Where the cloud lies: any word.
     pub directory: &'a str,
@@ -134,7 +134,7 @@ pub struct CloudWords<'a> {
 }
 
 /// `migrate DIR CLOUD N K USERS SHARES RECIPES OWNERS FILES`.
-#[derive(Clone, Copy, Debug)]
+#[derive(Clone, Copy)]
 pub struct MigrateWords<'a> {
     /// Where the cloud lies, and which one of which shape it is.
     pub place: CloudWords<'a>,
@@ -143,7 +143,7 @@ pub struct MigrateWords<'a> {
 }
 
 /// `gen SEED FILES PIECES DIR`.
-#[derive(Clone, Copy, Debug)]
+#[derive(Clone, Copy)]
 pub struct GenerateWords<'a> {
     /// The number that gives the session.
     pub seed: u64,

@@ -22,7 +22,7 @@ use session::{CloudNo, NoMemory, Shape, UserId, Version};
 use std::alloc::Global;
 
 // A row of the table.
-#[derive(Clone, Copy, Debug, PartialEq, Eq)]
+#[derive(Clone, Copy)]
 enum Row {
     Replay,
     Read,

@@ -3,7 +3,7 @@
 use journal_halves::Header;
 
 /// Why a journal wasn't opened.
-#[derive(Clone, Copy, Debug, PartialEq, Eq)]
+#[derive(Clone, Copy, PartialEq, Eq)]
 pub enum OpenErr {
     /// A device call failed.
     Fault,

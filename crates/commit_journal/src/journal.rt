@@ -13,7 +13,7 @@ use journal_halves::{CloudNo, Failed, HALF_LEN, HalfRecords, NoMemory, RecordErr
 use std::alloc::Global;
 
 /// How far a journal is read, or what is done with it.
-#[derive(Clone, Copy, Debug, PartialEq, Eq)]
+#[derive(Clone, Copy)]
 pub enum Stage {
     /// It isn't open: only `reopen`, `open` and `find` may be called.
     Shut,

@@ -12,7 +12,7 @@ use std::marker::Model;
 pub const PIECE: usize = 4_194_304;
 
 /// Up to 4 MiB of bytes, in memory that is taken once. Contracts see the list.
-#[derive(Debug, Drop)]
+#[derive(Drop)]
 pub struct Piece {
     bytes: Vec<u8>,
 }

@@ -20,7 +20,7 @@ use crate::laws::law_of_kept;
 use checkpoints::CloudMemory;
 
 /// The bytes that are alive, each blob once, and what isn't.
-#[derive(Clone, Copy, Debug, PartialEq, Eq)]
+#[derive(Clone, Copy)]
 pub struct Reclaimed {
     /// The bytes of the shares that some user owns.
     pub shares: u64,

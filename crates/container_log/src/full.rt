@@ -2,7 +2,7 @@
 
 /// The log's limit is passed. Where the log's end is `used` and the blob would end `need` bytes behind it, the two are more
 /// than `limit` together.
-#[derive(Clone, Copy, Debug, PartialEq, Eq)]
+#[derive(Clone, Copy, PartialEq, Eq)]
 pub struct LogFull {
     /// The log's end.
     pub used: u64,

@@ -16,7 +16,7 @@ use ports_link::{Failed, Ports, exchange};
 use std::alloc::Global;
 
 /// Why no more clouds are asked.
-#[derive(Clone, Copy, Debug, PartialEq, Eq)]
+#[derive(Clone, Copy)]
 pub enum AskHalt {
     /// The ports failed in an ask.
     Lost,

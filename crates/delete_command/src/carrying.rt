@@ -12,7 +12,7 @@ use ports_link::{AskedClouds, MeetErr, Ports, Refused, meet_all};
 use std::alloc::Global;
 
 /// Why a version wasn't deleted at all clouds.
-#[derive(Clone, Copy, Debug, PartialEq, Eq)]
+#[derive(Clone, Copy)]
 pub enum DeleteErr {
     /// An address couldn't be dialled.
     Undialled,

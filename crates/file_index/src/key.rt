@@ -4,7 +4,7 @@ use cd_base::{Fp, Tag, UserId, Version};
 use pool_map::Key;
 
 /// A version of a user's file, in the order of users, tags and versions.
-#[derive(Clone, Copy, Debug, PartialEq, Eq, PartialOrd, Ord)]
+#[derive(Clone, Copy, PartialEq, Eq, PartialOrd, Ord)]
 pub struct FileKey {
     pub user: u32,
     pub tag: [u8; 32],
@@ -12,7 +12,7 @@ pub struct FileKey {
 }
 
 /// Where the recipe of a version lies among a cloud's recipes: its first byte's place and its length in bytes, and its SHA-256.
-#[derive(Clone, Copy, Debug, PartialEq, Eq)]
+#[derive(Clone, Copy, PartialEq, Eq)]
 pub struct Entry {
     pub at: u64,
     pub len: u32,

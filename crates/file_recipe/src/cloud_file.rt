@@ -11,7 +11,7 @@ use recipe::{Item, Recipe};
 use std::marker::Model;
 
 /// What one cloud gets of a file.
-#[derive(Debug, Drop)]
+#[derive(Drop)]
 pub struct CloudFile {
     /// The cloud's recipe of the file.
     pub recipe: Recipe,
@@ -41,7 +41,7 @@ impl CloudFile {
 }
 
 /// What each cloud gets of a file, in the order of the clouds' numbers.
-#[derive(Debug, Drop)]
+#[derive(Drop)]
 pub struct CloudFiles {
     files: Vec<CloudFile>,
 }

@@ -7,7 +7,7 @@ use std::alloc::Global;
 use std::marker::Model;
 
 /// A file's bytes, which can be let go while they are dispersed.
-#[derive(Debug, Drop)]
+#[derive(Drop)]
 pub struct FileBytes {
     items: Vec<u8>,
 }

@@ -4,7 +4,7 @@ use message_fields::Room;
 use record_checks::Damage;
 
 /// Why a record isn't taken.
-#[derive(Clone, Copy, Debug, PartialEq, Eq)]
+#[derive(Clone, Copy)]
 pub enum FirstErr {
     /// The journal is damaged.
     Damaged(Damage),
@@ -13,7 +13,7 @@ pub enum FirstErr {
 }
 
 /// What of a record fails: the field at a place of its body, or a room that it would pass.
-#[derive(Clone, Copy, Debug, PartialEq, Eq)]
+#[derive(Clone, Copy)]
 pub(crate) enum Fault {
     Field(usize),
     Passes(Room),

@@ -12,7 +12,7 @@ use std::alloc::Global;
 use std::marker::Model;
 
 /// Why a framer takes no more bytes.
-#[derive(Clone, Copy, Debug, PartialEq, Eq)]
+#[derive(Clone, Copy)]
 pub enum FrameErr {
     /// In a frame's place stands a length of 0 or above 4,194,304.
     Length {
@@ -23,7 +23,7 @@ pub enum FrameErr {
 
 /// The bytes of one frame, as far as they came. Contracts see the list of these bytes; the four bytes of a length that
 /// no frame has stand there too, until `reset`.
-#[derive(Debug, Drop)]
+#[derive(Drop)]
 pub struct Framer {
     standing: Vec<u8>,
 }

@@ -30,7 +30,7 @@ use compact_memories::{
 };
 
 /// The list that takes a chain's place.
-#[derive(Clone, Copy, Debug, PartialEq, Eq)]
+#[derive(Clone, Copy)]
 pub struct NextList {
     /// How many commands it has.
     pub commands: u64,

@@ -32,7 +32,7 @@ use subset_restore::restore_any;
 const PATH: &[u8] = b"file";
 
 /// What is written and read on the way, and kept from line to line for its memory alone.
-#[derive(Debug, Drop)]
+#[derive(Drop)]
 pub struct SessionBuffers {
     file: Bytes,
     content: Bytes,

@@ -3,7 +3,7 @@
 /// What a session came to. The files' number is the caller's.
 ///
 /// The sums of shares are as wide as the replies of clouds can make them, so that they are exact whatever is replied.
-#[derive(Clone, Copy, Debug, PartialEq, Eq)]
+#[derive(Clone, Copy)]
 pub struct Numbers {
     /// The lengths of the files in all, in bytes.
     pub bytes: u64,

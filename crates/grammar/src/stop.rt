@@ -7,7 +7,7 @@ use cd_base::NoMemory;
 use std::alloc::{AllocError, AllocFailed};
 
 /// Why a reader stopped.
-#[derive(Clone, Copy, Debug, PartialEq, Eq)]
+#[derive(Clone, Copy)]
 pub enum Stop {
     /// Memory ran out.
     Memory,

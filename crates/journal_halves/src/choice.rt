@@ -7,7 +7,7 @@ use crate::Found;
 use journal_start::Start;
 
 /// Which of two halves is the current one.
-#[derive(Clone, Copy, Debug, PartialEq, Eq)]
+#[derive(Clone, Copy)]
 pub enum Choice {
     /// No half is begun.
     Neither,

@@ -1,7 +1,7 @@
 //! Why a record wasn't read.
 
 /// Why a record wasn't read.
-#[derive(Clone, Copy, Debug, PartialEq, Eq)]
+#[derive(Clone, Copy, PartialEq, Eq)]
 pub enum RecordErr {
     /// A device call failed.
     Failed,

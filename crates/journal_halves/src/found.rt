@@ -5,7 +5,7 @@ ghost use Rattle.std.specs.Prelude.{◌≤◌};
 use journal_start::Start;
 
 /// The current half of a journal.
-#[derive(Clone, Copy, Debug, PartialEq, Eq)]
+#[derive(Clone, Copy, PartialEq, Eq)]
 pub struct Found {
     /// The half, 0 or 1.
     pub half: u8,
@@ -15,7 +15,7 @@ pub struct Found {
 }
 
 /// Why no current half was found.
-#[derive(Clone, Copy, Debug, PartialEq, Eq)]
+#[derive(Clone, Copy, PartialEq, Eq)]
 pub enum FindErr {
     /// A device call failed.
     Fault,

@@ -4,7 +4,7 @@ ghost use Rattle.std.specs.Prelude.{ℕ, List, length};
 ghost use Rattle.journal_halves.specs.Frames.{IsFrameAhead};
 
 /// What the bytes from a gate on begin with.
-#[derive(Clone, Copy, Debug, PartialEq, Eq)]
+#[derive(Clone, Copy, PartialEq, Eq)]
 pub enum Frame {
     /// A closed gate.
     Closed,

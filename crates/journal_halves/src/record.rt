@@ -15,7 +15,7 @@ use crate::{Frame, frame_of};
 use journal_start::{Start, StartFault};
 
 /// A place in a half that is wrong, and its byte.
-#[derive(Clone, Copy, Debug, PartialEq, Eq)]
+#[derive(Clone, Copy)]
 pub struct HalfDamage {
     pub at: u64,
     pub byte: u8,

@@ -7,7 +7,7 @@ use crate::UserRooms;
 use message_fields::{CloudNo, Shape};
 
 /// Which store this is, in which format, which of its clouds, and in which rooms.
-#[derive(Clone, Copy, Debug, PartialEq, Eq)]
+#[derive(Clone, Copy, PartialEq, Eq)]
 pub struct Header {
     /// The format of the store: 2, or 1 in an older one.
     pub format: u8,
@@ -21,7 +21,7 @@ pub struct Header {
 
 /// What the first record of a checkpoint says besides: its epoch, how many commands and how many records it stands for, and
 /// where its blobs lie.
-#[derive(Clone, Copy, Debug, PartialEq, Eq)]
+#[derive(Clone, Copy, PartialEq, Eq)]
 pub struct Checkpoint {
     /// 0 to 2. Each checkpoint has the next one, and 0 comes again after 2.
     pub epoch: u64,
@@ -36,7 +36,7 @@ pub struct Checkpoint {
 }
 
 /// The first record of a chain.
-#[derive(Clone, Copy, Debug, PartialEq, Eq)]
+#[derive(Clone, Copy, PartialEq, Eq)]
 pub struct Start {
     /// Which store this is.
     pub header: Header,

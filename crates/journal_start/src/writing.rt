@@ -10,7 +10,7 @@ use std::marker::Model;
 const LONGEST: usize = 57;
 
 /// The bytes of a start, up to 57 of them. Contracts see the list.
-#[derive(Debug, Drop)]
+#[derive(Drop)]
 pub struct StartBytes {
     bytes: [u8; 57],
     len: usize,

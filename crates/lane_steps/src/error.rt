@@ -1,7 +1,7 @@
 //! Why a lane made no step.
 
 /// Why a step of a lane told nothing.
-#[derive(Clone, Copy, Debug, PartialEq, Eq)]
+#[derive(Clone, Copy)]
 pub enum StepErr {
     /// The request or its reply was lost on the way. Whether the cloud took the request isn't known. The lane
     /// keeps its request.

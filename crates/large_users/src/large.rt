@@ -24,7 +24,7 @@ use compact_memories::{CloudMemory, FileIndex, ShareIndex, Spent, UserRooms};
 use record_body::{Room, UserId};
 
 /// A user that keeps more than it may, and its first room, of which it uses so much.
-#[derive(Clone, Copy, Debug, PartialEq, Eq)]
+#[derive(Clone, Copy)]
 pub struct TooLarge {
     pub user: UserId,
     pub room: Room,

@@ -26,7 +26,7 @@ use user_dedup::{
 };
 
 /// A reply, and the command that it adds to the list.
-#[derive(Debug, Drop)]
+#[derive(Drop)]
 pub struct ServedReply {
     pub reply: Reply,
     pub adds: Option<Command>,

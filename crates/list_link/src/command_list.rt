@@ -7,7 +7,7 @@ use std::marker::Model;
 use user_dedup::{Command, NoMemory};
 
 /// The commands that changed a cloud, in order. The list keeps its allocator.
-#[derive(Debug, Drop)]
+#[derive(Drop)]
 pub struct CommandList {
     items: Vec<Command>,
 }

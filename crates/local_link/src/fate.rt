@@ -1,7 +1,7 @@
 //! What becomes of an ask.
 
 /// What becomes of the next ask.
-#[derive(Clone, Copy, Debug, PartialEq, Eq)]
+#[derive(Clone, Copy, PartialEq, Eq)]
 pub enum Fate {
     /// The cloud executes the request, and its reply comes back.
     Deliver,

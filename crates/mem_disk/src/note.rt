@@ -3,7 +3,7 @@
 use cd_edges::Area;
 
 /// One write, sync, fresh or crash. The bytes that a write put lie in the log of its area.
-#[derive(Clone, Copy, Debug, PartialEq, Eq)]
+#[derive(Clone, Copy)]
 pub enum Note {
     /// `len` bytes were put at place `at` of the area. They lie in its log from `start`.
     Wrote {

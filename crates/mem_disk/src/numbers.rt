@@ -6,7 +6,7 @@ ghost use Rattle.cd_edges.specs.declared.area.Area.{Area};
 use cd_edges::Area;
 
 /// A number for each of the three areas.
-#[derive(Clone, Copy, Debug, PartialEq, Eq)]
+#[derive(Clone, Copy)]
 pub struct PerArea {
     pub journal: u64,
     pub shares: u64,

@@ -8,7 +8,7 @@ use std::alloc::Global;
 use std::marker::Model;
 
 /// Tags and versions of files, in order. The list keeps its allocator.
-#[derive(Debug, Drop)]
+#[derive(Drop)]
 pub struct Entries {
     items: Vec<(Tag, Version)>,
 }

@@ -12,7 +12,7 @@ use grammar::Fp;
 use std::marker::Model;
 
 /// Fingerprints, in the bytes that they came in: 32 bytes each. Contracts see the list.
-#[derive(Debug, Drop)]
+#[derive(Drop)]
 pub struct FpsView<'a> {
     count: usize,
     bytes: &'a [u8],

@@ -6,7 +6,7 @@ ghost use Rattle.grammar.specs.declared.stop.Stop.TheVariants as stops;
 use grammar::Stop;
 
 /// Reading failed, and so many bytes are left from the first wrong place on; 0 at the end.
-#[derive(Clone, Copy, Debug, PartialEq, Eq)]
+#[derive(Clone, Copy)]
 pub struct Left(pub usize);
 
 impl From<Left> for Stop {

@@ -8,7 +8,7 @@ use std::alloc::Global;
 use std::marker::Model;
 
 /// Shares, in order. The list keeps its allocator.
-#[derive(Debug, Drop)]
+#[derive(Drop)]
 pub struct ShareList {
     items: Vec<Bytes>,
 }

@@ -13,7 +13,7 @@ use crate::{Left, SHARE_LIMIT};
 use std::marker::Model;
 
 /// Shares, in the bytes that they came in: each is its length in 4 bytes and so many bytes. Contracts see the list.
-#[derive(Debug, Drop)]
+#[derive(Drop)]
 pub struct SharesView<'a> {
     count: usize,
     bytes: &'a [u8],

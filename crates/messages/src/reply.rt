@@ -3,7 +3,7 @@
 use message_fields::{Bytes, Entries, Fp, Room, ShareList};
 
 /// What a cloud answers.
-#[derive(Debug, Drop)]
+#[derive(Drop)]
 pub enum Reply {
     /// To Hello: the shape of the store, the number of the cloud and the format of its areas, which is 1.
     Hello {

@@ -7,7 +7,7 @@ use crate::Reply;
 use message_fields::SharesView;
 
 /// A reply whose recipe or shares stay in the bytes that it came in.
-#[derive(Debug, Drop)]
+#[derive(Drop)]
 pub enum ReplyView<'a> {
     /// To GetRecipe: the bytes of the recipe, of which there is one at least.
     Recipe(&'a [u8]),

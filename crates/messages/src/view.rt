@@ -13,7 +13,7 @@ use message_fields::{
 };
 
 /// A request in the bytes that it came in. It takes no memory.
-#[derive(Debug, Drop)]
+#[derive(Drop)]
 pub enum RequestView<'a> {
     /// Who is there?
     Hello,

@@ -7,7 +7,7 @@ ghost use Rattle.pool_map.specs.Accounts.{account_for, IsKnown, limits_of, limit
 use std::alloc::{AllocError, Global};
 
 /// The accounts of a table.
-#[derive(Clone, Copy, Debug, PartialEq, Eq)]
+#[derive(Clone, Copy)]
 pub enum Accounts {
     /// One account for all users together, with this limit.
     Shared(u32),

@@ -23,7 +23,7 @@ pub struct KeyedValue<K, W> {
 }
 
 /// The account has reached its limit.
-#[derive(Clone, Copy, Debug, PartialEq, Eq)]
+#[derive(Clone, Copy)]
 pub struct TableFull {
     pub used: u32,
     pub limit: u32,

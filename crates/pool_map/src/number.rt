@@ -2,7 +2,7 @@
 use super::Key;
 
 /// A number as a key. Its word is the number, spread over 64 bits.
-#[derive(Clone, Copy, Debug, PartialEq, Eq, PartialOrd, Ord)]
+#[derive(Clone, Copy, PartialEq, Eq, PartialOrd, Ord)]
 pub struct Number {
     pub value: u64,
 }

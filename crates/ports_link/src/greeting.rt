@@ -14,7 +14,7 @@ use transcript::{Failed, Ports};
 use user_dedup::{CloudNo, NoMemory, ReplyBuf, Shape};
 
 /// The clouds that were greeted.
-#[derive(Debug, Drop)]
+#[derive(Drop)]
 pub struct Greeted {
     /// The shape of which all of them are.
     pub shape: Shape,

@@ -10,7 +10,7 @@ use crate::refused::Refused;
 use user_dedup::Shape;
 
 /// What the clouds are asked for, and so which they have to be.
-#[derive(Clone, Copy, Debug, PartialEq, Eq)]
+#[derive(Clone, Copy)]
 pub enum AskedClouds {
     /// All n clouds of a shape, each at the address of its number.
     Backup,
@@ -19,7 +19,7 @@ pub enum AskedClouds {
 }
 
 /// The numbers of a reply to Hello: the shape of the store, and the cloud.
-#[derive(Clone, Copy, Debug, PartialEq, Eq)]
+#[derive(Clone, Copy)]
 pub struct Greeting {
     pub n: u8,
     pub k: u8,

@@ -7,7 +7,7 @@ use std::alloc::Global;
 use user_dedup::{CloudNo, NoMemory};
 
 /// How a cloud is reached: its port, if it has one, and whether a reply didn't come there whole.
-#[derive(Clone, Copy, Debug, PartialEq, Eq)]
+#[derive(Clone, Copy)]
 pub struct CloudLine {
     /// The number of its port, if it has one.
     pub port: Option<u32>,
@@ -16,7 +16,7 @@ pub struct CloudLine {
 }
 
 /// A line for each number of a cloud.
-#[derive(Debug, Drop)]
+#[derive(Drop)]
 pub struct Lines {
     /// The lines, by the numbers of the clouds.
     pub items: Vec<CloudLine>,

@@ -15,7 +15,7 @@ use transcript::{Failed, Ports};
 use user_dedup::{NoMemory, ReplyBuf};
 
 /// Why the clouds were not all met.
-#[derive(Clone, Copy, Debug, PartialEq, Eq)]
+#[derive(Clone, Copy)]
 pub enum MeetErr {
     /// An address couldn't be dialled.
     Undialled,

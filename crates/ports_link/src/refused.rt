@@ -7,7 +7,7 @@ use transcript::{Line, Refusal, write_line};
 use user_dedup::{Bytes, CloudNo, NoMemory};
 
 /// What came in the place of the Hello that was asked for.
-#[derive(Clone, Copy, Debug, PartialEq, Eq)]
+#[derive(Clone, Copy)]
 pub enum Refused {
     /// A Hello with these numbers, from the address of this position, counted from 0.
     Hello {

@@ -13,7 +13,7 @@ use cd_base::{Ends, NoMemory, SECRET_LIMIT};
 /// Cuts a file into secrets as its bytes come in. It keeps the newest 48 bytes, and no more of the input.
 ///
 /// A contract says what a chunker has read since it was made or last finished: `HasRead chunker fed`.
-#[derive(Debug, Drop)]
+#[derive(Drop)]
 pub struct Chunker {
     place: u64,
     inside: usize,

@@ -6,7 +6,7 @@ ghost use Rattle.read_command.specs.Opening.{end_by};
 use commit_journal::{CloudNo, Header, OpenErr};
 
 /// How a read ends.
-#[derive(Clone, Copy, Debug, PartialEq, Eq)]
+#[derive(Clone, Copy)]
 pub enum ReadEnd {
     /// The file's bytes were written, and nothing else.
     Done,

@@ -20,7 +20,7 @@ use lane_steps::{Bytes, CloudNo, Fp, NoMemory, Recipe, RecoverErr, Shape, Tag, r
 use std::alloc::Global;
 
 /// Why recipes give no path.
-#[derive(Clone, Copy, Debug, PartialEq, Eq)]
+#[derive(Clone, Copy)]
 pub enum NameErr {
     /// What is wrong in what their name shares give.
     Wrong(SkipWhy),

@@ -18,7 +18,7 @@ use lane_steps::{
 use std::alloc::Global;
 
 /// Whose versions are brought to which cloud.
-#[derive(Clone, Copy, Debug)]
+#[derive(Clone, Copy)]
 pub struct Refill {
     /// The shape of the store.
     pub shape: Shape,

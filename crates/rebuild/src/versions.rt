@@ -18,7 +18,7 @@ use lane_steps::{Bytes, CloudNo, Link, Recipe, ReplyBuf, Shape, Tag, UserId, Ver
 use std::alloc::Global;
 
 /// What k clouds have under a key.
-#[derive(Debug, Drop)]
+#[derive(Drop)]
 pub enum FoundVersion {
     /// A version of a file: its path, and its bytes.
     Version { path: Bytes, file: Bytes },

@@ -8,7 +8,7 @@ use std::alloc::Global;
 use std::marker::Model;
 
 /// One secret of a file.
-#[derive(Clone, Copy, Debug, PartialEq, Eq)]
+#[derive(Clone, Copy)]
 pub struct Item {
     /// The fingerprint of its share at the recipe's cloud.
     pub fp: Fp,
@@ -17,7 +17,7 @@ pub struct Item {
 }
 
 /// The secrets of a file, in order. The list keeps its allocator.
-#[derive(Debug, Drop)]
+#[derive(Drop)]
 pub struct Items {
     items: Vec<Item>,
 }

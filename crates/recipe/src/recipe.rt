@@ -10,7 +10,7 @@ use crate::rules::{
 use grammar::{Bytes, Shape};
 
 /// What one cloud knows of a file: its share of the name, and the secrets in order.
-#[derive(Debug, Drop)]
+#[derive(Drop)]
 pub struct Recipe {
     /// The length of the file's path, in bytes.
     pub name_len: u16,
@@ -23,14 +23,14 @@ pub struct Recipe {
 }
 
 /// Bytes that are no recipe.
-#[derive(Clone, Copy, Debug, PartialEq, Eq)]
+#[derive(Clone, Copy)]
 pub struct Malformed {
     /// The place of the first field that fails, counted from 0.
     pub at: u32,
 }
 
 /// Why bytes were not read.
-#[derive(Clone, Copy, Debug, PartialEq, Eq)]
+#[derive(Clone, Copy)]
 pub enum RecipeErr {
     /// The bytes are no recipe: the place of the first field that fails, counted from 0.
     Malformed { at: u32 },

@@ -14,7 +14,7 @@ use std::alloc::Global;
 use std::marker::Model;
 
 /// A recipe that lies in bytes. It takes no memory, and contracts see the recipe.
-#[derive(Debug, Drop)]
+#[derive(Drop)]
 pub struct RecipeView<'a> {
     bytes: &'a [u8],
     name_len: u16,

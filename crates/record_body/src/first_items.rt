@@ -11,7 +11,7 @@ use std::marker::Model;
 
 /// A walk over the items of a Put, in the bytes of its body. It takes no memory. Contracts see the body, the place in it of the
 /// next item, and the items from there on.
-#[derive(Debug, Drop)]
+#[derive(Drop)]
 pub struct PutItems<'a> {
     body: &'a [u8],
     at: usize,

@@ -11,7 +11,7 @@ use crate::{BodyErr, CommitBody, PutItems};
 use message_fields::{Left, UserId, batch_of, user_of};
 
 /// A body of format 1, in the bytes that it came in. It takes no memory.
-#[derive(Debug, Drop)]
+#[derive(Drop)]
 pub enum FirstBodyView<'a> {
     /// The user's shares are stored: those that were new to the user, in the request's order.
     Put { user: UserId, items: PutItems<'a> },

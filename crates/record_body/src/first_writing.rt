@@ -9,7 +9,7 @@ use std::alloc::Global;
 use std::marker::Model;
 
 /// The body of a record of format 1 that is being made, of up to 65,535 bytes. Contracts see the list of its bytes.
-#[derive(Debug, Drop)]
+#[derive(Drop)]
 pub struct RecordBuf {
     bytes: Vec<u8>,
 }

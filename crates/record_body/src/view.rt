@@ -13,7 +13,7 @@ use crate::{BodyErr, CommitBody, DeleteBody, FirstBodyView, KeptItems, PutItems,
 use message_fields::{Left, UserId, batch_of};
 
 /// A body in the bytes that it came in. It takes no memory.
-#[derive(Debug, Drop)]
+#[derive(Drop)]
 pub enum BodyView<'a> {
     /// The user's shares are stored: those that were new to the user, in the request's order.
     Put { user: UserId, items: PutItems<'a> },

@@ -10,7 +10,7 @@ use std::alloc::Global;
 use std::marker::Model;
 
 /// The body of a record that is being made, of up to 65,535 bytes. Contracts see the list of its bytes.
-#[derive(Debug, Drop)]
+#[derive(Drop)]
 pub struct BodyBuf {
     bytes: Vec<u8>,
 }

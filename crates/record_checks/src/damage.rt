@@ -1,7 +1,7 @@
 //! Damage in the journal.
 
 /// The journal is damaged at this place, counted from 0, where this byte stands.
-#[derive(Clone, Copy, Debug, PartialEq, Eq)]
+#[derive(Clone, Copy)]
 pub struct Damage {
     /// The place.
     pub at: u64,

@@ -3,7 +3,7 @@
 use cloud_memory::{Shape, UserRooms};
 
 /// What is known of a store before its records: by its start and its device.
-#[derive(Clone, Copy, Debug, PartialEq, Eq)]
+#[derive(Clone, Copy)]
 pub struct Ground {
     /// The store's shape.
     pub shape: Shape,

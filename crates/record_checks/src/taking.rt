@@ -18,7 +18,7 @@ const USER: usize = 1;
 /// What an opening keeps of the records so far beside the memory: which users have a Spent, and where in the journal
 /// the place of the first blob stands that ends at the end of the shares, and at that of the recipes. It takes no
 /// memory.
-#[derive(Clone, Copy, Debug, PartialEq, Eq)]
+#[derive(Clone, Copy)]
 pub struct Taking {
     spent: [bool; 256],
     pub(crate) shares_field: Option<Damage>,

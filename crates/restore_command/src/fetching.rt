@@ -13,7 +13,7 @@ use std::alloc::Global;
 use subset_restore::{Refusal, RestoreErr, as_refusal};
 
 /// Why no file was fetched.
-#[derive(Clone, Copy, Debug, PartialEq, Eq)]
+#[derive(Clone, Copy)]
 pub enum FetchErr {
     /// A reply to Hello isn't as asked: the first such.
     Hello(Refused),

@@ -12,7 +12,7 @@ use subset_restore::{Link, Lost};
 
 /// The replies that are kept, by the numbers of the clouds. Contracts see the list of their contents, an empty one for each cloud of which
 /// none is kept.
-#[derive(Debug, Drop)]
+#[derive(Drop)]
 pub struct KeptReplies {
     items: Vec<ReplyBuf>,
 }

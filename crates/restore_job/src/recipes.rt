@@ -7,7 +7,7 @@ use std::marker::Model;
 use user_dedup::{NoMemory, Recipe};
 
 /// Recipes, in order.
-#[derive(Debug, Drop)]
+#[derive(Drop)]
 pub struct Recipes {
     items: Vec<Recipe>,
 }

@@ -8,7 +8,7 @@ use std::marker::Model;
 use user_dedup::{Bytes, NoMemory};
 
 /// A room for each secret of a batch. What is cleared keeps its memory, so all batches share that of the first.
-#[derive(Debug, Drop)]
+#[derive(Drop)]
 pub struct SecretRooms {
     items: Vec<Bytes>,
 }

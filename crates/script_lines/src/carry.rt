@@ -23,7 +23,7 @@ use session_model::{Answer, Event, LaneNews, LocalLink, Shelf};
 use std::alloc::Global;
 
 /// What is written and read on the way, and kept from line to line for its memory alone.
-#[derive(Debug, Drop)]
+#[derive(Drop)]
 pub struct Buffers {
     content: Bytes,
     reply: ReplyBuf,

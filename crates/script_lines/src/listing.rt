@@ -25,7 +25,7 @@ use session_model::{
 use std::alloc::Global;
 
 // Why a page wasn't taken.
-#[derive(Clone, Copy, Debug, PartialEq, Eq)]
+#[derive(Clone, Copy)]
 enum NoPage {
     // The cloud answered this in place of a page.
     Refused { why: Refusal },
@@ -34,7 +34,7 @@ enum NoPage {
 }
 
 // The pages so far: the key above which the next one begins, how many entries there are, and their lines.
-#[derive(Debug, Drop)]
+#[derive(Drop)]
 struct Listing {
     above: Option<(Tag, Version)>,
     count: u32,

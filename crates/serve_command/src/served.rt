@@ -1,7 +1,7 @@
 //! How a connection ended.
 
 /// How a connection ended.
-#[derive(Clone, Copy, Debug, PartialEq, Eq)]
+#[derive(Clone, Copy)]
 pub enum Served {
     /// The stream ended between frames.
     End,
@@ -22,7 +22,7 @@ pub enum Served {
 }
 
 // Why a connection ends before its stream does.
-#[derive(Clone, Copy, Debug, PartialEq, Eq)]
+#[derive(Clone, Copy)]
 pub enum ConnectionStop {
     BadLength { found: u32 },
     Failed,

@@ -28,7 +28,7 @@ use cloud_memory::{CloudMemory, CloudNo, Entry, Log, RECIPE_LIMIT, Tag, UserId, 
 use messages::{ReplyBuf, write_missing, write_recipe, write_rotten};
 
 /// Names a version of a user's file.
-#[derive(Clone, Copy, Debug)]
+#[derive(Clone, Copy)]
 pub struct VersionKey {
     /// The user.
     pub user: UserId,

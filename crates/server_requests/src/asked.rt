@@ -11,7 +11,7 @@ ghost use Rattle.server_requests.specs.Asking.{IsOfShape, request_of, recipe_in}
 use server_commands::{FpsView, RecipeView, RequestView, Shape, SharesView, Tag, UserId, Version};
 
 /// What is asked of a store of one shape, in the bytes that it came in. It takes no memory.
-#[derive(Debug, Drop)]
+#[derive(Drop)]
 pub enum StoreRequest<'a> {
     /// Who is there?
     Hello,

@@ -266,7 +266,7 @@ pub fn others_field(
 }
 
 /// The first word of a line.
-#[derive(Clone, Copy, Debug, PartialEq, Eq)]
+#[derive(Clone, Copy)]
 pub enum FirstWord {
     Upload,
     Step,

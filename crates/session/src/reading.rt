@@ -20,7 +20,7 @@ use journal_start::{CloudNo, Shape, Stop, UserId, UserRooms, Version, u32_field,
 use std::alloc::Global;
 
 /// Why a line was not read.
-#[derive(Clone, Copy, Debug, PartialEq, Eq)]
+#[derive(Clone, Copy, PartialEq, Eq)]
 pub enum ScriptErr {
     /// The line is wrong: its first wrong place, counted from 0, with the byte there, or None at the line's end.
     At { at: u64, found: Option<u8> },

@@ -7,7 +7,7 @@ use std::alloc::Global;
 use std::marker::Model;
 
 /// The jobs of a session, which are counted from 1 in the order of their uploads. Contracts see the list of their lanes.
-#[derive(Debug, Drop)]
+#[derive(Drop)]
 pub struct Jobs {
     items: Vec<Job>,
 }

@@ -4,7 +4,7 @@ use cd_base::{Fp, Place, UserId};
 use pool_map::Key;
 
 /// A user that owns a fingerprint, in the order of users and fingerprints.
-#[derive(Clone, Copy, Debug, PartialEq, Eq, PartialOrd, Ord)]
+#[derive(Clone, Copy, PartialEq, Eq, PartialOrd, Ord)]
 pub struct Owner {
     pub user: u32,
     pub fp: [u8; 32],
@@ -41,14 +41,14 @@ impl Key for Owner {
 }
 
 /// A placed share, and how many users own it.
-#[derive(Clone, Copy, Debug, PartialEq, Eq)]
+#[derive(Clone, Copy)]
 pub struct Kept {
     pub place: Place,
     pub owners: u32,
 }
 
 /// A user's number as a key. Its word is the number, spread over 64 bits.
-#[derive(Clone, Copy, Debug, PartialEq, Eq, PartialOrd, Ord)]
+#[derive(Clone, Copy, PartialEq, Eq, PartialOrd, Ord)]
 pub(crate) struct UserNumber {
     pub value: u32,
 }

@@ -27,7 +27,7 @@ use server_requests::{
 };
 
 /// Why a blob isn't read whole.
-#[derive(Clone, Copy, Debug, PartialEq, Eq)]
+#[derive(Clone, Copy)]
 pub enum BlobErr {
     /// A device failed.
     Fault,

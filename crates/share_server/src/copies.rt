@@ -28,7 +28,7 @@ use blob_copy::{CopyErr, Copying, Reclaimed, forget, start, step, sum, switch};
 use server_requests::{CloudStore, Fp, Log, Shelf};
 
 /// Why what is alive isn't copied, or the copies aren't switched to.
-#[derive(Clone, Copy, Debug, PartialEq, Eq)]
+#[derive(Clone, Copy)]
 pub enum ReclaimErr {
     /// A device failed. The server is closed.
     Fault,
@@ -39,7 +39,7 @@ pub enum ReclaimErr {
 }
 
 /// How far a server's copies are, and where they end in both areas.
-#[derive(Clone, Copy, Debug, PartialEq, Eq)]
+#[derive(Clone, Copy)]
 pub struct Copies {
     pub(crate) copying: Copying,
     pub(crate) shares_end: u64,

@@ -12,7 +12,7 @@ use std::marker::Model;
 use std::mem;
 
 /// The number of a slot, from 0. A slot is live from the `take` that answered it until the `give` that empties it.
-#[derive(Clone, Copy, Debug, PartialEq, Eq)]
+#[derive(Clone, Copy)]
 pub struct Slot {
     pub number: u32,
 }

@@ -1,7 +1,7 @@
 //! Why a kept job isn't brought on.
 
 /// Why a kept job isn't brought on.
-#[derive(Clone, Copy, Debug, PartialEq, Eq)]
+#[derive(Clone, Copy)]
 pub enum Interruption {
     /// The ports failed in a lane.
     Ports,

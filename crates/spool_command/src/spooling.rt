@@ -26,7 +26,7 @@ use upload_spool::{
 };
 
 /// Which version of which file is backed up.
-#[derive(Clone, Copy, Debug)]
+#[derive(Clone, Copy)]
 pub struct SpooledFile<'a> {
     /// Whose file it is.
     pub user: UserId,

@@ -15,7 +15,7 @@ use std::alloc::Global;
 use upload_spool::{Bytes, CloudNo, NoMemory, Sink, SpoolErr};
 
 /// Why a kept job didn't come to its end.
-#[derive(Clone, Copy, Debug, PartialEq, Eq)]
+#[derive(Clone, Copy)]
 pub enum Unspooled {
     /// An address couldn't be dialled.
     Undialled,

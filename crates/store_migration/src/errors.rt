@@ -7,7 +7,7 @@ use cloud_opening::{Header, OpenErr};
 use fresh_checkpoints::{FindErr, Room, UserId};
 
 /// Why a store of format 1 isn't opened. Places are those of the area Journal, from 0.
-#[derive(Clone, Copy, Debug, PartialEq, Eq)]
+#[derive(Clone, Copy)]
 pub enum OldErr {
     /// No half is begun; the journal has so many bytes.
     NotBegun {
@@ -33,7 +33,7 @@ pub enum OldErr {
 }
 
 /// Why a cloud isn't migrated.
-#[derive(Clone, Copy, Debug, PartialEq, Eq)]
+#[derive(Clone, Copy)]
 pub enum MigrateErr {
     /// It can't be opened as a store of format 1.
     Open(OldErr),

@@ -50,13 +50,13 @@ fn is_stopped(alloc: Global, old: &Old, call: u64, crash: (u8, bool)) -> Result<
     let crashed = shelf.crash(ZERO, fill, whole);
     let again = migrated(alloc, &mut shelf, wide());
     let twice = migrated(alloc, &mut shelf, wide());
-    let ended = again == Ok(2) || again == Err(MigrateErr::Already);
+    let ended = matches!(again, Ok(2) | Err(MigrateErr::Already));
     Ok(
         ready
-            && stopped == Err(MigrateErr::Fault)
+            && matches!(stopped, Err(MigrateErr::Fault))
             && crashed
             && ended
-            && twice == Err(MigrateErr::Already)
+            && matches!(twice, Err(MigrateErr::Already))
             && lens(&mut shelf) == [134_217_972, 11, 61],
     )
 }

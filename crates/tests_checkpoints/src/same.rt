@@ -18,7 +18,10 @@ fn same_share(one: &CloudMemory, other: &CloudMemory, share: u16) -> bool {
 
 // Whether both have the same of a user.
 fn same_user(one: &CloudMemory, other: &CloudMemory, user: UserId) -> bool {
-    let mut same = one.spent(user) == other.spent(user);
+    let (mine, its) = (one.spent(user), other.spent(user));
+    let mut same = mine.owners == its.owners
+        && mine.shares == its.shares
+        && mine.recipes == its.recipes;
     for version in 0..4u64 {
         let version = Version(version);
         same = one.entry(user, &TAG, version) == other.entry(user, &TAG, version) && same;

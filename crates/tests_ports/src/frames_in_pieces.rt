@@ -16,27 +16,22 @@ fn executed(alloc: Global, contents: &[&[u8]]) -> Result<Bytes, Fail> {
     Ok(frames?)
 }
 
-// Whether a connection ends as it is to end, and these bytes are sent.
+// Whether a connection ends between frames, and these bytes are sent.
 fn is_served(
     alloc: Global,
     place: &mut Place,
     most: usize,
     bytes: &[u8],
-    wanted: (Served, &[u8]),
+    wanted: &[u8],
 ) -> Result<bool, Fail>
     requires { 1 ≤ most }
 {
     let (end, sent) = place.connect(alloc, bytes, most)?;
-    Ok(end == wanted.0 && sent.as_slice() == wanted.1)
+    Ok(matches!(end, Served::End) && sent.as_slice() == wanted)
 }
 
 // The same on the first connection to a new cloud.
-fn is_served_first(
-    alloc: Global,
-    most: usize,
-    bytes: &[u8],
-    wanted: (Served, &[u8]),
-) -> Result<bool, Fail>
+fn is_served_first(alloc: Global, most: usize, bytes: &[u8], wanted: &[u8]) -> Result<bool, Fail>
     requires { 1 ≤ most }
 {
     let mut place = Place::make(alloc)?;
@@ -49,10 +44,9 @@ fn is_served_first(
 fn two_users_on_one_connection(rt: HostRuntime) -> Result<(), Fail> {
     let wanted = executed(rt.alloc(), &CONTENTS)?;
     let stream = frames_of(rt.alloc(), &CONTENTS)?;
-    let end = (Served::End, wanted.as_slice());
-    assert!(rt; is_served_first(rt.alloc(), 1, stream.as_slice(), end)?);
-    assert!(rt; is_served_first(rt.alloc(), 3, stream.as_slice(), end)?);
-    assert!(rt; is_served_first(rt.alloc(), 65_536, stream.as_slice(), end)?);
+    assert!(rt; is_served_first(rt.alloc(), 1, stream.as_slice(), wanted.as_slice())?);
+    assert!(rt; is_served_first(rt.alloc(), 3, stream.as_slice(), wanted.as_slice())?);
+    assert!(rt; is_served_first(rt.alloc(), 65_536, stream.as_slice(), wanted.as_slice())?);
     Ok(())
 }
 
@@ -64,7 +58,7 @@ fn is_served_next(
     hello: &[u8],
 ) -> Result<bool, Fail> {
     let (_end, _sent) = place.connect(alloc, before, 100)?;
-    is_served(alloc, place, 1, &[0, 0, 0, 1, 1], (Served::End, hello))
+    is_served(alloc, place, 1, &[0, 0, 0, 1, 1], hello)
 }
 
 // Whether a connection is served behind one that is cut in each place.

@@ -42,7 +42,7 @@ fn is_kept(alloc: Global, shelf: &mut MemShelf) -> Result<bool, SpoolErr> {
     let spool = begun(alloc, shelf)?;
     let kept = has(shelf, Area::Journal, 103, &KEPT) && has(shelf, Area::Shares, 1, b"A");
     let again = match begun(alloc, shelf) {
-        Err(SpoolErr::NotEmpty { area, len }) => area == Area::Journal && len == 103,
+        Err(SpoolErr::NotEmpty { area, len }) => matches!(area, Area::Journal) && len == 103,
         Err(_) => false,
         Ok(_) => false,
     };
@@ -55,7 +55,7 @@ fn one_byte(rt: HostRuntime) -> Result<(), Fail> {
     let mut shelf = MemShelf::of(rt.alloc(), 1, 4_096, 100, &[])?;
     let kept = is_kept(rt.alloc(), &mut shelf);
     drop(shelf);
-    assert!(rt; kept == Ok(true));
+    assert!(rt; matches!(kept, Ok(true)));
     Ok(())
 }
 

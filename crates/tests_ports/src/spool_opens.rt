@@ -14,7 +14,7 @@ fn asking(alloc: Global, job: &mut Job) -> u8 {
     let mut out = Bytes::new(alloc);
     let mut sum = 0;
     for (lane, power) in [(0u8, 1u8), (1, 2), (2, 4), (3, 8)] {
-        if (lane as usize) < job.lanes() && job.next(CloudNo(lane), &mut out) == Ok(true) {
+        if (lane as usize) < job.lanes() && matches!(job.next(CloudNo(lane), &mut out), Ok(true)) {
             sum |= power;
         }
     }
@@ -44,10 +44,14 @@ fn behind(alloc: Global, shelf: &mut MemShelf, stop: u32) -> Result<Option<u8>, 
 #[test]
 fn stops(rt: HostRuntime) -> Result<(), Fail> {
     let mut shelf = MemShelf::of(rt.alloc(), 1, 4_096, 2_000, &[])?;
-    let mut well = behind(rt.alloc(), &mut shelf, 0) == Ok(Some(15));
+    let mut well = matches!(behind(rt.alloc(), &mut shelf, 0), Ok(Some(15)));
     for stop in 1..14 {
         let found = behind(rt.alloc(), &mut shelf, stop);
-        well &= found == Ok(None) || (stop == 13 && found == Ok(Some(15)));
+        well &= match found {
+            Ok(None) => true,
+            Ok(Some(asking)) => stop == 13 && asking == 15,
+            Err(_) => false,
+        };
     }
     drop(shelf);
     assert!(rt; well);

@@ -18,7 +18,7 @@ const MOST_SPELLED: usize = 32_768;
 
 /// The text of lines that are still to be written. A long file at its end lies there as its bytes, and not as their digits,
 /// which are twice as many.
-#[derive(Debug, Drop)]
+#[derive(Drop)]
 pub struct Answer {
     plain: Bytes,
     // behind the plain text: digits for these bytes and a newline, or nothing where there are none

@@ -14,7 +14,7 @@ use user_dedup::{Bytes, CloudNo, Clouds, NoMemory, Shape, UserId, Version};
 /// A version of a file on its way to all clouds, or to one alone. It keeps the recipe of each cloud that it goes to, and the shares
 /// until that cloud's lane is at its end.
 /// Contracts see a list of lanes, one for each cloud in the order of their numbers: what each has to bring, and where it stands.
-#[derive(Debug, Drop)]
+#[derive(Drop)]
 pub struct Job {
     alloc: Global,
     key: VersionKey,

@@ -17,7 +17,7 @@ use std::alloc::Global;
 use user_dedup::{Bytes, CloudNo, Reply, Tag, UserId, Version};
 
 /// The user, and the tag and version of the file.
-#[derive(Clone, Copy, Debug)]
+#[derive(Clone, Copy)]
 pub struct VersionKey {
     pub user: UserId,
     pub tag: Tag,
@@ -25,7 +25,7 @@ pub struct VersionKey {
 }
 
 /// Where a lane stands.
-#[derive(Debug, Drop)]
+#[derive(Drop)]
 pub enum LaneStage {
     /// It asks for the batch of the wanted shares from this place on. Where none is left it enters the recipe.
     Bringing { from: usize },
@@ -38,7 +38,7 @@ pub enum LaneStage {
 }
 
 /// What one cloud is to get, and how far the lane has come.
-#[derive(Debug, Drop)]
+#[derive(Drop)]
 pub struct Lane {
     pub recipe: Bytes,
     pub items: u32,
@@ -52,7 +52,7 @@ pub struct Lane {
 }
 
 /// What a reply tells, and where the lane stands next, if it moves.
-#[derive(Debug, Drop)]
+#[derive(Drop)]
 pub struct Step {
     pub news: LaneNews,
     pub next: Option<LaneStage>,

@@ -3,7 +3,7 @@
 use user_dedup::{Fp, Room};
 
 /// What a reply to a lane's request tells.
-#[derive(Clone, Copy, Debug, PartialEq, Eq)]
+#[derive(Clone, Copy)]
 pub enum LaneNews {
     /// So many of the shares that were asked for are the user's there already. The lane sends the others, or goes on where there
     /// are none.
@@ -48,7 +48,7 @@ pub enum LaneNews {
 }
 
 /// Why a reply told nothing.
-#[derive(Clone, Copy, Debug, PartialEq, Eq)]
+#[derive(Clone, Copy)]
 pub enum LaneErr {
     /// No server that keeps to the rules gives this reply to that request: its first byte, or 0 where it is empty. The lane is
     /// refused.

@@ -12,7 +12,7 @@ use std::alloc::Global;
 use user_dedup::{FRAME_LIMIT, MsgErr, NoMemory, Reply};
 
 /// What an answer returns, and where the lane stands next, if it moves.
-#[derive(Debug, Drop)]
+#[derive(Drop)]
 pub struct Turn {
     pub result: Result<LaneNews, LaneErr>,
     pub next: Option<LaneStage>,

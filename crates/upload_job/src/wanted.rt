@@ -13,7 +13,7 @@ use std::collections::BTreeSet;
 use user_dedup::{Fp, Item, NoMemory, Shape, share_len};
 
 /// A share that the cloud is to have: its fingerprint, and where it lies among the cloud's shares.
-#[derive(Clone, Copy, Debug)]
+#[derive(Clone, Copy)]
 pub struct WantedShare {
     pub fp: Fp,
     pub start: usize,

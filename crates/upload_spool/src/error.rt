@@ -4,7 +4,7 @@ use commit_journal::{Area, Header};
 use grammar::Fp;
 
 /// Why a spool's call failed.
-#[derive(Clone, Copy, Debug, PartialEq, Eq)]
+#[derive(Clone, Copy)]
 pub enum SpoolErr {
     /// The first area, in the order journal, shares, recipes, that isn't empty has so many bytes.
     NotEmpty { area: Area, len: u64 },

@@ -27,7 +27,7 @@ use std::alloc::Global;
 use upload_job::Job;
 
 // What a spool's job record says, with a path of its own.
-#[derive(Debug, Drop)]
+#[derive(Drop)]
 struct KeptJob {
     user: UserId,
     version: Version,
@@ -37,7 +37,7 @@ struct KeptJob {
 }
 
 // What a spool's records say.
-#[derive(Debug, Drop)]
+#[derive(Drop)]
 struct Records {
     job: KeptJob,
     noted: Vec<CloudNo>,

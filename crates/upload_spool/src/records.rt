@@ -12,7 +12,7 @@ use grammar::{CloudNo, FILE_LIMIT, Fp, PATH_LIMIT, Shape, UserId, Version};
 use upload_job::{Left, byte_of, bytes_of, fp_of, u16_of, u64_of, user_of};
 
 /// Why a body isn't that of a spool's next record.
-#[derive(Clone, Copy, Debug, PartialEq, Eq)]
+#[derive(Clone, Copy)]
 pub enum RecordFault {
     /// A field lacks bytes.
     Short,
@@ -21,7 +21,7 @@ pub enum RecordFault {
 }
 
 /// What a job's record says.
-#[derive(Clone, Copy, Debug)]
+#[derive(Clone, Copy)]
 pub struct JobRecord<'a> {
     /// The user.
     pub user: UserId,

@@ -4,7 +4,7 @@ use journal_start::{Bytes, ShareList, Tag, UserId, Version};
 
 /// What changed a cloud. A cloud is the list of its commands since its store was begun, in order; a migration or a reclaim puts
 /// a shorter list in its place, of which the users see the same.
-#[derive(Debug, Drop)]
+#[derive(Drop)]
 pub enum Command {
     /// The user sent these shares, each of them new to the user.
     Put {

@@ -8,7 +8,7 @@ use std::alloc::Global;
 use std::marker::Model;
 
 /// One version of a file, and its recipe at the cloud.
-#[derive(Debug, Drop)]
+#[derive(Drop)]
 pub struct FileEntry {
     pub tag: Tag,
     pub version: Version,
@@ -16,7 +16,7 @@ pub struct FileEntry {
 }
 
 /// The versions of a user's files, in the order in which they were entered. The list keeps its allocator.
-#[derive(Debug, Drop)]
+#[derive(Drop)]
 pub struct FileList {
     entries: Vec<FileEntry>,
 }

@@ -11,7 +11,7 @@ use journal_start::CloudNo;
 use messages::ReplyBuf;
 
 /// A request or its reply was lost on the way. Whether the cloud took the request isn't known.
-#[derive(Clone, Copy, Debug, PartialEq, Eq)]
+#[derive(Clone, Copy)]
 pub struct Lost;
 
 /// What asks clouds: it passes on a request and takes the reply.
