@@ -70,9 +70,10 @@ impl CloudMemory {
         ensures ends { IfOk result (λ cloud. HasEnds 0 [] [] (memory_of cloud)) }
         ensures rooms { IfOk result (λ cloud. HasRooms rooms.now cloud) }
     {
-        let shares = ShareIndex::for_users(alloc, rooms.users, rooms.owners)?;
-        let files = FileIndex::for_users(alloc, rooms.users, rooms.files)?;
+        // the largest is made last: what fails behind it would drop it
         let spent = SpentTable::make(alloc, rooms.users)?;
+        let files = FileIndex::for_users(alloc, rooms.users, rooms.files)?;
+        let shares = ShareIndex::for_users(alloc, rooms.users, rooms.owners)?;
         Ok(CloudMemory {
             shares,
             files,

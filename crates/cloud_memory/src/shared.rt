@@ -32,9 +32,9 @@ impl CloudMemory {
         ensures ends { IfOk result (λ cloud. HasEnds 0 [] [] (memory_of cloud)) }
         ensures greatest { IfOk result (HasGreatest fps owners files users) }
     {
-        let shares = ShareIndex::make(alloc, fps, owners)?;
-        let files = FileIndex::make(alloc, files)?;
         let spent = SpentTable::make(alloc, users)?;
+        let files = FileIndex::make(alloc, files)?;
+        let shares = ShareIndex::make(alloc, fps, owners)?;
         Ok(CloudMemory {
             shares,
             files,
