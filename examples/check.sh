@@ -7,25 +7,41 @@ export CDSTORE="${CDSTORE:-$top/crates/cdstore/out/cdstore}"
     echo "examples: not run, since there is no program at $CDSTORE"
     exit 0
 }
-for tool in awk b2sum chmod cmp cut date dd diff du find grep head mktemp od paste sed seq sha256sum sort stat tail tar tee timeout tr wc xargs; do
+for tool in awk b2sum chmod cmp cut date dd diff du find grep head mktemp nproc od paste sed seq sha256sum sort stat tail tar tee timeout touch tr wc xargs; do
     command -v "$tool" > /dev/null || {
         echo "examples: not run, since there is no $tool"
         exit 0
     }
 done
 
-log="$(mktemp)"
-trap 'rm -f "$log"' EXIT
-status=0
-for example in "first_run.sh" "first_screen.sh --check" "round_trip.sh" "read_back.sh" "refill.sh" "any_three.sh" "session.sh" "month.sh" "kill.sh 20" \
-    "many_clients.sh" "audit.sh" "reclaim.sh 21" "spool.sh" "spool_kill.sh 10" "delete.sh" "days.sh" "checkpoint.sh" "format_1.sh" "migrate.sh" "four_clouds.sh" "folder.sh" "year.sh 4"; do
+# Each has folders and ports of its own, so as many run side by side as there are processors, and four at most.
+logs="$(mktemp -d)"
+trap 'rm -rf "$logs"' EXIT
+processors="$(nproc)"
+most=$((processors < 4 ? processors : 4))
+
+# Runs an example, says how it ended, and with a failure shows its last lines and leaves a file: try_example NUMBER EXAMPLE
+try_example() {
+    local status=0 log="$logs/$1"
     # shellcheck disable=SC2086
-    if timeout 300 "$top/examples/"$example > "$log" 2>&1; then
-        echo "examples: $example ran"
+    timeout 300 "$top/examples/"$2 > "$log" 2>&1 || status=$?
+    if [ "$status" = 0 ]; then
+        echo "examples: $2 ran"
     else
-        echo "examples: $example FAILED with status $?"
-        tail -n 20 "$log"
-        status=1
+        printf 'examples: %s FAILED with status %s\n%s\n' "$2" "$status" "$(tail -n 20 "$log")"
+        touch "$logs/failed"
     fi
+}
+
+number=0
+for example in "year.sh 4" "kill.sh 20" "spool_kill.sh 10" "reclaim.sh 21" "month.sh" "days.sh" "first_run.sh" "first_screen.sh --check" \
+    "round_trip.sh" "read_back.sh" "refill.sh" "any_three.sh" "session.sh" "many_clients.sh" "audit.sh" "spool.sh" "delete.sh" \
+    "checkpoint.sh" "format_1.sh" "migrate.sh" "four_clouds.sh" "folder.sh"; do
+    while [ "$(jobs -rp | wc -l)" -ge "$most" ]; do
+        wait -n || true
+    done
+    number=$((number + 1))
+    try_example "$number" "$example" &
 done
-exit "$status"
+wait
+[ ! -e "$logs/failed" ]
