@@ -29,12 +29,14 @@ place() {
 # Builds the program: its crates alone, without their tests and the edits that are to be refused, are proved in a copy, as many side by side
 # as there are processors; the program is then linked, and run once. Rattle keeps what is proved, so a build that was broken off goes on.
 build() {
-    local name at=0 processors
+    local name at=0 processors most
     command -v rt > /dev/null || {
         echo "there is no program at $CDSTORE, and no rt on the path to build it: install Rattle, or name a program by CDSTORE" >&2
         return 1
     }
     processors="$(nproc)"
+    # (a proof takes at most 4 GB)
+    most="$(awk '/^MemTotal:/ { n = int($2 / 5000000); print (n > 4 ? n : 4) }' /proc/meminfo)"
     place cdstore
     copy="$(mktemp -d)"
     # shellcheck disable=SC2064
@@ -49,7 +51,7 @@ build() {
     echo "There is no program yet. Its ${#order[@]} crates are proved and built, which takes 75 to 180 processor minutes the first time."
     (
         cd "$copy"
-        RT_JOBS="${RT_JOBS:-$((processors < 4 ? processors : 4))}" rt ci 2>&1 || touch "$copy/failed"
+        RT_JOBS="${RT_JOBS:-$((processors < most ? processors : most))}" rt ci 2>&1 || touch "$copy/failed"
     ) | tee "$copy/log" | while read -r mark name rest; do
         [[ "$mark" = rt: && -n "$name" && -n "${below[$name]+there}" && "$rest" =~ ^(proved$|is\ kept) ]] || continue
         at=$((at + 1))
