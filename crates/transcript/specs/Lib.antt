@@ -2,6 +2,7 @@ pub mod CdBase
 pub mod CdEdges
 pub mod Endings
 pub mod Packed
+pub mod Phrases
 pub mod Ranges
 pub mod Reading
 pub mod ShapeOf

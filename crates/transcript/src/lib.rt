@@ -7,6 +7,7 @@ mod gathering;
 mod laws;
 mod line;
 mod news;
+mod phrase;
 mod refusal;
 mod spelling;
 mod words;
