@@ -28,13 +28,6 @@ const DISPERSALS: [(u8, u8, usize, u128); 15] = [
     (16, 15, 16384, 0x5517d27d3b4057293fc380057a8bed57),
 ];
 
-// The package of the padded text 41 42 00 01 at k = 3, whose pad isn't zero for a secret of two bytes.
-const BAD_PAD: [u8; 36] = [
-    0x81, 0x4a, 0x49, 0x7d, 0x95, 0x03, 0x2a, 0xb7, 0xe3, 0x28, 0xda, 0x6f, 0xa8, 0xea, 0x7e, 0xd1,
-    0x42, 0x54, 0x28, 0x5f, 0x65, 0x21, 0xaa, 0xf6, 0x6d, 0x58, 0xa7, 0x32, 0xea, 0x6a, 0xea, 0x97,
-    0x1a, 0xd9, 0xe6, 0xec,
-];
-
 fn first_half(digest: Fp) -> u128 {
     let mut half = [0; 16];
     half.copy_from_slice(&digest.0[..16]);
@@ -101,30 +94,6 @@ fn disperses(rt: HostRuntime) -> Result<(), Fail> {
                 assert_eq!(rt; *secret.as_slice(), text[..len], "{n} {k} {len}");
             }
         }
-    }
-    Ok(())
-}
-
-#[test]
-fn refuses(rt: HostRuntime) -> Result<(), Fail> {
-    let points = [0, 1, 2];
-    if let Some(shape) = Shape::of(4, 3) {
-        let mut out = Bytes::new(rt.alloc());
-        out.push(9)?;
-        let mut package = BAD_PAD;
-        if are_choice(shape, &points) && share_len(shape, 2) == 12 && shape.k() == 3 {
-            let answer = recover(shape, 2, &points, &package, &mut out);
-            assert_eq!(rt; answer, Err(RecoverErr::BadPad { at: 3, byte: 1 }));
-            package[35] ^= 1;
-            match recover(shape, 2, &points, &package, &mut out) {
-                Err(RecoverErr::BadSecret { named, found }) => {
-                    assert_eq!(rt; first_half(named), 0x5fff175ce7fc75ddae25284bcb4678b8);
-                    assert_eq!(rt; first_half(found), 0xa3b39a2b2b9f0745efaa4a4868aa078b);
-                }
-                _ => assert!(rt; false),
-            }
-        }
-        assert_eq!(rt; out.as_slice(), [9].as_slice());
     }
     Ok(())
 }

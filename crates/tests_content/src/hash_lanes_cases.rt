@@ -1,6 +1,5 @@
-//! Values of the standard, and of the digests that are made one at a time.
+//! Values of the standard.
 
-use cd_base::sha256;
 use hash_lanes::sha256_of_four;
 use std::test::Fail;
 
@@ -34,26 +33,5 @@ fn digests_of_the_standard(rt: HostRuntime) -> Result<(), Fail> {
         0xe9, 0xd1,
     ];
     assert_eq!(rt; found, [none, three, longer, longest]);
-    Ok(())
-}
-
-// Lengths about the ends of a block, each in another lane than in the pass before.
-#[test]
-fn digests_of_many_lengths(rt: HostRuntime) -> Result<(), Fail> {
-    let bytes = [0xa5u8; 260];
-    let lengths = [
-        1usize, 54, 55, 56, 57, 63, 64, 65, 118, 119, 120, 121, 127, 128, 129, 260,
-    ];
-    for place in 0..lengths.len() {
-        let (first, _) = bytes.split_at(lengths[place].min(260));
-        let (second, _) = bytes.split_at(lengths[(place + 1) % 16].min(260));
-        let (third, _) = bytes.split_at(lengths[(place + 5) % 16].min(260));
-        let (fourth, _) = bytes.split_at(lengths[(place + 15) % 16].min(260));
-        let found = sha256_of_four(first, second, third, fourth);
-        assert_eq!(rt; found[0], sha256(first).0);
-        assert_eq!(rt; found[1], sha256(second).0);
-        assert_eq!(rt; found[2], sha256(third).0);
-        assert_eq!(rt; found[3], sha256(fourth).0);
-    }
     Ok(())
 }

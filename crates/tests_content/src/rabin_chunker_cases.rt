@@ -5,21 +5,6 @@ use rabin_chunker::Chunker;
 use std::alloc::{AllocError, Global};
 use std::test::Fail;
 
-// So many zeros, and then other bytes and more zeros.
-fn file(alloc: Global, zeros: usize, middle: &[u8], more: usize) -> Result<Vec<u8>, AllocError> {
-    let mut bytes = Vec::new(alloc);
-    for _ in 0..zeros {
-        bytes.push(0)?;
-    }
-    for byte in middle {
-        bytes.push(*byte)?;
-    }
-    for _ in 0..more {
-        bytes.push(0)?;
-    }
-    Ok(bytes)
-}
-
 // `count` bytes of no pattern: the low bytes of xorshift64 from 0x9e3779b97f4a7c15.
 fn stream(alloc: Global, count: usize) -> Result<Vec<u8>, AllocError> {
     let mut bytes = Vec::new(alloc);
@@ -47,58 +32,6 @@ fn ends_by(alloc: Global, bytes: &[u8], size: usize) -> Result<Ends, NoMemory> {
     }
     chunker.finish(&mut cuts)?;
     Ok(cuts)
-}
-
-// The remainder of a window, bit by bit.
-fn remainder(window: &[u8]) -> u64 {
-    let mut sum: u64 = 0;
-    for byte in window {
-        let mut bits = *byte;
-        for _ in 0..8 {
-            sum = (sum << 1) ^ (bits >> 7) as u64;
-            bits <<= 1;
-            if sum >> 53 == 1 {
-                sum ^= 0x3d_a335_8b4d_c173;
-            }
-        }
-    }
-    sum
-}
-
-// The ends by the rule, with each fingerprint found from scratch.
-fn plain_ends(alloc: Global, bytes: &[u8]) -> Result<Ends, NoMemory> {
-    let mut cuts = Ends::new(alloc);
-    let mut start = 0;
-    for before in 0..bytes.len() {
-        let end = before + 1;
-        let long = end.saturating_sub(start);
-        let told = end >= 48 && long >= 2048 && remainder(&bytes[end - 48..end]) % 8192 == 8191;
-        if told || long == 16384 || end == bytes.len() {
-            cuts.push(end as u64)?;
-            start = end;
-        }
-    }
-    Ok(cuts)
-}
-
-// Whether the ends are those that are wanted, by the plain rule and in pieces of all sizes.
-fn are_ends(alloc: Global, bytes: &[u8], wanted: &[u64]) -> Result<bool, NoMemory> {
-    let mut same = plain_ends(alloc, bytes)?.as_slice() == wanted;
-    for size in [1_000_000, 1, 47, 48, 49, 2047] {
-        same = same && ends_by(alloc, bytes, size)?.as_slice() == wanted;
-    }
-    Ok(same)
-}
-
-// The ends of the first 100,000 bytes of the stream, which the Python program below gives too.
-#[test]
-fn plain_rule(rt: HostRuntime) -> Result<(), Fail> {
-    let alloc = rt.alloc();
-    let wanted = [
-        16384, 20864, 24347, 26796, 37911, 44210, 49100, 65484, 71689, 87005, 95189, 100_000,
-    ];
-    assert!(rt; are_ends(alloc, &stream(alloc, 100_000)?, &wanted)?);
-    Ok(())
 }
 
 // The digest FNV-1a of 64 bits of places, each as 8 bytes with the highest first.
