@@ -1,7 +1,7 @@
-//! Worked examples: full rooms of one user, and the parts of two users' Puts.
+//! Worked examples: the parts of two users' Puts, and a full room.
 
 use crate::kept::Kept;
-use cd_base::{Fp, NoMemory, Place, Room, Tag, UserId, Version};
+use cd_base::{Fp, NoMemory, Place, Room, UserId};
 use cloud_memory::{CloudMemory, Full, New};
 use journal_start::UserRooms;
 use record_body::PutItem;
@@ -69,46 +69,6 @@ fn full(room: Room, used: u64, need: u64, limit: u64) -> Answer {
         need,
         limit,
     }))
-}
-
-fn has_nothing(memory: &CloudMemory) -> bool {
-    !memory.owns(UserId(0), &Fp([1; 32]))
-        && memory.place_of(&Fp([1; 32])) == None
-        && memory.entry(UserId(0), &Tag([5; 32]), Version(1)) == None
-        && memory.after(UserId(0), None) == None
-        && memory.shares_end() == 0
-}
-
-fn begins_with_nothing(alloc: Global) -> Result<bool, NoMemory> {
-    let kept = Kept::make(alloc, UserRooms::usual())?;
-    Ok(has_nothing(&kept.memory))
-}
-
-#[test]
-fn remembers_nothing(rt: HostRuntime) -> Result<(), Fail> {
-    let nothing = begins_with_nothing(rt.alloc())?;
-    assert!(rt; nothing);
-    Ok(())
-}
-
-// What a Put of share 1 answers over an empty memory.
-fn first_put(alloc: Global, shares: u64, user: u32) -> Result<Answer, NoMemory> {
-    let mut kept = Kept::make(alloc, rooms(shares))?;
-    Ok(put(&mut kept, user, 1))
-}
-
-// A share of 11 bytes passes a limit of 10, and not one of 11. A user that has no room may put none.
-#[test]
-fn rooms_of_a_put(rt: HostRuntime) -> Result<(), Fail> {
-    for (limit, user, answer) in [
-        (10, 0, full(Room::Shares, 0, 11, 10)),
-        (11, 0, put_as(1, Some(0))),
-        (11, 2, full(Room::Owners, 0, 1, 0)),
-    ] {
-        let got = first_put(rt.alloc(), limit, user)?;
-        assert_eq!(rt; got, answer);
-    }
-    Ok(())
 }
 
 // A share that is here already gets no place again, counts for both users, and fills the room of each apart.

@@ -118,8 +118,8 @@ enum Row {
 }
 
 // 9 users, each with two fingerprints of its own, so many bytes of shares, 61 of recipes and one file; the blobs lie in
-// this region of areas of 5,000,000 bytes.
-fn ground(shares: u64, region: u8) -> Ground {
+// the first region of areas of 5,000,000 bytes.
+fn ground(shares: u64) -> Ground {
     let rooms = UserRooms {
         users: 9,
         shares,
@@ -130,7 +130,7 @@ fn ground(shares: u64, region: u8) -> Ground {
     Ground {
         shape: Shape { n: 4, k: 3 },
         rooms,
-        region,
+        region: 0,
         shares_len: 5_000_000,
         recipes_len: 5_000_000,
     }
@@ -258,7 +258,7 @@ static TAKEN: [Row; 8] = [
 
 #[test]
 fn what_is_taken(rt: HostRuntime) -> Result<(), Fail> {
-    let well = all_play(rt.alloc(), &ground(11, 0), &TAKEN)?;
+    let well = all_play(rt.alloc(), &ground(11), &TAKEN)?;
     assert!(rt; well);
     Ok(())
 }
@@ -276,7 +276,7 @@ static DELETED: [Row; 7] = [
 
 #[test]
 fn what_is_deleted(rt: HostRuntime) -> Result<(), Fail> {
-    let well = all_play(rt.alloc(), &ground(11, 0), &DELETED)?;
+    let well = all_play(rt.alloc(), &ground(11), &DELETED)?;
     assert!(rt; well);
     Ok(())
 }
@@ -294,7 +294,7 @@ static OF_A_CHECKPOINT: [Row; 8] = [
 
 #[test]
 fn of_a_checkpoint_alone(rt: HostRuntime) -> Result<(), Fail> {
-    let well = all_play(rt.alloc(), &ground(22, 0), &OF_A_CHECKPOINT)?;
+    let well = all_play(rt.alloc(), &ground(22), &OF_A_CHECKPOINT)?;
     assert!(rt; well);
     Ok(())
 }
@@ -320,49 +320,7 @@ static PUTS: [Row; 9] = [
 
 #[test]
 fn checks_of_a_put(rt: HostRuntime) -> Result<(), Fail> {
-    let well = all_play(rt.alloc(), &ground(11, 0), &PUTS)?;
-    assert!(rt; well);
-    Ok(())
-}
-
-// A place past the area, a name that isn't owned, another SHA-256, a byte too many for its room, a version that is there,
-// and a version too many.
-static COMMITS: [Row; 8] = [
-    Row::Record(false, Body::Enters, &[(49, 80)], Some((145, 0))),
-    Row::Record(false, Body::Enters, &[], Some((157, 100))),
-    Row::Record(false, Body::Stores, &[], None),
-    Row::Record(false, Body::Enters, &[(57, 145)], Some((157, 145))),
-    Row::Record(false, Body::Enters, &[(56, 62)], Some((101, 0))),
-    Row::Record(false, Body::Enters, &[], None),
-    Row::Record(true, Body::Enters, &[], Some((105, 5))),
-    Row::Record(true, Body::Enters, &[(44, 3)], Some((101, 0))),
-];
-
-#[test]
-fn checks_of_a_commit(rt: HostRuntime) -> Result<(), Fail> {
-    let well = all_play(rt.alloc(), &ground(11, 0), &COMMITS)?;
-    assert!(rt; well);
-    Ok(())
-}
-
-static BYTES: [Row; 3] = [
-    Row::Record(true, Body::HasSpent, &[(16, 11)], Some((101, 0))),
-    Row::Record(true, Body::HasSpent, &[(16, 10)], None),
-    Row::Record(false, Body::Stores, &[], Some((101, 0))),
-];
-
-#[test]
-fn limits_of_bytes(rt: HostRuntime) -> Result<(), Fail> {
-    let well = all_play(rt.alloc(), &ground(10, 0), &BYTES)?;
-    assert!(rt; well);
-    Ok(())
-}
-
-static ELSEWHERE: [Row; 1] = [Row::Record(true, Body::Stores, &[], Some((140, 0)))];
-
-#[test]
-fn another_region(rt: HostRuntime) -> Result<(), Fail> {
-    let well = all_play(rt.alloc(), &ground(11, 1), &ELSEWHERE)?;
+    let well = all_play(rt.alloc(), &ground(11), &PUTS)?;
     assert!(rt; well);
     Ok(())
 }
