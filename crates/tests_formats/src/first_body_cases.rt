@@ -1,8 +1,7 @@
 //! Tests of record_body, of the bodies of format 1.
 
-use cd_base::{Fp, NoMemory, Place, Tag, UserId, Version};
-use record_body::{BodyErr, CommitBody, FirstBodyView, FoundItem, PutItem, RecordBuf};
-use std::alloc::Global;
+use cd_base::{Fp, Place, Tag, UserId, Version};
+use record_body::{CommitBody, FirstBodyView, FoundItem, PutItem, RecordBuf};
 use std::test::Fail;
 
 // User 7 stores one new share of 11 bytes, which now lies at place 0.
@@ -59,27 +58,6 @@ fn commit_in(body: &[u8]) -> Option<CommitBody> {
     }
 }
 
-fn fault_in(body: &[u8]) -> Option<BodyErr> {
-    match FirstBodyView::check(body) {
-        Ok(_view) => None,
-        Err(fault) => Some(fault),
-    }
-}
-
-// What is wrong with a body once one byte is another.
-fn with_byte(
-    body: &[u8],
-    place: usize,
-    byte: u8,
-    alloc: Global,
-) -> Result<Option<BodyErr>, NoMemory> {
-    let mut bytes = body.to_vec(alloc)?;
-    if place < bytes.len() {
-        bytes[place] = byte;
-    }
-    Ok(fault_in(bytes.as_slice()))
-}
-
 #[test]
 fn a_stored_share(rt: HostRuntime) -> Result<(), Fail> {
     let mut buf = RecordBuf::make(rt.alloc())?;
@@ -102,46 +80,5 @@ fn an_entered_version(rt: HostRuntime) -> Result<(), Fail> {
     buf.write_commit(&entered());
     assert_eq!(rt; buf.as_slice(), ENTERS.as_slice());
     assert_eq!(rt; commit_in(&ENTERS), Some(entered()));
-    Ok(())
-}
-
-#[test]
-fn each_wrong_field(rt: HostRuntime) -> Result<(), Fail> {
-    let a = rt.alloc();
-    // the kind, the count (0, 257 and 2), the flag, and the length (267 is fine, 8,459 and 0 are not)
-    assert_eq!(rt;
-        with_byte(&STORES, 0, 3, a)?,
-        Some(BodyErr::Field { at: 0 })
-    );
-    assert_eq!(rt;
-        with_byte(&STORES, 6, 0, a)?,
-        Some(BodyErr::Field { at: 5 })
-    );
-    assert_eq!(rt;
-        with_byte(&STORES, 5, 1, a)?,
-        Some(BodyErr::Field { at: 5 })
-    );
-    assert_eq!(rt; with_byte(&STORES, 6, 2, a)?, Some(BodyErr::Short));
-    assert_eq!(rt;
-        with_byte(&STORES, 39, 2, a)?,
-        Some(BodyErr::Field { at: 39 })
-    );
-    assert_eq!(rt;
-        with_byte(&STORES, 39, 0, a)?,
-        Some(BodyErr::Extra { at: 40 })
-    );
-    assert_eq!(rt; with_byte(&STORES, 50, 1, a)?, None);
-    assert_eq!(rt;
-        with_byte(&STORES, 50, 33, a)?,
-        Some(BodyErr::Field { at: 48 })
-    );
-    assert_eq!(rt;
-        with_byte(&STORES, 51, 0, a)?,
-        Some(BodyErr::Field { at: 48 })
-    );
-    assert_eq!(rt;
-        with_byte(&ENTERS, 56, 0, a)?,
-        Some(BodyErr::Field { at: 53 })
-    );
     Ok(())
 }

@@ -9,5 +9,3 @@ mod journal_start_cases;
 mod messages_cases;
 #[cfg(test)]
 mod record_body_cases;
-#[cfg(test)]
-mod user_dedup_cases;

@@ -1,10 +1,9 @@
 //! Tests of record_body, of the bodies of today's format.
 
-use cd_base::{Fp, NoMemory, Place, Tag, UserId, Version};
+use cd_base::{Fp, Place, Tag, UserId, Version};
 use record_body::{
     BodyBuf, BodyErr, BodyView, DeleteBody, FoundKept, KeptItem, PutItem, SpentBody,
 };
-use std::alloc::Global;
 use std::test::Fail;
 
 // User 7 stores one new share of 11 bytes, which now lies at place 0.
@@ -89,20 +88,6 @@ fn fault_in(body: &[u8]) -> Option<BodyErr> {
     }
 }
 
-// What is wrong with a body once one byte is another.
-fn with_byte(
-    body: &[u8],
-    place: usize,
-    byte: u8,
-    alloc: Global,
-) -> Result<Option<BodyErr>, NoMemory> {
-    let mut bytes = body.to_vec(alloc)?;
-    if place < bytes.len() {
-        bytes[place] = byte;
-    }
-    Ok(fault_in(bytes.as_slice()))
-}
-
 #[test]
 fn a_version_taken_out(rt: HostRuntime) -> Result<(), Fail> {
     let mut buf = BodyBuf::make(rt.alloc())?;
@@ -146,39 +131,5 @@ fn a_stored_share(rt: HostRuntime) -> Result<(), Fail> {
     });
     assert_eq!(rt; buf.as_slice(), STORES.as_slice());
     assert_eq!(rt; fault_in(&STORES), None);
-    Ok(())
-}
-
-// Of a Delete and a Spent the kind alone has a range.
-#[test]
-fn each_wrong_field(rt: HostRuntime) -> Result<(), Fail> {
-    let a = rt.alloc();
-    // no kind
-    for kind in [0, 6, 255] {
-        assert_eq!(rt;
-            with_byte(&SPENDS, 0, kind, a)?,
-            Some(BodyErr::Field { at: 0 })
-        );
-    }
-    // another kind, of which there is too much or too little
-    assert_eq!(rt; with_byte(&SPENDS, 0, 3, a)?, Some(BodyErr::Short));
-    assert_eq!(rt;
-        with_byte(&TAKES_OUT, 0, 5, a)?,
-        Some(BodyErr::Extra { at: 25 })
-    );
-    // 0 items, 257, and one more than are there
-    assert_eq!(rt; with_byte(&KEEPS, 2, 0, a)?, Some(BodyErr::Field { at: 1 }));
-    assert_eq!(rt; with_byte(&KEEPS, 1, 1, a)?, Some(BodyErr::Field { at: 1 }));
-    assert_eq!(rt; with_byte(&KEEPS, 2, 2, a)?, Some(BodyErr::Short));
-    // a share of 44 bytes, of 8,236, and with the next byte of 16,777,516
-    assert_eq!(rt; with_byte(&KEEPS, 45, 0, a)?, None);
-    assert_eq!(rt;
-        with_byte(&KEEPS, 45, 32, a)?,
-        Some(BodyErr::Field { at: 43 })
-    );
-    assert_eq!(rt;
-        with_byte(&KEEPS, 43, 1, a)?,
-        Some(BodyErr::Field { at: 43 })
-    );
     Ok(())
 }
