@@ -1,4 +1,4 @@
-//! Checkpoints that are written, stopped and written again, in either half.
+//! Checkpoints that are written, in either half.
 
 use cd_base::{CloudNo, Shape};
 use cd_edges::{Area, Failed, Shelf};
@@ -79,12 +79,6 @@ fn bytes_of<V: Shelf>(shelf: &mut V, half: u8) -> Result<[u8; 76], Failed> {
     Ok(out)
 }
 
-// Whether a half's first gate is open.
-fn is_open<V: Shelf>(shelf: &mut V, half: u8) -> Result<bool, Failed> {
-    let bytes = bytes_of(shelf, half)?;
-    Ok(bytes[0] == 1)
-}
-
 // How many calls on the cloud came, and how many writes and syncs of them were Ok.
 fn calls(shelf: &MemShelf) -> (u64, u32, u32) {
     let mut writes = 0u32;
@@ -127,42 +121,6 @@ fn how_many_calls(rt: HostRuntime) -> Result<(), Fail> {
         assert_eq!(rt; calls(&shelf), (7, 3, 3));
         assert_eq!(rt; write_two(&mut writer, &mut shelf, half), Ok(()));
         assert_eq!(rt; calls(&shelf), (14, 6, 6));
-    }
-    Ok(())
-}
-
-// The call that is cut, how many bytes of a write it keeps, whether the first gate is open then, and how many writes the
-// next checkpoint makes.
-const STOPS: [(u32, u32, bool, u32); 10] = [
-    (1, 0, false, 3),
-    (1, 1, false, 2),
-    (2, 0, false, 2),
-    (3, 0, false, 2),
-    (3, 30, false, 2),
-    (3, 75, false, 2),
-    (4, 0, false, 2),
-    (5, 0, false, 2),
-    (5, 1, true, 3),
-    (6, 0, true, 3),
-];
-
-// The first gate is open only where its own write put its byte. A torn checkpoint's gate isn't written again, and a whole
-// one comes over it.
-#[test]
-fn a_stop_at_each_call(rt: HostRuntime) -> Result<(), Fail> {
-    for half in 0..2u8 {
-        for (call, keep, opened, more) in STOPS {
-            let mut shelf = MemShelf::of(rt.alloc(), 1, 400, 100, &[])?;
-            let mut writer = CheckpointWriter::make(rt.alloc())?;
-            shelf.arm(ZERO, call, keep);
-            assert_eq!(rt; write_two(&mut writer, &mut shelf, half), Err(Failed));
-            assert_eq!(rt; is_open(&mut shelf, half), Ok(opened));
-            let (_, before, _) = calls(&shelf);
-            assert_eq!(rt; write_two(&mut writer, &mut shelf, half), Ok(()));
-            let (_, after, _) = calls(&shelf);
-            assert_eq!(rt; after, before.saturating_add(more));
-            assert_eq!(rt; bytes_of(&mut shelf, half), Ok(WRITTEN));
-        }
     }
     Ok(())
 }

@@ -4,14 +4,8 @@
 #[cfg(test)]
 mod checkpoint_writing_cases;
 #[cfg(test)]
-mod filled;
-#[cfg(test)]
 mod ground;
 #[cfg(test)]
-mod pieces;
-#[cfg(test)]
 mod stops;
-#[cfg(test)]
-mod torn;
 #[cfg(test)]
 mod written;
