@@ -1,7 +1,6 @@
 //! Values of `cd_base` from outside.
 
-use cd_base::{Fp, Shape, sha256, share_len};
-use std::test::Fail;
+use cd_base::{Fp, sha256};
 
 // The digest of "abc", from the examples of FIPS 180-4.
 #[test]
@@ -12,13 +11,4 @@ fn the_digest_of_the_standard(rt: HostRuntime) {
         0x15, 0xad,
     ];
     assert_eq!(rt; sha256(b"abc"), Fp(wanted));
-}
-
-#[test]
-fn lengths_of_shares(rt: HostRuntime) -> Result<(), Fail> {
-    for (n, k, secret_len, wanted) in [(4, 3, 1, 11), (4, 3, 2, 12), (16, 15, 16384, 1095)] {
-        let shape = Shape::of(n, k).unwrap_or(Shape { n: 4, k: 3 });
-        assert_eq!(rt; share_len(shape, secret_len), wanted);
-    }
-    Ok(())
 }

@@ -1,9 +1,7 @@
 //! Tests of certificate.
 
 use cd_base::{Bytes, CloudNo, Fp, NoMemory, Shape, Tag, UserId, Version};
-use certificate::{
-    CertificateLine, FileLine, Heading, ShareLine, WrongLine, read_certificate, write_line,
-};
+use certificate::{CertificateLine, FileLine, Heading, ShareLine, read_certificate, write_line};
 use std::alloc::Global;
 use std::test::Fail;
 
@@ -27,75 +25,6 @@ fn joined(alloc: Global, pieces: &Pieces) -> Result<Bytes, NoMemory> {
         text.extend(piece)?;
     }
     Ok(text)
-}
-
-// Texts that are no certificates, with the first wrong line and place.
-static WRONG: [(Pieces, u64, u64); 16] = [
-    ([b"audit 2 4 3 0\n", SHARE, FILE, END], 1, 6),
-    ([b"audit 1 4 4 0\n", SHARE, FILE, END], 1, 10),
-    ([b"audit 1 4 3 4\n", SHARE, FILE, END], 1, 12),
-    ([b"audit 1 4 3\n", SHARE, FILE, END], 1, 11),
-    ([b"", b"", b"", b""], 1, 0),
-    (
-        [
-            FIRST,
-            b"share 7306196382e41a397efac21e4f4613ec42dbce6fc69dc13a71972b7d5afc5010 00 11\n",
-            FILE,
-            END,
-        ],
-        2,
-        71,
-    ),
-    (
-        [
-            FIRST,
-            b"share 7306196382e41a397efac21e4f4613ec42dbce6fc69dc13a71972b7d5afc5010 0 4294967296\n",
-            FILE,
-            END,
-        ],
-        2,
-        73,
-    ),
-    (
-        [
-            FIRST,
-            b"share 7306196382E41A397EFAC21E4F4613EC42DBCE6FC69DC13A71972B7D5AFC5010 0 11\n",
-            FILE,
-            END,
-        ],
-        2,
-        6,
-    ),
-    (
-        [
-            FIRST,
-            b"share 7306196382e41a397efac21e4f4613ec42dbce6fc69dc13a71972b7d5afc50 0 11\n",
-            FILE,
-            END,
-        ],
-        2,
-        6,
-    ),
-    ([FIRST, FILE, SHARE, END], 3, 0),
-    ([FIRST, SHARE, FILE, b""], 4, 0),
-    ([FIRST, SHARE, FILE, b"end 2"], 4, 5),
-    ([FIRST, SHARE, FILE, b"end 2 1\n"], 4, 5),
-    ([FIRST, SHARE, FILE, b"end 4294967296\n"], 4, 4),
-    ([FIRST, SHARE, FILE, b"end 2\n\n"], 5, 0),
-    ([FIRST, SHARE, FILE, b"end 2\nend 2\n"], 5, 0),
-];
-
-#[test]
-fn wrong_lines(rt: HostRuntime) -> Result<(), Fail> {
-    for (pieces, line, at) in &WRONG {
-        let text = joined(rt.alloc(), pieces)?;
-        let wrong = WrongLine {
-            line: *line,
-            at: *at,
-        };
-        assert!(rt; read_certificate(text.as_slice()) == Err(wrong));
-    }
-    Ok(())
 }
 
 #[test]

@@ -1,6 +1,6 @@
 //! Texts in one piece and in many.
 
-use cd_base::{Bytes, CloudNo};
+use cd_base::Bytes;
 use cd_fakes::MemSink;
 use std::alloc::Global;
 use std::test::Fail;
@@ -67,36 +67,5 @@ fn stands_before_what_follows(rt: HostRuntime) -> Result<(), Fail> {
     assert_eq!(rt; calls(rt.alloc(), 3, 2, 1_000_000)?, Some(1));
     assert_eq!(rt; calls(rt.alloc(), 40_000, 2, 1_000_000)?, Some(4));
     assert_eq!(rt; calls(rt.alloc(), 33_000, 2, 50_000)?, Some(6));
-    Ok(())
-}
-
-// What the sink got of a long file where the call of this number fails, and whether that is a front.
-fn cut(alloc: Global, fails: u64) -> Result<(usize, bool), Fail> {
-    let wanted = spelled(alloc, 40_000, 1)?;
-    let mut sink = MemSink::of(alloc, wanted.len(), 1_000_000, &[fails])?;
-    let text = answer(alloc, 40_000, 1)?;
-    let failed = text.write(&mut sink).is_err();
-    let got = sink.written();
-    Ok((got.len(), failed && wanted.as_slice().starts_with(got)))
-}
-
-#[test]
-fn leaves_a_front(rt: HostRuntime) -> Result<(), Fail> {
-    assert_eq!(rt; cut(rt.alloc(), 1)?, (0, true));
-    assert_eq!(rt; cut(rt.alloc(), 2)?, (10, true));
-    assert_eq!(rt; cut(rt.alloc(), 3)?, (65_546, true));
-    assert_eq!(rt; cut(rt.alloc(), 4)?, (80_010, true));
-    Ok(())
-}
-
-#[test]
-fn begins_again(rt: HostRuntime) -> Result<(), Fail> {
-    let mut text = answer(rt.alloc(), 40_000, 1)?;
-    text.clear(rt.alloc());
-    text.push(&Line::Armed { cloud: CloudNo(2) })?;
-    text.extend(b"job 7\n")?;
-    let mut sink = MemSink::of(rt.alloc(), 100, 100, &[])?;
-    assert!(rt; text.write(&mut sink).is_ok());
-    assert_eq!(rt; sink.written(), b"armed 2\njob 7\n".as_slice());
     Ok(())
 }
