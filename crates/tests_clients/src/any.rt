@@ -1,6 +1,4 @@
-//! Restores from any k of five clouds, of which some are damaged, lost or without the version, beside the definition.
-
-ghost use Rattle.std.specs.Prelude.{◌≤◌};
+//! How many asks a restore from any three of five clouds makes past one that is damaged or fails.
 
 use crate::Prepared;
 use crate::cases::{are_below, bytes_of, clouds_of, content, kept, recipe_reply, shares_reply};
@@ -11,22 +9,7 @@ use std::alloc::Global;
 use std::test::Fail;
 use subset_restore::restore_any;
 
-// The choices of three of five clouds, in lexicographic order.
-const CHOICES: [[u8; 3]; 10] = [
-    [0, 1, 2],
-    [0, 1, 3],
-    [0, 1, 4],
-    [0, 2, 3],
-    [0, 2, 4],
-    [0, 3, 4],
-    [1, 2, 3],
-    [1, 2, 4],
-    [1, 3, 4],
-    [2, 3, 4],
-];
-
-// How a cloud is: 0 whole, 1 without the version, 2 lost, 3 damaged, and 4 with a device that fails when shares are
-// asked for.
+// How a cloud is: 1 damaged, and 2 with a device that fails when shares are asked for.
 type State = u8;
 
 fn shape_of(n: u8, k: u8) -> Result<Shape, Fail> {
@@ -34,10 +17,6 @@ fn shape_of(n: u8, k: u8) -> Result<Shape, Fail> {
         Some(shape) => Ok(shape),
         None => Err(Fail::new("no shape")),
     }
-}
-
-fn state_at(states: &[State; 5], cloud: u8) -> State {
-    if cloud < 5 { states[cloud as usize] } else { 0 }
 }
 
 // Five clouds that keep a file.
@@ -59,54 +38,15 @@ fn whole(alloc: Global, shape: Shape, files: &CloudFiles) -> Result<Prepared, Fa
 fn put(alloc: Global, link: &mut Prepared, cloud: u8, state: State) -> Result<(), Fail> {
     let at = CloudNo(cloud);
     match state {
-        1 => link.replace(at, false, bytes_of(alloc, &[0x88])?),
-        2 => link.replace(at, false, bytes_of(alloc, &[])?),
-        3 => link.replace(
+        1 => link.replace(
             at,
             false,
             bytes_of(alloc, &[0x8E, 0, 0, 0, 0, 0, 0, 1, 2, 7])?,
         ),
-        4 => link.replace(at, true, bytes_of(alloc, &[0x8D])?),
+        2 => link.replace(at, true, bytes_of(alloc, &[0x8D])?),
         _ => {}
     }
     Ok(())
-}
-
-// What comes of a choice of clouds: None where the file comes, or else the refusal of the first cloud that has one.
-fn wanted_of(states: &[State; 5], choice: &[u8; 3]) -> Option<RestoreErr> {
-    for number in choice {
-        let cloud = CloudNo(*number);
-        match state_at(states, *number) {
-            1 => return Some(RestoreErr::Missing { cloud }),
-            2 => return Some(RestoreErr::Lost { cloud }),
-            3 => {
-                return Some(RestoreErr::CloudDamaged {
-                    cloud,
-                    at: 258,
-                    byte: 7,
-                });
-            }
-            _ => {}
-        }
-    }
-    for number in choice {
-        if state_at(states, *number) == 4 {
-            return Some(RestoreErr::CloudFault {
-                cloud: CloudNo(*number),
-            });
-        }
-    }
-    None
-}
-
-// What comes of any three: None where the file comes from one choice, or else the refusal of the first.
-fn wanted(states: &[State; 5]) -> Option<RestoreErr> {
-    for choice in &CHOICES {
-        if wanted_of(states, choice).is_none() {
-            return None;
-        }
-    }
-    wanted_of(states, &CHOICES[0])
 }
 
 // What restore answers, from these clouds.
@@ -125,56 +65,6 @@ fn answer(
         Ok(()) => Ok(None),
         Err(e) => Ok(Some(e)),
     }
-}
-
-// Whether the answer for five clouds in these states is the wanted one, and the file stands behind what was there, or
-// nothing.
-fn is_right(
-    alloc: Global,
-    shape: Shape,
-    files: &CloudFiles,
-    file: &[u8],
-    states: &[State; 5],
-) -> Result<bool, Fail> {
-    let mut link = whole(alloc, shape, files)?;
-    for cloud in 0..5u8 {
-        put(alloc, &mut link, cloud, state_at(states, cloud))?;
-    }
-    let clouds = clouds_of(alloc, &[0, 1, 2, 3, 4])?;
-    let mut out = bytes_of(alloc, &[9])?;
-    let found = answer(alloc, &mut link, &clouds, &mut out)?;
-    let mut left = bytes_of(alloc, &[9])?;
-    if found.is_none() {
-        left.extend(file)?;
-    }
-    Ok(found == wanted(states) && out.as_slice() == left.as_slice())
-}
-
-// The states with this number, of so many kinds.
-fn states_of(number: u32, kinds: u32) -> [State; 5]
-    requires some { 1 ≤ kinds }
-    requires few { kinds ≤ 5 }
-{
-    let mut states = [0; 5];
-    let mut rest = number;
-    for state in states.iter_mut() {
-        *state = (rest % kinds) as u8;
-        rest /= kinds;
-    }
-    states
-}
-
-#[test]
-fn each_pattern_of_five_clouds(rt: HostRuntime) -> Result<(), Fail> {
-    let a = rt.alloc();
-    let shape = shape_of(5, 3)?;
-    let file = content(a, 100)?;
-    let files = kept(a, shape, file.as_slice())?;
-    for number in 0..1024u32 {
-        let states = states_of(number, 4);
-        assert!(rt; is_right(a, shape, &files, file.as_slice(), &states)?);
-    }
-    Ok(())
 }
 
 // How many asks a restore from five clouds makes, of which one is in this state.
@@ -196,13 +86,13 @@ fn asks_past_a_bad_cloud(rt: HostRuntime) -> Result<(), Fail> {
     let a = rt.alloc();
     let file = content(a, 100)?;
     // three recipes, and three times shares
-    assert_eq!(rt; asks_with(a, file.as_slice(), 4, 3)?, 6);
+    assert_eq!(rt; asks_with(a, file.as_slice(), 4, 1)?, 6);
     // the recipes up to the bad one, and all again
-    assert_eq!(rt; asks_with(a, file.as_slice(), 0, 3)?, 7);
-    assert_eq!(rt; asks_with(a, file.as_slice(), 2, 3)?, 9);
+    assert_eq!(rt; asks_with(a, file.as_slice(), 0, 1)?, 7);
+    assert_eq!(rt; asks_with(a, file.as_slice(), 2, 1)?, 9);
     // the recipes, the shares up to the bad ones, and all again
-    assert_eq!(rt; asks_with(a, file.as_slice(), 0, 4)?, 10);
-    assert_eq!(rt; asks_with(a, file.as_slice(), 2, 4)?, 12);
-    assert_eq!(rt; asks_with(a, file.as_slice(), 4, 4)?, 6);
+    assert_eq!(rt; asks_with(a, file.as_slice(), 0, 2)?, 10);
+    assert_eq!(rt; asks_with(a, file.as_slice(), 2, 2)?, 12);
+    assert_eq!(rt; asks_with(a, file.as_slice(), 4, 2)?, 6);
     Ok(())
 }

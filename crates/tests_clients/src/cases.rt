@@ -6,7 +6,7 @@ ghost use Rattle.cd_base.specs.Numbers.{numbers_of};
 use crate::Script;
 use cd_base::{Bytes, CloudNo, Clouds, NoMemory, Shape, UserId, Version, is_path, share_len};
 use file_recipe::{CloudFile, CloudFiles, disperse_file};
-use recipe::{Item, Items, Recipe};
+use recipe::{Item, Recipe};
 use restore_job::{RestoreErr, restore};
 use std::alloc::Global;
 use std::test::Fail;
@@ -65,28 +65,6 @@ fn width_of(shape: Shape, item: &Item) -> Result<usize, Fail> {
         return Err(Fail::new("no secret"));
     }
     Ok(share_len(shape, item.secret_len) as usize)
-}
-
-/// The share of a secret at a cloud.
-pub fn share_at(
-    alloc: Global,
-    shape: Shape,
-    file: &CloudFile,
-    secret: usize,
-) -> Result<Bytes, Fail> {
-    let mut rest = file.shares.as_slice();
-    let mut place = 0usize;
-    for item in file.recipe.items.as_slice() {
-        let Some((share, more)) = parted(rest, width_of(shape, item)?) else {
-            return Err(Fail::new("no share"));
-        };
-        if place == secret {
-            return Ok(bytes_of(alloc, share)?);
-        }
-        rest = more;
-        place = place.saturating_add(1);
-    }
-    Err(Fail::new("no secret"))
 }
 
 // Appends a share behind its length.
@@ -219,29 +197,4 @@ pub fn refusal(alloc: Global, link: &mut Script, numbers: &[u8]) -> Result<Resto
             }
         }
     }
-}
-
-/// A recipe of a path of so many bytes and of secrets of these lengths, as a reply.
-pub fn recipe_of(alloc: Global, shape: Shape, name_len: u16, lens: &[u32]) -> Result<Bytes, Fail> {
-    let mut items = Items::new(alloc);
-    let mut file_len = 0u64;
-    for secret_len in lens {
-        items.push(Item {
-            fp: cd_base::Fp([1; 32]),
-            secret_len: *secret_len,
-        })?;
-        file_len = file_len.saturating_add(*secret_len as u64);
-    }
-    let mut name_share = Bytes::new(alloc);
-    name_share.resize(
-        (name_len as usize + 31 + shape.k as usize) / shape.k as usize,
-        0,
-    )?;
-    let recipe = Recipe {
-        name_len,
-        name_share,
-        file_len,
-        items,
-    };
-    recipe_reply(alloc, shape, &recipe)
 }

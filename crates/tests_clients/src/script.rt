@@ -75,11 +75,6 @@ impl Script {
         self.replies.truncate(count);
     }
 
-    /// How many asks were answered.
-    pub fn asked(&self) -> usize {
-        self.next
-    }
-
     // Answers content with the next reply.
     fn take(&mut self, content: &[u8], reply: &mut ReplyBuf) -> Result<(), Lost>
         requires { length content.now ≤ 4194304 }
