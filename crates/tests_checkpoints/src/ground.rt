@@ -133,13 +133,4 @@ impl Ground {
         );
         settled.is_ok()
     }
-
-    /// Leaves the cloud as a crash leaves it, which fills what wasn't synced with this byte, and keeps what lies past the
-    /// synced length or not; or no crash comes. Says whether it did.
-    pub(crate) fn crashes(&mut self, crash: Option<(u8, bool)>) -> bool {
-        match crash {
-            None => true,
-            Some((fill, whole)) => self.shelf.crash(ZERO, fill, whole),
-        }
-    }
 }

@@ -8,8 +8,6 @@ mod ground;
 #[cfg(test)]
 mod old_ground;
 #[cfg(test)]
-mod old_rows;
-#[cfg(test)]
 mod old_stops;
 #[cfg(test)]
 mod played;

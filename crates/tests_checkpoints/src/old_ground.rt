@@ -114,28 +114,8 @@ impl Old {
         Ok(())
     }
 
-    /// Puts a share of a user's; it is placed behind the others, or was placed before.
-    pub(crate) fn put(&mut self, user: u8, byte: u8, placed: bool) -> Result<(), NoMemory> {
-        if placed {
-            self.put_new(user, byte)
-        } else {
-            self.put_known(user, byte)
-        }
-    }
-
-    // Puts a share that was placed before.
-    fn put_known(&mut self, user: u8, byte: u8) -> Result<(), NoMemory> {
-        let mut body = [0; 40];
-        body[0] = 1;
-        body[4] = user;
-        body[6] = 1;
-        let Fp(fp) = sha256(&share(byte));
-        body[7..39].copy_from_slice(&fp);
-        self.add(&body)
-    }
-
-    // Puts a share behind the others.
-    fn put_new(&mut self, user: u8, byte: u8) -> Result<(), NoMemory> {
+    /// Puts a share of a user's behind the others.
+    pub(crate) fn put(&mut self, user: u8, byte: u8) -> Result<(), NoMemory> {
         let at = (self.shares.len() as u64).to_be_bytes();
         self.shares.extend_from_slice(&share(byte))?;
         self.add(&new_item(user, byte, at))
@@ -154,16 +134,6 @@ impl Old {
         let Fp(fp) = sha256(&bytes);
         body[57..89].copy_from_slice(&fp);
         self.recipes.extend_from_slice(&bytes)?;
-        self.add(&body)
-    }
-
-    /// Deletes that version.
-    pub(crate) fn delete(&mut self, user: u8, tag: u8) -> Result<(), NoMemory> {
-        let mut body = [0; 45];
-        body[0] = 3;
-        body[4] = user;
-        body[5] = tag;
-        body[44] = 1;
         self.add(&body)
     }
 

@@ -27,7 +27,7 @@ fn calls_of(shelf: &MemShelf) -> u64 {
 
 fn one_byte(alloc: Global) -> Result<Old, NoMemory> {
     let mut old = Old::begin(alloc)?;
-    old.put(7, 41, true)?;
+    old.put(7, 41)?;
     old.commit(7, 1, 41)?;
     Ok(old)
 }
