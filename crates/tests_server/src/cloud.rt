@@ -25,8 +25,8 @@ pub const WIDE: UserRooms = UserRooms {
 /// Room for a few bytes in each area of a cloud.
 pub const SMALL: u64 = 1_000;
 
-/// The shape of the store.
-pub fn shape() -> Shape
+// The shape of the store.
+fn shape() -> Shape
     ensures { result.n ≡ 4 }
 {
     Shape { n: 4, k: 3 }
@@ -92,12 +92,7 @@ impl Cloud {
         self.server.reopen(&mut self.shelf, begin)
     }
 
-    /// Closes it.
-    pub fn close(&mut self) {
-        self.server.close();
-    }
-
-    /// Closes it and makes it empty. Whether that was done.
+    /// Closes the server and makes the cloud empty. Whether that was done.
     pub fn is_cleared(&mut self) -> bool {
         self.server.close();
         self.shelf.fresh(TWO).is_ok()

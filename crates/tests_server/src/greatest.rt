@@ -1,7 +1,7 @@
 //! The greatest requests and replies.
 
-use crate::replies::{COMMITTED, MOST_NEW, NO_ENTRIES, NOT_YOURS, full_reply};
-use crate::requests::{commit_of, fps_of, list_of, put_many, recipe_of, recipe_request, share_of};
+use crate::replies::{MOST_NEW, NOT_YOURS, full_reply};
+use crate::requests::{fps_of, put_many, share_of};
 use crate::{Cloud, WIDE};
 use cd_base::{Bytes, Fp, NoMemory, sha256};
 use journal_start::UserRooms;
@@ -83,64 +83,5 @@ fn a_room_that_lacks_a_byte(rt: HostRuntime) -> Result<(), Fail> {
     let well = lacks_a_byte(rt.alloc(), &mut cloud);
     drop(cloud);
     assert!(rt; well?);
-    Ok(())
-}
-
-// The tag of the file of a number: 300 files have the same.
-fn tag_of(number: usize) -> u8 {
-    (number / 300 % 256) as u8
-}
-
-// Commits 600 versions, falling, so that each goes before the others; whether each is entered.
-fn are_committed(alloc: Global, cloud: &mut Cloud) -> Result<bool, NoMemory> {
-    let recipe = recipe_of(alloc, 5, &[])?;
-    let mut well = true;
-    for step in 0..600usize {
-        let number = 599 - step;
-        let commit = commit_of(alloc, 7, tag_of(number), number, recipe.as_slice())?;
-        well = cloud.answers(&[(commit.as_slice(), COMMITTED)]) && well;
-    }
-    Ok(well)
-}
-
-// Whether the page after a version has so many entries, and ends with the version of a number.
-fn is_page(
-    alloc: Global,
-    cloud: &mut Cloud,
-    after: Option<(u8, usize)>,
-    count: usize,
-    last: usize,
-) -> Result<bool, NoMemory> {
-    let list = list_of(alloc, 7, after)?;
-    let key = recipe_request(alloc, 7, tag_of(last), last)?;
-    let (_, key) = key.as_slice().split_at(5.min(key.len()));
-    let reply = cloud.ask(list.as_slice());
-    Ok(reply.len() == count.saturating_mul(40).saturating_add(3) && reply.ends_with(key))
-}
-
-fn has_pages(alloc: Global, cloud: &mut Cloud) -> Result<bool, NoMemory> {
-    let mut after = None;
-    let mut well = true;
-    for (count, last) in [(256, 255), (256, 511), (88, 599)] {
-        well = is_page(alloc, cloud, after, count, last)? && well;
-        after = Some((tag_of(last), last));
-    }
-    let list = list_of(alloc, 7, after)?;
-    let other = list_of(alloc, 8, None)?;
-    let rows = [
-        (list.as_slice(), NO_ENTRIES),
-        (other.as_slice(), NO_ENTRIES),
-    ];
-    Ok(cloud.answers(&rows) && well)
-}
-
-#[test]
-fn a_list_in_three_pages(rt: HostRuntime) -> Result<(), Fail> {
-    let a = rt.alloc();
-    let mut cloud = Cloud::make(a, 100_000, WIDE)?;
-    let entered = are_committed(a, &mut cloud);
-    let listed = has_pages(a, &mut cloud);
-    drop(cloud);
-    assert!(rt; entered? && listed?);
     Ok(())
 }

@@ -14,13 +14,9 @@ pub const NONE_NEW: &[u8] = &[0x83, 0, 0];
 
 pub const ONE_NEW: &[u8] = &[0x83, 0, 1];
 
-pub const TWO_NEW: &[u8] = &[0x83, 0, 2];
-
 pub const MOST_NEW: &[u8] = &[0x83, 1, 0];
 
 pub const COMMITTED: &[u8] = &[0x84];
-
-pub const EXISTS: &[u8] = &[0x85];
 
 /// For the first item.
 pub const LACKING: &[u8] = &[0x86, 0, 0, 0, 0];

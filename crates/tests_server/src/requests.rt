@@ -1,6 +1,6 @@
 //! Contents of requests.
 
-use cd_base::{Bytes, Fp, NoMemory, sha256};
+use cd_base::{Bytes, Fp, NoMemory};
 use std::alloc::Global;
 
 fn low(number: usize) -> u8 {
@@ -138,9 +138,4 @@ pub fn recipe_of(alloc: Global, name: u8, fps: &[Fp]) -> Result<Bytes, NoMemory>
         }
     }
     Ok(recipe)
-}
-
-/// The fingerprint of a share of one byte.
-pub fn fp_of(byte: u8) -> Fp {
-    sha256(&[byte])
 }

@@ -1,11 +1,10 @@
-//! A cloud that stops in each device call of a command, of a beginning and of an opening.
+//! A cloud that stops in each device call of a command and of a beginning.
 
-use crate::damage::empty_commit;
 use cd_base::{Bytes, NoMemory};
 use cd_edges::{Area, Shelf};
 use std::alloc::Global;
 use std::test::Fail;
-use tests_server::replies::{COMMITTED, FAULT, HELLO, NONE_NEW, ONE_NEW};
+use tests_server::replies::{FAULT, HELLO, NONE_NEW, ONE_NEW};
 use tests_server::requests::put_of;
 use tests_server::{Cloud, OpenErr, SMALL, Server, TWO, WIDE, server_of};
 
@@ -82,24 +81,10 @@ fn put_stops(alloc: Global, cloud: &mut Cloud) -> Result<bool, NoMemory> {
     command_stops(alloc, cloud, put.as_slice(), (ONE_NEW, NONE_NEW))
 }
 
-fn commit_stops(alloc: Global, cloud: &mut Cloud) -> Result<bool, NoMemory> {
-    let commit = empty_commit(alloc)?;
-    command_stops(alloc, cloud, commit.as_slice(), (COMMITTED, COMMITTED))
-}
-
 #[test]
 fn stops_in_a_put(rt: HostRuntime) -> Result<(), Fail> {
     let mut cloud = Cloud::make(rt.alloc(), 10 * SMALL, WIDE)?;
     let well = put_stops(rt.alloc(), &mut cloud);
-    drop(cloud);
-    assert!(rt; well?);
-    Ok(())
-}
-
-#[test]
-fn stops_in_a_commit(rt: HostRuntime) -> Result<(), Fail> {
-    let mut cloud = Cloud::make(rt.alloc(), 10 * SMALL, WIDE)?;
-    let well = commit_stops(rt.alloc(), &mut cloud);
     drop(cloud);
     assert!(rt; well?);
     Ok(())
@@ -145,34 +130,6 @@ fn stops_in_a_beginning(rt: HostRuntime) -> Result<(), Fail> {
     let well = all_begin_again(&mut cloud);
     drop(cloud);
     assert!(rt; well);
-    Ok(())
-}
-
-// Whether an opening that stops, by itself or in a request, is made again.
-fn opens_again(cloud: &mut Cloud, call: u32, put: &[u8]) -> bool {
-    let cleared = cloud.is_cleared() && cloud.answers(&[(put, ONE_NEW)]);
-    cloud.arm(call, 0);
-    let stopped = cloud.reopen(false) == Err(OpenErr::Fault) && cloud.reopen(false) == Ok(1);
-    cloud.arm(call, 0);
-    cloud.close();
-    cleared && stopped && cloud.answers(&[(put, FAULT), (put, NONE_NEW)])
-}
-
-fn openings_stop(alloc: Global, cloud: &mut Cloud) -> Result<bool, NoMemory> {
-    let put = a_put(alloc)?;
-    let mut well = true;
-    for call in 1..4 {
-        well = opens_again(cloud, call, put.as_slice()) && well;
-    }
-    Ok(well)
-}
-
-#[test]
-fn stops_in_an_opening(rt: HostRuntime) -> Result<(), Fail> {
-    let mut cloud = Cloud::make(rt.alloc(), SMALL, WIDE)?;
-    let well = openings_stop(rt.alloc(), &mut cloud);
-    drop(cloud);
-    assert!(rt; well?);
     Ok(())
 }
 

@@ -6,6 +6,4 @@ mod crashes;
 #[cfg(test)]
 mod damage;
 #[cfg(test)]
-mod reclaims;
-#[cfg(test)]
 mod summed;

@@ -72,15 +72,6 @@ fn is_filled(cloud: &mut Cloud, asked: &Commands) -> bool {
     are_taken(cloud, &[commit, delete], PAIRS) && cloud.answers(&[commit])
 }
 
-// Whether that Delete is behind a checkpoint in half 1, and this half is filled up to where a Commit has no room.
-fn is_filled_again(cloud: &mut Cloud, asked: &Commands) -> bool {
-    let commit = (asked.commit.as_slice(), COMMITTED);
-    let delete = (asked.delete.as_slice(), DELETED);
-    is_filled(cloud, asked)
-        && cloud.answers(&[delete])
-        && are_taken(cloud, &[commit, delete], MORE_PAIRS)
-}
-
 // Whether the next command is written behind a checkpoint in half 1, and one behind another in half 0, which an opening finds.
 fn is_behind(cloud: &mut Cloud, asked: &Commands) -> bool {
     let commit = (asked.commit.as_slice(), COMMITTED);
@@ -127,25 +118,6 @@ static STOPS: [Stop; 15] = [
     (10, 0, true),
 ];
 
-// Those of a Commit: its recipe and a sync come between the checkpoint and the record.
-static STOPS_AGAIN: [Stop; 15] = [
-    (1, 0, false),
-    (1, 1, false),
-    (2, 0, false),
-    (3, 0, false),
-    (3, 99, false),
-    (4, 0, false),
-    (5, 0, false),
-    (5, 1, false),
-    (6, 0, false),
-    (7, 0, false),
-    (7, 9, false),
-    (8, 0, false),
-    (10, 0, false),
-    (11, 1, true),
-    (12, 0, true),
-];
-
 // Whether a command stops there, an opening finds the list or the list with it, and it is done when it is asked again.
 fn stops(
     cloud: &mut Cloud,
@@ -175,31 +147,12 @@ fn delete_stops(cloud: &mut Cloud, asked: &Commands, stop: Stop) -> bool {
     is_filled(cloud, asked) && stops(cloud, delete, replies, (BEFORE, BEHIND), stop)
 }
 
-fn commit_stops(cloud: &mut Cloud, asked: &Commands, stop: Stop) -> bool {
-    let commit = asked.commit.as_slice();
-    let replies = (COMMITTED, COMMITTED);
-    let counts = (BEFORE_AGAIN, BEHIND_AGAIN);
-    is_filled_again(cloud, asked) && stops(cloud, commit, replies, counts, stop)
-}
-
 #[test]
 fn stops_in_a_checkpoint(rt: HostRuntime) -> Result<(), Fail> {
     let asked = the_two(rt.alloc())?;
     for (call, keep, is_there) in &STOPS {
         let mut cloud = Cloud::make(rt.alloc(), ROOM, LEAST)?;
         let well = delete_stops(&mut cloud, &asked, (*call, *keep, *is_there));
-        drop(cloud);
-        assert!(rt; well, "at {call}, which keeps {keep}");
-    }
-    Ok(())
-}
-
-#[test]
-fn stops_in_the_next_one(rt: HostRuntime) -> Result<(), Fail> {
-    let asked = the_two(rt.alloc())?;
-    for (call, keep, is_there) in &STOPS_AGAIN {
-        let mut cloud = Cloud::make(rt.alloc(), ROOM, LEAST)?;
-        let well = commit_stops(&mut cloud, &asked, (*call, *keep, *is_there));
         drop(cloud);
         assert!(rt; well, "at {call}, which keeps {keep}");
     }
