@@ -2,8 +2,6 @@
 
 use crate::cases::{Case, holds};
 use crate::read_place::{ONE_BYTE, come_over, come_to, is_replayed};
-use cd_base::CloudNo;
-use cd_edges::{Area, Shelf};
 use cd_fakes::MemShelf;
 use std::alloc::Global;
 use std::test::Fail;
@@ -84,29 +82,8 @@ pub fn are_certified(alloc: Global, shelf: &mut MemShelf) -> Result<bool, Fail> 
     Ok(are_judged(alloc, shelf)? && stored && written && cut)
 }
 
-const ROTTEN: &str =
-    "refused rotten 0 7306196382e41a397efac21e4f4613ec42dbce6fc69dc13a71972b7d5afc5010 7007882dfedbe79f87fbc84f2fc9213768b590ca6a5dafd296b68853ec33dfea\n";
-
-/// Whether a share with another byte is rotten to both, and a cloud that isn't begun is told before any text.
-pub fn are_found(alloc: Global, shelf: &mut MemShelf) -> Result<bool, Fail> {
-    let stored = is_replayed(alloc, ONE_BYTE, shelf)?;
-    let changed = shelf.write(CloudNo(0), Area::Shares, 0, &[0]).is_ok();
-    let audited = come_to(alloc, &AUDIT, &[], shelf, (8, ROTTEN))?;
-    let checked = come_over(alloc, &CHECK, CERTIFICATE, shelf, (8, ROTTEN))?;
-    let emptied = shelf.fresh(CloudNo(0)).is_ok();
-    let none = come_to(alloc, &AUDIT, &[], shelf, (7, "notbegun 0 0\n"))?;
-    let untold = come_over(alloc, &CHECK, "x", shelf, (7, "notbegun 0 0\n"))?;
-    Ok(stored && changed && audited && checked && emptied && none && untold)
-}
-
 #[test]
 fn a_text_is_the_certificate_or_not(rt: HostRuntime) -> Result<(), Fail> {
     assert!(rt; holds(rt.alloc(), Case::Certified)?);
-    Ok(())
-}
-
-#[test]
-fn a_rotten_share_and_no_cloud_are_told(rt: HostRuntime) -> Result<(), Fail> {
-    assert!(rt; holds(rt.alloc(), Case::Found)?);
     Ok(())
 }

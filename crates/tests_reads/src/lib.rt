@@ -1,16 +1,10 @@
-//! Tests of the commands read, audit, check, reclaim and migrate, and sessions over damaged and failing clouds.
+//! Tests of the commands read, audit, check, reclaim and migrate.
 #![tactic(auto)]
 
 #[cfg(test)]
 mod audits;
 #[cfg(test)]
 mod cases;
-#[cfg(test)]
-mod failures;
-#[cfg(test)]
-mod faults_damage;
-#[cfg(test)]
-mod faults_place;
 #[cfg(test)]
 mod migrations;
 #[cfg(test)]

@@ -1,9 +1,8 @@
 //! Reclaims of a cloud, stopped and whole.
 
-use crate::cases::{Case, holds};
 use crate::read_place::{come_to, is_replayed, lengths, new_shelf, status_of};
 use cd_base::CloudNo;
-use cd_edges::{Area, Shelf};
+use cd_edges::Shelf;
 use cd_fakes::{MemShelf, MemSink};
 use std::alloc::Global;
 use std::test::Fail;
@@ -38,41 +37,6 @@ fn is_left(alloc: Global, shelf: &mut MemShelf) -> Result<bool, Fail> {
     Ok(come_to(alloc, &READ_A, &[], shelf, (8, "refused missing 0\n"))? && read)
 }
 
-/// Whether what is alive is copied, once and again, is read back, and has these places.
-pub fn are_given_back(alloc: Global, shelf: &mut MemShelf) -> Result<bool, Fail> {
-    let stored = is_replayed(alloc, ONE_LEFT, shelf)?;
-    let cut = come_to(alloc, &RECLAIM, &[1], shelf, (4, ""))?;
-    let moved = lengths(shelf, 0) == [134_217_972, 34_359_738_379, 34_359_738_429];
-    let again = come_to(alloc, &RECLAIM, &[], shelf, (0, NONE_DROPPED))?;
-    let back = come_to(alloc, &RECLAIM, &[], shelf, (0, NONE_DROPPED))?;
-    let left = is_left(alloc, shelf)?;
-    let none = come_to(
-        alloc,
-        &["reclaim", "d", "4", "5", "3"],
-        &[],
-        shelf,
-        (7, "notbegun 4 0\n"),
-    )?;
-    Ok(stored && cut && moved && again && back && left && none)
-}
-
-const ROTTEN: &str = "refused rotten 0 ";
-
-/// Whether a share of the version that is left, with another byte, stops a reclaim, and one that nobody owns doesn't.
-pub fn are_rotten(alloc: Global, shelf: &mut MemShelf) -> Result<bool, Fail> {
-    let stored = is_replayed(alloc, ONE_LEFT, shelf)?;
-    let changed = shelf.write(CloudNo(0), Area::Shares, 0, &[0]).is_ok();
-    let dropped = come_to(alloc, &RECLAIM, &[], shelf, (0, ONE_DROPPED))?;
-    let rotten = shelf
-        .write(CloudNo(0), Area::Shares, 34_359_738_368, &[0])
-        .is_ok();
-    let before = lengths(shelf, 0);
-    let mut sink = MemSink::of(alloc, 10_000, 7, &[])?;
-    let refused = status_of(alloc, &RECLAIM, "", &mut sink, shelf)? == 8
-        && sink.written().starts_with(ROTTEN.as_bytes());
-    Ok(stored && changed && dropped && rotten && refused && lengths(shelf, 0) == before)
-}
-
 // What a reclaim of these stores comes to at cloud 0, and the lengths of the areas then.
 static ROWS: [(&str, &str, [u64; 3]); 3] = [
     (
@@ -104,18 +68,6 @@ fn each_row_comes_out(rt: HostRuntime) -> Result<(), Fail> {
         well = came? && well;
     }
     assert!(rt; well);
-    Ok(())
-}
-
-#[test]
-fn what_is_alive_is_kept(rt: HostRuntime) -> Result<(), Fail> {
-    assert!(rt; holds(rt.alloc(), Case::Reclaimed)?);
-    Ok(())
-}
-
-#[test]
-fn a_rotten_share_stops_it(rt: HostRuntime) -> Result<(), Fail> {
-    assert!(rt; holds(rt.alloc(), Case::Rotten)?);
     Ok(())
 }
 

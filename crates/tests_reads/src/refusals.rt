@@ -1,7 +1,6 @@
 //! Clouds that open and give no file.
 
-use crate::cases::{Case, holds};
-use crate::read_place::{ONE_BYTE, come_to, is_read, is_replayed, new_shelf};
+use crate::read_place::{is_read, is_replayed, new_shelf};
 use cd_fakes::MemShelf;
 use std::alloc::Global;
 use std::test::Fail;
@@ -55,29 +54,5 @@ fn clouds_that_disagree_are_8(rt: HostRuntime) -> Result<(), Fail> {
     for (script, clouds, text) in &DISAGREEING {
         assert!(rt; comes_to(rt.alloc(), script, clouds, (8, *text))?);
     }
-    Ok(())
-}
-
-// A user, a path and a version that aren't there.
-static ABSENT: [(&str, &str, &str); 4] = [
-    ("8", "a", "1"),
-    ("7", "b", "1"),
-    ("7", "a", "2"),
-    ("4294967295", "a", "18446744073709551615"),
-];
-
-/// Whether nothing else of the store is read: another user's, another path, another version.
-pub fn are_missing(alloc: Global, shelf: &mut MemShelf) -> Result<bool, Fail> {
-    let mut well = is_replayed(alloc, ONE_BYTE, shelf)?;
-    for (user, path, version) in &ABSENT {
-        let words = ["read", "d", "4", "3", *user, *path, *version, "1,2,3"];
-        well = come_to(alloc, &words, &[], shelf, (8, "refused missing 1\n"))? && well;
-    }
-    Ok(well)
-}
-
-#[test]
-fn what_is_not_there_is_8(rt: HostRuntime) -> Result<(), Fail> {
-    assert!(rt; holds(rt.alloc(), Case::Missing)?);
     Ok(())
 }

@@ -1,75 +1,10 @@
-//! The words of a read, its paths, and sinks that fail.
+//! The paths of a read, and sinks that fail.
 
 use crate::cases::{Case, holds};
 use crate::read_place::{come_to, is_replayed};
 use cd_fakes::MemShelf;
 use std::alloc::Global;
 use std::test::Fail;
-
-// Words that are none: each has one that is wrong.
-static WRONG: [[&str; 8]; 21] = [
-    ["Read", "d", "4", "3", "7", "a", "1", "0,1,2"],
-    ["read", "d", "3", "3", "7", "a", "1", "0,1,2"],
-    ["read", "d", "17", "3", "7", "a", "1", "0,1,2"],
-    ["read", "d", "4", "1", "7", "a", "1", "0"],
-    ["read", "d", "04", "3", "7", "a", "1", "0,1,2"],
-    ["read", "d", "", "3", "7", "a", "1", "0,1,2"],
-    ["read", "d", "4", "3", "4294967296", "a", "1", "0,1,2"],
-    ["read", "d", "4", "3", "-1", "a", "1", "0,1,2"],
-    ["read", "d", "4", "3", "7", "", "1", "0,1,2"],
-    ["read", "d", "4", "3", "7", "a\0", "1", "0,1,2"],
-    [
-        "read",
-        "d",
-        "4",
-        "3",
-        "7",
-        "a",
-        "18446744073709551616",
-        "0,1,2",
-    ],
-    ["read", "d", "4", "3", "7", "a", "+1", "0,1,2"],
-    ["read", "d", "4", "3", "7", "a", "1", "0,1"],
-    ["read", "d", "4", "3", "7", "a", "1", "0,1,2,3,4"],
-    ["read", "d", "4", "3", "7", "a", "1", "0,1,4"],
-    ["read", "d", "4", "3", "7", "a", "1", "0,2,1"],
-    ["read", "d", "4", "3", "7", "a", "1", "0,1,1"],
-    ["read", "d", "4", "3", "7", "a", "1", "0,1,2,"],
-    ["read", "d", "4", "3", "7", "a", "1", "0,01,2"],
-    ["read", "d", "4", "3", "7", "a", "1", "0 1 2"],
-    ["read", "d", "4", "3", "7", "a", "1", ""],
-];
-
-/// Whether each of them is none, and writes nothing.
-pub fn are_none(alloc: Global, shelf: &mut MemShelf) -> Result<bool, Fail> {
-    let mut well = true;
-    for words in &WRONG {
-        well = come_to(alloc, words, &[], shelf, (1, ""))? && well;
-    }
-    Ok(well)
-}
-
-static FEW: [&str; 7] = ["read", "d", "4", "3", "7", "a", "1"];
-
-static MANY: [&str; 9] = ["read", "d", "4", "3", "7", "a", "1", "0,1,2", "3"];
-
-/// The same of a word too few, and of one too many.
-pub fn are_counted(alloc: Global, shelf: &mut MemShelf) -> Result<bool, Fail> {
-    let few = come_to(alloc, &FEW, &[], shelf, (1, ""))?;
-    Ok(come_to(alloc, &MANY, &[], shelf, (1, ""))? && few)
-}
-
-#[test]
-fn words_that_are_none_are_1(rt: HostRuntime) -> Result<(), Fail> {
-    assert!(rt; holds(rt.alloc(), Case::WrongWords)?);
-    Ok(())
-}
-
-#[test]
-fn a_word_too_few_or_too_many_is_1(rt: HostRuntime) -> Result<(), Fail> {
-    assert!(rt; holds(rt.alloc(), Case::WordCount)?);
-    Ok(())
-}
 
 // Control characters, a blank, slashes, and characters of two, three and four bytes.
 const PATH: &str =
