@@ -78,15 +78,3 @@ fn a_sink_that_fails_is_4(rt: HostRuntime) -> Result<(), Fail> {
     assert!(rt; well?);
     Ok(())
 }
-
-// Where the first device call of the check that the clouds are empty fails, and where the first of an opening does.
-#[test]
-fn a_shelf_that_fails_before_the_session_is_5(rt: HostRuntime) -> Result<(), Fail> {
-    for call in [1, 4] {
-        let mut shelf = four_clouds(rt.alloc(), &[(CloudNo(2), call)])?;
-        let well = is_generated(rt.alloc(), "1", "1", &[], &mut shelf, (5, "shelf 2\n"));
-        drop(shelf);
-        assert!(rt; well?);
-    }
-    Ok(())
-}
