@@ -1,5 +1,5 @@
-//! A call that fails, by its number: each device call of cloud 0, each read of the script and each write of the output, in a session that
-//! uploads one byte and gets it from clouds 0, 1 and 2.
+//! A call that fails, by its number: each device call of cloud 0, in a session that uploads one byte and gets it from clouds 0, 1
+//! and 2.
 
 use crate::place::replayed;
 use cd_base::CloudNo;
@@ -65,50 +65,5 @@ fn each_device_call_that_fails(rt: HostRuntime) -> Result<(), Fail> {
             assert!(rt; fails_to(rt.alloc(), call, 0, text.as_str())?, "at {call}");
         }
     }
-    Ok(())
-}
-
-// Whether a session whose script comes 30 bytes at once, and whose output takes 100, ends with this status where these of their calls
-// fail, and has written so many bytes of what it writes where none does.
-fn ends_at(
-    alloc: Global,
-    read: &[u64],
-    write: &[u64],
-    status: u8,
-    len: usize,
-) -> Result<bool, Fail> {
-    let whole = format!(in alloc; "{KNOWN}{OWN}{OTHERS}stored 1\nend 1 stored\ngot 41\ndone 3\n")?;
-    let mut shelf = MemShelf::of(alloc, 4, 1_024, 256, &[])?;
-    let mut source = MemSource::of(alloc, SCRIPT, 30, read)?;
-    let mut sink = MemSink::of(alloc, 4_096, 100, write)?;
-    let found = replayed(alloc, &mut source, &mut sink, &mut shelf);
-    drop(shelf);
-    let written = sink.written();
-    Ok(found? == status && written.len() == len && whole.as_bytes().starts_with(written))
-}
-
-#[test]
-fn each_read_and_write_that_fails(rt: HostRuntime) -> Result<(), Fail> {
-    for (call, len) in [(1, 0), (2, 0), (3, 269), (4, 276)] {
-        assert!(rt;
-            ends_at(rt.alloc(), &[call], &[], 3, len)?,
-            "at the read {call}"
-        );
-    }
-    for (call, len) in [
-        (1, 0),
-        (2, 9),
-        (3, 15),
-        (4, 115),
-        (5, 215),
-        (6, 269),
-        (7, 276),
-    ] {
-        assert!(rt;
-            ends_at(rt.alloc(), &[], &[call], 4, len)?,
-            "at the write {call}"
-        );
-    }
-    assert!(rt; ends_at(rt.alloc(), &[5], &[8], 0, 283)?);
     Ok(())
 }

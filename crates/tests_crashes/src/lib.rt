@@ -2,8 +2,6 @@
 #![tactic(auto)]
 
 #[cfg(test)]
-mod deleting;
-#[cfg(test)]
 mod failing;
 #[cfg(test)]
 mod place;
@@ -17,5 +15,3 @@ mod servers;
 mod stops;
 #[cfg(test)]
 mod streams;
-#[cfg(test)]
-mod thousand;

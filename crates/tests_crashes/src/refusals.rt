@@ -1,9 +1,8 @@
-//! Replies that give no file: each refusal of a Hello, of a recipe and of a share, with its values, and streams that end in each
-//! of their places.
+//! Replies that give no file: refusals of a Hello, of a share and of a secret, with their values.
 
 use crate::restores::comes_to;
 use crate::streams::{A1, A2, A3, SHARES, recipe_reply, stream, streams_of};
-use cd_base::{Bytes, NoMemory};
+use cd_base::Bytes;
 use std::alloc::Global;
 use std::test::Fail;
 
@@ -18,7 +17,7 @@ fn with_one(alloc: Global, place: usize, other: Bytes) -> Result<Vec<Bytes>, Fai
 
 // Whether a restore over these streams is refused by this line.
 fn are_refused(alloc: Global, streams: &[Bytes], line: &str) -> Result<bool, Fail> {
-    comes_to(alloc, 1, streams, &[], &[], (8, line.as_bytes()))
+    comes_to(alloc, 1, streams, (8, line.as_bytes()))
 }
 
 // Whether a restore, in which this comes on one of the streams, is refused by this line.
@@ -28,20 +27,13 @@ fn is_refused(alloc: Global, place: usize, other: Bytes, line: &str) -> Result<b
 }
 
 // The first frames on the second stream, and the line.
-static HELLOS: [(&[u8], &str); 11] = [
-    // another shape, another number that is needed, no shape, and a cloud that the shape hasn't
-    (&[0, 0, 0, 5, 0x81, 5, 3, 2, 1], "refused hello 1 5 3 2\n"),
+static HELLOS: [(&[u8], &str); 5] = [
+    // another number that is needed, no shape, and the cloud of the first stream
     (&[0, 0, 0, 5, 0x81, 4, 2, 2, 1], "refused hello 1 4 2 2\n"),
     (&[0, 0, 0, 5, 0x81, 17, 3, 2, 1], "refused hello 1 17 3 2\n"),
-    (&[0, 0, 0, 5, 0x81, 3, 3, 2, 1], "refused hello 1 3 3 2\n"),
-    (&[0, 0, 0, 5, 0x81, 4, 3, 4, 1], "refused hello 1 4 3 4\n"),
-    // the cloud of the first stream, and one below it
     (&[0, 0, 0, 5, 0x81, 4, 3, 1, 1], "refused hello 1 4 3 1\n"),
-    (&[0, 0, 0, 5, 0x81, 4, 3, 0, 1], "refused hello 1 4 3 0\n"),
-    // another format, another kind, an unknown one, and a length that no frame has
+    // another format, and a length that no frame has
     (&[0, 0, 0, 5, 0x81, 4, 3, 2, 0], "refused strange 1 81\n"),
-    (&[0, 0, 0, 1, 0x8d], "refused strange 1 8d\n"),
-    (&[0, 0, 0, 1, 0x01], "refused strange 1 01\n"),
     (&[0, 64, 0, 1, 0x81], "refused strange 1 00\n"),
 ];
 
@@ -69,8 +61,9 @@ const ROTTEN: &[u8] = &[
 const ROTTEN_LINE: &str =
     "refused rotten 2 1111111111111111111111111111111111111111111111111111111111111111 2222222222222222222222222222222222222222222222222222222222222222\n";
 
-// Contents that come from cloud 2 as well in place of its recipe as of its share, and the line.
-static EITHER: [(&[u8], &str); 8] = [
+// Contents in place of the share of cloud 2, and the line. The last ones are a reply that is none to its request, a share of another
+// length, and one of other bytes.
+static OTHERS: [(&[u8], &str); 7] = [
     (&[0x8d], "refused fault 2\n"),
     (&[0x91], "refused nomemory 2\n"),
     (
@@ -78,30 +71,7 @@ static EITHER: [(&[u8], &str); 8] = [
         "refused damaged 2 260 ab\n",
     ),
     (ROTTEN, ROTTEN_LINE),
-    (&[0x84], "refused strange 2 84\n"),
-    (&[0x90, 0, 0, 0, 0], "refused strange 2 90\n"),
-    (&[0x8d, 0], "refused strange 2 8d\n"),
-    (&[0xff, 1], "refused strange 2 ff\n"),
-];
-
-// Contents in place of its recipe: the version isn't there; bytes that are no recipe; and shares.
-static RECIPES: [(&[u8], &str); 3] = [
-    (&[0x88], "refused missing 2\n"),
-    (&[0x87, 0, 1, 0], "refused strange 2 87\n"),
-    (&[0x89, 0, 1, 0, 0, 0, 1, 65], "refused strange 2 89\n"),
-];
-
-// Contents in place of its share: the version isn't there; a share isn't the user's; a recipe; no share and two; one of another
-// length, and one of other bytes.
-static OTHERS: [(&[u8], &str); 7] = [
     (&[0x88], "refused strange 2 88\n"),
-    (&[0x8a, 0, 0], "refused strange 2 8a\n"),
-    (&[0x87, 65], "refused strange 2 87\n"),
-    (&[0x89, 0, 0], "refused strange 2 89\n"),
-    (
-        &[0x89, 0, 2, 0, 0, 0, 1, 65, 0, 0, 0, 1, 65],
-        "refused strange 2 89\n",
-    ),
     (
         &[0x89, 0, 1, 0, 0, 0, 2, 65, 66],
         "refused sharelength 2 0 2 11\n",
@@ -112,29 +82,14 @@ static OTHERS: [(&[u8], &str); 7] = [
     ),
 ];
 
-// Whether a content in place of cloud 2's recipe is refused so.
-fn is_no_recipe(alloc: Global, content: &[u8], line: &str) -> Result<bool, Fail> {
-    let other = stream(alloc, 2, &[content])?;
-    is_refused(alloc, 1, other, line)
-}
-
 // Whether a content in place of cloud 2's share is refused so.
 fn is_no_share(alloc: Global, content: &[u8], line: &str) -> Result<bool, Fail> {
-    let recipe = recipe_reply(alloc, 1, &[1], SHARES[1])?;
+    let recipe = recipe_reply(alloc, &[1], SHARES[1])?;
     let other = stream(alloc, 2, &[recipe.as_slice(), content])?;
     is_refused(alloc, 1, other, line)
 }
 
-// Whether each of these contents is refused so in place of cloud 2's recipe.
-fn are_no_recipes(alloc: Global, rows: &[(&[u8], &str)]) -> Result<bool, Fail> {
-    let mut well = true;
-    for (content, line) in rows {
-        well = is_no_recipe(alloc, content, line)? && well;
-    }
-    Ok(well)
-}
-
-// The same of cloud 2's share.
+// Whether each of these contents is refused so.
 fn are_no_shares(alloc: Global, rows: &[(&[u8], &str)]) -> Result<bool, Fail> {
     let mut well = true;
     for (content, line) in rows {
@@ -145,58 +100,7 @@ fn are_no_shares(alloc: Global, rows: &[(&[u8], &str)]) -> Result<bool, Fail> {
 
 #[test]
 fn each_wrong_reply_is_named(rt: HostRuntime) -> Result<(), Fail> {
-    assert!(rt; are_no_recipes(rt.alloc(), &EITHER)?);
-    assert!(rt; are_no_shares(rt.alloc(), &EITHER)?);
-    assert!(rt; are_no_recipes(rt.alloc(), &RECIPES)?);
     assert!(rt; are_no_shares(rt.alloc(), &OTHERS)?);
-    Ok(())
-}
-
-// Lengths of the secrets of a file of clouds 1 and 2; of that of cloud 3, and its path's length; and the line.
-static DIFFERENT: [(&[u32], &[u32], u8, &str); 4] = [
-    (&[1], &[1], 2, "refused recipesdiffer 1 3 0\n"),
-    (&[1], &[2], 1, "refused recipesdiffer 1 3 1\n"),
-    (&[2_049], &[2_048, 1], 1, "refused recipesdiffer 1 3 2\n"),
-    (
-        &[2_050, 2_048, 3],
-        &[2_050, 2_049, 2],
-        1,
-        "refused recipesdiffer 1 3 4\n",
-    ),
-];
-
-// The stream of a cloud that has this recipe alone.
-fn with_recipe(
-    alloc: Global,
-    cloud: u8,
-    name_len: u8,
-    secrets: &[u32],
-    share: &[u8],
-) -> Result<Bytes, NoMemory> {
-    let recipe = recipe_reply(alloc, name_len, secrets, share)?;
-    stream(alloc, cloud, &[recipe.as_slice()])
-}
-
-// Whether a recipe of cloud 3 that isn't of the file of cloud 1 is refused so.
-fn differs(
-    alloc: Global,
-    secrets: &[u32],
-    others: &[u32],
-    name_len: u8,
-    line: &str,
-) -> Result<bool, Fail> {
-    let mut streams = Vec::new(alloc);
-    streams.push(with_recipe(alloc, 1, 1, secrets, SHARES[0])?)?;
-    streams.push(with_recipe(alloc, 2, 1, secrets, SHARES[1])?)?;
-    streams.push(with_recipe(alloc, 3, name_len, others, SHARES[2])?)?;
-    are_refused(alloc, streams.as_slice(), line)
-}
-
-#[test]
-fn recipes_that_differ_are_named(rt: HostRuntime) -> Result<(), Fail> {
-    for (secrets, others, name_len, line) in &DIFFERENT {
-        assert!(rt; differs(rt.alloc(), secrets, others, *name_len, line)?);
-    }
     Ok(())
 }
 
@@ -235,39 +139,13 @@ fn opens_to(
     wanted: (u8, &[u8]),
 ) -> Result<bool, Fail> {
     let streams = streams_of(alloc, shares, secret_len)?;
-    comes_to(alloc, 1, streams.as_slice(), &[], &[], wanted)
+    comes_to(alloc, 1, streams.as_slice(), wanted)
 }
 
 #[test]
 fn secrets_that_do_not_open_are_named(rt: HostRuntime) -> Result<(), Fail> {
     for (shares, secret_len, status, text) in &OPENED {
         assert!(rt; opens_to(rt.alloc(), shares, *secret_len, (*status, *text))?);
-    }
-    Ok(())
-}
-
-// Whether a restore is refused where one stream ends behind so many bytes: at its position within Hello, and then by its cloud.
-fn is_cut(alloc: Global, place: usize, len: usize) -> Result<bool, Fail> {
-    let mut streams = streams_of(alloc, &SHARES, 1)?;
-    if let Some(one) = streams.get_mut(place) {
-        one.truncate(len);
-    }
-    let named = if len < 9 {
-        place
-    } else {
-        place.wrapping_add(1)
-    };
-    let line = format!(in alloc; "refused strange {named} 00\n")?;
-    are_refused(alloc, streams.as_slice(), line.as_str())
-}
-
-// A Hello of 9 bytes, a recipe of 66 and a share of 22.
-#[test]
-fn a_stream_that_ends_early_is_strange(rt: HostRuntime) -> Result<(), Fail> {
-    for place in 0..3 {
-        for len in 0..97 {
-            assert!(rt; is_cut(rt.alloc(), place, len)?, "at {place}, {len}");
-        }
     }
     Ok(())
 }

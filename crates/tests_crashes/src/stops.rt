@@ -8,12 +8,11 @@ use cd_fakes::MemShelf;
 use std::alloc::Global;
 use std::test::Fail;
 
-// The cut call, counted from 1, how many bytes a cut write keeps, and whether the cloud is opened by a line or by the next request.
+// The cut call, counted from 1, and how many bytes a cut write keeps. A line opens the cloud behind it.
 #[derive(Clone, Copy)]
 struct Stop {
     call: u32,
     keep: u32,
-    restarts: bool,
 }
 
 const OTHERS: &str = "step 1 1 known 0 1\nstep 1 1 stored 1 1\nstep 1 1 committed\n\
@@ -21,14 +20,9 @@ step 1 2 known 0 1\nstep 1 2 stored 1 1\nstep 1 2 committed\n\
 step 1 3 known 0 1\nstep 1 3 stored 1 1\nstep 1 3 committed\n";
 
 fn script(alloc: Global, stop: Stop) -> Result<String, Fail> {
-    let Stop {
-        call,
-        keep,
-        restarts,
-    } = stop;
-    let restart = if restarts { "restart 0\n" } else { "" };
+    let Stop { call, keep } = stop;
     Ok(format!(in alloc;
-        "cdstore 1 4 3 10 9000 9000 90 90\nupload 7 61 1 41\nstep 1 0\narm 0 {call} {keep}\nstep 1 0\n{restart}finish 1\nrestart 0\nfinish 1\nget 7 61 1 0,1,2\nlist 7 0\n"
+        "cdstore 1 4 3 10 9000 9000 90 90\nupload 7 61 1 41\nstep 1 0\narm 0 {call} {keep}\nstep 1 0\nrestart 0\nfinish 1\nrestart 0\nfinish 1\nget 7 61 1 0,1,2\nlist 7 0\n"
     )?)
 }
 
@@ -45,13 +39,8 @@ fn kept(call: u32, keep: u32) -> u32 {
 fn put_stopped(alloc: Global, stop: Stop) -> Result<String, Fail> {
     let commands = kept(stop.call, stop.keep);
     let new = 1 - commands.min(1);
-    let opened = if stop.restarts {
-        format!(in alloc; "restarted 0 {commands}\n")?
-    } else {
-        String::new(alloc)
-    };
     Ok(format!(in alloc;
-        "step 1 0 fault\n{opened}step 1 0 stored {new} 1\nstep 1 0 committed\n{OTHERS}stored 1\nend 1 stored\nrestarted 0 2\nend 1 stored\n"
+        "step 1 0 fault\nrestarted 0 {commands}\nstep 1 0 stored {new} 1\nstep 1 0 committed\n{OTHERS}stored 1\nend 1 stored\nrestarted 0 2\nend 1 stored\n"
     )?)
 }
 
@@ -65,9 +54,8 @@ fn opening_stopped(alloc: Global) -> Result<String, Fail> {
 // What is written where the Commit is stopped in this call of it.
 fn commit_stopped(alloc: Global, call: u32, stop: Stop) -> Result<String, Fail> {
     let commands = if kept(call, stop.keep) == 1 { 2 } else { 1 };
-    let opened = if stop.restarts { "restarted 0 1\n" } else { "" };
     Ok(format!(in alloc;
-        "step 1 0 stored 1 1\n{opened}step 1 0 fault\n{OTHERS}end 1 open\nrestarted 0 {commands}\nstep 1 0 committed\nstored 1\nend 1 stored\n"
+        "step 1 0 stored 1 1\nrestarted 0 1\nstep 1 0 fault\n{OTHERS}end 1 open\nrestarted 0 {commands}\nstep 1 0 committed\nstored 1\nend 1 stored\n"
     )?)
 }
 
@@ -75,16 +63,13 @@ fn commit_stopped(alloc: Global, call: u32, stop: Stop) -> Result<String, Fail> 
 fn text(alloc: Global, stop: Stop) -> Result<String, Fail> {
     let middle = if stop.call <= 6 {
         put_stopped(alloc, stop)?
-    } else if !stop.restarts {
-        commit_stopped(alloc, stop.call.saturating_sub(6), stop)?
     } else if stop.call <= 9 {
         opening_stopped(alloc)?
     } else {
         commit_stopped(alloc, stop.call.saturating_sub(9), stop)?
     };
-    let lines = if stop.restarts { 10 } else { 9 };
     Ok(format!(in alloc;
-        "open 4 3\njob 1\nstep 1 0 known 0 1\narmed 0\n{middle}got 41\nentries 7 0 1\nentry 5d68886a3c18c6681152c8912b098df2772886cc297ca017f379493ac7b5822e 1\ndone {lines}\n"
+        "open 4 3\njob 1\nstep 1 0 known 0 1\narmed 0\n{middle}got 41\nentries 7 0 1\nentry 5d68886a3c18c6681152c8912b098df2772886cc297ca017f379493ac7b5822e 1\ndone 10\n"
     )?)
 }
 
@@ -100,29 +85,10 @@ fn goes_on(alloc: Global, stop: Stop) -> Result<bool, Fail> {
 }
 
 #[test]
-fn a_stop_in_each_call_behind_which_a_line_opens(rt: HostRuntime) -> Result<(), Fail> {
+fn a_stop_in_each_call(rt: HostRuntime) -> Result<(), Fail> {
     for call in 1..16 {
         for keep in [0, 1, 30, 100] {
-            let stop = Stop {
-                call,
-                keep,
-                restarts: true,
-            };
-            assert!(rt; goes_on(rt.alloc(), stop)?, "at {call}, which keeps {keep}");
-        }
-    }
-    Ok(())
-}
-
-#[test]
-fn a_stop_in_each_call_behind_which_a_request_opens(rt: HostRuntime) -> Result<(), Fail> {
-    for call in 1..13 {
-        for keep in [0, 1, 30, 100] {
-            let stop = Stop {
-                call,
-                keep,
-                restarts: false,
-            };
+            let stop = Stop { call, keep };
             assert!(rt; goes_on(rt.alloc(), stop)?, "at {call}, which keeps {keep}");
         }
     }

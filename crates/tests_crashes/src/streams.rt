@@ -38,10 +38,8 @@ pub fn share_reply(alloc: Global, share: &[u8]) -> Result<Bytes, NoMemory> {
     Ok(reply)
 }
 
-// A reply with a recipe up to the length of its file: of a path of one byte, and of one of two.
+// A reply with a recipe of a path of one byte, up to the length of its file.
 static ONE: [u8; 18] = [0x87, 0, 1, 0, 0, 0, 0, 0, 0, 0, 0, 0, 0, 0, 0, 0, 0, 0];
-
-static TWO: [u8; 19] = [0x87, 0, 2, 0, 0, 0, 0, 0, 0, 0, 0, 0, 0, 0, 0, 0, 0, 0, 0];
 
 // Appends so many secrets' fingerprints and lengths.
 fn add_secrets(reply: &mut Bytes, secrets: &[u32], share: &[u8]) -> Result<(), NoMemory> {
@@ -53,19 +51,14 @@ fn add_secrets(reply: &mut Bytes, secrets: &[u32], share: &[u8]) -> Result<(), N
     Ok(())
 }
 
-/// The content of a reply with a recipe: of a path of so many bytes, 1 or 2, and of a file of secrets of these lengths, of each
-/// of which the cloud has this share.
-pub fn recipe_reply(
-    alloc: Global,
-    name_len: u8,
-    secrets: &[u32],
-    share: &[u8],
-) -> Result<Bytes, NoMemory> {
+/// The content of a reply with a recipe: of a path of one byte, and of a file of secrets of these lengths, of each of which the
+/// cloud has this share.
+pub fn recipe_reply(alloc: Global, secrets: &[u32], share: &[u8]) -> Result<Bytes, NoMemory> {
     let mut file_len = 0u32;
     for secret_len in secrets {
         file_len = file_len.wrapping_add(*secret_len);
     }
-    let head: &[u8] = if name_len == 1 { &ONE } else { &TWO };
+    let head: &[u8] = &ONE;
     let mut reply = Bytes::new(alloc);
     reply.extend(head)?;
     reply.extend(&file_len.to_be_bytes())?;
@@ -91,7 +84,7 @@ pub fn whole_stream(
     share: &[u8],
     secret_len: u32,
 ) -> Result<Bytes, NoMemory> {
-    let recipe = recipe_reply(alloc, 1, &[secret_len], share)?;
+    let recipe = recipe_reply(alloc, &[secret_len], share)?;
     let reply = share_reply(alloc, share)?;
     stream(alloc, cloud, &[recipe.as_slice(), reply.as_slice()])
 }
