@@ -10,7 +10,6 @@ use cd_fakes::MemShelf;
 use frames::ReplyBuf;
 use journal_start::UserRooms;
 use local_link::LocalLink;
-use restore_job::{RestoreErr, restore};
 use std::alloc::Global;
 use std::test::Fail;
 use upload_job::Job;
@@ -127,35 +126,6 @@ pub fn go(upload: &mut Upload, link: &mut LocalLink<'_, MemShelf>, lane: u8) -> 
     )
 }
 
-// Steps a lane to its end.
-fn finish(upload: &mut Upload, link: &mut LocalLink<'_, MemShelf>, lane: u8) -> Result<(), Fail> {
-    for _ in 0..20 {
-        if !go(upload, link, lane)? {
-            return Ok(());
-        }
-    }
-    Err(Fail::new("no end"))
-}
-
-/// Steps each lane to its end, one after another; whether the file is stored then.
-pub fn go_on(upload: &mut Upload, link: &mut LocalLink<'_, MemShelf>) -> Result<bool, Fail> {
-    for lane in 0..4 {
-        finish(upload, link, lane)?;
-    }
-    Ok(upload.job.stored())
-}
-
-/// Whether a file of a user goes to all clouds, one after another.
-pub fn is_stored(
-    alloc: Global,
-    link: &mut LocalLink<'_, MemShelf>,
-    user: u32,
-    file: &[u8],
-) -> Result<bool, Fail> {
-    let mut upload = upload_of(alloc, user, file)?;
-    go_on(&mut upload, link)
-}
-
 /// How many bytes the journal, the shares and the recipes of a cloud have.
 pub fn lengths(shelf: &mut MemShelf, cloud: u8) -> Result<[u64; 3], Failed> {
     let cloud = CloudNo(cloud);
@@ -193,56 +163,4 @@ pub fn are_below(n: u8, clouds: &[CloudNo]) -> bool
             }
         }
     }
-}
-
-// What a restore from these clouds answers, and what it appends.
-fn restored_from(
-    alloc: Global,
-    link: &mut LocalLink<'_, MemShelf>,
-    user: u32,
-    clouds: &Clouds,
-    out: &mut Bytes,
-) -> Result<Result<(), RestoreErr>, Fail> {
-    let shape = link.shape();
-    if clouds.len() != shape.k as usize
-        || !are_below(shape.n, clouds.as_slice())
-        || !is_path(PATH)
-    {
-        return Err(Fail::new("no choice of clouds"));
-    }
-    Ok(restore(
-        alloc,
-        link,
-        shape,
-        UserId(user),
-        PATH,
-        Version(1),
-        clouds,
-        out,
-    ))
-}
-
-/// What a restore from the clouds of these numbers answers, and what it appends.
-pub fn restored(
-    alloc: Global,
-    link: &mut LocalLink<'_, MemShelf>,
-    user: u32,
-    numbers: &[u8],
-    out: &mut Bytes,
-) -> Result<Result<(), RestoreErr>, Fail> {
-    let clouds = clouds_of(alloc, numbers)?;
-    restored_from(alloc, link, user, &clouds, out)
-}
-
-/// Whether it answers so, and these are the bytes then.
-pub fn is_restored(
-    alloc: Global,
-    link: &mut LocalLink<'_, MemShelf>,
-    numbers: &[u8],
-    out: &mut Bytes,
-    wanted: (Result<(), RestoreErr>, &[u8]),
-) -> Result<bool, Fail> {
-    let (answer, bytes) = wanted;
-    let found = restored(alloc, link, 7, numbers, out)?;
-    Ok(found == answer && out.as_slice() == bytes)
 }

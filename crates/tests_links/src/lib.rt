@@ -4,18 +4,12 @@
 #[cfg(test)]
 mod filling;
 #[cfg(test)]
-mod fills;
-#[cfg(test)]
 mod ground;
 #[cfg(test)]
 mod rebuild_cases;
 #[cfg(test)]
 mod rebuild_stops;
 #[cfg(test)]
-mod restores;
-#[cfg(test)]
 mod skips;
-#[cfg(test)]
-mod stops;
 #[cfg(test)]
 mod uploads;

@@ -1,6 +1,6 @@
 //! Files that go to all clouds, in any order of steps and with each ask lost once.
 
-use crate::ground::{Upload, clear, go, have_commands, is_stored, lengths, link, shelf, upload_of};
+use crate::ground::{Upload, clear, go, have_commands, lengths, link, shelf, upload_of};
 use cd_edges::Failed;
 use cd_fakes::MemShelf;
 use local_link::{Fate, LocalLink};
@@ -15,60 +15,6 @@ fn have(shelf: &mut MemShelf, wanted: [u64; 3]) -> Result<bool, Failed> {
         }
     }
     Ok(true)
-}
-
-// Whether these users' uploads of a file are stored, over one link, and the areas are so long then.
-fn are_stored(
-    alloc: Global,
-    shelf: &mut MemShelf,
-    users: &[u32],
-    file: &[u8],
-) -> Result<bool, Fail> {
-    let mut link = link(alloc, shelf)?;
-    are_stored_over(alloc, &mut link, users, file)
-}
-
-fn are_stored_over(
-    alloc: Global,
-    link: &mut LocalLink<'_, MemShelf>,
-    users: &[u32],
-    file: &[u8],
-) -> Result<bool, Fail> {
-    let mut well = true;
-    for user in users {
-        well = is_stored(alloc, link, *user, file)? && well;
-    }
-    Ok(well)
-}
-
-fn has_lengths(
-    alloc: Global,
-    shelf: &mut MemShelf,
-    users: &[u32],
-    file: &[u8],
-    wanted: [u64; 3],
-) -> Result<bool, Fail> {
-    Ok(are_stored(alloc, shelf, users, file)? && have(shelf, wanted)?)
-}
-
-// Of a byte: from one user, and then from the same one again and from another.
-fn has_lengths_of_a_byte(alloc: Global, shelf: &mut MemShelf) -> Result<bool, Fail> {
-    let one = has_lengths(alloc, shelf, &[7], b"A", [193, 11, 61])?;
-    let more = has_lengths(alloc, shelf, &[7, 8], b"A", [332, 11, 122])?;
-    Ok(one && more)
-}
-
-#[test]
-fn lengths_of_the_areas(rt: HostRuntime) -> Result<(), Fail> {
-    let mut empty = shelf(rt.alloc())?;
-    let well = has_lengths(rt.alloc(), &mut empty, &[7], b"", [136, 0, 25]);
-    drop(empty);
-    assert!(rt; well?);
-    let mut one = shelf(rt.alloc())?;
-    let well = has_lengths_of_a_byte(rt.alloc(), &mut one);
-    drop(one);
-    assert!(rt; well?);
-    Ok(())
 }
 
 // The lane of an ask, in the order that the number gives.
