@@ -6,15 +6,15 @@ use cd_fakes::{MemPorts, MemSink, MemSource};
 use std::alloc::Global;
 use std::test::Fail;
 
-/// The frame of a reply to Hello.
-pub fn hello(n: u8, k: u8, cloud: u8) -> [u8; 9] {
+// The frame of a reply to Hello.
+fn hello(n: u8, k: u8, cloud: u8) -> [u8; 9] {
     [0, 0, 0, 5, 0x81, n, k, cloud, 1]
 }
 
 const PATH: &[u8] = b"a";
 
-/// Nothing is known there yet, it was new, and the version is entered.
-pub const TAKES: &[u8] = &[
+// Nothing is known there yet, it was new, and the version is entered.
+const TAKES: &[u8] = &[
     0, 0, 0, 4, 0x82, 0, 1, 0, 0, 0, 0, 3, 0x83, 0, 1, 0, 0, 0, 1, 0x84,
 ];
 
@@ -62,13 +62,8 @@ step 1 3 strange 00\n\
 end 1 open\n";
 
 /// Ports on which these replies come, each behind a Hello of four clouds, 30 bytes a call.
-pub fn ports_of(
-    alloc: Global,
-    hellos: &[[u8; 9]],
-    replies: &[&[u8]],
-    fails: &[u64],
-) -> Result<MemPorts, Fail> {
-    let mut ports = MemPorts::of(alloc, 10_000, 30, fails)?;
+pub fn ports_of(alloc: Global, hellos: &[[u8; 9]], replies: &[&[u8]]) -> Result<MemPorts, Fail> {
+    let mut ports = MemPorts::of(alloc, 10_000, 30, &[])?;
     let mut place = 0usize;
     for hello in hellos {
         let mut stream = hello.to_vec(alloc)?;
@@ -90,18 +85,13 @@ fn addresses(alloc: Global, count: usize) -> Result<Vec<String>, Fail> {
     Ok(all)
 }
 
-// What a backup answers over these ports, where these calls of the source fail.
-fn status(
-    alloc: Global,
-    ports: &mut MemPorts,
-    source_fails: &[u64],
-    sink: &mut MemSink,
-) -> Result<u8, Fail> {
+// What a backup answers over these ports.
+fn status(alloc: Global, ports: &mut MemPorts, sink: &mut MemSink) -> Result<u8, Fail> {
     let all = addresses(alloc, 4)?;
     if all.is_empty() || all.len() > 16 || !is_path(PATH) {
         return Err(Fail::new("no such words"));
     }
-    let mut source = MemSource::of(alloc, b"A", 1, source_fails)?;
+    let mut source = MemSource::of(alloc, b"A", 1, &[])?;
     Ok(backup(
         alloc,
         UserId(7),
@@ -114,16 +104,10 @@ fn status(
     ))
 }
 
-/// What a backup comes to over these ports, where these calls of the source and the sink fail.
-pub fn comes_to(
-    alloc: Global,
-    ports: &mut MemPorts,
-    source_fails: &[u64],
-    sink_fails: &[u64],
-    wanted: (u8, &[u8]),
-) -> Result<bool, Fail> {
-    let mut sink = MemSink::of(alloc, 1_000, 2, sink_fails)?;
-    let status = status(alloc, ports, source_fails, &mut sink)?;
+// Whether a backup comes to this over these ports.
+fn comes_to(alloc: Global, ports: &mut MemPorts, wanted: (u8, &[u8])) -> Result<bool, Fail> {
+    let mut sink = MemSink::of(alloc, 1_000, 2, &[])?;
+    let status = status(alloc, ports, &mut sink)?;
     Ok(status == wanted.0 && sink.written() == wanted.1)
 }
 
@@ -138,112 +122,64 @@ pub fn right() -> [[u8; 9]; 4] {
 }
 
 #[test]
-fn refused_hellos(rt: HostRuntime) -> Result<(), Fail> {
-    let rows: [([[u8; 9]; 4], &[u8]); 4] = [
-        (
-            [hello(4, 3, 1), right()[1], right()[2], right()[3]],
-            b"refused hello 0 4 3 1\n",
-        ),
-        (
-            [right()[0], right()[1], hello(4, 2, 2), right()[3]],
-            b"refused hello 2 4 2 2\n",
-        ),
-        (
-            [hello(5, 3, 0), right()[1], right()[2], right()[3]],
-            b"refused hello 0 5 3 0\n",
-        ),
-        (
-            [
-                right()[0],
-                right()[1],
-                right()[2],
-                [0, 0, 0, 1, 0x8d, 0, 0, 0, 0],
-            ],
-            b"refused strange 3 8d\n",
-        ),
-    ];
-    for (hellos, line) in rows {
-        let mut ports = ports_of(rt.alloc(), hellos.as_slice(), &[], &[])?;
-        assert!(rt; comes_to(rt.alloc(), &mut ports, &[], &[], (8, line))?);
-    }
-    let mut ports = ports_of(rt.alloc(), &right()[..1], &[], &[])?;
-    ports.add_stream(rt.alloc(), &[])?;
-    ports.add_stream(rt.alloc(), &[])?;
-    ports.add_stream(rt.alloc(), &[])?;
-    assert!(rt;
-        comes_to(
-            rt.alloc(),
-            &mut ports,
-            &[],
-            &[],
-            (8, b"refused strange 1 00\n")
-        )?
-    );
-    Ok(())
-}
-
-// Where there is no stream behind the last of these Hellos, one more dial would fail.
-#[test]
-fn no_cloud_behind_is_dialled(rt: HostRuntime) -> Result<(), Fail> {
-    let wrong = [right()[0], hello(4, 2, 1)];
-    let mut ports = ports_of(rt.alloc(), wrong.as_slice(), &[], &[])?;
-    let line = b"refused hello 1 4 2 1\n";
-    assert!(rt; comes_to(rt.alloc(), &mut ports, &[], &[], (8, line))?);
-    // the third can't be dialled, and just Hello was asked of the two before it
-    let mut ports = ports_of(rt.alloc(), &right()[..2], &[], &[])?;
-    assert!(rt; comes_to(rt.alloc(), &mut ports, &[], &[], (9, b""))?);
-    assert_eq!(rt; ports.sent(0), [0, 0, 0, 1, 1].as_slice());
-    assert_eq!(rt; ports.sent(1), [0, 0, 0, 1, 1].as_slice());
-    Ok(())
-}
-
-#[test]
 fn whole_or_open(rt: HostRuntime) -> Result<(), Fail> {
     let whole: [&[u8]; 4] = [TAKES, TAKES, TAKES, TAKES];
     let open: [&[u8]; 4] = [EXISTS, FULL, LACKS, &[]];
-    let mut ports = ports_of(rt.alloc(), right().as_slice(), whole.as_slice(), &[])?;
-    assert!(rt; comes_to(rt.alloc(), &mut ports, &[], &[], (0, STORED))?);
-    let mut ports = ports_of(rt.alloc(), right().as_slice(), open.as_slice(), &[])?;
-    assert!(rt; comes_to(rt.alloc(), &mut ports, &[], &[], (8, OPEN))?);
+    let mut ports = ports_of(rt.alloc(), right().as_slice(), whole.as_slice())?;
+    assert!(rt; comes_to(rt.alloc(), &mut ports, (0, STORED))?);
+    let mut ports = ports_of(rt.alloc(), right().as_slice(), open.as_slice())?;
+    assert!(rt; comes_to(rt.alloc(), &mut ports, (8, OPEN))?);
+    Ok(())
+}
+
+// Replies to a Query that end the lanes: a device failed; no memory; a damaged journal; and a flag too many.
+const ENDED: [&[u8]; 4] = [
+    &[0, 0, 0, 1, 0x8d],
+    &[0, 0, 0, 1, 0x91],
+    &[0, 0, 0, 10, 0x8e, 0, 0, 0, 0, 0, 0, 1, 4, 0xab],
+    &[0, 0, 0, 5, 0x82, 0, 2, 0, 0],
+];
+
+const ENDED_TEXT: &[u8] = b"job 1\n\
+step 1 0 fault\n\
+step 1 1 nomemory\n\
+step 1 2 damaged 260 ab\n\
+step 1 3 strange 82\n\
+end 1 open\n";
+
+#[test]
+fn lanes_that_a_query_ends_are_open(rt: HostRuntime) -> Result<(), Fail> {
+    let mut ports = ports_of(rt.alloc(), right().as_slice(), ENDED.as_slice())?;
+    assert!(rt; comes_to(rt.alloc(), &mut ports, (8, ENDED_TEXT))?);
+    Ok(())
+}
+
+// A reply to Hello in its frame, and the line that refuses it as that of cloud 0.
+const HELLOS: [([u8; 9], &str); 4] = [
+    // another cloud, and no shape
+    ([0, 0, 0, 5, 0x81, 4, 3, 1, 1], "refused hello 0 4 3 1\n"),
+    ([0, 0, 0, 5, 0x81, 4, 4, 0, 1], "refused hello 0 4 4 0\n"),
+    // another format, and a length that no frame has
+    ([0, 0, 0, 5, 0x81, 4, 3, 0, 2], "refused strange 0 81\n"),
+    ([0, 0, 0, 0, 0x81, 4, 3, 0, 1], "refused strange 0 00\n"),
+];
+
+#[test]
+fn each_wrong_hello_is_named(rt: HostRuntime) -> Result<(), Fail> {
+    for (wrong, line) in HELLOS {
+        let hellos = [wrong, hello(4, 3, 1), hello(4, 3, 2), hello(4, 3, 3)];
+        let mut ports = ports_of(rt.alloc(), hellos.as_slice(), &[])?;
+        assert!(rt; comes_to(rt.alloc(), &mut ports, (8, line.as_bytes()))?);
+    }
     Ok(())
 }
 
 #[test]
-fn failing_source_and_sink(rt: HostRuntime) -> Result<(), Fail> {
-    let whole: [&[u8]; 4] = [TAKES, TAKES, TAKES, TAKES];
-    let mut ports = ports_of(rt.alloc(), right().as_slice(), whole.as_slice(), &[])?;
-    assert!(rt; comes_to(rt.alloc(), &mut ports, &[2], &[], (3, b""))?);
-    let mut ports = ports_of(rt.alloc(), right().as_slice(), whole.as_slice(), &[])?;
-    assert!(rt; comes_to(rt.alloc(), &mut ports, &[], &[4], (4, b"job 1\n"))?);
-    Ok(())
-}
-
-// Whether the lanes of a whole backup, where one call of the ports fails, come to 9 and a front of the lines; or where that
-// call isn't made to 0 and all lines.
-fn fails_so(alloc: Global, call: u64) -> Result<u8, Fail> {
-    let whole: [&[u8]; 4] = [TAKES, TAKES, TAKES, TAKES];
-    let mut ports = ports_of(alloc, right().as_slice(), whole.as_slice(), &[call])?;
-    let mut sink = MemSink::of(alloc, 1_000, 100, &[])?;
-    let status = status(alloc, &mut ports, &[], &mut sink)?;
-    let written = sink.written();
-    if status == 9 && STORED.starts_with(written) && written.len() < STORED.len() {
-        return Ok(9);
-    }
-    if status == 0 && written == STORED {
-        return Ok(0);
-    }
-    Err(Fail::new("another outcome"))
-}
-
-#[test]
-fn each_call_of_the_ports_fails(rt: HostRuntime) -> Result<(), Fail> {
-    let mut fails = 0u64;
-    for call in 1..1_000u64 {
-        if fails_so(rt.alloc(), call)? == 0 {
-            break;
-        }
-        fails = call;
-    }
-    assert!(rt; 50 < fails && fails < 999);
+fn a_cloud_that_is_not_dialled_is_9(rt: HostRuntime) -> Result<(), Fail> {
+    // the third can't be dialled, and just Hello was asked of the two before it
+    let mut ports = ports_of(rt.alloc(), &right()[..2], &[])?;
+    assert!(rt; comes_to(rt.alloc(), &mut ports, (9, b""))?);
+    assert_eq!(rt; ports.sent(0), [0, 0, 0, 1, 1].as_slice());
+    assert_eq!(rt; ports.sent(1), [0, 0, 0, 1, 1].as_slice());
     Ok(())
 }

@@ -7,13 +7,8 @@ use delete_command::delete;
 use std::alloc::Global;
 use std::test::Fail;
 
-// What a deletion comes to over these ports, where these calls of the sink fail.
-fn comes_to(
-    alloc: Global,
-    ports: &mut MemPorts,
-    sink_fails: &[u64],
-    wanted: (u8, &[u8]),
-) -> Result<bool, Fail> {
+// Whether a deletion comes to this over these ports.
+fn comes_to(alloc: Global, ports: &mut MemPorts, wanted: (u8, &[u8])) -> Result<bool, Fail> {
     let path = b"a";
     let mut all = Vec::new(alloc);
     for _ in 0..4 {
@@ -22,7 +17,7 @@ fn comes_to(
     if all.is_empty() || all.len() > 16 || !is_path(path) {
         return Err(Fail::new("no such words"));
     }
-    let mut sink = MemSink::of(alloc, 1_000, 2, sink_fails)?;
+    let mut sink = MemSink::of(alloc, 1_000, 2, &[])?;
     let status = delete(
         alloc,
         UserId(7),
@@ -45,9 +40,9 @@ const ASKED: [u8; 14] = [0, 0, 0, 1, 1, 0, 0, 0, 45, 8, 0, 0, 0, 7];
 #[test]
 fn gone_at_all_is_0(rt: HostRuntime) -> Result<(), Fail> {
     let replies = [DELETED, MISSING, MISSING, DELETED];
-    let mut ports = ports_of(rt.alloc(), right().as_slice(), replies.as_slice(), &[])?;
+    let mut ports = ports_of(rt.alloc(), right().as_slice(), replies.as_slice())?;
     let text = b"deleted 0\nmissing 1\nmissing 2\ndeleted 3\n";
-    assert!(rt; comes_to(rt.alloc(), &mut ports, &[], (0, text))?);
+    assert!(rt; comes_to(rt.alloc(), &mut ports, (0, text))?);
     for port in 0..4 {
         let sent = ports.sent(port);
         assert_eq!(rt; sent.len(), 54);
@@ -59,7 +54,7 @@ fn gone_at_all_is_0(rt: HostRuntime) -> Result<(), Fail> {
 }
 
 // A reply of one cloud in its frame, and its line.
-const OTHERS: [(&[u8], &str); 8] = [
+const OTHERS: [(&[u8], &str); 6] = [
     (
         &[
             0, 0, 0, 26, 0x8c, 3, 0, 0, 0, 0, 0, 0, 1, 0, 0, 0, 0, 0, 0, 0, 0, 50, 0, 0, 0, 0, 0,
@@ -73,10 +68,8 @@ const OTHERS: [(&[u8], &str); 8] = [
         "damaged 1 260 ab\n",
     ),
     (&[0, 0, 0, 1, 0x91], "nomemory 1\n"),
-    // another kind, a byte behind one, one that is unknown, and no frame
+    // another kind, and no frame
     (&[0, 0, 0, 1, 0x84], "strange 1 84\n"),
-    (&[0, 0, 0, 2, 0x92, 0], "strange 1 92\n"),
-    (&[0, 0, 0, 1, 0xff], "strange 1 ff\n"),
     (&[0, 0, 0, 2, 0x92], "strange 1 00\n"),
 ];
 
@@ -84,37 +77,9 @@ const OTHERS: [(&[u8], &str); 8] = [
 fn anything_else_is_8(rt: HostRuntime) -> Result<(), Fail> {
     for (reply, line) in OTHERS {
         let replies = [DELETED, reply, MISSING, DELETED];
-        let mut ports = ports_of(rt.alloc(), right().as_slice(), replies.as_slice(), &[])?;
+        let mut ports = ports_of(rt.alloc(), right().as_slice(), replies.as_slice())?;
         let text = format!(in rt.alloc(); "deleted 0\n{line}missing 2\ndeleted 3\n")?;
-        assert!(rt; comes_to(rt.alloc(), &mut ports, &[], (8, text.as_bytes()))?);
+        assert!(rt; comes_to(rt.alloc(), &mut ports, (8, text.as_bytes()))?);
     }
-    Ok(())
-}
-
-#[test]
-fn each_failing_call_is_9(rt: HostRuntime) -> Result<(), Fail> {
-    let lines = b"deleted 0\ndeleted 1\ndeleted 2\ndeleted 3\n";
-    // a Hello takes four calls, a dial, a send and two receipts; a Delete two sends and two receipts
-    for call in 1..33u64 {
-        let replies = [DELETED, DELETED, DELETED, DELETED];
-        let mut ports = ports_of(rt.alloc(), right().as_slice(), replies.as_slice(), &[call])?;
-        let before = call.saturating_sub(17) / 4;
-        let text = lines.get(..before as usize * 10).unwrap_or(&[]);
-        assert!(rt; comes_to(rt.alloc(), &mut ports, &[], (9, text))?);
-    }
-    let mut ports = ports_of(rt.alloc(), right().as_slice(), &[DELETED; 4], &[33])?;
-    assert!(rt; comes_to(rt.alloc(), &mut ports, &[], (0, lines))?);
-    Ok(())
-}
-
-#[test]
-fn a_wrong_hello_or_a_failing_sink(rt: HostRuntime) -> Result<(), Fail> {
-    let hellos = [right()[0], right()[0], right()[2], right()[3]];
-    let mut ports = ports_of(rt.alloc(), hellos.as_slice(), &[DELETED; 4], &[])?;
-    let line = b"refused hello 1 4 3 0\n";
-    assert!(rt; comes_to(rt.alloc(), &mut ports, &[], (8, line))?);
-    assert_eq!(rt; ports.sent(0), [0, 0, 0, 1, 1].as_slice());
-    let mut ports = ports_of(rt.alloc(), right().as_slice(), &[DELETED; 4], &[])?;
-    assert!(rt; comes_to(rt.alloc(), &mut ports, &[3], (4, b"dele"))?);
     Ok(())
 }

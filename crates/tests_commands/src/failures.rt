@@ -1,4 +1,4 @@
-//! Ports, sinks and stores that fail.
+//! Ports that fail, and stores that do not open.
 
 ghost use Rattle.std.specs.Prelude.{◌<◌};
 
@@ -10,21 +10,15 @@ use cd_fakes::MemShelf;
 use std::alloc::Global;
 use std::test::Fail;
 
-// Two connections of a Hello, where so many are to be served.
-fn hellos(
-    alloc: Global,
-    count: u32,
-    ports_fail: &[u64],
-    sink_fails: &[u64],
-) -> Result<Outcome, Fail> {
+// Two connections of a Hello, where these calls of the ports fail.
+fn hellos(alloc: Global, ports_fail: &[u64]) -> Result<Outcome, Fail> {
     let hello = frames_of(alloc, &[HELLO])?;
     let again = frames_of(alloc, &[HELLO])?;
     let plan = Plan {
         streams: &[hello, again],
-        count: count.max(1),
+        count: 2,
         most: 100,
         ports_fail,
-        sink_fails,
     };
     served_first(alloc, &plan)
 }
@@ -32,29 +26,17 @@ fn hellos(
 #[test]
 fn failing_ports_are_9(rt: HostRuntime) -> Result<(), Fail> {
     // the calls: listen, accept, recv, send of the reply's frame, recv, accept, ..
-    assert!(rt; hellos(rt.alloc(), 2, &[1], &[])?.is(9, ""));
-    assert!(rt; hellos(rt.alloc(), 2, &[2], &[])?.is(9, "ready here\n"));
-    assert!(rt; hellos(rt.alloc(), 2, &[6], &[])?.is(9, "ready here\nconnection 1 end\n"));
-    let outcome = hellos(rt.alloc(), 3, &[], &[])?;
-    assert!(rt; outcome.is(9, "ready here\nconnection 1 end\nconnection 2 end\n"));
+    assert!(rt; hellos(rt.alloc(), &[6])?.is(9, "ready here\nconnection 1 end\n"));
     Ok(())
 }
 
 #[test]
 fn a_failed_connection_is_followed_by_the_next(rt: HostRuntime) -> Result<(), Fail> {
     let reply = frames_of(rt.alloc(), &[OF_TWO])?;
-    let outcome = hellos(rt.alloc(), 2, &[3], &[])?;
+    let outcome = hellos(rt.alloc(), &[3])?;
     assert!(rt; outcome.is(0, "ready here\nconnection 1 failed\nconnection 2 end\n"));
     assert!(rt; outcome.has_sent(0, &[]));
     assert!(rt; outcome.has_sent(1, reply.as_slice()));
-    Ok(())
-}
-
-#[test]
-fn a_failing_sink_is_4(rt: HostRuntime) -> Result<(), Fail> {
-    // a call of the sink takes 7 bytes
-    assert!(rt; hellos(rt.alloc(), 2, &[], &[2])?.is(4, "ready h"));
-    assert!(rt; hellos(rt.alloc(), 2, &[], &[5])?.is(4, "ready here\nconnection 1 e"));
     Ok(())
 }
 
@@ -68,7 +50,6 @@ fn put_on(alloc: Global, shape: Shape, shelf: &mut MemShelf) -> Result<Outcome, 
         count: 1,
         most: 100,
         ports_fail: &[],
-        sink_fails: &[],
     };
     served(alloc, shape, shelf, &plan)
 }

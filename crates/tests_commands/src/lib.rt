@@ -12,8 +12,6 @@ mod failures;
 #[cfg(test)]
 mod place;
 #[cfg(test)]
-mod refusals;
-#[cfg(test)]
 mod requests;
 #[cfg(test)]
 mod stops;

@@ -24,8 +24,6 @@ pub struct Plan<'a> {
     pub most: usize,
     /// The calls of the ports that fail, from 1.
     pub ports_fail: &'a [u64],
-    /// The calls of the sink that fail, from 1.
-    pub sink_fails: &'a [u64],
 }
 
 /// What came of a serving.
@@ -111,7 +109,7 @@ pub fn served(
     requires count { 0 < plan.now.count }
     requires most { 1 ≤ plan.now.most }
 {
-    let mut sink = MemSink::of(alloc, 4_096, 7, plan.sink_fails)?;
+    let mut sink = MemSink::of(alloc, 4_096, 7, &[])?;
     let mut ports = ports_of(alloc, plan)?;
     let status = serve(
         alloc, shape, TWO, "here", plan.count, &mut sink, shelf, &mut ports,

@@ -1,4 +1,4 @@
-//! A stop in each device call of an opening that begins a store, and of a Put that came by a frame.
+//! A stop in a Put that came by a frame.
 
 use crate::place::{Outcome, Plan, TWO, new_shelf, served, shape};
 use crate::requests::{FAULT, NO_NEW, ONE_NEW, PUT, frames_of};
@@ -16,7 +16,6 @@ fn stopped(alloc: Global, call: u32, keep: u32) -> Result<Outcome, Fail> {
         count: 3,
         most: 5,
         ports_fail: &[],
-        sink_fails: &[],
     };
     let mut shelf = new_shelf(alloc)?;
     shelf.arm(TWO, call, keep);
@@ -25,28 +24,14 @@ fn stopped(alloc: Global, call: u32, keep: u32) -> Result<Outcome, Fail> {
     outcome
 }
 
-#[test]
-fn a_stop_in_the_opening_is_5(rt: HostRuntime) -> Result<(), Fail> {
-    for call in 1..10 {
-        let outcome = stopped(rt.alloc(), call, 0)?;
-        assert!(rt; outcome.is(5, "shelf 2\n"));
-        assert!(rt; outcome.has_sent(0, &[]));
-    }
-    Ok(())
-}
-
 // The call, the bytes that it keeps, and the replies to the three Puts: the store is begun by nine calls, and the Put
 // takes six.
-const STOPS: [(u32, u32, [&[u8]; 3]); 9] = [
+const STOPS: [(u32, u32, [&[u8]; 3]); 5] = [
     (10, 0, [FAULT, ONE_NEW, NO_NEW]),
-    (10, 1, [FAULT, ONE_NEW, NO_NEW]),
-    (11, 0, [FAULT, ONE_NEW, NO_NEW]),
     (12, 0, [FAULT, ONE_NEW, NO_NEW]),
-    (13, 0, [FAULT, ONE_NEW, NO_NEW]),
     (14, 0, [FAULT, ONE_NEW, NO_NEW]),
     (14, 1, [FAULT, NO_NEW, NO_NEW]),
     (15, 0, [FAULT, NO_NEW, NO_NEW]),
-    (16, 0, [ONE_NEW, NO_NEW, NO_NEW]),
 ];
 
 #[test]
