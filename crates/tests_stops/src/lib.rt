@@ -1,4 +1,4 @@
-//! Tests of a server stopped at each device call.
+//! Tests of a server that opens its cloud behind a stop, a changed byte or a checkpoint.
 #![tactic(auto)]
 
 #[cfg(test)]

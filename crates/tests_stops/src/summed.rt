@@ -1,12 +1,12 @@
-//! A command whose record doesn't fit the journal's half: a checkpoint is made in the other half before it. Stops in each device call, in
-//! either half, and bytes of a checkpoint that are others.
+//! A command whose record doesn't fit the journal's half: a checkpoint is made in the other half before it, in either half; and bytes of a
+//! checkpoint that are others.
 
 use cd_base::{Bytes, NoMemory};
 use cd_edges::{Area, Shelf};
 use journal_start::UserRooms;
 use std::alloc::Global;
 use std::test::Fail;
-use tests_server::replies::{COMMITTED, DELETED, FAULT, MISSING};
+use tests_server::replies::{COMMITTED, DELETED};
 use tests_server::requests::{commit_of, delete_of, recipe_of};
 use tests_server::{Cloud, OpenErr, Row, TWO};
 
@@ -93,69 +93,6 @@ fn a_checkpoint_before_a_command(rt: HostRuntime) -> Result<(), Fail> {
     drop(cloud);
     drop(asked);
     assert!(rt; well);
-    Ok(())
-}
-
-// The call that is cut, how many bytes a cut write keeps, and whether the command is there behind it.
-type Stop = (u32, u32, bool);
-
-// The calls of a Delete: the half's gate and a sync, the checkpoint and a sync, its gate and a sync, and then those of the record.
-static STOPS: [Stop; 15] = [
-    (1, 0, false),
-    (2, 0, false),
-    (3, 0, false),
-    (3, 1, false),
-    (3, 999, false),
-    (4, 0, false),
-    (5, 0, false),
-    (5, 1, false),
-    (6, 0, false),
-    (7, 0, false),
-    (7, 50, false),
-    (8, 0, false),
-    (9, 0, false),
-    (9, 1, true),
-    (10, 0, true),
-];
-
-// Whether a command stops there, an opening finds the list or the list with it, and it is done when it is asked again.
-fn stops(
-    cloud: &mut Cloud,
-    command: &[u8],
-    replies: (&'static [u8], &'static [u8]),
-    counts: (u64, u64),
-    stop: Stop,
-) -> bool {
-    let (call, keep, is_there) = stop;
-    let (done, again) = replies;
-    let (before, behind) = counts;
-    cloud.arm(call, keep);
-    let stopped = cloud.answers(&[(command, FAULT)]);
-    cloud.arm(0, 0);
-    let (count, reply) = if is_there {
-        (behind, again)
-    } else {
-        (before, done)
-    };
-    let found = cloud.reopen(false) == Ok(count);
-    stopped && found && cloud.answers(&[(command, reply)]) && cloud.reopen(false) == Ok(behind)
-}
-
-fn delete_stops(cloud: &mut Cloud, asked: &Commands, stop: Stop) -> bool {
-    let delete = asked.delete.as_slice();
-    let replies = (DELETED, MISSING);
-    is_filled(cloud, asked) && stops(cloud, delete, replies, (BEFORE, BEHIND), stop)
-}
-
-#[test]
-fn stops_in_a_checkpoint(rt: HostRuntime) -> Result<(), Fail> {
-    let asked = the_two(rt.alloc())?;
-    for (call, keep, is_there) in &STOPS {
-        let mut cloud = Cloud::make(rt.alloc(), ROOM, LEAST)?;
-        let well = delete_stops(&mut cloud, &asked, (*call, *keep, *is_there));
-        drop(cloud);
-        assert!(rt; well, "at {call}, which keeps {keep}");
-    }
     Ok(())
 }
 
