@@ -1,4 +1,4 @@
-//! Streams in pieces of each size, ended in each place, and lengths that no frame has.
+//! Streams in pieces of each size, and ended in each place.
 
 ghost use Rattle.std.specs.Prelude.{◌≤◌};
 
@@ -83,14 +83,5 @@ fn a_cut_leaves_the_next_connection(rt: HostRuntime) -> Result<(), Fail> {
     let well = are_served_next(rt.alloc(), &mut place, stream.as_slice(), hello.as_slice());
     drop(place);
     assert!(rt; well?);
-    Ok(())
-}
-
-#[test]
-fn a_wrong_length_ends_a_connection(rt: HostRuntime) -> Result<(), Fail> {
-    let none = (Served::BadLength { found: 0 }, [].as_slice());
-    assert!(rt; is_served_first(rt.alloc(), 1, &[0, 0, 0, 0, 1], none)?);
-    let many = (Served::BadLength { found: 4_194_305 }, [].as_slice());
-    assert!(rt; is_served_first(rt.alloc(), 3, &[0, 64, 0, 1, 1], many)?);
     Ok(())
 }

@@ -3,7 +3,7 @@
 ghost use Rattle.std.specs.Prelude.{◌≡◌, ◌≤◌};
 
 use cd_base::{Bytes, CloudNo, NoMemory, Shape};
-use cd_edges::{Ports, Shelf};
+use cd_edges::Ports;
 use cd_fakes::{MemPorts, MemShelf};
 use frames::{Framer, ReplyBuf};
 use journal_start::UserRooms;
@@ -108,17 +108,6 @@ impl Place {
             }
         }
         Ok(frames)
-    }
-
-    /// Closes the server and makes its cloud empty; whether it is.
-    pub fn is_cleared(&mut self) -> bool {
-        self.server.close();
-        self.shelf.fresh(TWO).is_ok()
-    }
-
-    /// Cuts a write or a sync of the cloud, counted from 1.
-    pub fn arm(&mut self, call: u32) {
-        self.shelf.arm(TWO, call, 0);
     }
 }
 

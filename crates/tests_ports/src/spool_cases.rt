@@ -1,4 +1,4 @@
-//! A job of one byte that is kept in memory: its bytes, and what a stop in a note leaves of them.
+//! A job of one byte that is kept in memory, and its bytes.
 
 use cd_base::{CloudNo, Clouds, NoMemory, Shape, UserId, Version};
 use cd_edges::{Area, Failed, Shelf};
@@ -56,47 +56,5 @@ fn one_byte(rt: HostRuntime) -> Result<(), Fail> {
     let kept = is_kept(rt.alloc(), &mut shelf);
     drop(shelf);
     assert!(rt; matches!(kept, Ok(true)));
-    Ok(())
-}
-
-// The first device call that is cut, and how long the journal is then: it has 1 to 3 bytes of the file's record at least.
-static STOPS: [(u32, bool); 15] = [
-    (1, false),
-    (2, false),
-    (3, false),
-    (4, false),
-    (5, false),
-    (6, false),
-    (7, false),
-    (8, false),
-    (9, false),
-    (10, false),
-    (11, false),
-    (12, false),
-    (13, false),
-    (14, true),
-    (0, true),
-];
-
-// Whether a beginning that is stopped there fails, or goes through.
-fn stops(alloc: Global, shelf: &mut MemShelf, stop: (u32, bool)) -> bool {
-    shelf.arm(ZERO, stop.0, 0);
-    let begins = match begun(alloc, shelf) {
-        Ok(spool) => spool.is_open(),
-        Err(SpoolErr::Fault) => false,
-        Err(_) => !stop.1,
-    };
-    begins == stop.1 && shelf.fresh(ZERO) == Ok(())
-}
-
-#[test]
-fn stops_in_a_beginning(rt: HostRuntime) -> Result<(), Fail> {
-    let mut shelf = MemShelf::of(rt.alloc(), 1, 4_096, 1_000, &[])?;
-    let mut well = true;
-    for stop in &STOPS {
-        well &= stops(rt.alloc(), &mut shelf, *stop);
-    }
-    drop(shelf);
-    assert!(rt; well);
     Ok(())
 }

@@ -1,4 +1,4 @@
-//! The commands `spool` and `resume`, over ports and a shelf in memory, where each call of the ports fails in turn.
+//! The commands `spool` and `resume`, over ports and a shelf in memory.
 
 use crate::spool_cases::ZERO;
 use cd_base::{UserId, Version, is_path};
@@ -24,8 +24,8 @@ static LINES: [&[u8]; 4] = [
 ];
 
 // Ports on which four clouds reply to Hello, and then to a lane each.
-fn ports_of(alloc: Global, fails: &[u64]) -> Result<MemPorts, Fail> {
-    let mut ports = MemPorts::of(alloc, 10_000, 30, fails)?;
+fn ports_of(alloc: Global) -> Result<MemPorts, Fail> {
+    let mut ports = MemPorts::of(alloc, 10_000, 30, &[])?;
     for cloud in 0..4u8 {
         let mut stream = [0, 0, 0, 5, 0x81, 4, 3, cloud, 1].to_vec(alloc)?;
         stream.extend_from_slice(&TAKES)?;
@@ -101,61 +101,9 @@ fn asks_the_others(ports: &MemPorts, count: usize) -> bool {
     well
 }
 
-// A spool in which this call of the ports fails, and a resume. Whether the call was made, or nothing where one of them did otherwise.
-fn goes_on(alloc: Global, shelf: &mut MemShelf, call: u64) -> Result<Option<bool>, Fail> {
-    let mut ports = ports_of(alloc, &[call])?;
-    let mut sink = MemSink::of(alloc, 1_000, 1_000, &[])?;
-    let status = spooled(alloc, shelf, &mut sink, &mut ports)?;
-    if status == 0 {
-        return Ok(if committed(sink.written()) == 4 {
-            Some(false)
-        } else {
-            None
-        });
-    }
-    let before = committed(sink.written());
-    let mut again = ports_of(alloc, &[])?;
-    let mut said = MemSink::of(alloc, 1_000, 1_000, &[])?;
-    let kept = shelf.len(ZERO, Area::Journal) != Ok(0);
-    let status = resumed(alloc, shelf, &mut said, &mut again)?;
-    let none = said.written() == b"nospool\n".as_slice();
-    let stored = said.written().ends_with(b"stored 1\nend 1 stored\n");
-    let well = status == 0
-        && if none {
-            before == 0
-        } else {
-            stored && asks_the_others(&again, before)
-        };
-    Ok(if well && kept != none {
-        Some(true)
-    } else {
-        None
-    })
-}
-
-#[test]
-fn each_call_of_the_ports_fails(rt: HostRuntime) -> Result<(), Fail> {
-    let mut shelf = MemShelf::of(rt.alloc(), 1, 65_536, 10_000, &[])?;
-    let mut calls = 0u64;
-    let mut well = true;
-    for call in 1..1_000u64 {
-        match goes_on(rt.alloc(), &mut shelf, call)? {
-            Some(true) => calls = call,
-            Some(false) => break,
-            None => {
-                well = false;
-                break;
-            }
-        }
-    }
-    drop(shelf);
-    assert!(rt; well && 50 < calls && calls < 999);
-    Ok(())
-}
-
 // Whether a spool that is stopped there, in the note of its second lane, says so behind the lines of both.
 fn stops_there(alloc: Global, shelf: &mut MemShelf, call: u32) -> Result<bool, Fail> {
-    let mut ports = ports_of(alloc, &[])?;
+    let mut ports = ports_of(alloc)?;
     let mut sink = MemSink::of(alloc, 1_000, 1_000, &[])?;
     shelf.arm(ZERO, call, 0);
     let status = spooled(alloc, shelf, &mut sink, &mut ports)?;
@@ -165,7 +113,7 @@ fn stops_there(alloc: Global, shelf: &mut MemShelf, call: u32) -> Result<bool, F
 
 // Whether a spool over what is kept says this, and sends nothing behind Hello.
 fn is_refused(alloc: Global, shelf: &mut MemShelf, line: &[u8]) -> Result<bool, Fail> {
-    let mut ports = ports_of(alloc, &[])?;
+    let mut ports = ports_of(alloc)?;
     let mut sink = MemSink::of(alloc, 100, 100, &[])?;
     let status = spooled(alloc, shelf, &mut sink, &mut ports)?;
     Ok(status == 7 && sink.written() == line && asks_the_others(&ports, 4))
@@ -173,7 +121,7 @@ fn is_refused(alloc: Global, shelf: &mut MemShelf, line: &[u8]) -> Result<bool, 
 
 // Whether a resume asks all clouds but the first so many, and is stored.
 fn is_resumed(alloc: Global, shelf: &mut MemShelf, noted: usize) -> Result<bool, Fail> {
-    let mut ports = ports_of(alloc, &[])?;
+    let mut ports = ports_of(alloc)?;
     let mut sink = MemSink::of(alloc, 1_000, 1_000, &[])?;
     let status = resumed(alloc, shelf, &mut sink, &mut ports)?;
     let stored = sink.written().ends_with(b"stored 1\nend 1 stored\n");
@@ -228,7 +176,7 @@ fn stops_in_a_note(rt: HostRuntime) -> Result<(), Fail> {
 #[test]
 fn no_spool(rt: HostRuntime) -> Result<(), Fail> {
     let mut shelf = MemShelf::of(rt.alloc(), 1, 4_096, 100, &[])?;
-    let mut ports = ports_of(rt.alloc(), &[])?;
+    let mut ports = ports_of(rt.alloc())?;
     let mut sink = MemSink::of(rt.alloc(), 100, 100, &[])?;
     let status = resumed(rt.alloc(), &mut shelf, &mut sink, &mut ports)?;
     let well = asks_the_others(&ports, 4);
@@ -248,7 +196,7 @@ fn a_changed_byte_is_rotten(rt: HostRuntime) -> Result<(), Fail> {
     let mut shelf = MemShelf::of(rt.alloc(), 1, 4_096, 100, &[])?;
     let began = crate::spool_cases::begun(rt.alloc(), &mut shelf).is_ok();
     shelf.set_byte(ZERO, Area::Shares, 0, b'B');
-    let mut ports = ports_of(rt.alloc(), &[])?;
+    let mut ports = ports_of(rt.alloc())?;
     let mut sink = MemSink::of(rt.alloc(), 1_000, 1_000, &[])?;
     let status = resumed(rt.alloc(), &mut shelf, &mut sink, &mut ports)?;
     drop(shelf);
