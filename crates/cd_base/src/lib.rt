@@ -3,7 +3,6 @@
 
 mod bytes;
 mod clouds;
-mod cursor;
 mod digest;
 mod ends;
 mod fps;
@@ -17,7 +16,6 @@ mod shape;
 
 pub use bytes::Bytes;
 pub use clouds::Clouds;
-pub use cursor::Cursor;
 pub use digest::sha256;
 pub use ends::Ends;
 pub use fps::Fps;

@@ -1,12 +1,11 @@
--- What is left in a memory whose blobs move, and which forgets what was spent.
-use Rattle.std.specs.Prelude.{ℕ, length, replicate, Option, Some, None}
+-- What is left in a memory whose blobs move.
+use Rattle.std.specs.Prelude.{ℕ, Option, Some, None}
 use Rattle.std.specs.FinMap.{FinMap, get, insert, remove}
 use Rattle.spent_table.specs.CdBase.ids.Fp.{Fp}
 use Rattle.spent_table.specs.CdBase.place.Place.{Place}
 use Rattle.file_index.specs.declared.key.Entry.{Entry}
 use Rattle.file_index.specs.declared.key.FileKey.{FileKey}
 use Rattle.file_index.specs.Order.{key_cmp}
-use Rattle.spent_table.specs.Spending.{nothing}
 use Rattle.cloud_memory.specs.Memory.{Memory}
 
 -- the share lies at this place
@@ -60,15 +59,4 @@ with_ends shares recipes m = record {
   spent = m.spent;
   shares_end = shares;
   recipes_end = recipes;
-}
-
--- nobody has spent anything
-abbrev pub unspent : Memory → Memory
-unspent m = record {
-  places = m.places;
-  owners = m.owners;
-  files = m.files;
-  spent = replicate (length m.spent) nothing;
-  shares_end = m.shares_end;
-  recipes_end = m.recipes_end;
 }

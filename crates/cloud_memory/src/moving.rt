@@ -9,7 +9,7 @@ ghost use Rattle.cloud_areas.specs.JournalStart.rooms.UserRooms.{UserRooms};
 ghost use Rattle.file_index.specs.PoolMap.Slots.{IsRewritten};
 ghost use Rattle.share_index.specs.Emptied.{IsEmptied};
 ghost use Rattle.cloud_memory.specs.Greatest.{KeepsGreatest};
-ghost use Rattle.cloud_memory.specs.Moving.{with_place, without_place, lying_at, with_recipe_at, with_ends, unspent};
+ghost use Rattle.cloud_memory.specs.Moving.{with_place, without_place, lying_at, with_recipe_at, with_ends};
 ghost use Rattle.cloud_memory.specs.Rooms.{memory_of, HasRooms};
 
 use crate::CloudMemory;
@@ -81,16 +81,5 @@ impl CloudMemory {
     {
         self.shares_end = shares;
         self.recipes_end = recipes;
-    }
-
-    /// Nobody has spent anything from now on.
-    pub fn forget_spent(&mut self)
-        ensures taken { memory_of self.new ≡ unspent (memory_of self.old) }
-        ensures shares { self.new.shares ≡ self.old.shares }
-        ensures files { self.new.files ≡ self.old.files }
-        ensures rooms { (rooms : UserRooms) → HasRooms rooms self.old → HasRooms rooms self.new }
-        ensures greatest { KeepsGreatest self.old self.new }
-    {
-        self.spent.clear();
     }
 }

@@ -269,28 +269,6 @@ impl ShareIndex {
         }
     }
 
-    /// Lowers the uses of a fingerprint that the user owns by one, and answers the uses left. It has a use.
-    pub fn drop_use(&mut self, user: UserId, fp: &Fp) -> u32
-        requires owned { IsSome (map.get self.old.owners (owner_of user.0 fp.now.0)) }
-        requires used { 0 < uses_at self.old.owners (owner_of user.0 fp.now.0) }
-        ensures left { result + 1 ≡ uses_at self.old.owners (owner_of user.0 fp.now.0) }
-        ensures owners { self.new.owners ≡ map.insert self.old.owners (owner_of user.0 fp.now.0) result }
-        ensures places { self.new.places ≡ self.old.places }
-        ensures place_slots { self.new.place_slots ≡ self.old.place_slots }
-        ensures owner_slots { length self.new.owner_slots ≡ length self.old.owner_slots }
-        ensures fps { self.new.fps ≡ self.old.fps }
-        ensures accounts { self.new.accounts ≡ self.old.accounts }
-    {
-        let owner = Owner::of(user, fp);
-        match self.owners.uses(&owner) {
-            Some(uses) => {
-                self.owners.set_uses(&owner, uses - 1);
-                uses - 1
-            }
-            None => unreachable!(),
-        }
-    }
-
     /// Takes the place of a fingerprint that has one. Its slot is emptied, each other slot and its owners stay.
     pub fn drop_place(&mut self, fp: &Fp)
         requires { IsSome (map.get self.old.places fp.now.0) }
@@ -310,29 +288,6 @@ impl ShareIndex {
                 self.unplaced += kept.owners;
             }
             None => unreachable!(),
-        }
-    }
-
-    /// Takes a fingerprint from a user that owns it. Its place stays.
-    pub fn drop_owner(&mut self, user: UserId, fp: &Fp)
-        requires { IsSome (map.get self.old.owners (owner_of user.0 fp.now.0)) }
-        ensures owners { self.new.owners ≡ map.remove self.old.owners (owner_of user.0 fp.now.0) }
-        ensures places { self.new.places ≡ self.old.places }
-        ensures place_slots { length self.new.place_slots ≡ length self.old.place_slots }
-        ensures owner_slots { length self.new.owner_slots ≡ length self.old.owner_slots }
-        ensures fps { self.new.fps ≡ self.old.fps }
-        ensures accounts { self.new.accounts ≡ self.old.accounts }
-    {
-        self.owners.remove(&Owner::of(user, fp));
-        match self.places.get(&fp.0) {
-            Some(kept) => self.places.set(
-                &fp.0,
-                Kept {
-                    place: kept.place,
-                    owners: kept.owners - 1,
-                },
-            ),
-            None => self.unplaced -= 1,
         }
     }
 

@@ -51,17 +51,6 @@ impl Model for SpentTable {
     ghost view = { λ t. t.rows.items };
 }
 
-// The sum of the rows' owners, as far as 64 bits reach.
-fn sum_of_owners(rows: &[Spent]) -> u64
-    ensures { result ≡ reached (λ spent. spent.owners) rows.now }
-{
-    let mut sum: u64 = 0;
-    for row in rows {
-        sum = sum.saturating_add(u64::from(row.owners));
-    }
-    sum
-}
-
 // The sum of the rows' shares, as far as 64 bits reach.
 fn sum_of_shares(rows: &[Spent]) -> u64
     ensures { result ≡ reached (λ spent. spent.shares) rows.now }
@@ -162,13 +151,6 @@ impl SpentTable {
                 recipes: spent.recipes + bytes,
             },
         );
-    }
-
-    /// How many shares all users together have put.
-    pub fn all_owners(&self) -> u64
-        ensures { result ≡ reached (λ spent. spent.owners) self.now }
-    {
-        sum_of_owners(&self.rows)
     }
 
     /// The bytes of shares that all users together have spent, or the greatest number of 64 bits where they are more.
