@@ -12,4 +12,6 @@ mod hash_lanes_cases;
 #[cfg(test)]
 mod rabin_chunker_cases;
 #[cfg(test)]
+mod recipe_cases;
+#[cfg(test)]
 mod slot_tree_cases;
