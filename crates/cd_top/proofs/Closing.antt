@@ -8,9 +8,10 @@ use Rattle.two_worlds.specs.Session.Texts.{text_of}
 use Rattle.generated_session.specs.SessionModel.Headline.{Session, due}
 use Rattle.generated_session.specs.ReplayCore.end.ReplayEnd.{ReplayEnd}
 use Rattle.generated_session.specs.ReplayCore.end.ReplayEnd.TheVariants as ends
-use Rattle.generated_session.specs.ReplayCore.Endings.{ReplayCall, EndingLine, HasStatusCause, IsDue}
-use Rattle.generated_session.specs.ReplayCore.Endings as due_lines
-use Rattle.generated_session.specs.ReplayCore.Replayed.{Replayed, HasReplayed, IsPrinted, IsTextCut, IsLast, status_of, ending_of}
+use Rattle.script_replay.specs.Endings.{ReplayCall, EndingLine, HasStatusCause, IsDue, ending_of}
+use Rattle.script_replay.specs.Endings as due_lines
+use Rattle.generated_session.specs.ReplayCore.Replayed.{Replayed, status_of}
+use Rattle.script_replay.specs.Written.{HasReplayed, IsPrinted, IsTextCut, IsLast}
 use Rattle.cd_top.specs.Ends.{WantsLast, WantsNone, HasLastLine, Silent, Said, CutShort, Unsaid}
 use Rattle.cd_top.specs.Replay.{ending_text, due_text, IsReplayWritten, IsReplayed, until, WritesFront}
 use Rattle.cd_top.proofs.Texts.{appends_both}

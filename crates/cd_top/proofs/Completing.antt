@@ -17,8 +17,9 @@ use Rattle.generated_session.specs.SessionModel.Vault.{Vault, opening}
 use Rattle.generated_session.specs.SessionModel.Run.{Answered, Turns}
 use Rattle.generated_session.specs.SessionModel.Headline.{Session, Begun, IsRun, IsPartOf, script_in}
 use Rattle.generated_session.proofs.SessionModel.Counts.{counts_last}
-use Rattle.generated_session.specs.ReplayCore.Endings.{ReplayCall, EndingLine, HasStatusCause, HasReadLines, HasReadSome, IsDue, IsOfScript, IsOfShelf, IsOfStore, IsFirstFilled, IsLineWrongAt, MayFailIn}
-use Rattle.generated_session.specs.ReplayCore.Endings as due_lines
+use Rattle.generated_session.specs.ReplayCore.Opening.{IsFirstFilled}
+use Rattle.script_replay.specs.Endings.{ReplayCall, EndingLine, HasStatusCause, HasReadLines, HasReadSome, IsDue, IsOfScript, IsOfShelf, IsOfStore, IsLineWrongAt, MayFailIn}
+use Rattle.script_replay.specs.Endings as due_lines
 use Rattle.migrate_command.proofs.ServeCommand.Completing.{not_risen}
 use Rattle.cd_top.specs.Complete.{IsStill, IsReplayUnhindered}
 use Rattle.cd_top.specs.Replay.{IsReplayed}

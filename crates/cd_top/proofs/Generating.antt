@@ -7,7 +7,8 @@ use Rattle.delete_command.specs.CdEdges.Disk.{Cloud}
 use Rattle.generated_session.specs.SessionModel.Headline.{Session, IsRun}
 use Rattle.generated_session.specs.ReplayCore.end.ReplayEnd.{ReplayEnd}
 use Rattle.generated_session.specs.ReplayCore.end.ReplayEnd.TheVariants as ends
-use Rattle.generated_session.specs.ReplayCore.Replayed.{Replayed, status_of, ending_of}
+use Rattle.generated_session.specs.ReplayCore.Replayed.{Replayed, status_of}
+use Rattle.script_replay.specs.Endings.{ending_of}
 use Rattle.generated_session.specs.Numbers.{summary_text}
 use Rattle.generated_session.specs.Generates as generator
 use Rattle.generated_session.specs.Generates.{Order, Passing, Generates, WritesSummary, IsSummaryWritten}

@@ -19,7 +19,7 @@ use Rattle.two_worlds.specs.Session.Scripts.{ScriptPlace, Begins}
 use Rattle.generated_session.specs.SessionModel.Vault.{Setting, opening}
 use Rattle.generated_session.specs.SessionModel.Run.{Answered}
 use Rattle.generated_session.specs.SessionModel.Headline.{Session, IsRun, DisksStand}
-use Rattle.generated_session.specs.ReplayCore.Endings.{ReplayCall, NoEnding, HasStatusCause}
+use Rattle.script_replay.specs.Endings.{ReplayCall, NoEnding, HasStatusCause}
 use Rattle.generated_session.specs.ReplayCore.Replayed.{Replayed, BeginsEmpty}
 use Rattle.two_worlds.proofs.Two.{two_worlds}
 use Rattle.cd_top.specs.Replay.{IsReplayed}

@@ -8,7 +8,8 @@ use Rattle.delete_command.specs.CdEdges.area.Area.{Area}
 use Rattle.delete_command.specs.CdEdges.Disk.{Cloud}
 use Rattle.two_worlds.specs.Session.event.Event.{Event}
 use Rattle.two_worlds.specs.Session.Scripts.{ScriptPlace, Reaches, IsEnd}
-use Rattle.generated_session.specs.ReplayCore.Endings.{ReplayCall, IsEmptyAt}
+use Rattle.generated_session.specs.ReplayCore.Opening.{IsEmptyAt}
+use Rattle.script_replay.specs.Endings.{ReplayCall}
 
 -- the bytes are a script for clouds of this shape, to its last line
 pub record IsScript (script : List ℕ) (shape : Shape) : Type 0 where

@@ -4,7 +4,8 @@ use Rattle.std.specs.Io.KnownBytes.{Appends}
 use Rattle.delete_command.specs.CdEdges.Causes.{Rose}
 use Rattle.generated_session.specs.ReplayCore.end.ReplayEnd.{ReplayEnd}
 use Rattle.generated_session.specs.ReplayCore.end.ReplayEnd.TheVariants as ends
-use Rattle.generated_session.specs.ReplayCore.Replayed.{status_of, ending_of}
+use Rattle.generated_session.specs.ReplayCore.Replayed.{status_of}
+use Rattle.script_replay.specs.Endings.{ending_of}
 use Rattle.cd_top.specs.Replay.{ending_text, WritesFront}
 
 -- a last line is due that isn't written yet

@@ -9,8 +9,9 @@ use Rattle.generated_session.specs.SessionModel.Run.{script_of}
 use Rattle.generated_session.specs.SessionModel.Headline.{Session, script_in}
 use Rattle.generated_session.specs.ReplayCore.end.ReplayEnd.{ReplayEnd}
 use Rattle.generated_session.specs.ReplayCore.end.ReplayEnd.TheVariants as ends
-use Rattle.generated_session.specs.ReplayCore.Endings.{AreEmptyBelow, AreSpared, IsFirstFilled}
-use Rattle.generated_session.specs.ReplayCore.Replayed.{Replayed, status_of, ending_of}
+use Rattle.generated_session.specs.ReplayCore.Opening.{AreEmptyBelow, AreSpared, IsFirstFilled}
+use Rattle.generated_session.specs.ReplayCore.Replayed.{Replayed, status_of}
+use Rattle.script_replay.specs.Endings.{ending_of}
 use Rattle.generated_session.specs.declared.numbers.Numbers.{Numbers}
 use Rattle.generated_session.specs.Lines.{generated_lines}
 use Rattle.generated_session.specs.Numbers.{HasNumbers, summary_text}

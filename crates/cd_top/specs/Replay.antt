@@ -9,8 +9,8 @@ use Rattle.two_worlds.specs.Transcript.Transcript.{line_text}
 use Rattle.generated_session.specs.SessionModel.Steps.{cloud_no}
 use Rattle.two_worlds.specs.Session.Texts.{text_of}
 use Rattle.generated_session.specs.SessionModel.Headline.{Session, due}
-use Rattle.generated_session.specs.ReplayCore.Endings.{ReplayCall, EndingLine, HasStatusCause}
-use Rattle.generated_session.specs.ReplayCore.Endings as due_lines
+use Rattle.script_replay.specs.Endings.{ReplayCall, EndingLine, HasStatusCause}
+use Rattle.script_replay.specs.Endings as due_lines
 use Rattle.generated_session.specs.ReplayCore.Replayed.{Replayed}
 use Rattle.cd_top.specs.declared.ending.LastErr.{LastErr}
 use Rattle.cd_top.specs.declared.ending.LastErr.TheVariants as errors

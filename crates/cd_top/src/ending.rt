@@ -2,7 +2,8 @@
 
 ghost use Rattle.std.specs.Prelude.{◌≡◌, IfSome, IfNone};
 ghost use Rattle.two_worlds.specs.Transcript.Endings.{ending_text as text_of_ending};
-ghost use Rattle.generated_session.specs.ReplayCore.Replayed.{status_of as status_due, ending_of};
+ghost use Rattle.generated_session.specs.ReplayCore.Replayed.{status_of as status_due};
+ghost use Rattle.script_replay.specs.Endings.{ending_of};
 ghost use Rattle.cd_top.specs.Replay.{ending_text, WritesLast};
 ghost use Rattle.cd_top.specs.Ends.{HasLastLine, WantsLast, WantsNone};
 

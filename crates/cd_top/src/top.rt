@@ -6,7 +6,7 @@ ghost use Rattle.command_words.specs.Asked.{ForAudit, ForBackup, ForCheck, ForDe
 ghost use Rattle.command_words.specs.Asked.{ForMigrate, ForResume, ForServe, ForSpool};
 ghost use Rattle.command_words.specs.Commands.{IsAnyCommand, IsCommand};
 ghost use Rattle.command_words.specs.Views.{asked_of};
-ghost use Rattle.generated_session.specs.ReplayCore.Endings.{ReplayCall, replay_call};
+ghost use Rattle.script_replay.specs.Endings.{ReplayCall, replay_call};
 ghost use Rattle.cd_top.specs.Complete.{IsReplayUnhindered};
 ghost use Rattle.spool_command.specs.BackupCommand.Reading.{input_of};
 ghost use Rattle.spool_command.specs.BackupCommand.Writing.{output_of as output_by};
@@ -34,7 +34,7 @@ use crate::serve::serve_in;
 use crate::spool::{resume_in, spool_in};
 use command_words::{AskedCommand, NoMemory, law_of_words, read_words};
 use delete_command::{Failed, Ports, Shelf, Sink, Source};
-use generated_session::replay;
+use script_replay::replay;
 use std::alloc::Global;
 
 // Runs the script in the source over the clouds in the directory.

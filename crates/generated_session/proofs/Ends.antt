@@ -20,9 +20,8 @@ use Rattle.replay_core.specs.SessionModel.Headline.{Session, Begun, IsRun, IsPar
 use Rattle.replay_core.specs.ScriptLines.At.{header_in}
 use Rattle.replay_core.specs.declared.end.ReplayEnd.{ReplayEnd}
 use Rattle.replay_core.specs.declared.end.ReplayEnd.TheVariants as ends
-use Rattle.replay_core.specs.Endings.{IsEmptyAt, AreEmptyBelow, AreSpared}
 use Rattle.replay_core.specs.Replayed.{Replayed, status_of}
-use Rattle.replay_core.specs.Opening.{AreSame, PreparesAll, EndsUnopened, OpensClouds, before_first}
+use Rattle.replay_core.specs.Opening.{IsEmptyAt, AreEmptyBelow, AreSpared, AreSame, PreparesAll, EndsUnopened, OpensClouds, before_first}
 use Rattle.replay_core.specs.Going.{AppendsFront, EndsSink, IsReplayReady}
 use Rattle.replay_core.proofs.Clouds.{spared_by, spared_same}
 use Rattle.replay_core.proofs.Sessions.{Later, Here, Part, Holds, holds_between, holds_cut, appends_none}

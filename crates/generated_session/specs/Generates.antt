@@ -11,7 +11,7 @@ use Rattle.replay_core.specs.SessionModel.Run.{script_of}
 use Rattle.replay_core.specs.SessionModel.Headline.{Session, script_in}
 use Rattle.replay_core.specs.declared.end.ReplayEnd.{ReplayEnd}
 use Rattle.replay_core.specs.declared.end.ReplayEnd.TheVariants as ends
-use Rattle.replay_core.specs.Endings.{IsEmptyAt, AreEmptyBelow, AreSpared, IsFirstFilled}
+use Rattle.replay_core.specs.Opening.{IsEmptyAt, AreEmptyBelow, AreSpared, IsFirstFilled}
 use Rattle.replay_core.specs.Replayed.{Replayed, status_of}
 use Rattle.generated_session.specs.declared.numbers.Numbers.{Numbers}
 use Rattle.generated_session.specs.Lines.{generated_lines}

@@ -10,7 +10,5 @@ mod summary;
 
 pub use generating::generate;
 pub use numbers::Numbers;
-pub use replay_core::{
-    Buffers, Jobs, LocalLink, ReplayEnd, UserRooms, carry_out, read_line, replay,
-};
+pub use replay_core::{Buffers, Jobs, LocalLink, ReplayEnd, UserRooms, carry_out, read_line};
 pub use subset_restore::Answer;

@@ -20,8 +20,7 @@ use Rattle.share_server.specs.Names.{HasNoJournal}
 use Rattle.share_server.specs.Refusals.{IsNamedDamage}
 use Rattle.replay_core.specs.declared.end.ReplayEnd.{ReplayEnd}
 use Rattle.replay_core.specs.declared.end.ReplayEnd.TheVariants as ends
-use Rattle.replay_core.specs.Endings.{AreEmptyBelow, AreSpared, IsFirstFilled}
-use Rattle.replay_core.specs.Opening.{IsBlank, Prepares, PreparesAll, AreSame, IsEmpty, EndsEmpty, EndsAtOpening, EndsUnopened, IsEndOf}
+use Rattle.replay_core.specs.Opening.{AreEmptyBelow, AreSpared, IsFirstFilled, IsBlank, Prepares, PreparesAll, AreSame, IsEmpty, EndsEmpty, EndsAtOpening, EndsUnopened, IsEndOf}
 
 -- areas that are all empty stand for no commands
 abbrev pub EmptyStands : Type 0

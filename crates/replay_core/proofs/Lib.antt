@@ -1,9 +1,7 @@
 pub mod Begins
 pub mod Clouds
-pub mod Firsts
 pub mod Links
 pub mod ScriptLines
 pub mod SessionModel
 pub mod Sessions
-pub mod Steps
 pub mod Whole

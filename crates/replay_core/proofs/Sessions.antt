@@ -26,11 +26,15 @@ use Rattle.script_lines.specs.SessionModel.Headline.{Begun, IsPartOf, event_of, 
 use Rattle.script_lines.specs.At.{header_in, KeepsOtherClouds}
 use Rattle.script_lines.specs.Does.{Goes, IsLineCut}
 use Rattle.script_lines.proofs.Going.{left_at}
-use Rattle.replay_core.specs.Endings.{AreEmptyBelow}
 use Rattle.replay_core.specs.Replayed.{BeginsEmpty}
-use Rattle.replay_core.specs.Opening.{IsThere}
+use Rattle.replay_core.specs.Opening.{AreEmptyBelow, IsThere}
 use Rattle.replay_core.specs.Going.{ReplayStart, HasCome, SaysNext, CanBe}
-use Rattle.replay_core.proofs.Firsts.{map_told}
+
+-- ---- of a script that is told
+
+pub map_told : (o : Option (List ℕ)) (P Q : List ℕ → Type 0) → ((bytes : List ℕ) → P bytes → Q bytes) → IfSome o P → IfSome o Q
+map_told None P Q f p = tt
+map_told (Some bytes) P Q f p = f bytes p
 
 -- ---- one more at the end of a list
 

@@ -1,5 +1,4 @@
 pub mod ShareServer
-pub mod Endings
 pub mod Going
 pub mod JournalStart
 pub mod LocalLink

@@ -1,9 +1,10 @@
--- What the first steps of a replay come to: its first line, the areas that are to be empty, and the first openings.
-use Rattle.std.specs.Prelude.{◌≡◌, ◌≢◌, ℕ, ◌<◌, ◌≤◌, ◌++◌, false, IsTrue, List, [], length, Option, Some, Result, Ok, Err, IfSome}
+-- What the first steps of a session come to: its first line, the areas that are to be empty, and the first openings.
+use Rattle.std.specs.Prelude.{◌≡◌, ◌≢◌, ℕ, ◌<◌, ◌≤◌, ◌++◌, ◌⊎◌, false, IsTrue, List, [], length, Option, Some, IfSome}
 use Rattle.share_server.specs.CdBase.ids.CloudNo.{CloudNo}
 use Rattle.share_server.specs.JournalStart.rooms.UserRooms.{UserRooms}
 use Rattle.share_server.specs.CdBase.shape.Shape.{Shape}
 use Rattle.share_server.specs.CdEdges.area.Area.{Area}
+use Rattle.share_server.specs.CdEdges.area.Area.TheVariants as areas
 use Rattle.share_server.specs.CdEdges.Causes.{Rose}
 use Rattle.share_server.specs.CdEdges.Disk.{Cloud, Image, IsImage, reads}
 use Rattle.share_server.specs.CdEdges.Shelf.{Stays}
@@ -14,17 +15,11 @@ use Rattle.share_server.specs.CloudAreas.Peers.{ImagesSince}
 use Rattle.script_lines.specs.LocalLink.link.LocalLink.{LocalLink}
 use Rattle.script_lines.specs.LocalLink.Calls.{no_commands}
 use Rattle.script_lines.specs.LocalLink.Tells.{server_at, rooms_at, header_at, StandsAt}
-use Rattle.two_worlds.specs.Session.Fault.{Fault}
 use Rattle.two_worlds.specs.Session.Lines.{ReaderState}
-use Rattle.two_worlds.specs.Session.lines.LineErr.{LineErr}
-use Rattle.two_worlds.specs.Session.lines.LineErr.TheVariants as line_errors
-use Rattle.two_worlds.specs.Session.reading.ScriptErr.{ScriptErr}
-use Rattle.two_worlds.specs.Session.reading.ScriptErr.TheVariants as script_errors
-use Rattle.two_worlds.specs.Session.Scripts.{ScriptPlace, Begins, IsWrongFirst}
+use Rattle.two_worlds.specs.Session.Scripts.{ScriptPlace, Begins}
 use Rattle.share_server.specs.Refusals.{IsNamedDamage}
 use Rattle.replay_core.specs.declared.end.ReplayEnd.{ReplayEnd}
 use Rattle.replay_core.specs.declared.end.ReplayEnd.TheVariants as ends
-use Rattle.replay_core.specs.Endings.{IsEmptyAt, AreEmptyBefore, AreEmptyBelow, AreSpared, IsFirstFilled}
 
 -- ---- the first line
 
@@ -45,32 +40,34 @@ abbrev pub IsHead : Option (List ℕ) → Shape → UserRooms → ReaderState �
 IsHead script shape rooms reader left =
     IfSome script (λ bytes. (place : ScriptPlace) × Begins bytes shape rooms place × IsThere reader left 0 place)
 
--- the first line says this, or is wrong there
-abbrev pub SaysHeader : Result (Shape × UserRooms) Fault → Result (Shape × UserRooms) ReplayEnd → Type 0
-SaysHeader reading (Ok header) = reading ≡ Ok header
-SaysHeader reading (Err (ends.Script line at found)) =
-    (line ≡ 1) × (reading ≡ Err (record { at = at; found = found }))
-SaysHeader reading (Err ends.NoMemory) = Unit {0}
-SaysHeader reading (Err end) = ⊥
+-- ---- clouds that are to be empty
 
--- the end of a replay that gets no line of this number
-abbrev pub end_without : ℕ → LineErr → ReplayEnd
-end_without line line_errors.Fault = ends.SourceFault
-end_without line (line_errors.At at found) = ends.Script line at found
-end_without line line_errors.NoMemory = ends.NoMemory
+-- the cloud's area reads as nothing
+abbrev pub IsEmptyAt : Cloud → Area → Type 0
+IsEmptyAt cloud area = reads cloud.now area ≡ []
 
--- the end of a replay whose line of this number says nothing
-abbrev pub end_of_script : ℕ → ScriptErr → ReplayEnd
-end_of_script line (script_errors.At at found) = ends.Script line at found
-end_of_script line script_errors.NoMemory = ends.NoMemory
+-- the areas in front of this one are empty: journal, shares, recipes
+abbrev pub AreEmptyBefore : Area → Cloud → Type 0
+AreEmptyBefore areas.Journal cloud = Unit {0}
+AreEmptyBefore areas.Shares cloud = IsEmptyAt cloud areas.Journal
+AreEmptyBefore areas.Recipes cloud = IsEmptyAt cloud areas.Journal × IsEmptyAt cloud areas.Shares
 
--- how a replay ends at its first line
-abbrev pub EndsFirst : Option (List ℕ) → ℕ → ℕ → ReplayEnd → Type 0
-EndsFirst script before now (ends.Script line at found) =
-    (line ≡ 1) × IfSome script (λ bytes. IsWrongFirst bytes (record { at = at; found = found }))
-EndsFirst script before now ends.SourceFault = Rose before now
-EndsFirst script before now ends.NoMemory = Unit {0}
-EndsFirst script before now end = ⊥
+-- so many clouds from the first on read as nothing, where they are told
+abbrev pub AreEmptyBelow : (ℕ → Cloud) → ℕ → Type 0
+AreEmptyBelow clouds count =
+    (cloud : ℕ) (area : Area) → cloud < count → IsTrue (clouds cloud).told → IsEmptyAt (clouds cloud) area
+
+-- Either these clouds read as nothing, where they are told, or each cloud holds what it held, at all its moments.
+abbrev pub AreSpared : ℕ → (ℕ → Cloud) → (ℕ → Cloud) → Type 0
+AreSpared count old new = AreEmptyBelow old count ⊎ ((cloud : ℕ) → Stays (old cloud) (new cloud))
+
+-- the first area that isn't empty, and its length
+pub record IsFirstFilled (clouds : ℕ → Cloud) (cloud : ℕ) (area : Area) (len : ℕ) : Type 0 where
+  pub some : len ≢ 0
+  pub clouds_before : (other : ℕ) (each : Area) → other < cloud → IsTrue (clouds other).told
+      → IsEmptyAt (clouds other) each
+  pub areas_before : IsTrue (clouds cloud).told → AreEmptyBefore area (clouds cloud)
+  pub len_is : IsTrue (clouds cloud).told → len ≡ length (reads (clouds cloud).now area)
 
 -- ---- clouds before they are opened, and as they are opened first
 

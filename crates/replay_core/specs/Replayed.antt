@@ -1,24 +1,19 @@
--- What a replay promises: the session that was carried out, what was written of it, and why it ended.
-use Rattle.std.specs.Prelude.{◌≡◌, ℕ, ◌<◌, ◌≤◌, ◌⊎◌, List, [], ◌++◌, length, Option, IsTrue}
+-- What a replay promises of its session, and the status of its end.
+use Rattle.std.specs.Prelude.{◌≡◌, ℕ, ◌<◌, ◌≤◌, List, [], IsTrue}
 use Rattle.std.specs.List.{Contains}
-use Rattle.std.specs.Io.KnownBytes.{Appends}
 use Rattle.share_server.specs.CdEdges.area.Area.{Area}
 use Rattle.share_server.specs.CdEdges.Disk.{Cloud, Image, IsImage, reads}
 use Rattle.share_server.specs.UserDedup.command.Command.{Command}
 use Rattle.share_server.specs.UserDedup.Exec.{MaySettleAs}
 use Rattle.share_server.specs.CloudAreas.Standing.{StandsFor}
-use Rattle.two_worlds.specs.Transcript.line.Line.TheVariants as lines
-use Rattle.two_worlds.specs.Session.Texts.{text_of}
 use Rattle.two_worlds.specs.Session.event.Event.TheVariants as events
-use Rattle.two_worlds.specs.Transcript.Transcript.{line_text}
 use Rattle.replay_core.specs.declared.end.ReplayEnd.{ReplayEnd}
 use Rattle.replay_core.specs.declared.end.ReplayEnd.TheVariants as ends
-use Rattle.script_lines.specs.SessionModel.Headline.{Session, IsRun, due, script_in, GivesAcknowledged, GivesFromMore, DisksKeep, DisksStand, AnswersPrivately}
+use Rattle.script_lines.specs.SessionModel.Headline.{Session, IsRun, script_in, GivesAcknowledged, GivesFromMore, DisksKeep, DisksStand, AnswersPrivately}
 use Rattle.script_lines.specs.SessionModel.Faults.{FaultsRose}
 use Rattle.script_lines.specs.SessionModel.Steps.{cloud_no}
 use Rattle.script_lines.specs.At.{header_in}
 use Rattle.two_worlds.specs.Worlds.{TwoWorlds}
-use Rattle.replay_core.specs.Endings.{ReplayCall, EndingLine, NoEnding, DoneEnding, ScriptEnding, ShelfEnding, StoreEnding, DamagedEnding, IsDue, HasStatusCause}
 
 -- No count of a cloud is above the shelf's, its armings are the shelf's, and with status 0 its faults too.
 pub record HasCounts (status : ℕ) (new : ℕ → Cloud) (run : Session) (cloud : ℕ) : Type 0 where
@@ -75,45 +70,3 @@ status_of (ends.ShelfFault cloud) = 5
 status_of ends.NoMemory = 6
 status_of (ends.NotEmpty cloud area len) = 7
 status_of (ends.Damaged cloud at byte) = 7
-
--- the last line that is due with it
-abbrev pub ending_of : ReplayEnd → EndingLine
-ending_of (ends.Done events) = DoneEnding events
-ending_of (ends.Script line at found) = ScriptEnding line (record { at = at; found = found })
-ending_of ends.SourceFault = NoEnding
-ending_of ends.SinkFault = NoEnding
-ending_of (ends.ShelfFault cloud) = ShelfEnding cloud.0
-ending_of ends.NoMemory = NoEnding
-ending_of (ends.NotEmpty cloud area len) = StoreEnding cloud.0 area len
-ending_of (ends.Damaged cloud at byte) = DamagedEnding cloud.0 at byte
-
--- nothing, or the line `done` where it is due
-abbrev pub IsLast : ReplayCall → Session → List ℕ → Type 0
-IsLast call run last =
-    (last ≡ [])
-    ⊎ ((last ≡ line_text (lines.Done (length run.history))) × IsDue call run (DoneEnding (length run.history)))
-
--- a front of the text that was due was written
-pub record IsTextCut (call : ReplayCall) (run : Session) (before after : Option (List ℕ)) : Type 0 where
-  pub last : List ℕ
-  pub last_is : IsLast call run last
-  pub text : List ℕ
-  pub more : List ℕ
-  pub front : text ++ more ≡ text_of (due run) ++ last
-  pub written : Appends before after text
-
--- What was written: with Done the lines that were answered and `done`; where the sink failed or memory ran out a front
--- of what was due; and else all lines that were answered. The other ending lines aren't written here.
-abbrev pub IsPrinted : ReplayEnd → ReplayCall → Session → Option (List ℕ) → Option (List ℕ) → Type 0
-IsPrinted (ends.Done events) call run before after =
-    Appends before after (text_of (due run) ++ line_text (lines.Done events))
-IsPrinted ends.SinkFault call run before after = IsTrue run.opened × IsTextCut call run before after
-IsPrinted ends.NoMemory call run before after = IsTextCut call run before after
-IsPrinted end call run before after = Appends before after (text_of (due run))
-
--- The whole promise of a replay.
-pub record HasReplayed (end : ReplayEnd) (call : ReplayCall) (before after : Option (List ℕ)) : Type 0 where
-  pub run : Session
-  pub replayed : Replayed (status_of end) call.old call.new run
-  pub cause : HasStatusCause (status_of end) call run (ending_of end)
-  pub printed : IsPrinted end call run before after

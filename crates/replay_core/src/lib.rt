@@ -1,15 +1,11 @@
-//! A session over clouds, run from its script.
+//! What every session over clouds comes to: its end, its promise, and the opening of its clouds.
 #![tactic(auto)]
 
 mod end;
-mod lines;
 mod opening;
-mod script;
-mod writing;
 
 pub use end::ReplayEnd;
 pub use opening::{empty_clouds, open_clouds};
-pub use script::replay;
 pub use script_lines::{
     Buffers, Jobs, LocalLink, Servers, carry_out, law_of_acknowledged, law_of_moments,
     law_of_own_replies, law_of_parts,

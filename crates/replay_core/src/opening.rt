@@ -1,57 +1,16 @@
-//! The first steps of a replay: its first line, the clouds' areas, which are to be empty, and the first openings.
+//! The first steps of a session over clouds: their areas, which are to be empty, and the first openings.
 
-ghost use Rattle.std.specs.Prelude.{◌≡◌, ◌≢◌, ◌<◌, ◌≤◌, ℕ, Ok, IsTrue, IfOk, IfErr, OnOk, OnErr};
+ghost use Rattle.std.specs.Prelude.{◌≡◌, ◌≢◌, ◌<◌, ℕ, IsTrue, IfErr, OnOk, OnErr};
 ghost use Rattle.share_server.specs.CdEdges.area.Area.{Area};
 ghost use Rattle.share_server.specs.JournalStart.start.Header.{Header};
-ghost use Rattle.share_server.specs.JournalStart.Ranges.{AreRooms};
-ghost use Rattle.two_worlds.specs.Session.Reading as reading;
-ghost use Rattle.two_worlds.specs.Session.Lines.{script_limit};
 ghost use Rattle.script_lines.specs.LocalLink.Calls.{no_commands};
 ghost use Rattle.script_lines.specs.LocalLink.Tells.{rooms_at, header_at, StandsAt, LeavesRest};
-ghost use Rattle.replay_core.specs.Endings.{IsEmptyAt, AreEmptyBefore};
-ghost use Rattle.replay_core.specs.Opening.{before_first, IsHead, EndsFirst, Prepares, PreparesAll, AreSame, IsEmpty, EndsEmpty, EndsAtOpening, EndsUnopened, OpensClouds, SaysHeader, IsEndOf};
+ghost use Rattle.replay_core.specs.Opening.{IsEmptyAt, AreEmptyBefore, Prepares, PreparesAll, AreSame, IsEmpty, EndsEmpty, EndsAtOpening, EndsUnopened, OpensClouds, IsEndOf};
 
 use crate::ReplayEnd;
-use crate::lines::{end_of_line, end_of_reader};
 use script_lines::LocalLink;
 use share_server::laws::law_of_no_commands;
-use share_server::{Area, CloudNo, Failed, OpenErr, Shape, Shelf, Source, UserRooms, damage_of};
-use two_worlds::LineReader;
-
-// What the first line says, or how the replay ends there.
-fn header_of_line(reader: &LineReader) -> Result<(Shape, UserRooms), ReplayEnd>
-    ensures says { SaysHeader (reading.header_at reader.now.line) result }
-    ensures rooms { IfOk result (λ header. AreRooms header.1) }
-{
-    match reader.read_header() {
-        Ok(header) => Ok(header),
-        Err(error) => Err(end_of_line(1, error)),
-    }
-}
-
-/// Reads the first line: the shape and the rooms of the session. The reader is one before its first line.
-pub fn first_line<S: Source>(
-    reader: &mut LineReader,
-    source: &mut S,
-) -> Result<(Shape, UserRooms), ReplayEnd>
-    requires { reader.old ≡ before_first }
-    ensures header { IfOk result (λ header. IsHead (S.left source.old) header.0 header.1
-        reader.new (S.left source.new)) }
-    ensures rooms { IfOk result (λ header. AreRooms header.1) }
-    ensures limited { reader.new.taken ≤ script_limit }
-    ensures still { OnOk result (S.faults source.new ≡ S.faults source.old) }
-    ensures end { IfErr result (EndsFirst (S.left source.old) (S.faults source.old) (S.faults source.new)) }
-{
-    match reader.next(source) {
-        Ok(true) => header_of_line(reader),
-        Ok(false) => Err(ReplayEnd::Script {
-            line: 1,
-            at: 0,
-            found: None,
-        }),
-        Err(error) => Err(end_of_reader(1, error)),
-    }
-}
+use share_server::{Area, CloudNo, Failed, OpenErr, Shape, Shelf, damage_of};
 
 // Whether the cloud's area is empty, those in front of which are.
 fn empty_area<V: Shelf>(shelf: &mut V, cloud: CloudNo, area: Area) -> Result<(), ReplayEnd>

@@ -1,0 +1,4 @@
+pub mod Answering
+pub mod Endings
+pub mod First
+pub mod Written
