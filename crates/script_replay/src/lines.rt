@@ -96,8 +96,8 @@ fn end_of_error(error: CarryErr) -> ReplayEnd
     }
 }
 
-/// Carries a line out, and writes the text of its answers.
-pub fn answer_line<K: Sink, V: Shelf>(
+// Carries a line out, and writes the text of its answers.
+fn answer_line<K: Sink, V: Shelf>(
     alloc: Global,
     link: &mut LocalLink<'_, V>,
     jobs: &mut Jobs,
@@ -123,4 +123,30 @@ pub fn answer_line<K: Sink, V: Shelf>(
         Ok(()) => write_text(alloc, sink, text),
         Err(error) => Err(end_of_error(error)),
     }
+}
+
+/// Carries a line out, writes the text of its answers, and lets the line go. What the caller's loop would let go of on its way
+/// back is let go of here, once.
+pub fn answer_event<K: Sink, V: Shelf>(
+    alloc: Global,
+    link: &mut LocalLink<'_, V>,
+    jobs: &mut Jobs,
+    event: Event,
+    buffers: &mut Buffers,
+    text: &mut Answer,
+    sink: &mut K,
+) -> Result<(), ReplayEnd>
+    requires fits { FitsEvent link.old.servers.shape (length jobs.old) event }
+    requires reached { AreReached link.old.servers.shape jobs.old }
+    ensures answers { OnOk result (AnswersLine V.cloud_at event link.old jobs.old link.new jobs.new
+        (Appends (K.written sink.old) (K.written sink.new))) }
+    ensures still { OnOk result (K.faults sink.new ≡ K.faults sink.old) }
+    ensures end { IfErr result (EndsAnswering V.cloud_at event link.old jobs.old link.new jobs.new
+        (K.written sink.old) (K.written sink.new) (K.faults sink.old) (K.faults sink.new)) }
+    ensures leaves { KeepsOtherClouds V.cloud_at link.old link.new }
+    ensures same_reference { link.new.shelf.ghost_name ≡ link.old.shelf.ghost_name }
+    ensures reached { AreReached link.old.servers.shape jobs.new }
+    ensures count { OnOk result (length jobs.new ≡ jobs_after (length jobs.old) event) }
+{
+    answer_line(alloc, link, jobs, &event, buffers, text, sink)
 }

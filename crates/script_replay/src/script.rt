@@ -12,7 +12,7 @@ ghost use Rattle.replay_core.specs.Going.{ReplayStart, IsReplayReady, HasCome};
 
 use crate::ReplayEnd;
 use crate::first::first_line;
-use crate::lines::{answer_line, next_event};
+use crate::lines::{answer_event, next_event};
 use crate::writing::write_one;
 use replay_core::{empty_clouds, open_clouds};
 use script_lines::{
@@ -53,8 +53,8 @@ fn carry_lines<S: Source, K: Sink, V: Shelf>(
         let next = next_event(alloc, shape, jobs.len() as u32, events, reader, source);
         match next {
             Ok(Some(event)) => {
-                let answered = answer_line(
-                    alloc, link, &mut jobs, &event, buffers, &mut text, sink,
+                let answered = answer_event(
+                    alloc, link, &mut jobs, event, buffers, &mut text, sink,
                 );
                 match answered {
                     Ok(()) => events += 1,

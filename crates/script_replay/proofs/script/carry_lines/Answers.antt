@@ -12,132 +12,36 @@ returns-in-Err-answered-clause-replays g c = λ start s first.
     let shape = c.shape-shape.ensures ∙ sym c.lines.invariant.shape ∙ come.is_at.link_at.shape in
     ends_answered g.V.Shelf.cloud_at (record { given = c.law_of_acknowledged.ensures.given; more = c.law_of_acknowledged.ensures.more; kept = c.law_of_acknowledged.ensures.kept; private = c.law_of_own_replies.ensures })
     start s c.lines.link c.lines.jobs c.lines.reader (g.S.Source.left c.lines.source) (g.S.Source.faults c.lines.source) (g.K.Sink.written c.lines.sink) (g.K.Sink.faults c.lines.sink) c.lines.events come
-    c.answer_line-answered.new.link c.in-Ok-Some.event c.next_event-next.new.reader (g.S.Source.left c.next_event-next.new.source) (g.S.Source.faults c.next_event-next.new.source)
+    c.answer_event-answered.new.link c.in-Ok-Some.event c.next_event-next.new.reader (g.S.Source.left c.next_event-next.new.source) (g.S.Source.faults c.next_event-next.new.source)
     (can_at c.shape-shape.result s.shape c.len.result (length c.lines.jobs) c.in-Ok-Some.field-0 c.in-Ok-Some.event shape c.len.ensures c.in-Ok-Some.field-0-is c.in-Ok-Some.ensures.can)
     (says_at c.shape-shape.result s.shape c.len.result (length c.lines.jobs) c.in-Ok-Some.field-0 (Some c.in-Ok-Some.event) c.lines.reader c.next_event-next.new.reader
     (g.S.Source.left c.lines.source) (g.S.Source.left c.next_event-next.new.source) shape c.len.ensures c.in-Ok-Some.field-0-is c.in-Ok-Some.ensures.says)
-    c.answer_line-answered.ensures.leaves c.answer_line-answered.new.jobs c.law_of_moments.ensures.later c.law_of_moments.ensures.here c.law_of_moments.ensures.part
-    (g.V.Shelf.faults c.answer_line-answered.new.link.shelf.now) (λ cloud told. g.met.V.Shelf.reads_image c.answer_line-answered.new.link.shelf.now cloud told)
-    c.in-Err-answered.end (g.K.Sink.written c.answer_line-answered.new.sink) (g.K.Sink.faults c.answer_line-answered.new.sink) c.in-Err-answered.ensures.end
-
-pub lines-preserved-in-Ok : goal.lines-preserved-in-Ok
-lines-preserved-in-Ok g c = record {
-  come = λ start s first.
-      let come = c.lines.invariant.come start s first in
-      let shape = c.shape-shape.ensures ∙ sym c.lines.invariant.shape ∙ come.is_at.link_at.shape in
-      goes_on g.V.Shelf.cloud_at start s c.lines.link c.answer_line-answered.new.link c.lines.jobs c.answer_line-answered.new.jobs c.lines.reader c.next_event-next.new.reader
-      (g.S.Source.left c.lines.source) (g.S.Source.left c.next_event-next.new.source) (g.S.Source.faults c.lines.source) (g.S.Source.faults c.next_event-next.new.source)
-      (g.K.Sink.written c.lines.sink) (g.K.Sink.written c.answer_line-answered.new.sink) (g.K.Sink.faults c.lines.sink) (g.K.Sink.faults c.answer_line-answered.new.sink)
-      c.lines.events c.in-Ok-Some.event c.law_of_moments.ensures.later c.law_of_moments.ensures.here come
-      (can_at c.shape-shape.result s.shape c.len.result (length c.lines.jobs) c.in-Ok-Some.field-0 c.in-Ok-Some.event shape c.len.ensures c.in-Ok-Some.field-0-is c.in-Ok-Some.ensures.can)
-      (says_at c.shape-shape.result s.shape c.len.result (length c.lines.jobs) c.in-Ok-Some.field-0 (Some c.in-Ok-Some.event) c.lines.reader c.next_event-next.new.reader
-      (g.S.Source.left c.lines.source) (g.S.Source.left c.next_event-next.new.source) shape c.len.ensures c.in-Ok-Some.field-0-is c.in-Ok-Some.ensures.says)
-      c.in-Ok-Some.ensures.still c.in-Ok.ensures.still c.in-Ok.ensures.answers c.answer_line-answered.ensures.leaves c.in-Ok.ensures.count;
-  shape = c.answer_line-answered.ensures.leaves.shape ∙ c.lines.invariant.shape;
-  reached = subst (λ (sh : Shape). AreReached sh c.answer_line-answered.new.jobs) c.lines.invariant.shape c.answer_line-answered.ensures.reached;
-  few = subst (λ (n : ℕ). n ≤ 1000) (sym c.in-Ok.ensures.count) (few_after c.lines.link.servers.shape (length c.lines.jobs) c.in-Ok-Some.event
-      (can_at c.shape-shape.result c.lines.link.servers.shape c.len.result (length c.lines.jobs) c.in-Ok-Some.field-0 c.in-Ok-Some.event
-      (c.shape-shape.ensures ∙ sym c.lines.invariant.shape) c.len.ensures c.in-Ok-Some.field-0-is c.in-Ok-Some.ensures.can).fits c.lines.invariant.few);
-  counted = (let more = said_some c.in-Ok-Some.field-0 c.in-Ok-Some.event (c.lines.reader.taken < c.next_event-next.new.reader.taken) c.in-Ok-Some.field-0-is c.in-Ok-Some.ensures.counted in
-      let few = c.lines.invariant.counted in omega arith);
-  limited = c.next_event-next.ensures.limited;
-  same_reference = c.answer_line-answered.ensures.same_reference ∙ c.lines.invariant.same_reference;
-}
-
-pub lines-preserved-in-Ok-2 : goal.lines-preserved-in-Ok-2
-lines-preserved-in-Ok-2 g c = record {
-  come = λ start s first.
-      let come = c.lines.invariant.come start s first in
-      let shape = c.shape-shape.ensures ∙ sym c.lines.invariant.shape ∙ come.is_at.link_at.shape in
-      goes_on g.V.Shelf.cloud_at start s c.lines.link c.answer_line-answered.new.link c.lines.jobs c.answer_line-answered.new.jobs c.lines.reader c.next_event-next.new.reader
-      (g.S.Source.left c.lines.source) (g.S.Source.left c.next_event-next.new.source) (g.S.Source.faults c.lines.source) (g.S.Source.faults c.next_event-next.new.source)
-      (g.K.Sink.written c.lines.sink) (g.K.Sink.written c.answer_line-answered.new.sink) (g.K.Sink.faults c.lines.sink) (g.K.Sink.faults c.answer_line-answered.new.sink)
-      c.lines.events c.in-Ok-Some.event c.law_of_moments.ensures.later c.law_of_moments.ensures.here come
-      (can_at c.shape-shape.result s.shape c.len.result (length c.lines.jobs) c.in-Ok-Some.field-0 c.in-Ok-Some.event shape c.len.ensures c.in-Ok-Some.field-0-is c.in-Ok-Some.ensures.can)
-      (says_at c.shape-shape.result s.shape c.len.result (length c.lines.jobs) c.in-Ok-Some.field-0 (Some c.in-Ok-Some.event) c.lines.reader c.next_event-next.new.reader
-      (g.S.Source.left c.lines.source) (g.S.Source.left c.next_event-next.new.source) shape c.len.ensures c.in-Ok-Some.field-0-is c.in-Ok-Some.ensures.says)
-      c.in-Ok-Some.ensures.still c.in-Ok.ensures.still c.in-Ok.ensures.answers c.answer_line-answered.ensures.leaves c.in-Ok.ensures.count;
-  shape = c.answer_line-answered.ensures.leaves.shape ∙ c.lines.invariant.shape;
-  reached = subst (λ (sh : Shape). AreReached sh c.answer_line-answered.new.jobs) c.lines.invariant.shape c.answer_line-answered.ensures.reached;
-  few = subst (λ (n : ℕ). n ≤ 1000) (sym c.in-Ok.ensures.count) (few_after c.lines.link.servers.shape (length c.lines.jobs) c.in-Ok-Some.event
-      (can_at c.shape-shape.result c.lines.link.servers.shape c.len.result (length c.lines.jobs) c.in-Ok-Some.field-0 c.in-Ok-Some.event
-      (c.shape-shape.ensures ∙ sym c.lines.invariant.shape) c.len.ensures c.in-Ok-Some.field-0-is c.in-Ok-Some.ensures.can).fits c.lines.invariant.few);
-  counted = (let more = said_some c.in-Ok-Some.field-0 c.in-Ok-Some.event (c.lines.reader.taken < c.next_event-next.new.reader.taken) c.in-Ok-Some.field-0-is c.in-Ok-Some.ensures.counted in
-      let few = c.lines.invariant.counted in omega arith);
-  limited = c.next_event-next.ensures.limited;
-  same_reference = c.answer_line-answered.ensures.same_reference ∙ c.lines.invariant.same_reference;
-}
-
-pub lines-preserved-in-Ok-3 : goal.lines-preserved-in-Ok-3
-lines-preserved-in-Ok-3 g c = record {
-  come = λ start s first.
-      let come = c.lines.invariant.come start s first in
-      let shape = c.shape-shape.ensures ∙ sym c.lines.invariant.shape ∙ come.is_at.link_at.shape in
-      goes_on g.V.Shelf.cloud_at start s c.lines.link c.answer_line-answered.new.link c.lines.jobs c.answer_line-answered.new.jobs c.lines.reader c.next_event-next.new.reader
-      (g.S.Source.left c.lines.source) (g.S.Source.left c.next_event-next.new.source) (g.S.Source.faults c.lines.source) (g.S.Source.faults c.next_event-next.new.source)
-      (g.K.Sink.written c.lines.sink) (g.K.Sink.written c.answer_line-answered.new.sink) (g.K.Sink.faults c.lines.sink) (g.K.Sink.faults c.answer_line-answered.new.sink)
-      c.lines.events c.in-Ok-Some.event c.law_of_moments.ensures.later c.law_of_moments.ensures.here come
-      (can_at c.shape-shape.result s.shape c.len.result (length c.lines.jobs) c.in-Ok-Some.field-0 c.in-Ok-Some.event shape c.len.ensures c.in-Ok-Some.field-0-is c.in-Ok-Some.ensures.can)
-      (says_at c.shape-shape.result s.shape c.len.result (length c.lines.jobs) c.in-Ok-Some.field-0 (Some c.in-Ok-Some.event) c.lines.reader c.next_event-next.new.reader
-      (g.S.Source.left c.lines.source) (g.S.Source.left c.next_event-next.new.source) shape c.len.ensures c.in-Ok-Some.field-0-is c.in-Ok-Some.ensures.says)
-      c.in-Ok-Some.ensures.still c.in-Ok.ensures.still c.in-Ok.ensures.answers c.answer_line-answered.ensures.leaves c.in-Ok.ensures.count;
-  shape = c.answer_line-answered.ensures.leaves.shape ∙ c.lines.invariant.shape;
-  reached = subst (λ (sh : Shape). AreReached sh c.answer_line-answered.new.jobs) c.lines.invariant.shape c.answer_line-answered.ensures.reached;
-  few = subst (λ (n : ℕ). n ≤ 1000) (sym c.in-Ok.ensures.count) (few_after c.lines.link.servers.shape (length c.lines.jobs) c.in-Ok-Some.event
-      (can_at c.shape-shape.result c.lines.link.servers.shape c.len.result (length c.lines.jobs) c.in-Ok-Some.field-0 c.in-Ok-Some.event
-      (c.shape-shape.ensures ∙ sym c.lines.invariant.shape) c.len.ensures c.in-Ok-Some.field-0-is c.in-Ok-Some.ensures.can).fits c.lines.invariant.few);
-  counted = (let more = said_some c.in-Ok-Some.field-0 c.in-Ok-Some.event (c.lines.reader.taken < c.next_event-next.new.reader.taken) c.in-Ok-Some.field-0-is c.in-Ok-Some.ensures.counted in
-      let few = c.lines.invariant.counted in omega arith);
-  limited = c.next_event-next.ensures.limited;
-  same_reference = c.answer_line-answered.ensures.same_reference ∙ c.lines.invariant.same_reference;
-}
-
-pub lines-preserved-in-Ok-4 : goal.lines-preserved-in-Ok-4
-lines-preserved-in-Ok-4 g c = record {
-  come = λ start s first.
-      let come = c.lines.invariant.come start s first in
-      let shape = c.shape-shape.ensures ∙ sym c.lines.invariant.shape ∙ come.is_at.link_at.shape in
-      goes_on g.V.Shelf.cloud_at start s c.lines.link c.answer_line-answered.new.link c.lines.jobs c.answer_line-answered.new.jobs c.lines.reader c.next_event-next.new.reader
-      (g.S.Source.left c.lines.source) (g.S.Source.left c.next_event-next.new.source) (g.S.Source.faults c.lines.source) (g.S.Source.faults c.next_event-next.new.source)
-      (g.K.Sink.written c.lines.sink) (g.K.Sink.written c.answer_line-answered.new.sink) (g.K.Sink.faults c.lines.sink) (g.K.Sink.faults c.answer_line-answered.new.sink)
-      c.lines.events c.in-Ok-Some.event c.law_of_moments.ensures.later c.law_of_moments.ensures.here come
-      (can_at c.shape-shape.result s.shape c.len.result (length c.lines.jobs) c.in-Ok-Some.field-0 c.in-Ok-Some.event shape c.len.ensures c.in-Ok-Some.field-0-is c.in-Ok-Some.ensures.can)
-      (says_at c.shape-shape.result s.shape c.len.result (length c.lines.jobs) c.in-Ok-Some.field-0 (Some c.in-Ok-Some.event) c.lines.reader c.next_event-next.new.reader
-      (g.S.Source.left c.lines.source) (g.S.Source.left c.next_event-next.new.source) shape c.len.ensures c.in-Ok-Some.field-0-is c.in-Ok-Some.ensures.says)
-      c.in-Ok-Some.ensures.still c.in-Ok.ensures.still c.in-Ok.ensures.answers c.answer_line-answered.ensures.leaves c.in-Ok.ensures.count;
-  shape = c.answer_line-answered.ensures.leaves.shape ∙ c.lines.invariant.shape;
-  reached = subst (λ (sh : Shape). AreReached sh c.answer_line-answered.new.jobs) c.lines.invariant.shape c.answer_line-answered.ensures.reached;
-  few = subst (λ (n : ℕ). n ≤ 1000) (sym c.in-Ok.ensures.count) (few_after c.lines.link.servers.shape (length c.lines.jobs) c.in-Ok-Some.event
-      (can_at c.shape-shape.result c.lines.link.servers.shape c.len.result (length c.lines.jobs) c.in-Ok-Some.field-0 c.in-Ok-Some.event
-      (c.shape-shape.ensures ∙ sym c.lines.invariant.shape) c.len.ensures c.in-Ok-Some.field-0-is c.in-Ok-Some.ensures.can).fits c.lines.invariant.few);
-  counted = (let more = said_some c.in-Ok-Some.field-0 c.in-Ok-Some.event (c.lines.reader.taken < c.next_event-next.new.reader.taken) c.in-Ok-Some.field-0-is c.in-Ok-Some.ensures.counted in
-      let few = c.lines.invariant.counted in omega arith);
-  limited = c.next_event-next.ensures.limited;
-  same_reference = c.answer_line-answered.ensures.same_reference ∙ c.lines.invariant.same_reference;
-}
+    c.answer_event-answered.ensures.leaves c.answer_event-answered.new.jobs c.law_of_moments.ensures.later c.law_of_moments.ensures.here c.law_of_moments.ensures.part
+    (g.V.Shelf.faults c.answer_event-answered.new.link.shelf.now) (λ cloud told. g.met.V.Shelf.reads_image c.answer_event-answered.new.link.shelf.now cloud told)
+    c.in-Err-answered.end (g.K.Sink.written c.answer_event-answered.new.sink) (g.K.Sink.faults c.answer_event-answered.new.sink) c.in-Err-answered.ensures.end
 
 pub lines-preserved : goal.lines-preserved
 lines-preserved g c = record {
   come = λ start s first.
       let come = c.lines.invariant.come start s first in
       let shape = c.shape-shape.ensures ∙ sym c.lines.invariant.shape ∙ come.is_at.link_at.shape in
-      goes_on g.V.Shelf.cloud_at start s c.lines.link c.answer_line-answered.new.link c.lines.jobs c.answer_line-answered.new.jobs c.lines.reader c.next_event-next.new.reader
+      goes_on g.V.Shelf.cloud_at start s c.lines.link c.answer_event-answered.new.link c.lines.jobs c.answer_event-answered.new.jobs c.lines.reader c.next_event-next.new.reader
       (g.S.Source.left c.lines.source) (g.S.Source.left c.next_event-next.new.source) (g.S.Source.faults c.lines.source) (g.S.Source.faults c.next_event-next.new.source)
-      (g.K.Sink.written c.lines.sink) (g.K.Sink.written c.answer_line-answered.new.sink) (g.K.Sink.faults c.lines.sink) (g.K.Sink.faults c.answer_line-answered.new.sink)
+      (g.K.Sink.written c.lines.sink) (g.K.Sink.written c.answer_event-answered.new.sink) (g.K.Sink.faults c.lines.sink) (g.K.Sink.faults c.answer_event-answered.new.sink)
       c.lines.events c.in-Ok-Some.event c.law_of_moments.ensures.later c.law_of_moments.ensures.here come
       (can_at c.shape-shape.result s.shape c.len.result (length c.lines.jobs) c.in-Ok-Some.field-0 c.in-Ok-Some.event shape c.len.ensures c.in-Ok-Some.field-0-is c.in-Ok-Some.ensures.can)
       (says_at c.shape-shape.result s.shape c.len.result (length c.lines.jobs) c.in-Ok-Some.field-0 (Some c.in-Ok-Some.event) c.lines.reader c.next_event-next.new.reader
       (g.S.Source.left c.lines.source) (g.S.Source.left c.next_event-next.new.source) shape c.len.ensures c.in-Ok-Some.field-0-is c.in-Ok-Some.ensures.says)
-      c.in-Ok-Some.ensures.still c.in-Ok.ensures.still c.in-Ok.ensures.answers c.answer_line-answered.ensures.leaves c.in-Ok.ensures.count;
-  shape = c.answer_line-answered.ensures.leaves.shape ∙ c.lines.invariant.shape;
-  reached = subst (λ (sh : Shape). AreReached sh c.answer_line-answered.new.jobs) c.lines.invariant.shape c.answer_line-answered.ensures.reached;
+      c.in-Ok-Some.ensures.still c.in-Ok.ensures.still c.in-Ok.ensures.answers c.answer_event-answered.ensures.leaves c.in-Ok.ensures.count;
+  shape = c.answer_event-answered.ensures.leaves.shape ∙ c.lines.invariant.shape;
+  reached = subst (λ (sh : Shape). AreReached sh c.answer_event-answered.new.jobs) c.lines.invariant.shape c.answer_event-answered.ensures.reached;
   few = subst (λ (n : ℕ). n ≤ 1000) (sym c.in-Ok.ensures.count) (few_after c.lines.link.servers.shape (length c.lines.jobs) c.in-Ok-Some.event
       (can_at c.shape-shape.result c.lines.link.servers.shape c.len.result (length c.lines.jobs) c.in-Ok-Some.field-0 c.in-Ok-Some.event
       (c.shape-shape.ensures ∙ sym c.lines.invariant.shape) c.len.ensures c.in-Ok-Some.field-0-is c.in-Ok-Some.ensures.can).fits c.lines.invariant.few);
   counted = (let more = said_some c.in-Ok-Some.field-0 c.in-Ok-Some.event (c.lines.reader.taken < c.next_event-next.new.reader.taken) c.in-Ok-Some.field-0-is c.in-Ok-Some.ensures.counted in
       let few = c.lines.invariant.counted in omega arith);
   limited = c.next_event-next.ensures.limited;
-  same_reference = c.answer_line-answered.ensures.same_reference ∙ c.lines.invariant.same_reference;
+  same_reference = c.answer_event-answered.ensures.same_reference ∙ c.lines.invariant.same_reference;
 }
 
 pub returns-in-Err-clause-replays : goal.returns-in-Err-clause-replays
