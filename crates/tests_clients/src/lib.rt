@@ -1,12 +1,10 @@
-//! Tests of uploads, lanes and restores over plain lists.
+//! Tests of restores over replies that were prepared.
 #![tactic(auto)]
 
 #[cfg(test)]
 mod any;
 #[cfg(test)]
 mod cases;
-#[cfg(test)]
-mod lane_steps_lanes;
 mod prepared;
 #[cfg(test)]
 mod restore_job_cases;
