@@ -11,7 +11,6 @@ use Rattle.cd_fakes.specs.declared.cloud.MemCloud.{MemCloud}
 use Rattle.mem_disk.specs.declared.disk.MemDisk.{MemDisk}
 use Rattle.mem_disk.specs.History.{DiskStep, Write, Sync, Empty, Crash, nothing, after, now_of, past_of}
 use Rattle.mem_disk.specs.StepsImage.{reads_image, nothing_image}
-use Rattle.mem_disk.specs.Crashed.{crashed}
 use Rattle.mem_disk.proofs.Filled.{crashed_image}
 use Rattle.mem_disk.specs.Disks.{history_of}
 use Rattle.cd_fakes.specs.Clouds.{cloud_of, Puts, Crashes}

@@ -5,4 +5,3 @@ pub mod Counts
 pub mod Shelves
 pub mod Streams
 pub mod Told
-pub mod Untold

@@ -5,7 +5,7 @@ ghost use Rattle.mem_disk.specs.CdEdges.area.Area.{Area};
 ghost use Rattle.mem_disk.specs.CdEdges.Causes.{HasCause};
 ghost use Rattle.mem_disk.specs.CdEdges.Shelf.{Writes, Syncs, Refreshes, Arms, ReadsFrom};
 ghost use Rattle.cd_fakes.specs.Counts.{counted_up, is_named};
-ghost use Rattle.mem_disk.specs.Areas.{FitsArea, damaged, area_of, held_of, log_of};
+ghost use Rattle.mem_disk.specs.Areas.{FitsArea, area_of, held_of, log_of};
 ghost use Rattle.mem_disk.specs.History.{Write, Sync, Empty, Crash};
 ghost use Rattle.mem_disk.specs.Disks.{history_of};
 ghost use Rattle.mem_disk.specs.Numbers.{number_of};
@@ -317,20 +317,5 @@ impl MemCloud {
         self.disk.crash(fill, whole);
         *left -= 1;
         true
-    }
-
-    /// Changes a byte that is in one of the area's ranges; elsewhere nothing changes. From then on the cloud tells
-    /// nothing.
-    pub fn set_byte(&mut self, area: Area, at: u64, byte: u8)
-        ensures rest { self.new ≡ record self.old { disk = self.new.disk } }
-        ensures told { self.new.disk.told ≡ false }
-        ensures held { held_of self.new.disk.areas area ≡ damaged (area_of self.old.disk.areas area) at byte }
-        ensures log { log_of self.new.disk.areas area ≡ log_of self.old.disk.areas area }
-        ensures room { (area_of self.new.disk.areas area).room ≡ (area_of self.old.disk.areas area).room }
-        ensures others { (other : Area) → other ≢ area
-            → area_of self.new.disk.areas other ≡ area_of self.old.disk.areas other }
-        ensures notes { self.new.disk.notes ≡ self.old.disk.notes }
-    {
-        self.disk.set_byte(area, at, byte);
     }
 }

@@ -8,7 +8,6 @@ mod shelf;
 mod sink;
 mod source;
 mod stream;
-mod untold;
 
 pub use cloud::MemCloud;
 pub use count::CallCount;
@@ -21,4 +20,3 @@ pub use shelf::MemShelf;
 pub use sink::MemSink;
 pub use source::MemSource;
 pub use stream::MemStream;
-pub use untold::UntoldShelf;

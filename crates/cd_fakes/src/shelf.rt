@@ -6,7 +6,7 @@ ghost use Rattle.mem_disk.specs.CdEdges.Causes.{HasCause};
 ghost use Rattle.mem_disk.specs.CdEdges.Shelf.{IsCall, HasFailed, KeepsCounts, Stays, Writes, Syncs, Refreshes, Arms, ReadsFrom};
 ghost use Rattle.cd_fakes.specs.declared.cloud.MemCloud.{MemCloud};
 ghost use Rattle.cd_fakes.specs.Counts.{counted_up};
-ghost use Rattle.mem_disk.specs.Areas.{damaged, area_of, held_of, log_of};
+ghost use Rattle.mem_disk.specs.Areas.{area_of, held_of, log_of};
 ghost use Rattle.mem_disk.specs.Disks.{history_of};
 ghost use Rattle.mem_disk.specs.Numbers.{number_of};
 ghost use Rattle.cd_fakes.specs.Clouds.{HasSpare, IsCallRefused, WriteFails, SyncFails, FreshFails, Puts, KeepsPart, CanCrash, Crashes};
@@ -104,24 +104,6 @@ impl MemShelf {
         ensures rest { (self.new.fails ≡ self.old.fails) × (self.new.total ≡ self.old.total) }
     {
         self.clouds[cloud.0 as usize].crash(&mut self.left, fill, whole)
-    }
-
-    /// Damages a byte that is in one of the area's ranges; elsewhere nothing changes. From then on the cloud tells
-    /// nothing.
-    pub fn set_byte(&mut self, cloud: CloudNo, area: Area, at: u64, byte: u8)
-        ensures told { AtBoth self.old.clouds.items self.new.clouds.items cloud.0 (λ m m'. m'.disk.told ≡ false) }
-        ensures held { AtBoth self.old.clouds.items self.new.clouds.items cloud.0 (λ m m'.
-            held_of m'.disk.areas area ≡ damaged (area_of m.disk.areas area) at byte) }
-        ensures others { AtBoth self.old.clouds.items self.new.clouds.items cloud.0 (λ m m'. (other : Area)
-            → other ≢ area → area_of m'.disk.areas other ≡ area_of m.disk.areas other) }
-        ensures counts { AtBoth self.old.clouds.items self.new.clouds.items cloud.0 (λ m m'. m'
-            ≡ record m { disk = m'.disk }) }
-        ensures others_stay { (other : ℕ) → other ≢ cloud.0
-            → slice_get self.new.clouds.items other ≡ slice_get self.old.clouds.items other }
-        ensures rest { (self.new.fails ≡ self.old.fails) × (self.new.left ≡ self.old.left)
-            × (self.new.total ≡ self.old.total) }
-    {
-        self.clouds[cloud.0 as usize].set_byte(area, at, byte);
     }
 
     // Counts a failure in all.

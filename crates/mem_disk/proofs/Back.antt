@@ -1,5 +1,5 @@
 -- What was written since the last sync, from the last note back.
-use Rattle.std.proofs.Common.{◌≡◌, ℕ, zero, suc, ◌+◌, ◌-◌, ◌<◌, Bool, true, false, not, cond, IsTrue, List, [], ◌∷◌, ◌++◌, length, take, get_or, refl, ◌∙◌, sym, ap, arith}
+use Rattle.std.proofs.Common.{◌≡◌, ℕ, suc, ◌+◌, ◌-◌, ◌<◌, Bool, true, false, not, cond, List, [], ◌∷◌, length, take, get_or, refl, ◌∙◌, sym, ap, arith}
 use Rattle.std.proofs.Math.Seq.{take-suc}
 use Rattle.cd_edges.specs.declared.area.Area.{Area}
 use Rattle.mem_disk.specs.declared.note.Note.{Note}

@@ -14,11 +14,11 @@ use Rattle.mem_disk.specs.declared.areas.MemAreas.{MemAreas}
 use Rattle.mem_disk.specs.declared.numbers.PerArea.{PerArea}
 use Rattle.mem_disk.specs.Areas.{joined, held, area_of, held_of, log_of}
 use Rattle.mem_disk.specs.Crashed.{is_in, filled_from, crashed, same_area, with_note, ranges_in}
-use Rattle.mem_disk.specs.History.{DiskStep, Write, Sync, Empty, Crash, meaning, history, all_lie, lies, with_area, nothing, after, now_of}
+use Rattle.mem_disk.specs.History.{DiskStep, Write, Sync, meaning, history, all_lie, lies, nothing, after, now_of}
 use Rattle.mem_disk.specs.Numbers.{number_of}
 use Rattle.mem_disk.specs.Tracks.{IsTracked, is_end, is_apart}
 use Rattle.mem_disk.proofs.Joined.{joined_long}
-use Rattle.mem_disk.proofs.Noted.{Grows, all_lie_more, history_grows, last_put, one_log, same_logs, lies_within, both_true, within_lies, one_area, all_areas}
+use Rattle.mem_disk.proofs.Noted.{Grows, all_lie_more, history_grows, last_put, one_log, lies_within, both_true, within_lies, one_area, all_areas}
 
 -- a note of which nothing but the logs' growth matters
 module _ (logs later : Image) (notes more : List Note) (note : Note) (lie : IsTrue (all_lie logs notes)) (grows : Grows logs later) (here : IsTrue (lies later note)) (noted : more ≡ notes ++ note ∷ []) where

@@ -1,10 +1,9 @@
 -- Two ranges as one list.
-use Rattle.std.proofs.Common.{◌≡◌, ◌⊎◌, inl, inr, ⊎_elim, ℕ, zero, suc, ◌+◌, ◌-◌, ◌<◌, ◌≤◌, max, min, Bool, true, false, cond, List, [], ◌∷◌, ◌++◌, length, take, drop, get_or, set, refl, ◌∙◌, sym, ap, arith, length-append, length-take, length-drop, append_assoc}
+use Rattle.std.proofs.Common.{◌≡◌, ◌⊎◌, inl, inr, ⊎_elim, ℕ, ◌+◌, ◌-◌, ◌<◌, ◌≤◌, List, [], ◌∷◌, ◌++◌, length, get_or, refl, ◌∙◌, sym, ap, arith, length-append}
 use Rattle.std.specs.Prelude.{replicate}
 use Rattle.std.proofs.lemmas.Bool.{cases_lt}
-use Rattle.std.proofs.lemmas.List.{ext_get_or, get_or_append_left, get_or-append_right, get_or_past, get_or-replicate, length-replicate, get_or-set_same, get_or-set_other, drop-append-le, take-append-le}
+use Rattle.std.proofs.lemmas.List.{ext_get_or, get_or_append_left, get_or-append_right, get_or_past, get_or-replicate, length-replicate}
 use Rattle.cd_edges.specs.Disk.{overwritten}
-use Rattle.cd_edges.specs.Shelf.{ReadsFrom}
 use Rattle.cd_edges.proofs.Overwritten.{length-overwritten, overwritten_before, overwritten_inside, overwritten_after}
 use Rattle.mem_disk.specs.Areas.{joined}
 
@@ -98,44 +97,3 @@ module _ (first : List ℕ) (second : ℕ) (apart : length first ≤ second) (at
     where
       long : length (joined first second (overwritten high (at - second) bytes)) ≡ second + length (overwritten high (at - second) bytes)
       long = joined_long first second apart (overwritten high (at - second) bytes) (omega (arith, from, some, length-overwritten high (at - second) bytes))
-
-length-set : (l : List ℕ) (i byte : ℕ) → length (set l i byte) ≡ length l
-length-set [] i byte = refl
-length-set (x ∷ xs) zero byte = refl
-length-set (x ∷ xs) (suc i) byte = ap suc (length-set xs i byte)
-
-set_left : (xs ys : List ℕ) (i byte : ℕ) → i < length xs → set (xs ++ ys) i byte ≡ set xs i byte ++ ys
-set_left [] ys i byte within = absurd (omega (arith, within))
-set_left (x ∷ xs) ys zero byte within = refl
-set_left (x ∷ xs) ys (suc i) byte within = ap (λ (l : List ℕ). x ∷ l) (set_left xs ys i byte (omega (arith, within)))
-
-set_right : (xs ys : List ℕ) (i byte : ℕ) → length xs ≤ i → set (xs ++ ys) i byte ≡ xs ++ set ys (i - length xs) byte
-set_right [] ys i byte past = ap (λ (n : ℕ). set ys n byte) (omega arith)
-set_right (x ∷ xs) ys zero byte past = absurd (omega (arith, past))
-set_right (x ∷ xs) ys (suc i) byte past = ap (λ (l : List ℕ). x ∷ l) (set_right xs ys i byte (omega (arith, past)) ∙ ap (λ (n : ℕ). xs ++ set ys n byte) (omega arith))
-
--- a byte of the first range
-pub set_first : (first : List ℕ) (second : ℕ) (high : List ℕ) (at byte : ℕ) → at < length first → joined (set first at byte) second high ≡ set (joined first second high) at byte
-set_first first second [] at byte within = refl
-set_first first second (x ∷ xs) at byte within =
-    ap (λ (n : ℕ). set first at byte ++ (replicate (second - n) 0 ++ x ∷ xs)) (length-set first at byte) ∙ sym (set_left first (replicate (second - length first) 0 ++ x ∷ xs) at byte within)
-
--- a byte of the second one
-pub set_second : (first : List ℕ) (second : ℕ) (high : List ℕ) (at byte : ℕ) → length first ≤ second → second ≤ at → at - second < length high → joined first second (set high (at - second) byte) ≡ set (joined first second high) at byte
-set_second first second [] at byte apart from within = absurd (omega (arith, within))
-set_second first second (x ∷ xs) at byte apart from within = cons (at - second) (omega (arith, from))
-  where
-    cons : (n : ℕ) → at ≡ second + n → joined first second (set (x ∷ xs) n byte) ≡ set (joined first second (x ∷ xs)) at byte
-    cons n is = shape n ∙ sym (ap (λ (k : ℕ). set (joined first second (x ∷ xs)) k byte) is ∙ moved n)
-      where
-        zeros : List ℕ
-        zeros = replicate (second - length first) 0
-
-        moved : (n : ℕ) → set (joined first second (x ∷ xs)) (second + n) byte ≡ first ++ (zeros ++ set (x ∷ xs) n byte)
-        moved n = set_right first (zeros ++ x ∷ xs) (second + n) byte (omega (arith, apart))
-            ∙ ap (λ (l : List ℕ). first ++ l) (set_right zeros (x ∷ xs) (second + n - length first) byte (omega (arith, apart, length-replicate {A = ℕ} (second - length first) 0))
-            ∙ ap (λ (k : ℕ). zeros ++ set (x ∷ xs) k byte) (omega (arith, apart, length-replicate {A = ℕ} (second - length first) 0)))
-
-        shape : (n : ℕ) → joined first second (set (x ∷ xs) n byte) ≡ first ++ (zeros ++ set (x ∷ xs) n byte)
-        shape zero = refl
-        shape (suc n) = refl

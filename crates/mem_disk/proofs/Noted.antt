@@ -6,12 +6,11 @@ use Rattle.std.proofs.lemmas.Bool.Decides.{nat_tests}
 use Rattle.std.proofs.lemmas.Bool.{false≢true}
 use Rattle.cd_edges.specs.declared.area.Area.{Area}
 use Rattle.cd_edges.specs.declared.area.Area.TheVariants.{Journal, Shares, Recipes}
-use Rattle.cd_edges.specs.Disk.{Store, Areas, Image, overwritten}
-use Rattle.cd_edges.specs.Shelf.{wrote, stable}
+use Rattle.cd_edges.specs.Disk.{Store, Areas, Image}
 use Rattle.cd_edges.proofs.Shrinks.{area_cases}
 use Rattle.mem_disk.specs.declared.note.Note.{Note}
 use Rattle.mem_disk.specs.declared.note.Note.TheVariants.{Wrote, Synced, Emptied, Crashed}
-use Rattle.mem_disk.specs.History.{DiskStep, Write, Sync, Empty, meaning, history, lies, all_lie, with_area, nothing, after, now_of, past_of}
+use Rattle.mem_disk.specs.History.{DiskStep, Write, meaning, history, lies, all_lie, with_area, nothing, after, now_of, past_of}
 
 -- every log has grown, or not
 abbrev pub Grows : Image → Image → Type 0

@@ -1,7 +1,7 @@
 -- What is read of two ranges.
-use Rattle.std.proofs.Common.{◌≡◌, ◌⊎◌, inl, inr, ℕ, ◌+◌, ◌-◌, ◌<◌, ◌≤◌, min, List, [], ◌∷◌, ◌++◌, length, take, drop, get_or, refl, ◌∙◌, sym, ap, subst, arith, length-append, length-take, length-drop, get_or-take, get_or-drop}
+use Rattle.std.proofs.Common.{◌≡◌, ◌⊎◌, inl, inr, ℕ, ◌+◌, ◌-◌, ◌<◌, ◌≤◌, min, List, [], ◌∷◌, ◌++◌, length, take, drop, get_or, ◌∙◌, sym, ap, subst, arith, length-append, length-take, length-drop, get_or-take, get_or-drop}
 use Rattle.std.specs.Prelude.{replicate}
-use Rattle.std.proofs.lemmas.List.{ext_get_or, length-replicate, drop-append-le, take-append-le}
+use Rattle.std.proofs.lemmas.List.{ext_get_or, drop-append-le, take-append-le}
 use Rattle.cd_edges.specs.Shelf.{ReadsFrom}
 use Rattle.mem_disk.specs.Areas.{joined}
 use Rattle.mem_disk.proofs.Joined.{joined_long, joined_none, joined_above}

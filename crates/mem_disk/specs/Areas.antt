@@ -1,5 +1,5 @@
 -- Areas in memory.
-use Rattle.std.specs.Prelude.{◌⊎◌, ℕ, ◌+◌, ◌-◌, ◌<◌, ◌≤◌, Bool, true, false, cond, nat_le, nat_lt, IsTrue, List, [], ◌∷◌, ◌++◌, length, replicate, slice_set, vec_len}
+use Rattle.std.specs.Prelude.{◌⊎◌, ℕ, ◌+◌, ◌-◌, ◌<◌, ◌≤◌, Bool, false, cond, nat_le, IsTrue, List, [], ◌∷◌, ◌++◌, length, replicate, vec_len}
 use Rattle.cd_edges.specs.declared.area.Area.{Area}
 use Rattle.cd_edges.specs.declared.area.Area.TheVariants.{Journal, Shares, Recipes}
 use Rattle.mem_disk.specs.declared.area.MemArea.{MemArea}
@@ -21,14 +21,6 @@ has_place area at len = cond (nat_le (at + len) area.second) (nat_le (at + len) 
 -- so many bytes fit at the place, and into the log
 abbrev pub FitsArea : MemArea → ℕ → ℕ → Type 0
 FitsArea area at len = IsTrue (has_place area at len) × (vec_len area.log + len ≤ area.room)
-
--- one of the ranges has the byte at the place
-abbrev pub has_byte : MemArea → ℕ → Bool
-has_byte area at = cond (nat_lt at (vec_len area.bytes)) true (cond (nat_le area.second at) (nat_lt (at - area.second) (vec_len area.high)) false)
-
--- with this byte at the place, where one of the ranges has it
-abbrev pub damaged : MemArea → ℕ → ℕ → List ℕ
-damaged area at byte = cond (has_byte area at) (slice_set (held area) at byte) (held area)
 
 -- an end in one of the ranges, and not between them
 abbrev pub EndsIn : MemArea → ℕ → Type 0

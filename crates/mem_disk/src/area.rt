@@ -1,6 +1,6 @@
 //! One area in memory: two ranges of bytes, and a log of what was written into them.
 
-ghost use Rattle.std.specs.Prelude.{◌≡◌, ◌↔◌, ◌⊎◌, ℕ, ◌+◌, ◌-◌, ◌^◌, ◌≤◌, ◌<◌, List, [], ◌∷◌, ◌++◌, IsTrue, IfOk, false, vec_len, vec_capacity, length, take, cond, nat_le, slice_set, slice_index};
+ghost use Rattle.std.specs.Prelude.{◌≡◌, ◌↔◌, ◌⊎◌, ℕ, ◌+◌, ◌-◌, ◌^◌, ◌≤◌, ◌<◌, List, [], ◌∷◌, ◌++◌, IsTrue, IfOk, false, vec_len, vec_capacity, length, take, cond, nat_le, slice_index};
 ghost use Rattle.cd_edges.specs.Disk.{overwritten};
 ghost use Rattle.cd_edges.specs.Shelf.{ReadsFrom};
 ghost use Rattle.mem_disk.specs.Crashed.{is_in, filled_from, same_area};
@@ -97,7 +97,7 @@ fn is_same(one: Area, other: Area) -> bool
 }
 
 impl MemArea {
-    ghost use Rattle.mem_disk.specs.Areas.{FitsArea, EndsIn, LiesInRanges, damaged, held};
+    ghost use Rattle.mem_disk.specs.Areas.{FitsArea, EndsIn, LiesInRanges, held};
     ghost use Rattle.mem_disk.specs.Crashed.{with_note, ranges_in, left_by};
 
     /// An empty area whose ranges and log have this room each.
@@ -224,20 +224,6 @@ impl MemArea {
     {
         self.bytes.clear();
         self.high.clear();
-    }
-
-    /// Changes a byte that is in one of the ranges; elsewhere nothing changes.
-    pub fn set_byte(&mut self, at: u64, byte: u8)
-        ensures room { self.new.room ≡ self.old.room }
-        ensures second { self.new.second ≡ self.old.second }
-        ensures held { held self.new ≡ damaged self.old at byte }
-        ensures log { self.new.log.items ≡ self.old.log.items }
-    {
-        if at < self.bytes.len() as u64 {
-            self.bytes[at as usize] = byte;
-        } else if self.second <= at && at - self.second < self.high.len() as u64 {
-            self.high[(at - self.second) as usize] = byte;
-        }
     }
 
     // Fills so many bytes from a place, as far as they are in the ranges.

@@ -28,7 +28,7 @@ pub struct MemAreas {
 }
 
 impl MemAreas {
-    ghost use Rattle.mem_disk.specs.Areas.{FitsArea, EndsIn, LiesInRanges, damaged, area_of, held_of, log_of};
+    ghost use Rattle.mem_disk.specs.Areas.{FitsArea, EndsIn, LiesInRanges, area_of, held_of, log_of};
     ghost use Rattle.mem_disk.specs.Numbers.{number_of};
     ghost use Rattle.mem_disk.specs.Crashed.{ranges_in, left_by};
 
@@ -95,20 +95,6 @@ impl MemAreas {
         self.journal.empty();
         self.shares.empty();
         self.recipes.empty();
-    }
-
-    /// Changes a byte that is in one of the area's ranges; elsewhere nothing changes.
-    pub fn set_byte(&mut self, area: Area, at: u64, byte: u8)
-        ensures room { (area_of self.new area).room ≡ (area_of self.old area).room }
-        ensures held { held_of self.new area ≡ damaged (area_of self.old area) at byte }
-        ensures log { log_of self.new area ≡ log_of self.old area }
-        ensures others { (other : Area) → other ≢ area → area_of self.new other ≡ area_of self.old other }
-    {
-        match area {
-            Area::Journal => self.journal.set_byte(at, byte),
-            Area::Shares => self.shares.set_byte(at, byte),
-            Area::Recipes => self.recipes.set_byte(at, byte),
-        }
     }
 
     /// Leaves each as a crash leaves it, by the notes and the synced lengths. The logs stay.

@@ -1,9 +1,9 @@
 //! The areas of a cloud, and the notes that lead to them.
 
-ghost use Rattle.std.specs.Prelude.{◌≡◌, ◌≢◌, ℕ, ◌+◌, ◌≤◌, ◌<◌, List, [], ◌∷◌, ◌++◌, length, IfOk, IsTrue, vec_len, vec_capacity, cond, slice_set, false};
+ghost use Rattle.std.specs.Prelude.{◌≡◌, ◌≢◌, ℕ, ◌+◌, ◌≤◌, ◌<◌, List, [], ◌∷◌, ◌++◌, length, IfOk, IsTrue, vec_len, vec_capacity};
 ghost use Rattle.cd_edges.specs.declared.area.Area.{Area};
 ghost use Rattle.cd_edges.specs.Disk.{overwritten};
-ghost use Rattle.mem_disk.specs.Areas.{FitsArea, damaged, area_of, held_of, log_of};
+ghost use Rattle.mem_disk.specs.Areas.{FitsArea, area_of, held_of, log_of};
 ghost use Rattle.mem_disk.specs.History.{history, all_lie, now_of, nothing, Write, Sync, Empty, Crash};
 ghost use Rattle.mem_disk.specs.Numbers.{number_of};
 ghost use Rattle.mem_disk.specs.Tracks.{IsTracked};
@@ -16,7 +16,7 @@ use std::alloc::Global;
 /// notes.
 #[derive(Drop)]
 pub struct MemDisk {
-    /// Whether the areas are what the notes lead to: until a byte is damaged.
+    /// Whether the disk is one that is there, and tells what it holds.
     pub told: bool,
     pub areas: MemAreas,
     pub notes: Vec<Note>,
@@ -128,20 +128,5 @@ impl MemDisk {
         self.areas.crash(&self.notes, self.synced, fill, whole);
         self.synced = self.areas.lens();
         add_note(&mut self.notes, Note::Crashed { fill, whole });
-    }
-
-    /// Changes a byte that is in one of the area's ranges; elsewhere nothing changes. From then on the areas aren't
-    /// what the notes lead to.
-    pub fn set_byte(&mut self, area: Area, at: u64, byte: u8)
-        ensures history { history_of self.new ≡ history_of self.old }
-        ensures told { self.new.told ≡ false }
-        ensures room { (area_of self.new.areas area).room ≡ (area_of self.old.areas area).room }
-        ensures held { held_of self.new.areas area ≡ damaged (area_of self.old.areas area) at byte }
-        ensures log { log_of self.new.areas area ≡ log_of self.old.areas area }
-        ensures others { (other : Area) → other ≢ area → area_of self.new.areas other ≡ area_of self.old.areas other }
-        ensures notes { self.new.notes ≡ self.old.notes }
-    {
-        self.told = false;
-        self.areas.set_byte(area, at, byte);
     }
 }

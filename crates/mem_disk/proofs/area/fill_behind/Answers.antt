@@ -1,4 +1,4 @@
-use Rattle.std.proofs.Common.{◌≡◌, ◌∙◌, ◌+◌, ◌-◌, ◌∷◌, [], ℕ, List, rules, ap}
+use Rattle.std.proofs.Common.{◌≡◌, ◌∙◌, ◌+◌, ◌-◌, ◌∷◌, [], rules}
 use Rattle.mem_disk.specs.Crashed.{filled_from}
 use Rattle.mem_disk.proofs.Filled.{filled_shifted}
 use Rattle.mem_disk.proofs.area.fill_behind.Goals as goal

@@ -1,4 +1,4 @@
-use Rattle.std.proofs.Common.{◌≡◌, ◌∙◌, ◌-◌, ℕ, length, get_or, subst, arith}
+use Rattle.std.proofs.Common.{◌∙◌, ◌-◌, ℕ, length, get_or, subst, arith}
 use Rattle.cd_edges.specs.declared.area.Area.TheVariants.{Journal}
 use Rattle.mem_disk.specs.declared.note.Note.{Note}
 use Rattle.mem_disk.specs.declared.note.Note.TheVariants.{Wrote}

@@ -1,7 +1,7 @@
-use Rattle.std.proofs.Common.{◌≡◌, ◌∙◌, ◌+◌, ◌≤◌, ◌<◌, Bool, true, false, ℕ, List, length, ap, sym, arith}
+use Rattle.std.proofs.Common.{◌≡◌, ◌∙◌, ◌+◌, ◌≤◌, ◌<◌, true, false, ℕ, List, length, ap, sym, arith}
 use Rattle.std.specs.Prelude.{nat_le}
 use Rattle.std.proofs.lemmas.Bool.Decides.{nat_tests}
-use Rattle.mem_disk.specs.Areas.{joined, held, has_place}
+use Rattle.mem_disk.specs.Areas.{joined}
 use Rattle.mem_disk.proofs.Joined.{put_first, put_second}
 use Rattle.mem_disk.proofs.area.MemArea.put.Goals as goal
 
