@@ -1,12 +1,13 @@
 //! Checkpoints that are written, in either half.
 
-use cd_base::{CloudNo, Shape};
+use cd_base::{CloudNo, NoMemory, Shape};
 use cd_edges::{Area, Failed, Shelf};
 use cd_fakes::MemShelf;
 use commit_journal::CheckpointWriter;
 use journal_halves::HALF_LEN;
 use journal_start::{Checkpoint, Header, Start, UserRooms};
 use mem_disk::Note;
+use std::alloc::Global;
 use std::test::Fail;
 
 const ZERO: CloudNo = CloudNo(0);
@@ -79,6 +80,10 @@ fn bytes_of<V: Shelf>(shelf: &mut V, half: u8) -> Result<[u8; 76], Failed> {
     Ok(out)
 }
 
+fn len(shelf: &mut MemShelf) -> Option<u64> {
+    shelf.len(ZERO, Area::Journal).ok()
+}
+
 // How many calls on the cloud came, and how many writes and syncs of them were Ok.
 fn calls(shelf: &MemShelf) -> (u64, u32, u32) {
     let mut writes = 0u32;
@@ -96,55 +101,83 @@ fn calls(shelf: &MemShelf) -> (u64, u32, u32) {
     (cloud.calls, writes, syncs)
 }
 
+// Whether a checkpoint in a half, written twice, has these bytes each time, by so many calls: a read of the first place; a 0 there and
+// a sync; the piece, a sync, the gate, a sync. An open gate is closed again.
+fn is_written_twice(writer: &mut CheckpointWriter, shelf: &mut MemShelf, half: u8) -> bool {
+    let (before, writes, syncs) = calls(shelf);
+    let mut well = true;
+    for _ in 0..2 {
+        well = write_two(writer, shelf, half).is_ok() && well;
+    }
+    let made = calls(shelf)
+        == (
+            before.saturating_add(14),
+            writes.saturating_add(6),
+            syncs.saturating_add(6),
+        );
+    let end = first_of(half).saturating_add(76);
+    well && made && bytes_of(shelf, half) == Ok(WRITTEN) && len(shelf) == Some(end)
+}
+
+fn in_each_half(alloc: Global, shelf: &mut MemShelf) -> Result<bool, NoMemory> {
+    let mut writer = CheckpointWriter::make(alloc)?;
+    let first = is_written_twice(&mut writer, shelf, 0);
+    Ok(first && is_written_twice(&mut writer, shelf, 1))
+}
+
 #[test]
 fn a_checkpoint_in_bytes(rt: HostRuntime) -> Result<(), Fail> {
-    let mut shelf = MemShelf::of(rt.alloc(), 1, 200, 100, &[])?;
-    let mut writer = CheckpointWriter::make(rt.alloc())?;
-    for half in 0..2u8 {
-        assert_eq!(rt; write_two(&mut writer, &mut shelf, half), Ok(()));
-        assert_eq!(rt; bytes_of(&mut shelf, half), Ok(WRITTEN));
-        assert_eq!(rt;
-            shelf.len(ZERO, Area::Journal),
-            Ok(first_of(half).saturating_add(76))
-        );
-    }
+    let mut shelf = MemShelf::of(rt.alloc(), 1, 400, 100, &[])?;
+    let well = in_each_half(rt.alloc(), &mut shelf);
+    drop(shelf);
+    assert!(rt; well?);
     Ok(())
 }
 
-// A read of the first place; a 0 there and a sync; the piece, a sync, the gate, a sync. An open gate is closed again.
-#[test]
-fn how_many_calls(rt: HostRuntime) -> Result<(), Fail> {
-    for half in 0..2u8 {
-        let mut shelf = MemShelf::of(rt.alloc(), 1, 200, 100, &[])?;
-        let mut writer = CheckpointWriter::make(rt.alloc())?;
-        assert_eq!(rt; write_two(&mut writer, &mut shelf, half), Ok(()));
-        assert_eq!(rt; calls(&shelf), (7, 3, 3));
-        assert_eq!(rt; write_two(&mut writer, &mut shelf, half), Ok(()));
-        assert_eq!(rt; calls(&shelf), (14, 6, 6));
+// How many records of 65,535 bytes there are, and by how many writes they go out. What waits goes out where the next record has no
+// room behind it in 4 MiB: 63 records of 65,540 bytes and the start are less, 64 are more.
+static PIECES: [(u32, u32); 3] = [(63, 3), (64, 4), (65, 4)];
+
+// Whether so many records go out by so many writes.
+fn goes_out(
+    writer: &mut CheckpointWriter,
+    shelf: &mut MemShelf,
+    body: &[u8],
+    row: (u32, u32),
+) -> bool {
+    let (records, wanted) = row;
+    let (_, before, _) = calls(shelf);
+    let mut well = writer.turn(shelf, ZERO, 0, &start(records)).is_ok();
+    for _ in 0..records {
+        well = lay(writer, shelf, body).is_ok() && well;
     }
-    Ok(())
+    let used = records as u64 * 65_540 + 63;
+    let counted = writer.used() == used;
+    well = settle(writer, shelf).is_ok() && well && counted;
+    let (_, writes, _) = calls(shelf);
+    well && writes.saturating_sub(before) == wanted && len(shelf) == Some(used)
 }
 
-// What waits goes out where the next record has no room behind it in 4 MiB: 63 records of 65,540 bytes and the start are
-// less, 64 are more.
+// Whether each row goes out so, over an area that is made empty before it.
+fn all_go_out(writer: &mut CheckpointWriter, shelf: &mut MemShelf, body: &[u8]) -> bool {
+    let mut well = true;
+    for row in &PIECES {
+        well = shelf.fresh(ZERO).is_ok() && goes_out(writer, shelf, body, *row) && well;
+    }
+    well
+}
+
+fn in_pieces(alloc: Global, shelf: &mut MemShelf) -> Result<bool, NoMemory> {
+    let body = vec![in alloc; 5u8; 65_535]?;
+    let mut writer = CheckpointWriter::make(alloc)?;
+    Ok(all_go_out(&mut writer, shelf, &body))
+}
+
 #[test]
 fn pieces_of_4_mib(rt: HostRuntime) -> Result<(), Fail> {
-    let body = vec![in rt.alloc(); 5u8; 65_535]?;
-    for (records, writes) in [(63u32, 3), (64, 4), (65, 4)] {
-        let mut shelf = MemShelf::of(rt.alloc(), 1, 5_000_000, 20, &[])?;
-        let mut writer = CheckpointWriter::make(rt.alloc())?;
-        let _ = writer.turn(&mut shelf, ZERO, 0, &start(records));
-        for _ in 0..records {
-            assert_eq!(rt; lay(&mut writer, &mut shelf, &body), Ok(()));
-        }
-        assert_eq!(rt; writer.used(), records as u64 * 65_540 + 63);
-        assert_eq!(rt; settle(&mut writer, &mut shelf), Ok(()));
-        let (_, found, _) = calls(&shelf);
-        assert_eq!(rt; found, writes);
-        assert_eq!(rt;
-            shelf.len(ZERO, Area::Journal),
-            Ok(records as u64 * 65_540 + 63)
-        );
-    }
+    let mut shelf = MemShelf::of(rt.alloc(), 1, 15_000_000, 60, &[])?;
+    let well = in_pieces(rt.alloc(), &mut shelf);
+    drop(shelf);
+    assert!(rt; well?);
     Ok(())
 }
