@@ -1,6 +1,5 @@
 pub mod ByKind
 pub mod RequestLaws
 pub mod ReplyLaws
-pub mod Copying
 pub mod Frames
 pub mod MessageFields

@@ -2,7 +2,7 @@
 
 ghost use Rattle.std.specs.Prelude.{◌≡◌, IfOk};
 
-use message_fields::{Bytes, Fps, FpsView, NoMemory, ShareList, SharesView};
+use message_fields::{Bytes, NoMemory, ShareList, SharesView};
 use std::alloc::Global;
 
 /// A copy of bytes.
@@ -11,20 +11,6 @@ pub fn bytes_copy(alloc: Global, bytes: &[u8]) -> Result<Bytes, NoMemory>
 {
     let mut copy = Bytes::new(alloc);
     copy.extend(bytes)?;
-    Ok(copy)
-}
-
-/// A copy of fingerprints.
-pub fn fps_copy(alloc: Global, view: &FpsView<'_>) -> Result<Fps, NoMemory>
-    ensures { IfOk result (λ copy. copy ≡ view.now) }
-{
-    let mut copy = Fps::new(alloc);
-    for place in 0..view.len() {
-        match view.get(place) {
-            Some(fp) => copy.push(fp)?,
-            None => return Ok(copy),
-        }
-    }
     Ok(copy)
 }
 

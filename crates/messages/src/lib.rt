@@ -8,7 +8,6 @@ mod reply_reading;
 mod reply_view;
 mod reply_writing;
 mod request;
-mod request_reading;
 mod request_writing;
 mod view;
 

@@ -7,14 +7,11 @@ ghost use Rattle.frames.specs.Frames.{frame_limit};
 ghost use Rattle.message_fields.specs.Fingerprints.{batch_limit};
 ghost use Rattle.message_fields.specs.Shares.{share_bytes, share_limit};
 ghost use Rattle.message_fields.specs.Keys.{key_bytes, key_limit};
-ghost use Rattle.messages.specs.Requests.{AreFew};
 ghost use Rattle.messages.specs.declared.reply.Reply.TheVariants as replies;
 ghost use Rattle.messages.specs.Replies.{IsReply, IsWritableReply, reply_bytes, room_number};
 
-use crate::Reply;
-use crate::request_writing::are_few;
-use frames::{FRAME_LIMIT, ReplyBuf};
-use message_fields::{BATCH_LIMIT, Bytes, Fp, KEY_LIMIT, Room, Tag, Version};
+use frames::ReplyBuf;
+use message_fields::{Fp, Room, Tag, Version};
 
 // The kind of a reply that is a list, and the number of its items.
 fn write_head(out: &mut ReplyBuf, kind: u8, count: usize)
@@ -52,16 +49,6 @@ pub fn append_share(out: &mut ReplyBuf, share: &[u8])
 {
     out.put(&(share.len() as u32).to_be_bytes());
     out.put(share);
-}
-
-fn append_each_share(out: &mut ReplyBuf, shares: &[Bytes])
-    requires few { All (λ share. length share ≤ share_limit) shares.now }
-    requires room { length out.old + length shares.now * (4 + share_limit) ≤ frame_limit }
-    ensures { out.new ≡ out.old ++ flat_map share_bytes shares.now }
-{
-    for share in shares {
-        append_share(out, share.as_slice());
-    }
 }
 
 fn append_key(out: &mut ReplyBuf, key: &(Tag, Version))
@@ -240,82 +227,4 @@ pub fn write_deleted(out: &mut ReplyBuf)
 {
     out.clear();
     out.put(&[0x92]);
-}
-
-impl Reply {
-    /// Whether no list is longer than one message has it, 256 items and shares of 8,208 bytes, and a recipe fits a frame with its
-    /// kind.
-    pub fn is_writable(&self) -> bool
-        ensures { IsTrue result ↔ IsWritableReply self.now }
-    {
-        match self {
-            Reply::Known { flags } => flags.len() <= BATCH_LIMIT,
-            Reply::Recipe { bytes } => bytes.len() < FRAME_LIMIT,
-            Reply::Shares { shares } => are_few(shares.as_slice()),
-            Reply::Entries { entries } => entries.len() <= KEY_LIMIT,
-            Reply::Hello { .. } => true,
-            Reply::Stored { .. } => true,
-            Reply::Committed => true,
-            Reply::Exists => true,
-            Reply::Lacking { .. } => true,
-            Reply::Missing => true,
-            Reply::NotYours { .. } => true,
-            Reply::Full { .. } => true,
-            Reply::Fault => true,
-            Reply::Damaged { .. } => true,
-            Reply::Rotten { .. } => true,
-            Reply::Malformed { .. } => true,
-            Reply::NoMemory => true,
-            Reply::Deleted => true,
-        }
-    }
-
-    /// Makes the one spelling of the reply the content. It takes no memory. It asks that no list is longer than one message has
-    /// it, 256 items and shares of 8,208 bytes, and that a recipe has less than 4,194,304 bytes. A reply whose other fields keep
-    /// their ranges too is read again.
-    pub fn write(&self, out: &mut ReplyBuf)
-        requires { IsWritableReply self.now }
-        ensures { out.new ≡ reply_bytes self.now }
-    {
-        match self {
-            Reply::Hello {
-                n,
-                k,
-                cloud,
-                format,
-            } => write_hello(out, *n, *k, *cloud, *format),
-            Reply::Known { flags } => {
-                begin_known(out, flags.len());
-                out.put(flags.as_slice());
-            }
-            Reply::Stored { new } => {
-                out.clear();
-                out.put(&[0x83]);
-                out.put(&new.to_be_bytes());
-            }
-            Reply::Committed => write_committed(out),
-            Reply::Exists => write_exists(out),
-            Reply::Lacking { place } => write_lacking(out, *place),
-            Reply::Recipe { bytes } => write_recipe(out, bytes.as_slice()),
-            Reply::Missing => write_missing(out),
-            Reply::Shares { shares } => {
-                begin_shares(out, shares.len());
-                append_each_share(out, shares.as_slice());
-            }
-            Reply::NotYours { place } => write_not_yours(out, *place),
-            Reply::Entries { entries } => write_entries(out, entries.as_slice()),
-            Reply::Full {
-                room,
-                used,
-                need,
-                limit,
-            } => write_full(out, *room, *used, *need, *limit),
-            Reply::Fault => write_fault(out),
-            Reply::Damaged { at, byte } => write_damaged(out, *at, *byte),
-            Reply::Rotten { named, found } => write_rotten(out, *named, *found),
-            Reply::Malformed { at } => write_malformed(out, *at),
-            Reply::NoMemory => write_no_memory(out),
-            Reply::Deleted => write_deleted(out),
-        }
-    }
 }

@@ -20,7 +20,7 @@ fn are_short(shares: &[Bytes]) -> bool
 }
 
 /// Whether there are no more shares than one message has, and none is too long.
-pub fn are_few(shares: &[Bytes]) -> bool
+fn are_few(shares: &[Bytes]) -> bool
     ensures { IsTrue result ↔ AreFew shares.now }
 {
     shares.len() <= BATCH_LIMIT && are_short(shares)

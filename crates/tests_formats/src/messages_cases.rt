@@ -1,20 +1,17 @@
 //! Contents written out by hand, both ways.
 
-use cd_base::{Bytes, NoMemory};
+use cd_base::{Bytes, NoMemory, Room, Tag, UserId, Version};
 use frames::ReplyBuf;
-use messages::{MsgErr, Reply, Request};
+use messages::{MsgErr, Reply, Request, RequestView, write_full};
 use std::alloc::Global;
 use std::test::Fail;
 
 // Where a request is malformed, if it is.
-fn request_fault(alloc: Global, content: &[u8]) -> Option<u32> {
+fn request_fault(content: &[u8]) -> Option<u32> {
     if content.len() > 4_194_304 {
         return None;
     }
-    match Request::read(alloc, content) {
-        Err(MsgErr::Malformed { at }) => Some(at),
-        _ => None,
-    }
+    RequestView::check(content).err()
 }
 
 // Where a reply is malformed, if it is.
@@ -28,37 +25,13 @@ fn reply_fault(alloc: Global, content: &[u8]) -> Option<u32> {
     }
 }
 
+// The bytes that a request is written as.
 fn written(alloc: Global, request: &Request) -> Result<Bytes, NoMemory> {
     let mut out = Bytes::new(alloc);
     if request.is_writable() {
         request.write(&mut out)?;
     }
     Ok(out)
-}
-
-// A request's content is read, and written again.
-fn request_again(alloc: Global, content: &[u8]) -> Result<bool, NoMemory> {
-    if content.len() > 4_194_304 {
-        return Ok(false);
-    }
-    match Request::read(alloc, content) {
-        Ok(request) => Ok(written(alloc, &request)?.as_slice() == content),
-        Err(_) => Ok(false),
-    }
-}
-
-// A reply's content is read, and written again.
-fn reply_again(alloc: Global, content: &[u8]) -> Result<bool, NoMemory> {
-    if content.len() > 4_194_304 {
-        return Ok(false);
-    }
-    let mut out = ReplyBuf::make(alloc)?;
-    if let Ok(reply) = Reply::read(alloc, content) {
-        if reply.is_writable() {
-            reply.write(&mut out);
-        }
-    }
-    Ok(out.content() == content)
 }
 
 // The pieces as one content.
@@ -85,27 +58,45 @@ const REQUESTS: [&[&[u8]]; 8] = [
     &[&[8], USER, &[0xc3; 32], NUMBER],
 ];
 
-// Whether these pieces are a request.
-fn is_request(alloc: Global, pieces: &[&[u8]]) -> Result<bool, NoMemory> {
-    let all = joined(alloc, pieces)?;
-    request_again(alloc, all.as_slice())
-}
-
 // Where these pieces are no request.
 fn request_fault_of(alloc: Global, pieces: &[&[u8]]) -> Result<Option<u32>, NoMemory> {
     let all = joined(alloc, pieces)?;
-    Ok(request_fault(alloc, all.as_slice()))
+    Ok(request_fault(all.as_slice()))
+}
+
+// Whether the request is written as these pieces.
+fn is_written(alloc: Global, request: &Request, pieces: &[&[u8]]) -> Result<bool, NoMemory> {
+    let all = joined(alloc, pieces)?;
+    Ok(written(alloc, request)?.as_slice() == all.as_slice())
 }
 
 #[test]
 fn each_request(rt: HostRuntime) -> Result<(), Fail> {
     let a = rt.alloc();
     for pieces in REQUESTS {
-        assert!(rt; is_request(a, pieces)?);
+        assert_eq!(rt; request_fault_of(a, pieces)?, None);
     }
-    assert!(rt; is_request(a, &[&[4], USER, &[0xc3; 32], NUMBER, &[5, 6]])?);
+    let whole = request_fault_of(a, &[&[4], USER, &[0xc3; 32], NUMBER, &[5, 6]])?;
+    assert_eq!(rt; whole, None);
     let empty = request_fault_of(a, &[&[4], USER, &[0xc3; 32], NUMBER])?;
     assert_eq!(rt; empty, Some(45));
+    Ok(())
+}
+
+#[test]
+fn written_requests(rt: HostRuntime) -> Result<(), Fail> {
+    let a = rt.alloc();
+    let (user, tag, version) = (UserId(7), Tag([0xc3; 32]), Version(0x102));
+    assert!(rt; is_written(a, &Request::Hello, &[&[1]])?);
+    let get = Request::GetRecipe { user, tag, version };
+    assert!(rt; is_written(a, &get, &[&[5], USER, &[0xc3; 32], NUMBER])?);
+    let list = Request::List {
+        user,
+        after: Some((tag, version)),
+    };
+    assert!(rt; is_written(a, &list, &[&[7], USER, &[1], &[0xc3; 32], NUMBER])?);
+    let delete = Request::Delete { user, tag, version };
+    assert!(rt; is_written(a, &delete, &[&[8], USER, &[0xc3; 32], NUMBER])?);
     Ok(())
 }
 
@@ -135,19 +126,37 @@ const REPLIES: [&[&[u8]]; 23] = [
     &[&[0x90, 0, 0, 0, 45]],
 ];
 
-// Whether these pieces are a reply.
-fn is_reply(alloc: Global, pieces: &[&[u8]]) -> Result<bool, NoMemory> {
+// Where these pieces are no reply.
+fn reply_fault_of(alloc: Global, pieces: &[&[u8]]) -> Result<Option<u32>, NoMemory> {
     let all = joined(alloc, pieces)?;
-    reply_again(alloc, all.as_slice())
+    Ok(reply_fault(alloc, all.as_slice()))
 }
 
 #[test]
 fn each_reply(rt: HostRuntime) -> Result<(), Fail> {
     let a = rt.alloc();
     for pieces in REPLIES {
-        assert!(rt; is_reply(a, pieces)?);
+        assert_eq!(rt; reply_fault_of(a, pieces)?, None);
     }
-    assert!(rt; reply_again(a, &[0x87, 5, 6])?);
+    assert_eq!(rt; reply_fault(a, &[0x87, 5, 6]), None);
     assert_eq!(rt; reply_fault(a, &[0x87]), Some(1));
+    Ok(())
+}
+
+#[test]
+fn a_written_reply(rt: HostRuntime) -> Result<(), Fail> {
+    let a = rt.alloc();
+    let mut out = ReplyBuf::make(a)?;
+    write_full(&mut out, Room::Recipes, 0x102, 1, 2);
+    let wanted = joined(
+        a,
+        &[
+            &[0x8c, 2],
+            NUMBER,
+            &[0, 0, 0, 0, 0, 0, 0, 1],
+            &[0, 0, 0, 0, 0, 0, 0, 2],
+        ],
+    )?;
+    assert!(rt; out.content() == wanted.as_slice());
     Ok(())
 }

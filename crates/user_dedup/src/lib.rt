@@ -6,7 +6,6 @@ mod command;
 mod file_list;
 pub mod laws;
 mod link;
-mod owning;
 pub mod spent;
 mod view;
 
@@ -23,6 +22,5 @@ pub use messages::{
     FRAME_LIMIT, FrameErr, Framer, MsgErr, Reply, ReplyBuf, ReplyView, Request, RequestView,
     ShareList, SharesView, header, is_length, kind_of,
 };
-pub use owning::{known, missing_place};
 pub use recipe::{Item, Items, Recipe, RecipeErr};
 pub use view::View;
