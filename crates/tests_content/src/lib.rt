@@ -6,8 +6,6 @@ mod aes256_cases;
 #[cfg(test)]
 mod caont_rs_cases;
 #[cfg(test)]
-mod file_recipe_cases;
-#[cfg(test)]
 mod hash_lanes_cases;
 #[cfg(test)]
 mod rabin_chunker_cases;

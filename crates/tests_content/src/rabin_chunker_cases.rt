@@ -18,20 +18,29 @@ fn stream(alloc: Global, count: usize) -> Result<Vec<u8>, AllocError> {
     Ok(bytes)
 }
 
-// The ends of a file that is fed in pieces of `size` bytes.
-fn ends_by(alloc: Global, bytes: &[u8], size: usize) -> Result<Ends, NoMemory> {
-    let mut cuts = Ends::new(alloc);
-    let mut chunker = Chunker::new();
+// Feeds a file in pieces of `size` bytes.
+fn feed_by(
+    chunker: &mut Chunker,
+    cuts: &mut Ends,
+    bytes: &[u8],
+    size: usize,
+) -> Result<(), NoMemory> {
     let mut rest = bytes;
     for _ in 0..bytes.len() {
         let (piece, others) = rest.split_at(size.min(rest.len()));
         if chunker.bytes_fed() < 1 << 62 && piece.len() < 1 << 62 {
-            chunker.feed(piece, &mut cuts)?;
+            chunker.feed(piece, cuts)?;
         }
         rest = others;
     }
-    chunker.finish(&mut cuts)?;
-    Ok(cuts)
+    Ok(())
+}
+
+// The ends of a file that is fed in pieces of `size` bytes.
+fn ends_by(cuts: &mut Ends, bytes: &[u8], size: usize) -> Result<(), NoMemory> {
+    let mut chunker = Chunker::new();
+    feed_by(&mut chunker, cuts, bytes, size)?;
+    chunker.finish(cuts)
 }
 
 // The digest FNV-1a of 64 bits of places, each as 8 bytes with the highest first.
@@ -61,13 +70,27 @@ fn digest_of(ends: &[u64]) -> u64 {
 //             while e < len(B) and not (fingerprint(B[e - 48:e]) % 8192 == 8191 or e - s == 16384): e += 1
 //             out.append(e); s = e
 //         return out
+fn are_ends(alloc: Global, bytes: &[u8], size: usize) -> Result<bool, NoMemory> {
+    let mut cuts = Ends::new(alloc);
+    ends_by(&mut cuts, bytes, size)?;
+    Ok(cuts.len() == 115 && digest_of(cuts.as_slice()) == 0xf50a_3309_60b6_4242)
+}
+
+static SIZES: [usize; 6] = [2_000_000, 1, 47, 48, 49, 2047];
+
+fn are_all_ends(alloc: Global, bytes: &[u8]) -> Result<bool, NoMemory> {
+    let mut well = true;
+    for size in &SIZES {
+        well = are_ends(alloc, bytes, *size)? && well;
+    }
+    Ok(well)
+}
+
 #[test]
 fn ends_of_python(rt: HostRuntime) -> Result<(), Fail> {
     let bytes = stream(rt.alloc(), 1 << 20)?;
-    for size in [2_000_000, 1, 47, 48, 49, 2047] {
-        let cuts = ends_by(rt.alloc(), &bytes, size)?;
-        assert_eq!(rt; cuts.len(), 115);
-        assert_eq!(rt; digest_of(cuts.as_slice()), 0xf50a_3309_60b6_4242);
-    }
+    let well = are_all_ends(rt.alloc(), &bytes);
+    drop(bytes);
+    assert!(rt; well?);
     Ok(())
 }

@@ -1,5 +1,4 @@
 use slot_tree::SlotTree;
-use std::process::Abort;
 use std::test::Fail;
 
 // Whether a slot's levels are counted right, and those below it on both sides differ by one at most.
@@ -46,25 +45,40 @@ fn all_balanced(tree: &SlotTree, present: &[bool]) -> bool {
     balanced
 }
 
-#[test]
-fn stays_balanced(rt: HostRuntime) -> Result<(), Fail> {
-    let mut tree = SlotTree::make(rt.alloc(), 1000)?;
-    let mut present = vec![in rt.alloc(); true; 1000]?;
+// Whether the tree has ten levels when all slots came in order.
+fn is_filled(tree: &mut SlotTree) -> bool {
     for slot in 0u32..1000 {
         tree.insert(slot.checked_sub(1).unwrap_or(1000), 1000, slot);
     }
-    assert_eq!(rt; tree.levels(tree.root()), 10);
-    for step in 0u32..900 {
-        let slot = step.wrapping_mul(377) % 1000;
-        let before = last_before(&present, slot);
-        tree.remove(before, slot, first_after(&present, slot));
-        if let Some(here) = present.get_mut(slot as usize) {
-            *here = false;
-        }
-        assert!(rt; all_balanced(&tree, &present));
+    tree.levels(tree.root()) == 10
+}
+
+// Takes a slot out. Whether the rest is balanced then.
+fn is_balanced_without(tree: &mut SlotTree, present: &mut [bool], slot: u32) -> bool {
+    let before = last_before(present, slot);
+    tree.remove(before, slot, first_after(present, slot));
+    if let Some(here) = present.get_mut(slot as usize) {
+        *here = false;
     }
-    assert!(rt; tree.levels(tree.root()) <= 8);
+    all_balanced(tree, present)
+}
+
+fn stays_so(tree: &mut SlotTree, present: &mut [bool]) -> bool {
+    let mut well = is_filled(tree);
+    for step in 0u32..900 {
+        well = is_balanced_without(tree, present, step.wrapping_mul(377) % 1000) && well;
+    }
+    let few = tree.levels(tree.root()) <= 8;
     tree.clear();
-    assert_eq!(rt; tree.levels(tree.root()), 0);
+    well && few && tree.levels(tree.root()) == 0
+}
+
+#[test]
+fn stays_balanced(rt: HostRuntime) -> Result<(), Fail> {
+    let mut tree = SlotTree::make(rt.alloc(), 1000)?;
+    let mut present = [true; 1000];
+    let well = stays_so(&mut tree, &mut present);
+    drop(tree);
+    assert!(rt; well);
     Ok(())
 }
