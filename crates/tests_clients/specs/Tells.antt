@@ -1,7 +1,6 @@
--- What links with prepared replies tell: nothing.
+-- What a link with prepared replies tells: nothing.
 use Rattle.std.specs.Prelude.{true, false, None}
 use Rattle.user_dedup.specs.Link.{LinkTelling, TellsSound}
-use Rattle.tests_clients.specs.declared.prepared.Prepared.{Prepared}
 use Rattle.tests_clients.specs.declared.script.Script.{Script}
 
 -- it reaches every cloud, and stands for nothing
@@ -19,18 +18,3 @@ telling = record {
 
 pub tells_sound : (link : Script) → TellsSound telling link
 tells_sound link cloud p told none = absurd none
-
-abbrev pub prepared_telling : LinkTelling Prepared
-prepared_telling = record {
-  reaches = λ link cloud. true;
-  shape = λ link. link.shape;
-  told = λ link cloud. false;
-  stands = λ link cloud p. ⊥;
-  full = λ link cloud list command. None;
-  losses = λ link. link.losses;
-  lossless = λ link. false;
-  passes = λ old exchange new. Unit {0};
-}
-
-pub prepared_sound : (link : Prepared) → TellsSound prepared_telling link
-prepared_sound link cloud p told none = absurd none

@@ -75,6 +75,11 @@ impl Script {
         self.replies.truncate(count);
     }
 
+    /// How many replies weren't asked for.
+    pub fn left(&self) -> usize {
+        self.replies.len().saturating_sub(self.next)
+    }
+
     // Answers content with the next reply.
     fn take(&mut self, content: &[u8], reply: &mut ReplyBuf) -> Result<(), Lost>
         requires { length content.now ≤ 4194304 }
