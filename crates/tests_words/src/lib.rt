@@ -1,4 +1,4 @@
-//! Tests of the words of the program, of scripts, of transcripts and of certificates.
+//! Tests of texts and formats: transcripts, certificates, messages, starts and the bodies of records.
 #![tactic(auto)]
 
 #[cfg(test)]
@@ -6,10 +6,14 @@ mod cd_base_cases;
 #[cfg(test)]
 mod certificate_cases;
 #[cfg(test)]
-mod command_words_cases;
+mod first_body_cases;
+#[cfg(test)]
+mod journal_start_cases;
+#[cfg(test)]
+mod messages_cases;
 #[cfg(test)]
 mod pieces;
 #[cfg(test)]
-mod session_cases;
+mod record_body_cases;
 #[cfg(test)]
 mod transcript_cases;
