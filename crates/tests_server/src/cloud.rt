@@ -11,10 +11,10 @@ use share_server::{OpenErr, Server};
 use std::alloc::Global;
 
 /// The number of the cloud.
-pub const TWO: CloudNo = CloudNo(2);
+pub(crate) const TWO: CloudNo = CloudNo(2);
 
 /// Rooms that these tests don't fill.
-pub const WIDE: UserRooms = UserRooms {
+pub(crate) const WIDE: UserRooms = UserRooms {
     users: 10,
     shares: 10_000_000,
     recipes: 10_000_000,
@@ -23,7 +23,7 @@ pub const WIDE: UserRooms = UserRooms {
 };
 
 /// Room for a few bytes in each area of a cloud.
-pub const SMALL: u64 = 1_000;
+pub(crate) const SMALL: u64 = 1_000;
 
 // The shape of the store.
 fn shape() -> Shape
@@ -32,11 +32,8 @@ fn shape() -> Shape
     Shape { n: 4, k: 3 }
 }
 
-/// A content and the reply to it.
-pub type Row<'a> = (&'a [u8], &'a [u8]);
-
-/// A closed server with these rooms, or with the usual ones where they aren't allowed. The only error is want of memory.
-pub fn server_of(alloc: Global, rooms: UserRooms) -> Result<Server, NoMemory> {
+// A closed server with these rooms, or with the usual ones where they aren't allowed. The only error is want of memory.
+fn server_of(alloc: Global, rooms: UserRooms) -> Result<Server, NoMemory> {
     if rooms.are_allowed() {
         Server::make(alloc, TWO, shape(), rooms)
     } else {
@@ -46,18 +43,18 @@ pub fn server_of(alloc: Global, rooms: UserRooms) -> Result<Server, NoMemory> {
 
 /// A cloud, its server and that server's last reply.
 #[derive(Drop)]
-pub struct Cloud {
+pub(crate) struct Cloud {
     /// The clouds in memory, of which it is the third.
     pub shelf: MemShelf,
     /// The server of it.
-    pub server: Server,
+    server: Server,
     reply: ReplyBuf,
 }
 
 impl Cloud {
     /// An empty cloud with so much room in each area, and a closed server with these rooms. The only error is want of
     /// memory.
-    pub fn make(alloc: Global, room: u64, rooms: UserRooms) -> Result<Cloud, NoMemory> {
+    pub(crate) fn make(alloc: Global, room: u64, rooms: UserRooms) -> Result<Cloud, NoMemory> {
         let shelf = MemShelf::of(alloc, 3, room, 5_000, &[])?;
         let reply = ReplyBuf::make(alloc)?;
         let server = server_of(alloc, rooms)?;
@@ -69,7 +66,7 @@ impl Cloud {
     }
 
     /// The reply to a content: of 5,000,000 bytes or more the last one, since nothing is asked then.
-    pub fn ask(&mut self, content: &[u8]) -> &[u8] {
+    pub(crate) fn ask(&mut self, content: &[u8]) -> &[u8] {
         if content.len() < 5_000_000 {
             self.server
                 .execute(&mut self.shelf, content, &mut self.reply);
@@ -77,30 +74,9 @@ impl Cloud {
         self.reply.content()
     }
 
-    /// Whether each content in turn has its reply.
-    pub fn answers(&mut self, rows: &[Row<'_>]) -> bool {
-        for (content, reply) in rows {
-            if self.ask(content) != *reply {
-                return false;
-            }
-        }
-        true
-    }
-
     /// Opens the cloud, as `Server::reopen`.
-    pub fn reopen(&mut self, begin: bool) -> Result<u64, OpenErr> {
+    pub(crate) fn reopen(&mut self, begin: bool) -> Result<u64, OpenErr> {
         self.server.reopen(&mut self.shelf, begin)
-    }
-
-    /// Closes the server and makes the cloud empty. Whether that was done.
-    pub fn is_cleared(&mut self) -> bool {
-        self.server.close();
-        self.shelf.fresh(TWO).is_ok()
-    }
-
-    /// Cuts a write or a sync of the cloud, counted from 1.
-    pub fn arm(&mut self, call: u32, keep: u32) {
-        self.shelf.arm(TWO, call, keep);
     }
 
     // The length of an area, or the greatest number where the device fails.
@@ -112,7 +88,7 @@ impl Cloud {
     }
 
     /// The lengths of Journal, Shares and Recipes: of each the greatest number where the device fails.
-    pub fn lengths(&mut self) -> (u64, u64, u64) {
+    pub(crate) fn lengths(&mut self) -> (u64, u64, u64) {
         (
             self.len(Area::Journal),
             self.len(Area::Shares),

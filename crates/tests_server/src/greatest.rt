@@ -1,8 +1,8 @@
 //! The greatest requests and replies.
 
-use crate::replies::{MOST_NEW, NOT_YOURS, full_reply};
+use crate::cloud::{Cloud, WIDE};
+use crate::replies::{MOST_NEW, NOT_YOURS};
 use crate::requests::{fps_of, put_many, share_of};
-use crate::{Cloud, WIDE};
 use cd_base::{Bytes, Fp, NoMemory, sha256};
 use journal_start::UserRooms;
 use std::alloc::Global;
@@ -24,63 +24,51 @@ fn shares_request(alloc: Global, user: u8) -> Result<Bytes, NoMemory> {
     fps_of(alloc, 6, user, &fps)
 }
 
-// Whether two Puts of the greatest shares are taken, with zeros before the container of the last share.
+// Whether a Put of 256 of the greatest shares, from this number on, is taken.
+fn is_put(alloc: Global, cloud: &mut Cloud, first: usize) -> Result<bool, NoMemory> {
+    let put = put_many(alloc, 7, first, 256, 8_208)?;
+    Ok(cloud.ask(put.as_slice()) == MOST_NEW)
+}
+
+// Whether two such Puts are taken, with zeros before the container of the last share.
 fn are_put(alloc: Global, cloud: &mut Cloud) -> Result<bool, NoMemory> {
-    let first = put_many(alloc, 7, 0, 256, 8_208)?;
-    let second = put_many(alloc, 7, 256, 256, 8_208)?;
-    let one = cloud.answers(&[(first.as_slice(), MOST_NEW)]);
+    let one = is_put(alloc, cloud, 0)?;
     let lengths = cloud.lengths();
-    let two = cloud.answers(&[(second.as_slice(), MOST_NEW)]);
+    let two = is_put(alloc, cloud, 256)?;
     let (_, shares, _) = cloud.lengths();
     Ok(one && lengths == (11_574, SHARES, 0) && two && shares == 4_194_304 + 8_208)
+}
+
+// Whether the reply to a content has the greatest shares, this one last.
+fn gives(cloud: &mut Cloud, content: Bytes, last: &[u8]) -> bool {
+    let reply = cloud.ask(content.as_slice());
+    reply.len() == 3 + 256 * (4 + 8_208) && reply.ends_with(last)
+}
+
+fn is_refused(cloud: &mut Cloud, content: Bytes) -> bool {
+    cloud.ask(content.as_slice()) == NOT_YOURS
 }
 
 // Whether the shares come back, and to their user alone.
 fn come_back(alloc: Global, cloud: &mut Cloud) -> Result<bool, NoMemory> {
     let last = share_of(alloc, 511, 8_208)?;
-    let get = shares_request(alloc, 7)?;
-    let foreign = shares_request(alloc, 8)?;
-    let reply = cloud.ask(get.as_slice());
-    let well = reply.len() == 3 + 256 * (4 + 8_208) && reply.ends_with(last.as_slice());
-    Ok(well && cloud.answers(&[(foreign.as_slice(), NOT_YOURS)]))
+    let well = gives(cloud, shares_request(alloc, 7)?, last.as_slice());
+    Ok(well && is_refused(cloud, shares_request(alloc, 8)?))
+}
+
+// Whether both Puts are taken, and come back.
+fn are_kept(alloc: Global, cloud: &mut Cloud) -> Result<bool, NoMemory> {
+    Ok(are_put(alloc, cloud)? && come_back(alloc, cloud)?)
 }
 
 #[test]
 fn the_greatest_put_and_its_shares(rt: HostRuntime) -> Result<(), Fail> {
-    let a = rt.alloc();
     let rooms = UserRooms {
         shares: 2 * SHARES,
         ..WIDE
     };
-    let mut cloud = Cloud::make(a, ROOM, rooms)?;
-    let taken = are_put(a, &mut cloud);
-    let given = come_back(a, &mut cloud);
-    drop(cloud);
-    assert!(rt; taken? && given?);
-    Ok(())
-}
-
-const LIMIT: u64 = 2 * SHARES - 1;
-
-// Whether a room of one byte less than both Puts take refuses the second. Zeros before a container aren't counted.
-fn lacks_a_byte(alloc: Global, cloud: &mut Cloud) -> Result<bool, NoMemory> {
-    let first = put_many(alloc, 7, 0, 256, 8_208)?;
-    let second = put_many(alloc, 7, 256, 256, 8_208)?;
-    let full = full_reply(alloc, (1, SHARES, SHARES, LIMIT))?;
-    Ok(cloud.answers(&[
-        (first.as_slice(), MOST_NEW),
-        (second.as_slice(), full.as_slice()),
-    ]))
-}
-
-#[test]
-fn a_room_that_lacks_a_byte(rt: HostRuntime) -> Result<(), Fail> {
-    let rooms = UserRooms {
-        shares: LIMIT,
-        ..WIDE
-    };
     let mut cloud = Cloud::make(rt.alloc(), ROOM, rooms)?;
-    let well = lacks_a_byte(rt.alloc(), &mut cloud);
+    let well = are_kept(rt.alloc(), &mut cloud);
     drop(cloud);
     assert!(rt; well?);
     Ok(())

@@ -1,17 +1,19 @@
-//! Tests of requests to one server, and what they answer.
+//! Tests of requests to one server, and of the store below it, stopped and opened again.
 #![tactic(auto)]
 
 #[cfg(test)]
-mod answers;
 mod cloud;
+#[cfg(test)]
+mod cloud_store_stops;
+#[cfg(test)]
+mod commands;
 #[cfg(test)]
 mod greatest;
 #[cfg(test)]
 mod reads;
-pub mod replies;
-pub mod requests;
-mod storing;
-
-pub use cloud::{Cloud, Row, SMALL, TWO, WIDE, server_of};
-pub use share_server::{OpenErr, Server};
-pub use storing::is_stored;
+#[cfg(test)]
+mod replies;
+#[cfg(test)]
+mod requests;
+#[cfg(test)]
+mod walk;

@@ -26,7 +26,7 @@ fn put_share(content: &mut Bytes, share: &[u8]) -> Result<(), NoMemory> {
 }
 
 /// A Put of these shares.
-pub fn put_of(alloc: Global, user: u8, shares: &[&[u8]]) -> Result<Bytes, NoMemory> {
+pub(crate) fn put_of(alloc: Global, user: u8, shares: &[&[u8]]) -> Result<Bytes, NoMemory> {
     let mut content = headed(alloc, 3, user)?;
     put_count(&mut content, shares.len())?;
     for share in shares {
@@ -36,7 +36,7 @@ pub fn put_of(alloc: Global, user: u8, shares: &[&[u8]]) -> Result<Bytes, NoMemo
 }
 
 /// A Put of so many shares of so many bytes, no two of them alike, numbered from the first number on.
-pub fn put_many(
+pub(crate) fn put_many(
     alloc: Global,
     user: u8,
     first: usize,
@@ -53,7 +53,7 @@ pub fn put_many(
 }
 
 /// The share of that number in such a Put.
-pub fn share_of(alloc: Global, number: usize, len: usize) -> Result<Bytes, NoMemory> {
+pub(crate) fn share_of(alloc: Global, number: usize, len: usize) -> Result<Bytes, NoMemory> {
     let mut share = Bytes::new(alloc);
     share.extend(&[low(number / 65_536), low(number / 256), low(number)])?;
     share.resize(len, 7)?;
@@ -61,7 +61,7 @@ pub fn share_of(alloc: Global, number: usize, len: usize) -> Result<Bytes, NoMem
 }
 
 /// A request of this kind (2 Query, 6 GetShares) for these fingerprints.
-pub fn fps_of(alloc: Global, kind: u8, user: u8, fps: &[Fp]) -> Result<Bytes, NoMemory> {
+pub(crate) fn fps_of(alloc: Global, kind: u8, user: u8, fps: &[Fp]) -> Result<Bytes, NoMemory> {
     let mut content = headed(alloc, kind, user)?;
     put_count(&mut content, fps.len())?;
     for fp in fps {
@@ -77,7 +77,7 @@ fn put_key(content: &mut Bytes, tag: u8, version: usize) -> Result<(), NoMemory>
 }
 
 /// A Commit of a recipe.
-pub fn commit_of(
+pub(crate) fn commit_of(
     alloc: Global,
     user: u8,
     tag: u8,
@@ -91,34 +91,19 @@ pub fn commit_of(
 }
 
 /// A GetRecipe.
-pub fn recipe_request(alloc: Global, user: u8, tag: u8, version: usize) -> Result<Bytes, NoMemory> {
+pub(crate) fn recipe_request(
+    alloc: Global,
+    user: u8,
+    tag: u8,
+    version: usize,
+) -> Result<Bytes, NoMemory> {
     let mut content = headed(alloc, 5, user)?;
     put_key(&mut content, tag, version)?;
     Ok(content)
 }
 
-/// A Delete.
-pub fn delete_of(alloc: Global, user: u8, tag: u8, version: usize) -> Result<Bytes, NoMemory> {
-    let mut content = headed(alloc, 8, user)?;
-    put_key(&mut content, tag, version)?;
-    Ok(content)
-}
-
-/// A List of all above this tag and version, or of all.
-pub fn list_of(alloc: Global, user: u8, after: Option<(u8, usize)>) -> Result<Bytes, NoMemory> {
-    let mut content = headed(alloc, 7, user)?;
-    match after {
-        None => content.push(0)?,
-        Some((tag, version)) => {
-            content.push(1)?;
-            put_key(&mut content, tag, version)?;
-        }
-    }
-    Ok(content)
-}
-
 /// A recipe whose name share is 11 times one byte, with a secret for each fingerprint: 2,048 bytes each, and the last one 1.
-pub fn recipe_of(alloc: Global, name: u8, fps: &[Fp]) -> Result<Bytes, NoMemory> {
+pub(crate) fn recipe_of(alloc: Global, name: u8, fps: &[Fp]) -> Result<Bytes, NoMemory> {
     let mut recipe = Bytes::new(alloc);
     recipe.extend(&[0, 1])?;
     recipe.resize(13, name)?;

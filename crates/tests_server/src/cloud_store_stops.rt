@@ -4,8 +4,10 @@ ghost use Rattle.cloud_store.specs.Store.{IsSettled};
 
 use crate::commands::{Ground, ZERO};
 use crate::walk::{is_left, step_of};
+use cd_base::NoMemory;
 use cd_edges::Shelf;
 use cd_fakes::MemShelf;
+use std::alloc::Global;
 use std::test::Fail;
 
 /// Which write or sync is cut, how many bytes of a write stay, and what a crash leaves of what wasn't synced.
@@ -109,13 +111,16 @@ fn all_kept(ground: &mut Ground, shelf: &mut MemShelf) -> bool
     well
 }
 
+fn with_store(alloc: Global, shelf: &mut MemShelf) -> Result<bool, NoMemory> {
+    let mut ground = Ground::make(alloc)?;
+    Ok(all_kept(&mut ground, shelf))
+}
+
 #[test]
 fn each_stop_of_a_checkpoint(rt: HostRuntime) -> Result<(), Fail> {
     let mut shelf = MemShelf::of(rt.alloc(), 1, 16_000_000, 400_000, &[])?;
-    let mut ground = Ground::make(rt.alloc())?;
-    let well = all_kept(&mut ground, &mut shelf);
-    drop(ground);
+    let well = with_store(rt.alloc(), &mut shelf);
     drop(shelf);
-    assert!(rt; well);
+    assert!(rt; well?);
     Ok(())
 }
