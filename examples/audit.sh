@@ -99,6 +99,41 @@ says 0 '4 clouds are whole, and each lists 2 blobs'
     echo 'end 2'
 } | cmp - "$work/clouds/certificate0"
 
+# Sees what a check of cloud 0 by a text of these lines comes to: judged STATUS LINE LINES..
+judged() {
+    local status=0 wanted="$1" line="$2"
+    shift 2
+    { [ $# = 0 ] || printf '%s\n' "$@"; } > "$work/text"
+    cdstore check "$work/clouds" 0 4 3 < "$work/text" > "$work/lines" || status=$?
+    { [ "$status" = "$wanted" ] && echo "$line" | cmp -s - "$work/lines"; } || fail "a check by $* ended with status $status: $(cat "$work/lines")"
+    texts=$((texts + 1))
+}
+
+# the certificate alone is cloud 0's: a changed line, one that is there twice or isn't there, a wrong count; another cloud, another store
+mapfile -t own < "$work/clouds/certificate0"
+head="${own[0]}" share="${own[1]}" file="${own[2]}" end="${own[3]}" texts=0
+judged 0 'whole 0 2' "$head" "$share" "$file" "$end"
+judged 8 'refused differs 2' "$head" "${share/ 0 11/ 1 11}" "$file" "$end"
+judged 8 'refused differs 3' "$head" "$share" "$share" "$file" "$end"
+judged 8 'refused differs 3' "$head" "$share" "$end"
+judged 8 'refused differs 4' "$head" "$share" "$file" 'end 3'
+judged 8 'refused othercloud' 'audit 1 4 3 1' "$share" "$file" "$end"
+judged 8 'refused othercloud' 'audit 1 5 3 0' "$share" "$file" "$end"
+# what is no certificate: another format, a cloud that the store hasn't, another order, no end, nothing, an empty line and another one behind
+# the end, and a line that ends early
+judged 2 'script 1 6 32' 'audit 2 4 3 0' "$share" "$file" "$end"
+judged 2 'script 1 12 34' 'audit 1 4 3 4' "$share" "$file" "$end"
+judged 2 'script 3 0 73' "$head" "$file" "$share" "$end"
+judged 2 'script 4 0 end' "$head" "$share" "$file"
+judged 2 'script 1 0 end'
+judged 2 'script 5 0 end' "$head" "$share" "$file" "$end" ''
+judged 2 'script 5 0 65' "$head" "$share" "$file" "$end" "$end"
+judged 2 'script 1 11 end' 'audit 1 4 3' "$share" "$file" "$end"
+# and one that can't be written
+status=0
+cdstore audit "$work/clouds" 0 4 3 > /dev/full || status=$?
+[ "$status" = 4 ] || fail "an audit to a full disk ended with status $status"
+
 # another cloud's certificate, a cut one, and one of a cloud that has more since
 cp "$work/clouds/certificate0" "$work/own"
 cp "$work/clouds/certificate1" "$work/clouds/certificate0"
@@ -114,4 +149,4 @@ says 1 'cloud 0: check ended with status 8, refused rotten 0 7306196382e41a397ef
 says 1 '* fill a new cloud from the others *'
 rm -r "$work/clouds/cloud0"
 says 1 'cloud 0: check ended with status 7, notbegun 0 0: *'
-echo "Four clouds were audited and checked by their certificates; a changed byte and a cloud that was gone were told by name."
+echo "Four clouds were audited and checked by their certificates, and by $texts texts; a changed byte and a cloud that was gone were told by name."

@@ -81,6 +81,53 @@ comes_back small_rooms 3 2 7 a 1 0,1 0,2 1,2 < <(printf 'A')
 comes_back small_rooms 3 2 7 b 1 0,1 0,2 1,2 < <(printf 'BB')
 says 8 'refused missing *' read "$work/stores/small_rooms" 3 2 7 c 1 0,1
 
+# ---- a store of one byte
+
+# It is stored by a session, and each journal begins with a start of format 1 then: records are the same in both formats.
+small="$work/stores/small"
+printf '%s\n' 'cdstore 1 4 3' 'upload 7 61 1 41' 'finish 1' > "$work/script"
+"$program" replay "$small" < "$work/script" > "$work/transcript"
+for cloud in 0 1 2 3; do
+    tail -c +42 "$small/cloud$cloud/journal" > "$work/records"
+    { printf '\1\0\0\0\10CDST\1\4\3%b' "\\0$cloud" && cat "$work/records"; } > "$small/cloud$cloud/journal"
+done
+cp -r "$small" "$work/old"
+
+# Sees how many bytes the areas of its cloud 0 have: long JOURNAL SHARES RECIPES
+long() {
+    local found
+    found="$(stat -c %s "$small/cloud0/journal" "$small/cloud0/shares" "$small/cloud0/recipes" | paste -s -d ' ')"
+    [ "$found" = "$*" ] || fail "cloud 0 has $found bytes"
+}
+
+long 165 11 61
+# each room of a user too narrow by itself, a user too many, another shape, a cloud that is empty, and no user
+says 8 'refused toolarge 7 shares 11 10' migrate "$small" 0 4 3 16 10 1000 10 10
+says 8 'refused toolarge 7 recipes 61 60' migrate "$small" 0 4 3 16 1000 60 10 10
+says 8 'refused toolarge 7 owners 1 0' migrate "$small" 0 4 3 16 1000 1000 0 10
+says 8 'refused toolarge 7 files 1 0' migrate "$small" 0 4 3 16 1000 1000 10 0
+says 8 'refused toolarge 7 owners 1 0' migrate "$small" 0 4 3 7 1000 1000 10 10
+says 7 'other 0 1 4 3 0' migrate "$small" 0 4 2 16 1000 1000 10 10
+says 7 'notbegun 4 0' migrate "$small" 4 5 3 16 1000 1000 10 10
+says 1 '' migrate "$small" 0 4 3 0 1000 1000 10 10
+says 7 'other 0 1 4 3 0' audit "$small" 0 4 3
+for cloud in 0 1 2 3; do
+    diff -r "$work/old/cloud$cloud" "$small/cloud$cloud"
+done
+
+# the least rooms that are wide enough, and a line that can't be written: that cloud is migrated all the same
+for cloud in 0 1 3; do
+    says 0 "migrated $cloud 2" migrate "$small" "$cloud" 4 3 8 11 61 1 1
+    says 8 "refused already $cloud" migrate "$small" "$cloud" 4 3 8 11 61 1 1
+done
+status=0
+"$program" migrate "$small" 2 4 3 16 1000 1000 10 10 > /dev/full || status=$?
+[ "$status" = 4 ] || fail "a migration to a full disk: status $status"
+says 8 'refused already 2' migrate "$small" 2 4 3 16 1000 1000 10 10
+long 134217972 11 61
+comes_back small 4 3 7 a 1 "${threes[@]}" < <(printf A)
+clouds=$((clouds + 4))
+
 # ---- one that is killed
 
 for _ in $(seq 1 20); do

@@ -1,6 +1,7 @@
 #!/usr/bin/env bash
 # Gives dead space of clouds back: reclaim.sh [DAYS]. First over clouds in a folder: a version is deleted, what is left is copied, twice, and read
-# back; a rotten byte stops it, and nothing is lost. Then eight files are backed up for a month to four clouds that are processes, one a day, and
+# back; a rotten byte stops it, and nothing is lost; nothing is left, or two users have one share; and a reclaim is killed at some moment, and
+# asked again. Then eight files are backed up for a month to four clouds that are processes, one a day, and
 # old versions deleted; each week the servers stop and each cloud is reclaimed. From the second time on the disk holds at most 2.2 times what is
 # alive, and each version that is kept comes back from some three clouds.
 # shellcheck source=clouds.sh
@@ -24,6 +25,7 @@ printf '%s\n' 'cdstore 1 4 3' 'upload 7 61 1 41' 'finish 1' 'upload 7 62 1 42' '
 "$program" replay "$work/folder" < "$work/script" > "$work/transcript"
 long 0 394 22 122
 cp -r "$work/folder" "$work/before"
+cp -r "$work/folder" "$work/deleted"
 says 0 'reclaimed 0 11 61 1' reclaim "$work/folder" 0 4 3
 long 0 134217972 34359738379 34359738429
 says 0 'reclaimed 0 11 61 0' reclaim "$work/folder" 0 4 3
@@ -46,6 +48,60 @@ says 8 'refused rotten 0 *' reclaim "$work/before" 0 4 3
 printf '\0' | dd of="$work/before/cloud1/shares" bs=1 conv=notrunc 2> "$work/said"
 says 0 'reclaimed 1 11 61 1' reclaim "$work/before" 1 4 3
 says 7 'notbegun 0 0' reclaim "$work/nothing" 0 4 3
+
+# Reclaims cloud 0 of what a session stored, and sees what it says, and how long its areas are then: is_reclaimed LINE "LENGTHS" LINES..
+is_reclaimed() {
+    local line="$1" lengths="$2"
+    shift 2
+    rm -rf "$work/folder"
+    printf '%s\n' 'cdstore 1 4 3 10 1000 10000 10 10' "$@" > "$work/script"
+    "$program" replay "$work/folder" < "$work/script" > "$work/transcript"
+    says 0 "$line" reclaim "$work/folder" 0 4 3
+    # shellcheck disable=SC2086
+    long 0 $lengths
+}
+
+two=('upload 7 61 1 41' 'finish 1' 'upload 7 62 1 42' 'finish 2')
+
+# one of two versions deleted, at each cloud
+is_reclaimed 'reclaimed 0 11 61 1' '134217972 34359738379 34359738429' "${two[@]}" \
+    'delete 7 61 1 0' 'delete 7 61 1 1' 'delete 7 61 1 2' 'delete 7 61 1 3'
+says 0 B read "$work/folder" 4 3 7 b 1 0,1,2
+says 8 'refused missing 0' read "$work/folder" 4 3 7 a 1 0,1,2
+
+# both, at cloud 0 alone
+is_reclaimed 'reclaimed 0 0 0 2' '134217791 22 122' "${two[@]}" 'delete 7 61 1 0' 'delete 7 62 1 0'
+says 8 'refused missing 0' read "$work/folder" 4 3 7 b 1 0,1,2
+says 0 A read "$work/folder" 4 3 7 a 1 0,1,2,3
+says 0 B read "$work/folder" 4 3 7 b 1 1,2,3
+
+# two users with one share, which lies there once
+is_reclaimed 'reclaimed 0 11 122 0' '134218141 34359738379 34359738490' 'upload 7 61 1 41' 'finish 1' 'upload 8 61 1 41' 'finish 2'
+says 0 A read "$work/folder" 4 3 7 a 1 0,1,2
+says 0 A read "$work/folder" 4 3 8 a 1 0,2,3
+
+# one whose line can't be written is reclaimed all the same
+status=0
+"$program" reclaim "$work/folder" 1 4 3 > /dev/full || status=$?
+[ "$status" = 4 ] || fail "a reclaim to a full disk ended with status $status"
+long 1 134218141 34359738379 34359738490
+says 0 'reclaimed 1 11 122 0' reclaim "$work/folder" 1 4 3
+
+# one that is killed, and asked again: the share that nobody owns is still there, or it isn't
+for _ in $(seq 1 20); do
+    rm -rf "$work/killed"
+    cp -r "$work/deleted" "$work/killed"
+    "$program" reclaim "$work/killed" 0 4 3 > "$work/said" &
+    server=$!
+    sleep "0.00$((RANDOM % 10))"
+    kill -9 "$server" 2> /dev/null || true
+    wait "$server" 2> /dev/null || true
+    says 0 B read "$work/killed" 4 3 7 b 1 0,1,2
+    says 8 'refused missing 0' read "$work/killed" 4 3 7 a 1 0,1,2
+    says 0 'reclaimed 0 11 61 [01]' reclaim "$work/killed" 0 4 3
+    says 0 'reclaimed 0 11 61 0' reclaim "$work/killed" 0 4 3
+    says 0 B read "$work/killed" 4 3 7 b 1 0,1,2
+done
 
 # ---- a month
 
