@@ -7,7 +7,7 @@ export CDSTORE="${CDSTORE:-$top/crates/cdstore/out/cdstore}"
     echo "examples: not run, since there is no program at $CDSTORE"
     exit 0
 }
-for tool in awk b2sum chmod cmp cut date dd diff du find grep head mktemp nproc od paste sed seq sha256sum sort stat tail tar tee timeout touch tr wc xargs; do
+for tool in awk b2sum chmod cmp cut date dd diff du find grep head mkfifo mktemp nproc od paste sed seq sha256sum sort stat tail tar tee timeout touch tr wc xargs; do
     command -v "$tool" > /dev/null || {
         echo "examples: not run, since there is no $tool"
         exit 0
@@ -34,9 +34,10 @@ try_example() {
 }
 
 number=0
-for example in "year.sh 4" "kill.sh 20" "spool_kill.sh 10" "reclaim.sh 21" "month.sh" "days.sh" "first_run.sh" "first_screen.sh --check" \
+for example in "peers.sh" "year.sh 4" "kill.sh 20" "spool_kill.sh 10" "reclaim.sh 21" "month.sh" "damage.sh" "migrate.sh" "days.sh" "stops.sh" \
+    "transcripts.sh" "first_run.sh" "first_screen.sh --check" \
     "round_trip.sh" "read_back.sh" "refill.sh" "any_three.sh" "session.sh" "many_clients.sh" "audit.sh" "spool.sh" "delete.sh" \
-    "checkpoint.sh" "format_1.sh" "migrate.sh" "four_clouds.sh" "folder.sh"; do
+    "losses.sh" "checkpoint.sh" "format_1.sh" "four_clouds.sh" "folder.sh"; do
     while [ "$(jobs -rp | wc -l)" -ge "$most" ]; do
         wait -n || true
     done
