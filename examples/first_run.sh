@@ -27,7 +27,7 @@ place() {
 }
 
 # Builds the program: its crates alone, without their tests and the edits that are to be refused, are proved in a copy, as many side by side
-# as there are processors; the program is then linked, and run once. Rattle keeps what is proved, so a build that was broken off goes on.
+# as there are processors, four at most, or one for each 5 GB of memory; the program is then linked, and run once. Rattle keeps what is proved, so a build that was broken off goes on.
 build() {
     local name at=0 processors most
     command -v rt > /dev/null || {
