@@ -48,7 +48,7 @@ build() {
         cp -r "$top/crates/$name" "$copy/crates"
         rm -rf "$copy/crates/$name/out" "$copy/crates/$name/must-fail"
     done
-    echo "There is no program yet. Its ${#order[@]} crates are proved and built, which takes 75 to 180 processor minutes the first time."
+    echo "There is no program yet. Its ${#order[@]} crates are proved and built, which takes 65 to 145 processor minutes the first time."
     (
         cd "$copy"
         RT_JOBS="${RT_JOBS:-$((processors < most ? processors : most))}" rt ci 2>&1 || touch "$copy/failed"
